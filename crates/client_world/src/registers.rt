@@ -1,0 +1,158 @@
+// The mode, the flags and the registers of the processor.
+ghost use Rattle.std.specs.Prelude.{◌≡◌, ◌≤◌, ◌<◌, Bool, cond};
+ghost use Rattle.client_world.specs.Registers.{flags_image, flags_of_image, has_bit};
+
+/// The processor's mode; `Real` is virtual-8086 mode.
+#[derive(Clone, Copy, Debug, PartialEq, Eq)]
+pub enum Mode {
+    Real,
+    Protected,
+}
+
+/// The bits of the flags image. Source: 80386 Programmer's Reference Manual, ch. 2, EFLAGS.
+pub const FIXED_BIT: u16 = 0x0002;
+
+pub const CARRY_BIT: u16 = 0x0001;
+
+pub const PARITY_BIT: u16 = 0x0004;
+
+pub const ADJUST_BIT: u16 = 0x0010;
+
+pub const ZERO_BIT: u16 = 0x0040;
+
+pub const SIGN_BIT: u16 = 0x0080;
+
+pub const INTERRUPT_BIT: u16 = 0x0200;
+
+pub const DIRECTION_BIT: u16 = 0x0400;
+
+pub const OVERFLOW_BIT: u16 = 0x0800;
+
+/// The flags that instructions see. The virtual interrupt flag is kept apart; TF and NT always read 0.
+#[derive(Clone, Copy, Debug, PartialEq, Eq)]
+pub struct Flags {
+    pub cf: bool,
+    pub pf: bool,
+    pub af: bool,
+    pub zf: bool,
+    pub sf: bool,
+    pub df: bool,
+    pub of: bool,
+}
+
+impl Flags {
+    /// All flags clear.
+    pub const CLEAR: Flags = Flags {
+        cf: false,
+        pf: false,
+        af: false,
+        zf: false,
+        sf: false,
+        df: false,
+        of: false,
+    };
+
+    /// The 16-bit image of the flags, with the given interrupt flag.
+    /// Source: 80386 Programmer's Reference Manual, ch. 2, EFLAGS.
+    pub fn image(self, interrupt: bool) -> u16
+        ensures { result ≡ flags_image self interrupt }
+    {
+        FIXED_BIT
+            + weight(self.cf, CARRY_BIT)
+            + weight(self.pf, PARITY_BIT)
+            + weight(self.af, ADJUST_BIT)
+            + weight(self.zf, ZERO_BIT)
+            + weight(self.sf, SIGN_BIT)
+            + weight(interrupt, INTERRUPT_BIT)
+            + weight(self.df, DIRECTION_BIT)
+            + weight(self.of, OVERFLOW_BIT)
+    }
+
+    /// The flags of a 16-bit image; its interrupt flag is asked for with `is_interrupt_set`.
+    pub fn from_image(image: u16) -> Flags
+        ensures { result ≡ flags_of_image image }
+    {
+        Flags {
+            cf: is_set(image, CARRY_BIT),
+            pf: is_set(image, PARITY_BIT),
+            af: is_set(image, ADJUST_BIT),
+            zf: is_set(image, ZERO_BIT),
+            sf: is_set(image, SIGN_BIT),
+            df: is_set(image, DIRECTION_BIT),
+            of: is_set(image, OVERFLOW_BIT),
+        }
+    }
+}
+
+/// Whether the interrupt flag of a flags image is set.
+pub fn is_interrupt_set(image: u16) -> bool
+    ensures { result ≡ has_bit image INTERRUPT_BIT }
+{
+    is_set(image, INTERRUPT_BIT)
+}
+
+// A bit's value where the flag is set, else 0.
+fn weight(flag: bool, bit: u16) -> u16
+    ensures value { result ≡ cond flag bit 0 }
+    ensures most { result ≤ bit }
+{
+    if flag { bit } else { 0 }
+}
+
+// Whether the bit of that value is set in an image.
+fn is_set(image: u16, bit: u16) -> bool
+    requires { 0 < bit }
+    ensures { result ≡ has_bit image bit }
+{
+    image / bit % 2 == 1
+}
+
+/// The registers of the processor. In real mode the segment registers hold real segments.
+#[derive(Clone, Copy, Debug, PartialEq, Eq)]
+pub struct Regs {
+    pub eax: u32,
+    pub ecx: u32,
+    pub edx: u32,
+    pub ebx: u32,
+    pub esp: u32,
+    pub ebp: u32,
+    pub esi: u32,
+    pub edi: u32,
+    pub eip: u32,
+    pub flags: Flags,
+    pub es: u16,
+    pub cs: u16,
+    pub ss: u16,
+    pub ds: u16,
+    pub fs: u16,
+    pub gs: u16,
+}
+
+impl Regs {
+    /// All registers 0 and all flags clear.
+    pub const ZERO: Regs = Regs {
+        eax: 0,
+        ecx: 0,
+        edx: 0,
+        ebx: 0,
+        esp: 0,
+        ebp: 0,
+        esi: 0,
+        edi: 0,
+        eip: 0,
+        flags: Flags::CLEAR,
+        es: 0,
+        cs: 0,
+        ss: 0,
+        ds: 0,
+        fs: 0,
+        gs: 0,
+    };
+}
+
+/// The flags image gives back the flags and the interrupt flag that it was made of.
+pub fn a_flags_image_gives_its_flags_back()
+    ensures flags { (f : Flags) (interrupt : Bool) → flags_of_image (flags_image f interrupt) ≡ f }
+    ensures interrupt { (f : Flags) (interrupt : Bool) →
+        has_bit (flags_image f interrupt) INTERRUPT_BIT ≡ interrupt }
+{}
