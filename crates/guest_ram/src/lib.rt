@@ -1,0 +1,10 @@
+//! The memory of the machine: a list of bytes, in frames.
+//! It promises that a read answers the bytes that stand there, and that a write changes its bytes alone.
+//! It stands on nothing; every crate that keeps the client's memory stands on it.
+#![tactic(auto)]
+
+mod ram;
+#[cfg(test)]
+mod tests;
+
+pub use ram::{FRAME_SIZE, MAX_FRAMES, Ram};
