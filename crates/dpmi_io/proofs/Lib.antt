@@ -1,0 +1,3 @@
+mod Input
+pub mod Output
+mod Stored

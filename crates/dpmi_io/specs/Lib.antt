@@ -1,0 +1,7 @@
+pub mod Causes
+pub mod Content
+pub mod FaultPlan
+pub mod FileShelf
+pub mod MemShelf
+pub mod MemSink
+pub mod StoredFiles

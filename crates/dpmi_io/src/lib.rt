@@ -1,0 +1,20 @@
+//! The outside of the host: the files that it reads and the bytes that it writes.
+//! It promises what each call of a shelf or a sink answers, when it may fail, and what it then leaves.
+//! It stands on nothing; `dpmi_cli` stands on it.
+#![tactic(auto)]
+
+mod memory_shelf;
+mod memory_sink;
+mod outside;
+mod plan;
+mod real;
+mod whole;
+
+pub use memory_shelf::MemShelf;
+pub use memory_sink::MemSink;
+pub use outside::{Shelf, ShelfFail, Sink, SinkFail};
+pub use real::{FileShelf, StdoutSink};
+pub use whole::{put_all, read_whole};
+
+#[cfg(test)]
+mod tests;
