@@ -1,0 +1,10 @@
+mod Clients
+mod Fetches
+pub mod Front
+mod LoadedBytes
+mod MegabyteBytes
+mod Runs
+pub mod Sound
+mod SoundBytes
+mod SoundStart
+mod SoundTurns

@@ -1,0 +1,62 @@
+-- Turns after an exit change nothing.
+use Rattle.std.proofs.Common.{arith, ◌≡◌, ◌≤◌, ◌<◌, ◌+◌, ◌-◌, ℕ, None, Some, zero, suc, refl, sym, ◌∙◌, ap, subst, add-zero, add-suc, add-one}
+use Rattle.std.specs.Prelude.{IsSome}
+use Rattle.std.specs.declared.option.Option.{Option}
+use Rattle.client_world.specs.declared.outcome.Exit.{Exit}
+use Rattle.client_world.specs.declared.outcome.Exit.TheVariants.{Bound}
+use Rattle.client_world.specs.World.{World, HostWorld}
+use Rattle.host_run.specs.Turn.{turn}
+use Rattle.host_run.specs.Run.{turns, run, bounded}
+
+turn_stops : (w : HostWorld) (e : Exit) → w.exit ≡ Some e → turn w ≡ w
+unfolding turn
+turn_stops w e is = rw is refl
+
+turns_stop : (w : HostWorld) (i k : ℕ) (e : Exit) → (turns w i).exit ≡ Some e → turns w (i + k) ≡ turns w i
+unfolding turns
+turns_stop w i zero e is = rw add-zero refl
+turns_stop w i (suc k) e is = rw add-suc (ap turn (turns_stop w i k e is) ∙ turn_stops (turns w i) e is)
+
+-- once there is an exit after i turns, so it stays
+pub turns_past : (w : HostWorld) (i n : ℕ) (e : Exit) → i ≤ n → (turns w i).exit ≡ Some e →
+    turns w n ≡ turns w i
+turns_past w i n e le is = let split : i + (n - i) ≡ n = omega arith in subst (λ m. turns w m ≡ turns w i) split (turns_stop w i (n - i) e is)
+
+pub turns_more : (w : HostWorld) (i : ℕ) → turns w (i + 1) ≡ turn (turns w i)
+unfolding turns
+turns_more w i = rw add-one refl
+
+bounded_ended : (w : HostWorld) (e : Exit) → w.exit ≡ Some e → bounded w ≡ w
+bounded_ended w e is = rw is refl
+
+-- a run that ends with turn i + 1 is over there
+pub run_ended : (w new : HostWorld) (n i : ℕ) (e : Exit) → new ≡ turns w (i + 1) → i < n →
+    new.exit ≡ Some e → new ≡ run w n
+run_ended w new n i e is lt ends =
+    let there : (turns w (i + 1)).exit ≡ Some e = sym (ap (λ (v : HostWorld). v.exit) is) ∙ ends in
+    let past : turns w n ≡ turns w (i + 1) = turns_past w (i + 1) n e (omega arith) there in
+    let same : turns w n ≡ new = past ∙ sym is in
+    sym (ap bounded same ∙ bounded_ended new e ends)
+
+-- the exit that is there
+exit_of : (o : Option Exit) → IsSome o → (e : Exit) × (o ≡ Some e)
+exit_of None is = cc
+exit_of (Some e) is = (e, refl)
+
+-- once there is an exit after m turns, more of them change nothing
+pub turns_stay : (w : HostWorld) (m n : ℕ) → m ≤ n → IsSome (turns w m).exit → turns w n ≡ turns w m
+turns_stay w m n le is = let ended = exit_of ((turns w m).exit) is in turns_past w m n ended.0 le ended.1
+
+-- nor does the bound of a run that goes on past it
+pub run_stays : (w : HostWorld) (m n : ℕ) → m ≤ n → IsSome (turns w m).exit → run w n ≡ turns w m
+run_stays w m n le is =
+    let ended = exit_of ((turns w m).exit) is in
+    ap bounded (turns_stay w m n le is) ∙ bounded_ended (turns w m) ended.0 ended.1
+
+-- the bound of a run changes nothing of the machine
+pub bounded_machine : (w : HostWorld) → (bounded w).machine ≡ w.machine
+bounded_machine w =
+    elim (w.exit) as (λ (o : Option Exit). ◌≡◌ {A = World} (HostWorld.machine (elim o [ Some _ ↦ w | None ↦ record w { exit = Some Bound } ])) w.machine) [
+      | Some _ ↦ refl
+      | None ↦ refl
+    ]

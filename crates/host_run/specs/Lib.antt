@@ -1,0 +1,6 @@
+pub mod Frame
+pub mod Instruction
+pub mod Turn
+pub mod Run
+pub mod Start
+pub mod Touched
