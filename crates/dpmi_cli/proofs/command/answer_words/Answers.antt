@@ -1,0 +1,14 @@
+use Rattle.std.proofs.Common.{map, string_bytes, subst, sym}
+use Rattle.dpmi_cli.specs.Answer.{verdict_in}
+use Rattle.dpmi_cli.specs.Causes.{Answers}
+use Rattle.dpmi_cli.proofs.Complete.{verdict_map}
+use Rattle.dpmi_cli.proofs.command.answer_words.Goals as goal
+
+pub returns-in-Ok-Refused-clause-answers : goal.returns-in-Ok-Refused-clause-answers
+returns-in-Ok-Refused-clause-answers g c not_three not_five =
+    let before = g.O.Sink.taken c.args.out.now in
+    let now = g.O.Sink.taken c.refuse.new.out in
+    let gives =
+    subst (λ p. Answers (verdict_in p) before now (g.O.Sink.faults c.args.out.now) (g.O.Sink.faults c.refuse.new.out) c.refuse.result)
+    (sym c.in-Ok-Refused.field-0-is) c.refuse.ensures.answers in
+    verdict_map (map string_bytes c.args.words.now) _ _ _ gives c.in-Ok-Refused.ensures.told

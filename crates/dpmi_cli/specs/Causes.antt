@@ -1,0 +1,33 @@
+-- What a call of the command wrote and answered, and why. Source: own.
+use Rattle.std.specs.Prelude.{ℕ, List, ◌≡◌, ◌⊎◌, ◌<◌, None, Some, Contains, IsSomeAnd}
+use Rattle.std.specs.declared.option.Option.{Option}
+use Rattle.dpmi_io.specs.Causes.{Rose}
+use Rattle.dpmi_io.specs.Content.{Files, Told, Gains, GainsPart}
+use Rattle.dpmi_cli.specs.declared.status.TheConstants.{REFUSED, OUTPUT_FAILED}
+use Rattle.dpmi_cli.specs.Words.{file_names}
+use Rattle.dpmi_cli.specs.Answer.{Verdict, verdict, answer, answer_to, TouchesWhatIsHeld}
+
+-- a file that the words name failed: the count of faults rose, and the file that is blamed is one of theirs
+abbrev pub NamedFailed : List (List ℕ) → ℕ → ℕ → Option (List ℕ) → Type 0
+NamedFailed words before now blamed =
+    Rose before now × IsSomeAnd blamed (λ name. Contains (file_names words) name)
+
+-- the files are told, and one that the words need isn't there
+abbrev pub IsAbsent : List (List ℕ) → Option Files → Type 0
+IsAbsent words None = ⊥
+IsAbsent words (Some files) = answer words files ≡ None
+
+-- the words and the files have such a verdict; where the files aren't told, the words and some files have
+abbrev pub HasVerdict : List (List ℕ) → Option Files → (Verdict → Type 0) → Type 0
+HasVerdict words None P = (files : Files) × IsSomeAnd (verdict words files) P
+HasVerdict words (Some files) P = IsSomeAnd (verdict words files) P
+
+-- the call wrote and returned the answer to the verdict, but for what a failure of the output cut off
+pub record Answers (v : Verdict) (before now : Told) (faults_before faults_now result : ℕ) : Type 0 where
+  pub writes_the_answer : GainsPart before now (answer_to v).text
+  pub status_of_the_answer :
+      (result ≡ (answer_to v).status) ⊎ ((result ≡ OUTPUT_FAILED) × ((answer_to v).status < REFUSED))
+  pub whole_text : result < REFUSED → Gains before now (answer_to v).text
+  pub whole_line : result ≡ REFUSED → Gains before now (answer_to v).text ⊎ Rose faults_before faults_now
+  pub output_failure_has_cause : result ≡ OUTPUT_FAILED → Rose faults_before faults_now
+  pub every_touch_is_held : TouchesWhatIsHeld v

@@ -1,0 +1,5 @@
+pub mod Answer
+pub mod Causes
+pub mod Load
+pub mod Text
+pub mod Words

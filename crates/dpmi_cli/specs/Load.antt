@@ -1,0 +1,40 @@
+-- What the first bytes of a file come to. Source: own.
+use Rattle.std.specs.Prelude.{ℕ, List, ◌≡◌, ◌⊎◌, take, None, Some, IsSomeAnd, ⊤}
+use Rattle.std.specs.Option.{option_map}
+use Rattle.std.specs.declared.option.Option.{Option}
+use Rattle.client_world.specs.declared.outcome.LoadFault.{LoadFault}
+use Rattle.client_world.specs.World.{HostWorld}
+use Rattle.client_world.specs.Soundness.{IsSound}
+use Rattle.host_run.specs.declared.header.TheConstants.{FRONT_SIZE}
+use Rattle.dpmi_io.specs.Causes.{Rose}
+use Rattle.dpmi_io.specs.Content.{Files, Lacks}
+use Rattle.dpmi_cli.specs.declared.prepare.Reason.TheVariants.{Load}
+use Rattle.dpmi_cli.specs.Answer.{Verdict, Refuses, Starts, verdict_of}
+
+-- these bytes are the first of the file, as far as they decide
+abbrev pub IsFront : List ℕ → List ℕ → Type 0
+IsFront bytes file = bytes ≡ take FRONT_SIZE file
+
+-- the file of that name has these first bytes; where the files aren't told, some file has
+abbrev pub HasFront : Option Files → List ℕ → List ℕ → Type 0
+HasFront None name bytes = (file : List ℕ) × IsFront bytes file
+HasFront (Some files) name bytes = IsSomeAnd (files name) (IsFront bytes)
+
+-- the file of that name has that verdict; where the files aren't told, some file has
+abbrev pub Comes : Option Files → List ℕ → Verdict → Type 0
+Comes None name v = (file : List ℕ) × (verdict_of file ≡ v)
+Comes (Some files) name v = option_map verdict_of (files name) ≡ Some v
+
+-- the file of that name failed in this call and is blamed, or the files are told and have none of that name
+abbrev pub FailsAt : Option Files → List ℕ → ℕ → ℕ → Option (List ℕ) → Type 0
+FailsAt files name before now blamed = (Rose before now × (blamed ≡ Some name)) ⊎ Lacks files name
+
+-- what a load came to
+abbrev pub loaded : Option LoadFault → HostWorld → Verdict
+loaded None w = Starts w
+loaded (Some fault) w = Refuses (Load fault)
+
+-- a run that starts has made no turn, and its machine is sound
+abbrev pub IsNew : Verdict → Type 0
+IsNew (Refuses reason) = ⊤
+IsNew (Starts w) = (w.steps ≡ 0) × IsSound w.machine

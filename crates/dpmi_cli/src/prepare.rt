@@ -1,0 +1,122 @@
+// What comes before the run: the words, the memory, the file and the load.
+ghost use Rattle.std.specs.Prelude.{◌≡◌, ◌≤◌, ◌⊎◌, map, string_bytes, None, Some, length, take, IfOk, OnErr, IsErrOf};
+ghost use Rattle.dpmi_cli.specs.Answer.{verdict_in};
+ghost use Rattle.dpmi_cli.specs.Load.{HasFront, Comes, FailsAt, loaded, IsNew};
+ghost use Rattle.host_run.specs.Start.{blank};
+ghost use Rattle.dpmi_cli.specs.Causes.{NamedFailed, IsAbsent, HasVerdict};
+ghost use Rattle.dpmi_cli.specs.declared.prepare.Stop.TheVariants.{Memory};
+
+use crate::words::file_to_run;
+use client_world::LoadFault;
+use client_world::limits::{DEFAULT_PAGES, DEFAULT_TRACE};
+use dpmi_io::{Shelf, ShelfFail, read_whole};
+use host_run::{FRONT_SIZE, Host};
+use std::alloc::{AllocError, Global};
+
+/// Why the words or the file are refused. Source: own.
+#[derive(Clone, Copy, Debug, PartialEq, Eq)]
+pub enum Reason {
+    Words,
+    Load(LoadFault),
+}
+
+/// What the words and the file come to: a refusal, or a host with the client loaded.
+#[derive(Drop)]
+pub enum Prepared {
+    Refused(Reason),
+    Ready(Host),
+}
+
+/// Why there is no answer: memory was wanting, or a file failed or wasn't there.
+#[derive(Clone, Copy, Debug, PartialEq, Eq)]
+pub enum Stop {
+    Memory,
+    Shelf,
+}
+
+impl From<AllocError> for Stop {
+    ghost from_gives = { λ _ stop. stop ≡ Memory };
+
+    fn from(_: AllocError) -> Self {
+        Stop::Memory
+    }
+}
+
+// Reads the first bytes of a file, as many as the buffer holds.
+fn read_front<F: Shelf>(shelf: &mut F, name: String, buf: &mut [u8]) -> Result<usize, ShelfFail>
+    requires { length buf.old ≡ FRONT_SIZE }
+    ensures bound { IfOk result (λ n. n ≤ length buf.new) }
+    ensures bytes { IfOk result (λ n.
+        HasFront (F.files shelf.old) (string_bytes name) (take n buf.new)) }
+    ensures failed { OnErr result
+        (FailsAt (F.files shelf.old) (string_bytes name) (F.faults shelf.old) (F.faults shelf.new) (F.blamed shelf.new)) }
+{
+    match shelf.open(name) {
+        Ok(()) => match read_whole(shelf, buf) {
+            Ok(n) => Ok(n),
+            Err(fail) => Err(fail),
+        },
+        Err(fail) => Err(fail),
+    }
+}
+
+// Reads a file and loads it into a new host. None is answered where it is taken, else the fault.
+fn load_file<F: Shelf>(
+    shelf: &mut F,
+    name: String,
+    buf: &mut [u8],
+    host: &mut Host,
+) -> Result<Option<LoadFault>, ShelfFail>
+    requires room { length buf.old ≡ FRONT_SIZE }
+    requires blank { host.old ≡ blank }
+    ensures told { IfOk result (λ fault.
+        Comes (F.files shelf.old) (string_bytes name) (loaded fault host.new)) }
+    ensures new { IfOk result (λ fault. IsNew (loaded fault host.new)) }
+    ensures failed { OnErr result
+        (FailsAt (F.files shelf.old) (string_bytes name) (F.faults shelf.old) (F.faults shelf.new) (F.blamed shelf.new)) }
+{
+    let n = match read_front(shelf, name, buf) {
+        Ok(n) => n,
+        Err(fail) => return Err(fail),
+    };
+    match host.load(&buf[..n]) {
+        Ok(()) => Ok(None),
+        Err(fault) => Ok(Some(fault)),
+    }
+}
+
+// Takes all the memory, reads the file of that name and loads it.
+fn prepare_file<F: Shelf>(alloc: Global, name: &str, shelf: &mut F) -> Result<Prepared, Stop>
+    ensures told { IfOk result (λ p. Comes (F.files shelf.old) name.now (verdict_in p)) }
+    ensures new { IfOk result (λ p. IsNew (verdict_in p)) }
+    ensures failed { IsErrOf result Stop.Shelf →
+        FailsAt (F.files shelf.old) name.now (F.faults shelf.old) (F.faults shelf.new) (F.blamed shelf.new) }
+{
+    let name = String::from_str(alloc, name)?;
+    let mut buf = vec![in alloc; 0; FRONT_SIZE]?;
+    let mut host = Host::new(alloc, DEFAULT_PAGES, &[], DEFAULT_TRACE)?;
+    match load_file(shelf, name, &mut buf, &mut host) {
+        Ok(None) => Ok(Prepared::Ready(host)),
+        Ok(Some(fault)) => Ok(Prepared::Refused(Reason::Load(fault))),
+        Err(_) => Err(Stop::Shelf),
+    }
+}
+
+/// Reads the words, takes all the memory, reads the file and loads it.
+/// `Memory`: an allocation was refused. `Shelf`: the file failed or isn't there.
+pub fn prepare<F: Shelf>(alloc: Global, words: &[String], shelf: &mut F) -> Result<Prepared, Stop>
+    ensures told { IfOk result (λ p.
+        HasVerdict (map string_bytes words.now) (F.files shelf.old) (λ v. v ≡ verdict_in p)) }
+    ensures new { IfOk result (λ p. IsNew (verdict_in p)) }
+    ensures failed { IsErrOf result Stop.Shelf →
+        NamedFailed (map string_bytes words.now) (F.faults shelf.old) (F.faults shelf.new) (F.blamed shelf.new)
+        ⊎ IsAbsent (map string_bytes words.now) (F.files shelf.old) }
+{
+    match file_to_run(words) {
+        Some(name) => match prepare_file(alloc, name, shelf) {
+            Ok(prepared) => Ok(prepared),
+            Err(stop) => Err(stop),
+        },
+        None => Ok(Prepared::Refused(Reason::Words)),
+    }
+}

@@ -1,0 +1,19 @@
+//! The statuses of the command. Source: own.
+
+/// The client ended itself, whatever its code.
+pub const EXITED: u8 = 0;
+
+/// The run ended in another way.
+pub const ENDED_OTHERWISE: u8 = 1;
+
+/// The words or the file were refused.
+pub const REFUSED: u8 = 2;
+
+/// A file that the words name failed, or isn't there.
+pub const FILE_FAILED: u8 = 3;
+
+/// The output failed.
+pub const OUTPUT_FAILED: u8 = 4;
+
+/// Memory was wanting.
+pub const NO_MEMORY: u8 = 5;
