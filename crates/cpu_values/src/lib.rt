@@ -1,0 +1,12 @@
+//! Numbers at a width of 8, 16 or 32 bits, and the bytes of a register.
+//! It promises that each call is the word of `specs/` that its contract names.
+//! It stands on nothing; the processor's operations and instructions stand on it.
+#![tactic(auto)]
+
+mod register;
+#[cfg(test)]
+mod tests;
+mod word;
+
+pub use register::{part8, put8, put16};
+pub use word::{Word, cut, signed};
