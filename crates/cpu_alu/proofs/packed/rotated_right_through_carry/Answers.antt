@@ -1,0 +1,11 @@
+use Rattle.std.proofs.Common.{◌+◌, ◌-◌, ◌%◌, ◌∙◌, ap}
+use Rattle.cpu_alu.specs.Packed.{from_above, turned}
+use Rattle.cpu_alu.proofs.Rotates.{rcr_bits}
+use Rattle.cpu_alu.proofs.packed.rotated_right_through_carry.Goals as goal
+
+pub returns : goal.returns
+returns g c =
+    let count = g.row.W + 1 - c.args.count % (g.row.W + 1) in
+    let turned_word = c.turn.ensures.value ∙ ap (λ v. turned (g.row.W + 1) v count) c.pack_above.ensures.value in
+    rw (rcr_bits g.row.W c.args.count c.args.a c.args.carry c.requires.width c.pack_above.ensures.word)
+    (c.unpack_above.ensures ∙ ap (from_above g.row.W) turned_word)

@@ -1,0 +1,9 @@
+pub mod Decimal
+pub mod DoubleShifts
+pub mod Logic
+pub mod Packed
+pub mod Products
+pub mod Quotients
+pub mod Results
+pub mod Shifts
+pub mod Sums

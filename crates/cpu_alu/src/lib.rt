@@ -1,0 +1,24 @@
+//! The processor's arithmetic at widths of 8, 16 and 32 bits, each operation with the flags that it leaves.
+//! It promises that each call is one formula over whole numbers, the word of `specs/` that its contract names.
+//! It stands on `cpu_values`' words and `client_world`'s flags; the instructions that compute stand on it.
+#![tactic(auto)]
+
+mod decimal;
+mod double_shifts;
+mod logic;
+mod packed;
+mod products;
+mod quotients;
+mod results;
+mod shifts;
+mod sums;
+#[cfg(test)]
+mod tests;
+
+pub use decimal::{aaa, aad, aam, aas, daa, das};
+pub use double_shifts::{shld, shrd};
+pub use logic::{and, not, or, xor};
+pub use products::{imul, mul};
+pub use quotients::{div, idiv};
+pub use shifts::{rcl, rcr, rol, ror, sar, shl, shr};
+pub use sums::{adc, add, dec, inc, neg, sbb, sub};
