@@ -1,0 +1,42 @@
+// The opcode maps looked up.
+ghost use Rattle.std.specs.Prelude.{◌≡◌, ◌<◌, IsTrue};
+ghost use Rattle.insn_forms.specs.OpcodeMap.{row_at, pick};
+ghost use Rattle.insn_forms.specs.Slots.{row_in, has_rows};
+
+use crate::maps::{GROUPS, ONE_BYTE_MAP, TWO_BYTE_MAP};
+use crate::rows::{OpMap, Row, Slot};
+
+/// The row of an opcode: of the groups, the one at this reg field of ModRM, 0 to 7.
+/// Source: 80386 Programmer's Reference Manual, appendix A.
+#[inline(always)]
+pub fn row_of(map: OpMap, opcode: u8, reg: u8) -> Row
+    requires { reg < 8 }
+    ensures { result ≡ row_at map opcode reg }
+{
+    match map {
+        OpMap::One => row_in_slot(ONE_BYTE_MAP[opcode as usize], reg),
+        OpMap::Two => row_in_slot(TWO_BYTE_MAP[opcode as usize], reg),
+    }
+}
+
+// The row of a table's entry at a reg field.
+#[inline(always)]
+fn row_in_slot(slot: Slot, reg: u8) -> Row
+    requires reg { reg < 8 }
+    requires has_rows { IsTrue (has_rows slot) }
+    ensures { result ≡ row_in slot reg }
+{
+    match slot {
+        Slot::Alone(row) => row,
+        Slot::Group(number) => row_of_group(&GROUPS[number as usize], reg),
+    }
+}
+
+// The row of a group at a reg field.
+#[inline(always)]
+fn row_of_group(rows: &[Row; 8], reg: u8) -> Row
+    requires { reg < 8 }
+    ensures { result ≡ pick 0 rows.now reg }
+{
+    rows[reg as usize]
+}
