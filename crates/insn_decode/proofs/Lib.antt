@@ -1,0 +1,7 @@
+pub mod LawfulReaders
+pub mod SizedNumbers
+pub mod WholeNumbers
+pub mod HeadReaders
+pub mod InsnReaders
+pub mod Spellings
+pub mod Answering

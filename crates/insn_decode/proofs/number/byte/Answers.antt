@@ -1,0 +1,6 @@
+use Rattle.std.proofs.Common.{arith}
+use Rattle.insn_decode.proofs.SizedNumbers.{fits_byte}
+use Rattle.insn_decode.proofs.number.byte.Goals as goal
+
+pub overflow_cast-result : goal.overflow_cast-result
+overflow_cast-result c = omega (arith, fits_byte c.args.size c.in_ok-value.value c.requires c.in_ok-value.ensures.below)

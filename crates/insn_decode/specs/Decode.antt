@@ -1,0 +1,17 @@
+-- What decode answers: what reading from left to right gives (own).
+use Rattle.std.specs.Prelude.{ℕ, ◌-◌, Bool, List, length, Ok, Err}
+use Rattle.insn_decode.specs.declared.stop.Stop.TheVariants as stops
+use Rattle.insn_decode.specs.declared.decoding.Decoded.{Decoded}
+use Rattle.insn_decode.specs.declared.decoding.Decoded.TheVariants.{Whole, More, Invalid}
+use Rattle.insn_forms.specs.declared.insn.Insn.{Insn}
+use Rattle.insn_decode.specs.Reading.{Read, insn_at}
+
+-- the answer to what was read: the length is what the rest lacks
+abbrev pub answer_of : List ℕ → Read Insn → Decoded
+answer_of bytes (Ok x) = Whole x.0 (length bytes - length x.1)
+answer_of bytes (Err stops.More) = More
+answer_of bytes (Err stops.Invalid) = Invalid
+
+-- the answer to the bytes
+unfoldable pub decoded : Bool → List ℕ → Decoded
+decoded big bytes = answer_of bytes (insn_at big bytes)

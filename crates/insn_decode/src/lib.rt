@@ -1,0 +1,18 @@
+//! The decoder: the instruction at the front of some bytes.
+//! It promises that `decode` is insn_forms' grammar in both directions, and that bytes spell at most one instruction.
+//! It stands on insn_forms, client_world and arrayvec; the client's step fetches bytes until `decode` has an answer.
+#![tactic(auto)]
+
+mod address;
+mod decoding;
+mod head;
+mod laws;
+mod number;
+mod operand;
+mod reading;
+mod stop;
+#[cfg(test)]
+mod tests;
+
+pub use decoding::{Decoded, decode};
+pub use laws::{a_spelling_is_of_one_instruction, reading_is_the_grammar};
