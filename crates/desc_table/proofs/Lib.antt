@@ -1,0 +1,3 @@
+pub mod PackedLaws
+pub mod RowLaws
+pub mod RunLaws

@@ -1,0 +1,14 @@
+//! The client's descriptor table: descriptors as eight bytes, and the rows of the host's frames that hold them.
+//! It promises that a row is read as it was set, that the other rows stay, and that a run of free rows is the first.
+//! It stands on the client's types and on the memory; the machine stands on it.
+#![tactic(auto)]
+
+mod packing;
+mod rows;
+#[cfg(test)]
+mod tests;
+
+pub use packing::{a_packed_descriptor_is_unpacked, pack, unpack};
+pub use rows::{
+    free_run, look, set, the_bytes_of_a_row_are_that_row, the_rows_stand_at_their_indices,
+};

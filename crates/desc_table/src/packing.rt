@@ -1,0 +1,163 @@
+// Descriptors and their eight bytes.
+ghost use Rattle.std.specs.Prelude.{◌≡◌, ◌≤◌, ◌<◌, ◌^◌, ℕ, Bool, List, Some, cond, ◌↔◌, IfSome, IsSome, IsTrue};
+ghost use Rattle.client_world.specs.declared.descriptors.Desc.{Desc};
+ghost use Rattle.client_world.specs.Registers.{has_bit};
+ghost use Rattle.client_world.specs.Descriptor.{access_byte, flags_byte, kind_bits, packed, FitsDescriptor, Packs};
+ghost use Rattle.desc_table.specs.Unpacked.{is_access_byte, kind_of, is_packed, described, unpacked, with_accessed};
+
+use client_world::{Desc, Kind};
+
+// The bits of the access byte. Bits 1 and 2 mean writable and expand-down in data, readable and conforming in code.
+const WRITABLE: u8 = 0x02;
+
+const READABLE: u8 = 0x02;
+
+const EXPAND_DOWN: u8 = 0x04;
+
+const CONFORMING: u8 = 0x04;
+
+const EXECUTABLE: u8 = 0x08;
+
+const SEGMENT_AT_LEVEL_3: u8 = 0x70;
+
+const PRESENT: u8 = 0x80;
+
+const ACCESSED: u8 = 0x01;
+
+// The bits of the byte behind it.
+const AVAILABLE: u8 = 0x10;
+
+const RESERVED: u8 = 0x20;
+
+const SIZE: u8 = 0x40;
+
+const GRANULARITY: u8 = 0x80;
+
+// A bit's value where the flag is set, else 0.
+fn weight(flag: bool, bit: u8) -> u8
+    ensures value { result ≡ cond flag bit 0 }
+    ensures most { result ≤ bit }
+{
+    if flag { bit } else { 0 }
+}
+
+// Whether the bit of that value is set.
+fn is_set(byte: u8, bit: u8) -> bool
+    requires { 0 < bit }
+    ensures { result ≡ has_bit byte bit }
+{
+    byte / bit % 2 == 1
+}
+
+// The bits of the access byte that say what the segment holds.
+fn type_bits(kind: Kind) -> u8
+    ensures value { result ≡ kind_bits kind }
+    ensures most { result ≤ 10 }
+{
+    match kind {
+        Kind::Data { writable, down } => weight(writable, WRITABLE) + weight(down, EXPAND_DOWN),
+        Kind::Code => EXECUTABLE + READABLE,
+    }
+}
+
+// The access byte, with DPL 3 and the Accessed bit set.
+fn access(d: &Desc) -> u8
+    ensures { result ≡ access_byte d.now }
+{
+    weight(d.present, PRESENT) + SEGMENT_AT_LEVEL_3 + type_bits(d.kind) + ACCESSED
+}
+
+// The byte behind it.
+fn flags(d: &Desc) -> u8
+    requires { d.now.limit < 2 ^ 20 }
+    ensures { result ≡ flags_byte d.now }
+{
+    (d.limit / 0x10000) as u8
+        + weight(d.avl, AVAILABLE)
+        + weight(d.size, SIZE)
+        + weight(d.gran, GRANULARITY)
+}
+
+/// The eight bytes of a descriptor whose limit has 20 bits, with the Accessed bit set.
+/// Source: 80386 Programmer's Reference Manual, ch. 5, "Descriptors".
+#[tactic(auto, unfolding(client_world::specs::Descriptor::packed))]
+pub fn pack(d: &Desc) -> [u8; 8]
+    requires { d.now.limit < 2 ^ 20 }
+    ensures { Packs d.now result }
+{
+    [
+        (d.limit % 0x100) as u8,
+        (d.limit / 0x100 % 0x100) as u8,
+        (d.base % 0x100) as u8,
+        (d.base / 0x100 % 0x100) as u8,
+        (d.base / 0x10000 % 0x100) as u8,
+        access(d),
+        flags(d),
+        (d.base / 0x1000000) as u8,
+    ]
+}
+
+// Whether it is the access byte of data or of readable code that doesn't conform, with DPL 3.
+fn is_access(byte: u8) -> bool
+    ensures { result ≡ is_access_byte byte }
+{
+    byte / 0x10 % 8 == 7
+        && (!is_set(byte, EXECUTABLE) || (!is_set(byte, CONFORMING) && is_set(byte, READABLE)))
+}
+
+// What a segment with that access byte holds.
+fn kind(byte: u8) -> Kind
+    ensures { result ≡ kind_of byte }
+{
+    if is_set(byte, EXECUTABLE) {
+        Kind::Code
+    } else {
+        Kind::Data {
+            writable: is_set(byte, WRITABLE),
+            down: is_set(byte, EXPAND_DOWN),
+        }
+    }
+}
+
+// The fields that eight bytes spell.
+#[tactic(auto, unfolding(crate::specs::Unpacked::described))]
+fn describe(b: &[u8; 8]) -> Desc
+    ensures { result ≡ described b.now 0 }
+{
+    Desc {
+        base: u32::from(b[2])
+            + 0x100 * u32::from(b[3])
+            + 0x10000 * u32::from(b[4])
+            + 0x1000000 * u32::from(b[7]),
+        limit: u32::from(b[0]) + 0x100 * u32::from(b[1]) + 0x10000 * u32::from(b[6] % 0x10),
+        gran: is_set(b[6], GRANULARITY),
+        size: is_set(b[6], SIZE),
+        avl: is_set(b[6], AVAILABLE),
+        present: is_set(b[5], PRESENT),
+        kind: kind(b[5]),
+    }
+}
+
+/// The descriptor that eight bytes are, where a clear Accessed bit is taken as set.
+/// `None` where byte 5 isn't the access byte of a segment of DPL 3 that is data or readable code that doesn't
+/// conform, or where bit 5 of byte 6 is set. Source: 80386 Programmer's Reference Manual, ch. 5, "Descriptors".
+#[tactic(auto, unfolding(crate::specs::Unpacked::unpacked))]
+pub fn unpack(b: &[u8; 8]) -> Option<Desc>
+    ensures fields { result ≡ unpacked b.now 0 }
+    ensures taken { IsSome result ↔ IsTrue (is_packed b.now 0) }
+    ensures packs { IfSome result (λ d. Packs d (with_accessed b.now)) }
+    ensures fits { IfSome result FitsDescriptor }
+{
+    if is_access(b[5]) && !is_set(b[6], RESERVED) {
+        Some(describe(b))
+    } else {
+        None
+    }
+}
+
+/// A descriptor that was packed is unpacked again, so eight bytes are those of one descriptor at most.
+pub fn a_packed_descriptor_is_unpacked()
+    ensures again { (d : Desc) → d.limit < 2 ^ 20 → unpacked (packed d) 0 ≡ Some d }
+    ensures one { (d e : Desc) (b : List ℕ) → d.limit < 2 ^ 20 → e.limit < 2 ^ 20 →
+        Packs d b → Packs e b → d ≡ e }
+{}
