@@ -1,0 +1,4 @@
+pub mod BlankTables
+pub mod EntryLaws
+pub mod HostDirectory
+pub mod MapLaws

@@ -1,0 +1,4 @@
+pub mod Budget
+pub mod Entry
+pub mod Mapping
+pub mod Walk

@@ -1,0 +1,19 @@
+//! The two-level page tables of the machine, and the frames of its page budget.
+//! It promises that `map` and `unmap` change the manual's walk at one page alone, and that no frame is taken twice.
+//! It stands on `client_world` and `guest_ram`; what reaches the client's memory through pages stands on it.
+#![tactic(auto)]
+
+mod budget;
+mod entry;
+mod mapping;
+#[cfg(test)]
+mod tests;
+mod translation;
+
+pub use budget::{give_frame, take_frame};
+pub use entry::{
+    ACCESSED, DIRTY, ENTRY_SIZE, PRESENT, TABLE_ENTRIES, TABLE_SPAN, USER, USER_READ_ONLY,
+    USER_WRITABLE, WRITABLE,
+};
+pub use mapping::{map, unmap};
+pub use translation::walk;

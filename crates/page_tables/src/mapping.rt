@@ -1,0 +1,52 @@
+// One page mapped, or no longer.
+ghost use Rattle.std.specs.Prelude.{◌≡◌, IsTrue, length};
+ghost use Rattle.client_world.specs.declared.host_frames.TheConstants.{PAGE_DIRECTORY};
+ghost use Rattle.guest_ram.specs.Bytes.{put, dword_bytes};
+ghost use Rattle.page_tables.specs.Entry.{page_entry};
+ghost use Rattle.page_tables.specs.Walk.{IsFrame, frame_of, table_entry, table_place};
+ghost use Rattle.page_tables.specs.Mapping.{HasTables, IsCovered, IsUnmapped, IsMapped, EndsInFrame, EndsNowhere, KeepsOtherPages};
+
+use crate::entry::page_entry;
+use crate::translation::place_of;
+use client_world::host_frames::{PAGE_DIRECTORY, PAGE_SIZE};
+use guest_ram::Ram;
+
+/// Lets the page of a linear address stand in a frame, for the user to read, or to read and write.
+/// Source: 80386 Programmer's Reference Manual, ch. 5, "Page Translation".
+pub fn map(ram: &mut Ram, lin: u32, frame: u32, writable: bool)
+    requires tables { HasTables ram.old }
+    requires covered { IsCovered ram.old lin }
+    requires unmapped { IsUnmapped ram.old lin }
+    requires frame { IsFrame ram.old frame }
+    ensures bytes { ram.new
+        ≡ put ram.old (table_place ram.old PAGE_DIRECTORY lin) (dword_bytes (page_entry frame writable)) }
+    ensures size { length ram.new ≡ length ram.old }
+    ensures tables { HasTables ram.new }
+    ensures mapped { IsMapped ram.new lin }
+    ensures page { EndsInFrame ram.old ram.new lin frame writable }
+    ensures others { KeepsOtherPages ram.old ram.new lin }
+{
+    let _size = ram.len();
+    let place = place_of(ram, PAGE_DIRECTORY, lin);
+    ram.set32(place, page_entry(frame, writable));
+}
+
+/// Lets the page of a linear address stand nowhere, and answers the frame in which it stood.
+/// Source: 80386 Programmer's Reference Manual, ch. 5, "Page Translation".
+pub fn unmap(ram: &mut Ram, lin: u32) -> u32
+    requires tables { HasTables ram.old }
+    requires mapped { IsMapped ram.old lin }
+    ensures frame { result ≡ frame_of (table_entry ram.old PAGE_DIRECTORY lin) }
+    ensures bytes { ram.new ≡ put ram.old (table_place ram.old PAGE_DIRECTORY lin) (dword_bytes 0) }
+    ensures size { length ram.new ≡ length ram.old }
+    ensures tables { HasTables ram.new }
+    ensures covered { IsCovered ram.new lin }
+    ensures unmapped { IsUnmapped ram.new lin }
+    ensures page { EndsNowhere ram.new lin }
+    ensures others { KeepsOtherPages ram.old ram.new lin }
+{
+    let place = place_of(ram, PAGE_DIRECTORY, lin);
+    let frame = ram.get32(place) / PAGE_SIZE;
+    ram.set32(place, 0);
+    frame
+}

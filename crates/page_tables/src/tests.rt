@@ -1,0 +1,65 @@
+// Page tables of a memory with two budget frames.
+ghost use Rattle.std.specs.Prelude.{◌≡◌, ◌*◌, IfOk, length};
+ghost use Rattle.page_tables.specs.declared.tests.TheConstants.{PAGE};
+ghost use Rattle.page_tables.specs.Mapping.{HasTables, IsCovered, IsUnmapped};
+
+use crate::{give_frame, map, take_frame, unmap, walk};
+use client_world::PageFault;
+use client_world::host_frames::PAGE_DIRECTORY;
+use guest_ram::Ram;
+use std::alloc::{AllocError, Global};
+use std::test::Fail;
+
+const PAGE: u32 = 0x12_3456;
+
+// A memory in which a page table, in frame 101h, covers the first four megabytes.
+fn memory(alloc: Global) -> Result<Ram, AllocError>
+    ensures tables { IfOk result HasTables }
+    ensures covered { IfOk result (λ ram. IsCovered ram PAGE) }
+    ensures unmapped { IfOk result (λ ram. IsUnmapped ram PAGE) }
+    ensures size { IfOk result (λ ram. length ram ≡ 401 * 4096) }
+{
+    let mut ram = Ram::new(alloc, 401)?;
+    ram.set32(0x10_0000, 0x10_1067);
+    Ok(ram)
+}
+
+#[test]
+fn a_page_is_mapped_and_no_longer(rt: HostRuntime) -> Result<(), Fail> {
+    let mut ram = memory(rt.alloc())?;
+    let absent = Err(PageFault { present: false });
+    assert_eq!(rt; walk(&ram, PAGE_DIRECTORY, PAGE, false), absent);
+
+    map(&mut ram, PAGE, 0x18F, false);
+    assert_eq!(rt; ram.get32(0x10_148C), 0x18_F065);
+    assert_eq!(rt; walk(&ram, PAGE_DIRECTORY, 0x12_3FFF, false), Ok(0x18_FFFF));
+    assert_eq!(rt;
+        walk(&ram, PAGE_DIRECTORY, PAGE, true),
+        Err(PageFault { present: true })
+    );
+    assert_eq!(rt; walk(&ram, PAGE_DIRECTORY, 0x12_4000, false), absent);
+    assert_eq!(rt; walk(&ram, PAGE_DIRECTORY, 0x40_0000, false), absent);
+
+    assert_eq!(rt; unmap(&mut ram, PAGE), 0x18F);
+    assert_eq!(rt; walk(&ram, PAGE_DIRECTORY, PAGE, false), absent);
+    map(&mut ram, PAGE, 0x190, true);
+    assert_eq!(rt; ram.get32(0x10_148C), 0x19_0067);
+    assert_eq!(rt; walk(&ram, PAGE_DIRECTORY, PAGE, true), Ok(0x19_0456));
+    Ok(())
+}
+
+#[test]
+fn the_lowest_free_frame_is_taken(rt: HostRuntime) -> Result<(), Fail> {
+    let mut ram = Ram::new(rt.alloc(), 401)?;
+    let first = take_frame(&mut ram);
+    assert_eq!(rt; first, Some(399));
+    assert_eq!(rt; ram.get8(0x18_E000), 1);
+    if let Some(frame) = first {
+        give_frame(&mut ram, frame);
+    }
+    assert_eq!(rt; ram.get8(0x18_E000), 0);
+    assert_eq!(rt; take_frame(&mut ram), Some(399));
+    assert_eq!(rt; take_frame(&mut ram), Some(400));
+    assert_eq!(rt; take_frame(&mut ram), None);
+    Ok(())
+}

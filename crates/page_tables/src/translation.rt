@@ -1,0 +1,59 @@
+// The walk of the page tables.
+ghost use Rattle.std.specs.Prelude.{◌≡◌, ◌≤◌, ◌<◌, ◌+◌, ◌*◌, ◌^◌, ℕ, length};
+ghost use Rattle.client_world.specs.declared.host_frames.TheConstants.{PAGE_SIZE};
+ghost use Rattle.guest_ram.specs.Bytes.{dword};
+ghost use Rattle.page_tables.specs.Walk.{IsFrame, TablesInside, ended, entry_place, directory_entry, table_place, walked};
+
+use crate::entry::{ENTRY_SIZE, PRESENT, TABLE_ENTRIES, TABLE_SPAN, is_allowed, is_set};
+use client_world::PageFault;
+use client_world::host_frames::PAGE_SIZE;
+use guest_ram::Ram;
+
+// Where an access ends that meets these two entries.
+#[tactic(auto, unfolding(crate::specs::Walk::ended))]
+fn end(directory: u32, table: u32, lin: u32, write: bool) -> Result<u32, PageFault>
+    ensures { result ≡ ended directory table lin write }
+{
+    if !is_set(directory, PRESENT) || !is_set(table, PRESENT) {
+        Err(PageFault { present: false })
+    } else if is_allowed(directory, write) && is_allowed(table, write) {
+        Ok(PAGE_SIZE * (table / PAGE_SIZE) + lin % PAGE_SIZE)
+    } else {
+        Err(PageFault { present: true })
+    }
+}
+
+// The directory entry of a linear address.
+pub(crate) fn directory_of(ram: &Ram, root: u32, lin: u32) -> u32
+    requires root { IsFrame ram.now root }
+    ensures { result ≡ directory_entry ram.now root lin }
+{
+    let _size = ram.len();
+    ram.get32(PAGE_SIZE * root + ENTRY_SIZE * (lin / TABLE_SPAN))
+}
+
+// The address of the table entry of a linear address.
+pub(crate) fn place_of(ram: &Ram, root: u32, lin: u32) -> u32
+    requires root { IsFrame ram.now root }
+    requires tables { TablesInside ram.now root }
+    ensures place { result ≡ table_place ram.now root lin }
+    ensures inside { result + 3 < length ram.now }
+{
+    let _size = ram.len();
+    let table = directory_of(ram, root, lin) / PAGE_SIZE;
+    PAGE_SIZE * table + ENTRY_SIZE * (lin / PAGE_SIZE % TABLE_ENTRIES)
+}
+
+/// Where in the memory a user's access to a linear address ends, by the page directory in frame `root`.
+/// A `PageFault` tells whether both entries were present. No entry's accessed or dirty bit changes.
+/// Source: 80386 Programmer's Reference Manual, ch. 5, "Page Translation", and ch. 6, "Page-Level Protection".
+#[tactic(auto, unfolding(crate::specs::Walk::walked))]
+pub fn walk(ram: &Ram, root: u32, lin: u32, write: bool) -> Result<u32, PageFault>
+    requires root { IsFrame ram.now root }
+    requires tables { TablesInside ram.now root }
+    ensures { result ≡ walked ram.now root lin write }
+{
+    let directory = directory_of(ram, root, lin);
+    let table = ram.get32(place_of(ram, root, lin));
+    end(directory, table, lin, write)
+}
