@@ -1,1 +1,6 @@
+mod Examples
 mod FlagBits
+pub mod PlaceLaws
+pub mod SoundRows
+pub mod SoundWrites
+pub mod WriteSteps

@@ -1,6 +1,6 @@
 -- Descriptors, their eight bytes, and which offsets they allow.
 -- Source: 80386 Programmer's Reference Manual, ch. 5, "Descriptors", figure 5-3, and ch. 6, "Limit Checking".
-use Rattle.std.specs.Prelude.{◌≡◌, ◌≤◌, ◌<◌, ℕ, ◌+◌, ◌*◌, ◌/◌, ◌%◌, ◌^◌, Bool, false, List, [], ◌∷◌, if◌then◌else◌, cond, MatchBool}
+use Rattle.std.specs.Prelude.{◌≡◌, ◌≤◌, ◌<◌, ℕ, ◌+◌, ◌*◌, ◌/◌, ◌%◌, ◌^◌, Bool, true, false, List, [], ◌∷◌, if◌then◌else◌, cond, MatchBool, ◌&&◌, nat_lt, nat_le}
 use Rattle.client_world.specs.declared.descriptors.Kind.{Kind}
 use Rattle.client_world.specs.declared.descriptors.Kind.TheVariants.{Data, Code}
 use Rattle.client_world.specs.declared.descriptors.Desc.{Desc}
@@ -55,3 +55,18 @@ Allows d offset =
 -- each of n bytes from an offset on lies inside the segment, and none past FFFFFFFFh
 abbrev pub IsInside : Desc → ℕ → ℕ → Type 0
 IsInside d offset n = (at : ℕ) → offset ≤ at → at < offset + n → (at < 2 ^ 32) × Allows d at
+
+-- the same in numbers, for a run that isn't empty
+abbrev pub is_inside : Desc → ℕ → ℕ → Bool
+is_inside d offset n =
+    if expands_down d.kind then nat_lt (byte_limit d) offset && nat_le (offset + n) (greatest_offset d + 1)
+    else nat_le (offset + n) (byte_limit d + 1) && nat_le (offset + n) (2 ^ 32)
+
+-- what the segment holds is code, or data that may be written
+abbrev pub is_code : Kind → Bool
+is_code (Data writable down) = false
+is_code Code = true
+
+abbrev pub is_writable : Kind → Bool
+is_writable (Data writable down) = writable
+is_writable Code = false

@@ -1,6 +1,12 @@
 pub mod Access
 pub mod Descriptor
+pub mod DosMemory
+pub mod FreeRuns
+pub mod Loading
 pub mod Memory
 pub mod Registers
+pub mod Segments
+pub mod Selector
+pub mod Services
 pub mod Soundness
 pub mod World

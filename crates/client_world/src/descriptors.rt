@@ -1,4 +1,10 @@
 // Segment descriptors of the client.
+ghost use Rattle.std.specs.Prelude.{◌≡◌, ◌≢◌, ◌<◌, ◌^◌, ℕ, true, None, slice_set};
+ghost use Rattle.client_world.specs.declared.host_frames.TheConstants.{DESCRIPTORS};
+ghost use Rattle.client_world.specs.Descriptor.{IsInside, byte_limit, expands_down, is_code, is_inside, is_writable};
+ghost use Rattle.client_world.specs.Selector.{Row, FitsRow, row_at_index};
+ghost use Rattle.client_world.specs.Soundness.{IsSound, IsOfDosBlock, IsPlainRow, IsClientsIndex};
+ghost use Rattle.client_world.specs.World.{World};
 
 /// What a segment holds. Source: 80386 Programmer's Reference Manual, ch. 6, "Type Checking", table 6-1.
 #[derive(Clone, Copy, Debug, PartialEq, Eq)]
@@ -7,6 +13,38 @@ pub enum Kind {
     Data { writable: bool, down: bool },
     /// Readable code that doesn't conform.
     Code,
+}
+
+impl Kind {
+    /// Whether the segment holds code.
+    pub fn is_code(self) -> bool
+        ensures { result ≡ is_code self }
+    {
+        match self {
+            Kind::Data { .. } => false,
+            Kind::Code => true,
+        }
+    }
+
+    /// Whether the segment holds data that may be written.
+    pub fn is_writable(self) -> bool
+        ensures { result ≡ is_writable self }
+    {
+        match self {
+            Kind::Data { writable, .. } => writable,
+            Kind::Code => false,
+        }
+    }
+
+    /// Whether the segment expands down.
+    pub fn expands_down(self) -> bool
+        ensures { result ≡ expands_down self }
+    {
+        match self {
+            Kind::Data { down, .. } => down,
+            Kind::Code => false,
+        }
+    }
 }
 
 /// A segment descriptor, with DPL 3 and its Accessed bit set.
@@ -28,6 +66,60 @@ pub struct Desc {
     pub kind: Kind,
 }
 
+// The limit's unit where G is set, in bytes.
+const LIMIT_UNIT: u32 = 0x1000;
+
+// The greatest offset of a segment of 16 bits, and of one of 32.
+const LAST_OF_16_BITS: u32 = 0xFFFF;
+
+const LAST_OF_32_BITS: u32 = 0xFFFF_FFFF;
+
+impl Desc {
+    /// The last byte that the limit names. Source: 80386 Programmer's Reference Manual, ch. 6, "Limit Checking".
+    pub fn byte_limit(&self) -> u32
+        requires { self.now.limit < 2 ^ 20 }
+        ensures { result ≡ byte_limit self.now }
+    {
+        if self.gran {
+            self.limit * LIMIT_UNIT + (LIMIT_UNIT - 1)
+        } else {
+            self.limit
+        }
+    }
+
+    /// Whether n bytes from an offset on, at least one, lie inside the segment.
+    /// Source: 80386 Programmer's Reference Manual, ch. 6, "Limit Checking".
+    pub fn is_inside(&self, offset: u32, n: u32) -> bool
+        ensures { result ≡ is_inside self.now offset n }
+    {
+        // The sums of two numbers of 32 bits don't fit 32 bits, nor does a limit that was never checked.
+        let limit = if self.gran {
+            u64::from(self.limit) * u64::from(LIMIT_UNIT) + u64::from(LIMIT_UNIT - 1)
+        } else {
+            u64::from(self.limit)
+        };
+        let end = u64::from(offset) + u64::from(n);
+        if self.kind.expands_down() {
+            let last = if self.size {
+                LAST_OF_32_BITS
+            } else {
+                LAST_OF_16_BITS
+            };
+            limit < u64::from(offset) && end <= u64::from(last) + 1
+        } else {
+            end <= limit + 1 && end <= u64::from(LAST_OF_32_BITS) + 1
+        }
+    }
+}
+
+/// A run that isn't empty is inside exactly where each of its bytes is.
+pub fn a_run_inside_is_inside_at_each_byte()
+    ensures each { (d : Desc) (offset n : ℕ) → 0 < n →
+        is_inside d offset n ≡ true → IsInside d offset n }
+    ensures whole { (d : Desc) (offset n : ℕ) → 0 < n →
+        IsInside d offset n → is_inside d offset n ≡ true }
+{}
+
 /// Who made a descriptor, which decides which services may change or free it. Source: own.
 #[derive(Clone, Copy, Debug, PartialEq, Eq)]
 pub enum Origin {
@@ -46,3 +138,10 @@ pub enum Origin {
     /// The host itself.
     Host,
 }
+
+/// A descriptor of the client may be set or freed at an index that isn't the host's: a world that is sound stays sound.
+pub fn a_plain_descriptor_keeps_a_world_sound()
+    ensures { (w : World) (index : ℕ) (row : Row) → IsSound w → w.width ≢ None → index < DESCRIPTORS → FitsRow row → IsPlainRow row →
+        ¬ IsOfDosBlock (row_at_index w.descriptors index) → IsClientsIndex index →
+        IsSound (record w { descriptors = slice_set w.descriptors index row }) }
+{}

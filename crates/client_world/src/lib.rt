@@ -3,8 +3,11 @@
 //! It stands on nothing; every other crate that speaks of the client stands on it.
 #![tactic(auto)]
 
+mod blocks;
+mod calls;
 mod descriptors;
-mod faults;
+mod dos_memory;
+pub mod faults;
 pub mod host_frames;
 pub mod limits;
 pub mod memory_map;
@@ -12,10 +15,23 @@ mod outcome;
 mod place;
 mod registers;
 mod segments;
+pub mod selectors;
+mod services;
+mod trace;
+pub mod traps;
 
-pub use descriptors::{Desc, Kind, Origin};
-pub use faults::{Fault, PageFault};
+pub use blocks::BlockRow;
+pub use calls::{Call, Deep, Record, What};
+pub use descriptors::{
+    Desc, Kind, Origin, a_plain_descriptor_keeps_a_world_sound, a_run_inside_is_inside_at_each_byte,
+};
+pub use dos_memory::{DosEntry, DosRefusal, DosRun, DosState};
+pub use faults::{Event, Fault, PageFault};
 pub use outcome::{Exit, LoadFault};
 pub use place::Place;
-pub use registers::{Flags, Mode, Regs, a_flags_image_gives_its_flags_back, is_interrupt_set};
+pub use registers::{
+    Flags, Mode, Regs, Width, a_flags_image_gives_its_flags_back, is_interrupt_set,
+};
 pub use segments::{FarPtr, SegReg};
+pub use services::{Begun, Carry, DosDone};
+pub use trace::TraceLine;

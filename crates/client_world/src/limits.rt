@@ -23,3 +23,27 @@ pub const MAX_TRACE: u32 = 10_000;
 
 /// The lines of the trace that are kept, where the words give no number.
 pub const DEFAULT_TRACE: u32 = 1_000;
+
+/// The most bytes of a client's file.
+pub const MAX_FILE: u32 = 4_194_304;
+
+/// The greatest depth: the most records of calls, callbacks and exceptions at a time.
+pub const GREATEST_DEPTH: u32 = 16;
+
+/// The most memory blocks that a client holds at a time; their handles are 1 to this.
+pub const MAX_BLOCKS: u32 = 256;
+
+/// The greatest lock count of a page.
+pub const GREATEST_LOCK_COUNT: u32 = 65_535;
+
+/// The real-mode callbacks.
+pub const CALLBACKS: u32 = 16;
+
+/// The interrupt vectors of either mode.
+pub const INTERRUPT_VECTORS: u32 = 256;
+
+/// The exception vectors.
+pub const EXCEPTION_VECTORS: u32 = 32;
+
+/// The most words that a simulated call copies to its stack.
+pub const MAX_CALL_WORDS: u32 = 200;

@@ -12,6 +12,12 @@ pub const DOS_SIZE: u32 = 0x10_0000;
 /// The bytes of the real-mode vector table, which stands at 00000h: 256 far pointers.
 pub const VECTOR_TABLE_SIZE: u32 = 0x400;
 
+/// The first paragraph of the arena of DOS memory.
+pub const ARENA_START: u32 = 0x60;
+
+/// The paragraph behind the arena of DOS memory.
+pub const ARENA_END: u32 = 0xA000;
+
 /// The segment of the client's program segment prefix.
 pub const PSP_SEGMENT: u16 = 0x64;
 
@@ -20,6 +26,21 @@ pub const IMAGE_SEGMENT: u16 = 0x74;
 
 /// The linear address at which the client's image is loaded.
 pub const IMAGE_START: u32 = 0x740;
+
+/// The first of the host's real-mode stacks, one for each depth.
+pub const REAL_STACKS: u32 = 0xE_0000;
+
+/// The segment of the host's real-mode stacks.
+pub const REAL_STACK_SEGMENT: u16 = 0xE000;
+
+/// The bytes of a real-mode stack of the host.
+pub const REAL_STACK_SIZE: u32 = 0x400;
+
+/// The first of the host's protected-mode stacks, one for each depth.
+pub const PROTECTED_STACKS: u32 = 0xE_4000;
+
+/// The bytes of a protected-mode stack of the host.
+pub const PROTECTED_STACK_SIZE: u32 = 0x800;
 
 /// Where read-only memory begins, up to the end of the megabyte.
 pub const ROM_START: u32 = 0xF_0000;
@@ -30,11 +51,20 @@ pub const ROM_SEGMENT: u16 = 0xF000;
 /// The byte of read-only memory: the opcode of HLT.
 pub const ROM_BYTE: u8 = 0xF4;
 
-/// The trap byte of the default real vector 21h, where the host serves DOS calls.
-pub const DOS_CALL_TRAP: u32 = 0xF_0021;
-
 /// The end of what shows the DOS megabyte: 100000h to 10FFFFh shows its first 64 KB again.
 pub const DOS_VIEW_END: u32 = 0x11_0000;
+
+/// The pages of that view.
+pub const DOS_VIEW_PAGES: u32 = 272;
+
+/// Where memory blocks stand.
+pub const BLOCK_REGION: u32 = 0x40_0000;
+
+/// The end of where memory blocks stand.
+pub const BLOCK_REGION_END: u32 = 0x440_0000;
+
+/// The pages of where memory blocks stand.
+pub const BLOCK_REGION_PAGES: u32 = 0x4000;
 
 /// Where the host's own frames stand, which no client may touch.
 pub const HOST_WINDOW: u32 = 0xC000_0000;

@@ -1,12 +1,23 @@
 // The mode, the flags and the registers of the processor.
 ghost use Rattle.std.specs.Prelude.{◌≡◌, ◌≤◌, ◌<◌, Bool, cond};
 ghost use Rattle.client_world.specs.Registers.{flags_image, flags_of_image, has_bit};
+ghost use Rattle.client_world.specs.Segments.{selector, with_selector};
+
+use crate::segments::SegReg;
 
 /// The processor's mode; `Real` is virtual-8086 mode.
 #[derive(Clone, Copy, Debug, PartialEq, Eq)]
 pub enum Mode {
     Real,
     Protected,
+}
+
+/// The width of a client: 16 bits or 32, chosen at its entry to protected mode. It decides which registers services take, and the items
+/// of the host's frames. Source: DPMI 0.9, "Mode Switching".
+#[derive(Clone, Copy, Debug, PartialEq, Eq)]
+pub enum Width {
+    Sixteen,
+    ThirtyTwo,
 }
 
 /// The bits of the flags image. Source: 80386 Programmer's Reference Manual, ch. 2, EFLAGS.
@@ -148,6 +159,34 @@ impl Regs {
         fs: 0,
         gs: 0,
     };
+
+    /// What a segment register holds: a selector, or in real mode a segment.
+    pub fn selector(&self, seg: SegReg) -> u16
+        ensures { result ≡ selector self.now seg }
+    {
+        match seg {
+            SegReg::Es => self.es,
+            SegReg::Cs => self.cs,
+            SegReg::Ss => self.ss,
+            SegReg::Ds => self.ds,
+            SegReg::Fs => self.fs,
+            SegReg::Gs => self.gs,
+        }
+    }
+
+    /// Puts a selector, or in real mode a segment, into a segment register.
+    pub fn set_selector(&mut self, seg: SegReg, sel: u16)
+        ensures { self.new ≡ with_selector self.old seg sel }
+    {
+        match seg {
+            SegReg::Es => self.es = sel,
+            SegReg::Cs => self.cs = sel,
+            SegReg::Ss => self.ss = sel,
+            SegReg::Ds => self.ds = sel,
+            SegReg::Fs => self.fs = sel,
+            SegReg::Gs => self.gs = sel,
+        }
+    }
 }
 
 /// The flags image gives back the flags and the interrupt flag that it was made of.

@@ -1,0 +1,77 @@
+-- Words that the services of INT 31h share. Source: DPMI 0.9; a carry that is set exactly where a condition holds, with nothing changed
+-- then, is own.
+use Rattle.std.specs.Prelude.{ℕ, ◌+◌, ◌*◌, Bool, true, false, None, Some}
+use Rattle.std.specs.declared.option.Option.{Option}
+use Rattle.client_world.specs.declared.registers.Width.{Width}
+use Rattle.client_world.specs.declared.registers.Width.TheVariants.{Sixteen, ThirtyTwo}
+use Rattle.client_world.specs.declared.descriptors.Origin.{Origin}
+use Rattle.client_world.specs.declared.descriptors.Origin.TheVariants.{Own, Low, Entry, Psp, Segment, Dos, Host}
+use Rattle.client_world.specs.declared.segments.FarPtr.{FarPtr}
+use Rattle.client_world.specs.declared.services.Carry.{Carry}
+use Rattle.client_world.specs.declared.services.Carry.TheVariants.{Clear, Set}
+use Rattle.client_world.specs.Registers.{low_half}
+use Rattle.client_world.specs.Selector.{Row, row_at_index, row_of_selector}
+use Rattle.client_world.specs.World.{World}
+
+-- the carry that a service answers, and the world after it
+pub record Served : Type 0 where
+  pub carry : Carry
+  pub world : World
+
+-- a row of the table of services: refused exactly where the condition holds, and then nothing has changed; else the world after its work
+abbrev pub row : Bool → World → World → Served
+row true before after = record { carry = Set; world = before }
+row false before after = record { carry = Clear; world = after }
+
+-- the descriptor at an index, with its origin
+abbrev pub desc_at : World → ℕ → Row
+desc_at w index = row_at_index w.descriptors index
+
+-- the descriptor that a selector names; whatever privilege level it asks for
+abbrev pub desc_of : World → ℕ → Row
+desc_of w sel = row_of_selector w.descriptors sel
+
+-- the selector is held
+abbrev pub is_held : World → ℕ → Bool
+is_held w sel = elim (desc_of w sel) [ None ↦ false | Some d ↦ true ]
+
+-- a client may change descriptors of these origins
+abbrev pub is_changeable_origin : Origin → Bool
+is_changeable_origin Own = true
+is_changeable_origin Low = true
+is_changeable_origin Entry = true
+is_changeable_origin Psp = true
+is_changeable_origin (Segment segment) = false
+is_changeable_origin (Dos segment) = false
+is_changeable_origin Host = false
+
+-- the selector is held, and its descriptor may be changed
+abbrev pub is_changeable : World → ℕ → Bool
+is_changeable w sel = elim (desc_of w sel) [ None ↦ false | Some d ↦ is_changeable_origin d.1 ]
+
+-- a register named (E)X: the low half for a 16-bit client, all of it for a 32-bit one
+abbrev pub by_width : Option Width → ℕ → ℕ
+by_width None register = low_half register
+by_width (Some Sixteen) register = low_half register
+by_width (Some ThirtyTwo) register = register
+
+-- registers of 16 bits
+abbrev pub ax : World → ℕ
+ax w = low_half w.regs.eax
+
+abbrev pub bx : World → ℕ
+bx w = low_half w.regs.ebx
+
+abbrev pub cx : World → ℕ
+cx w = low_half w.regs.ecx
+
+abbrev pub dx : World → ℕ
+dx w = low_half w.regs.edx
+
+-- the number of two words, the high one first
+abbrev pub two_words : ℕ → ℕ → ℕ
+two_words high low = high * 0x10000 + low
+
+-- the pointer ES:(E)DI
+abbrev pub es_di : World → FarPtr
+es_di w = record { sel = w.regs.es; off = by_width w.width w.regs.edi }
