@@ -16,7 +16,7 @@ pub const MAX_FRAMES: u32 = 65_536;
 /// The memory of the machine, seen as the list of its bytes. Its length never changes.
 #[derive(Drop)]
 pub struct Ram {
-    bytes: Vec<u8>,
+    pub(crate) bytes: Vec<u8>,
 }
 
 impl Model for Ram {
@@ -46,6 +46,13 @@ impl Ram {
         self.bytes.len() as u32
     }
 
+    /// Each is a byte.
+    pub fn bytes_fit(&self)
+        ensures { (at : ℕ) → slice_index self.now at < 0x100 }
+    {
+        all_bytes_fit(&self.bytes);
+    }
+
     /// The byte at an address.
     pub fn get8(&self, at: u32) -> u8
         requires { at < length self.now }
@@ -72,6 +79,17 @@ impl Ram {
         let at = at as usize;
         let low = u32::from(self.bytes[at]) + 0x100 * u32::from(self.bytes[at + 1]);
         low + 0x1_0000 * u32::from(self.bytes[at + 2]) + 0x100_0000 * u32::from(self.bytes[at + 3])
+    }
+
+    /// The N bytes from an address on.
+    pub fn get<const N: usize>(&self, at: u32) -> [u8; N]
+        requires { at + N ≤ length self.now }
+        ensures { result ≡ region self.now at N }
+    {
+        let at = at as usize;
+        let mut run = [0; N];
+        run.copy_from_slice(&self.bytes[at..at + N]);
+        run
     }
 
     /// Puts a byte at an address.
@@ -138,3 +156,8 @@ impl Ram {
         self.bytes[at..at + n as usize].fill(v);
     }
 }
+
+// Each byte of a run fits: the type says so, and contracts see numbers alone.
+fn all_bytes_fit(bytes: &[u8])
+    ensures { (at : ℕ) → slice_index bytes.now at < 0x100 }
+{}

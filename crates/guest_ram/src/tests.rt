@@ -1,6 +1,20 @@
-// A memory of one frame.
+// A memory of one frame, and what a memory is.
 use crate::{FRAME_SIZE, Ram};
 use std::test::Fail;
+
+// All fields of a memory, with their types: with one more this isn't compiled.
+fn parts(ram: &Ram) -> &Vec<u8> {
+    let Ram { bytes } = ram;
+    let bytes: &Vec<u8> = bytes;
+    bytes
+}
+
+#[test]
+fn a_memory_keeps_nothing_but_its_bytes(rt: HostRuntime) -> Result<(), Fail> {
+    let ram = Ram::new(rt.alloc(), 1)?;
+    assert_eq!(rt; parts(&ram).len(), 4096);
+    Ok(())
+}
 
 #[test]
 fn a_word_stands_least_byte_first(rt: HostRuntime) -> Result<(), Fail> {
@@ -34,6 +48,7 @@ fn runs_are_put_copied_and_filled(rt: HostRuntime) -> Result<(), Fail> {
     ram.copy(0x40, 0x42, 4);
     assert_eq!(rt; ram.get32(0x40), 0x0201_0201);
     assert_eq!(rt; ram.get16(0x44), 0x0403);
+    assert_eq!(rt; ram.get(0x41), [2, 1, 2, 3, 4]);
     ram.copy(0x42, 0x41, 4);
     assert_eq!(rt; ram.get32(0x40), 0x0302_0101);
     assert_eq!(rt; ram.get16(0x44), 0x0404);
