@@ -11,7 +11,8 @@ use Rattle.guest_ram.proofs.PutLaws.{put_within, put_away, at_region}
 use Rattle.guest_ram.proofs.ListedLaws.{length-listed, at_listed, same_listed, listed-set}
 use Rattle.client_world.specs.declared.host_frames.TheConstants.{DESCRIPTORS, DESCRIPTOR_ROW_SIZE}
 use Rattle.desc_table.specs.Unpacked.{unpacked, described}
-use Rattle.desc_table.specs.Rows.{Row, row_at, row_bytes, rows_from, row_address, origin_of, origin_code, origin_segment, FitsRow}
+use Rattle.desc_table.specs.Rows.{row_at, row_bytes, rows_from, row_address, origin_of, origin_code, origin_segment}
+use Rattle.client_world.specs.Selector.{Row, FitsRow}
 use Rattle.desc_table.proofs.PackedLaws.{unpacked-packed}
 
 -- eight bytes that are the same are the same descriptor

@@ -3,7 +3,8 @@ use Rattle.std.proofs.Common.{arith, ◌≡◌, ◌≤◌, ◌<◌, ◌+◌, inl
 use Rattle.std.specs.Option.{is_some}
 use Rattle.std.proofs.lemmas.Bool.{cases_lt, true≢false}
 use Rattle.client_world.specs.declared.host_frames.TheConstants.{DESCRIPTORS, FIRST_FREE_DESCRIPTOR}
-use Rattle.desc_table.specs.Rows.{Row, row_at, row_address, IsFreeRun}
+use Rattle.desc_table.specs.Rows.{row_at, row_address, IsFreeRun}
+use Rattle.client_world.specs.Selector.{Row}
 
 -- no run of n begins below an index, from 64 on
 abbrev pub NoneBelow : List ℕ → ℕ → ℕ → Type 0

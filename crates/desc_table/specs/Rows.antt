@@ -1,17 +1,14 @@
 -- The rows of the client's descriptor table, a map from indices below 8192 to descriptors and their origins. Source: own.
-use Rattle.std.specs.Prelude.{◌≡◌, ◌≤◌, ◌<◌, ◌^◌, ℕ, ◌+◌, ◌*◌, ◌/◌, ◌%◌, Option, Some, None, List, [], ◌∷◌, ◌++◌, length, slice_index, nat_eq, if◌then◌else◌}
+use Rattle.std.specs.Prelude.{◌≡◌, ◌≤◌, ◌<◌, ℕ, ◌+◌, ◌*◌, ◌/◌, ◌%◌, Option, Some, None, List, [], ◌∷◌, ◌++◌, length, slice_index, nat_eq, if◌then◌else◌}
 use Rattle.client_world.specs.declared.descriptors.Desc.{Desc}
 use Rattle.client_world.specs.declared.descriptors.Origin.{Origin}
 use Rattle.client_world.specs.declared.descriptors.Origin.TheVariants.{Own, Low, Entry, Psp, Segment, Dos, Host}
 use Rattle.client_world.specs.declared.host_frames.TheConstants.{PAGE_SIZE, DESCRIPTOR_ROWS, DESCRIPTORS, DESCRIPTOR_ROW_SIZE, FIRST_FREE_DESCRIPTOR}
 use Rattle.client_world.specs.Descriptor.{packed}
+use Rattle.client_world.specs.Selector.{Row}
 use Rattle.guest_ram.specs.Bytes.{word_of}
 use Rattle.guest_ram.specs.Listed.{listed}
 use Rattle.desc_table.specs.Unpacked.{unpacked}
-
--- a row: a descriptor and its origin, or nothing where the row is free
-abbrev pub Row : Type 0
-Row = Option (Desc × Origin)
 
 -- the code of an origin; 0 is a free row's
 abbrev pub origin_code : Origin → ℕ
@@ -62,11 +59,6 @@ row_bytes None = 0 ∷ 0 ∷ 0 ∷ 0 ∷ 0 ∷ 0 ∷ 0 ∷ 0 ∷ 0 ∷ 0 ∷ 0 �
 row_bytes (Some r) =
     packed r.0
     ++ (origin_code r.1 ∷ 0 ∷ origin_segment r.1 % 0x100 ∷ origin_segment r.1 / 0x100 ∷ 0 ∷ 0 ∷ 0 ∷ 0 ∷ [])
-
--- the limit of the row's descriptor has 20 bits
-abbrev pub FitsRow : Row → Type 0
-FitsRow None = Unit {0}
-FitsRow (Some r) = r.0.limit < 2 ^ 20
 
 -- the rows of a table from an address on, by their indices
 unfoldable pub rows_from : List ℕ → ℕ → List Row

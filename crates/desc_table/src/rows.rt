@@ -2,10 +2,10 @@
 ghost use Rattle.std.specs.Prelude.{◌≡◌, ◌≢◌, ◌≤◌, ◌<◌, ◌+◌, ◌*◌, ◌↔◌, ◌⊎◌, ℕ, List, Some, length, slice_get, slice_set, IfSome, IsNone};
 ghost use Rattle.client_world.specs.declared.host_frames.TheConstants.{DESCRIPTORS, DESCRIPTOR_ROW_SIZE, FIRST_FREE_DESCRIPTOR};
 ghost use Rattle.client_world.specs.Descriptor.{FitsDescriptor};
+ghost use Rattle.client_world.specs.Selector.{Row, FitsRow};
 ghost use Rattle.guest_ram.specs.Bytes.{put};
 ghost use Rattle.desc_table.specs.Unpacked.{unpacked};
 ghost use Rattle.desc_table.specs.Rows.{
-  Row,
   origin_code,
   origin_segment,
   origin_of,
@@ -14,7 +14,6 @@ ghost use Rattle.desc_table.specs.Rows.{
   rows_from,
   rows_start,
   row_address,
-  FitsRow,
   HasRows,
   IsFreeRun,
   IsFirstFreeRun,
