@@ -16,11 +16,11 @@ pub page_entry_present : (frame : ℕ) (writable : Bool) → has_bit (page_entry
 page_entry_present frame true = is_one _ (omega arith)
 page_entry_present frame false = is_one _ (omega arith)
 
-page_entry_user : (frame : ℕ) (writable : Bool) → has_bit (page_entry frame writable) USER ≡ true
+pub page_entry_user : (frame : ℕ) (writable : Bool) → has_bit (page_entry frame writable) USER ≡ true
 page_entry_user frame true = is_one _ (omega arith)
 page_entry_user frame false = is_one _ (omega arith)
 
-page_entry_writable : (frame : ℕ) (writable : Bool) → has_bit (page_entry frame writable) WRITABLE ≡ writable
+pub page_entry_writable : (frame : ℕ) (writable : Bool) → has_bit (page_entry frame writable) WRITABLE ≡ writable
 page_entry_writable frame true = is_one _ (omega arith)
 page_entry_writable frame false = is_zero _ (omega arith)
 

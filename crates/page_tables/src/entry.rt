@@ -36,6 +36,9 @@ pub const USER_WRITABLE: u32 = PRESENT + WRITABLE + USER + ACCESSED + DIRTY;
 /// The bits of the entry of a page that a user may read: 65h. Source: own.
 pub const USER_READ_ONLY: u32 = PRESENT + USER + ACCESSED + DIRTY;
 
+/// The bits of the entry of a page that the supervisor alone may touch: 63h. Source: own.
+pub const SUPERVISOR_WRITABLE: u32 = PRESENT + WRITABLE + ACCESSED + DIRTY;
+
 // Whether the bit of that value is set in an entry.
 pub(crate) fn is_set(entry: u32, bit: u32) -> bool
     requires { 0 < bit }
