@@ -1,0 +1,148 @@
+-- A new memory holds a world, the blank one.
+use Rattle.std.proofs.Common.{◌≡◌, ℕ, ◌+◌, ◌-◌, ◌*◌, ◌≤◌, true, false, List, slice_index, nat_eq, None, refl, ap, ◌∙◌, sym, arith}
+use Rattle.std.specs.declared.option.Option.{Option}
+use Rattle.client_world.specs.declared.registers.Mode.TheVariants.{Real}
+use Rattle.client_world.specs.declared.host_frames.TheConstants.{PAGE_SIZE, PAGE_DIRECTORY, LOW_TABLE, WINDOW_TABLE, DESCRIPTORS}
+use Rattle.client_world.specs.declared.limits.TheConstants.{MAX_BLOCKS, MAX_PAGES, CALLBACKS, INTERRUPT_VECTORS, EXCEPTION_VECTORS}
+use Rattle.client_world.specs.declared.memory_map.TheConstants.{DOS_VIEW_PAGES}
+use Rattle.client_world.specs.declared.traps.TheConstants.{PROTECTED_VECTOR_TRAPS, EXCEPTION_TRAPS}
+use Rattle.client_world.specs.Selector.{Row}
+use Rattle.client_world.specs.World.{Callback}
+use Rattle.guest_ram.specs.Bytes.{dword}
+use Rattle.guest_ram.specs.Listed.{listed}
+use Rattle.guest_ram.proofs.PutLaws.{dword-region}
+use Rattle.guest_ram.proofs.ListedLaws.{same_listed}
+use Rattle.desc_table.specs.Rows.{row_at, row_bytes, rows_from}
+use Rattle.host_memory.specs.Blank.{no_regs, blank_world, host_pointer}
+use Rattle.host_memory.specs.Holds.{Holds, KeepsRows, KeepsHandles}
+use Rattle.host_memory.specs.Layout.{world_of, fixed_part, tables_part, rows_part, vectors_part, records_part, handles_part, locks_part, arena_part, taken_part, budget_part, block_in, blocks_in, pages_of}
+use Rattle.host_memory.specs.Records.{KeepsRecords}
+use Rattle.host_memory.specs.Tables.{HasFixedEntries, HasBlockEntries}
+use Rattle.host_memory.specs.Vectors.{KeepsVectors, pointer_at, callback_at, callback_bytes, callbacks_start, pageable_start, exceptions_start, interrupt_vectors_in, exception_vectors_in, callbacks_in, pageable_in}
+use Rattle.host_memory.proofs.FreshMemory.{IsBlank}
+use Rattle.host_memory.proofs.BlankLists.{OneEntry, no_records, no_calls, arena_is_whole, keeps_one_entry, none_used, no_pages_together}
+use Rattle.host_memory.proofs.BlankParts.{rows_zero, records_zero, handles_zero, taken_zero, no_entry, no_pages, no_lock, free_row_byte, no_row, vector_of, vector_is, vector_byte_is, rest_zero, no_callback, free_callback_byte, arena_byte, arena_zero}
+
+fixed_entries : (b : List ℕ) (budget : ℕ) → IsBlank b budget → HasFixedEntries (fixed_part b)
+fixed_entries b budget h = record {
+  directory = λ k small. dword-region b (PAGE_SIZE * PAGE_DIRECTORY) (PAGE_SIZE * 3) (4 * k) (omega arith) ∙ h.directory k small;
+  low = λ k small.
+      dword-region b (PAGE_SIZE * PAGE_DIRECTORY) (PAGE_SIZE * 3) (PAGE_SIZE + 4 * k) (omega arith)
+      ∙ ap (dword b) (let e : PAGE_SIZE * PAGE_DIRECTORY + (PAGE_SIZE + 4 * k) ≡ PAGE_SIZE * LOW_TABLE + 4 * k = omega arith in e)
+      ∙ h.low k small;
+  window = λ k small.
+      dword-region b (PAGE_SIZE * PAGE_DIRECTORY) (PAGE_SIZE * 3) (2 * PAGE_SIZE + 4 * k) (omega arith)
+      ∙ ap (dword b) (let e : PAGE_SIZE * PAGE_DIRECTORY + (2 * PAGE_SIZE + 4 * k) ≡ PAGE_SIZE * WINDOW_TABLE + 4 * k = omega arith in e)
+      ∙ h.window k small;
+}
+
+free_rows : (b : List ℕ) (budget : ℕ) → IsBlank b budget → KeepsRows (rows_part b)
+free_rows b budget h = record {
+  each = λ index at small within.
+      rows_zero b budget h (16 * index + at)
+      ∙ sym (ap (λ (row : Row). slice_index (row_bytes row) at) (no_row b budget h (16 * index)) ∙ free_row_byte at within);
+}
+
+host_vectors : (b : List ℕ) (budget : ℕ) → IsBlank b budget → KeepsVectors (vectors_part b)
+host_vectors b budget h = record {
+  vectors = λ n at small within. vector_byte_is b budget h n at small within;
+  callbacks = λ slot at small within.
+      rest_zero b budget h (callbacks_start + (16 * slot + at)) (omega arith)
+      ∙ sym (ap (λ (callback : Option Callback). slice_index (callback_bytes callback) at)
+      (no_callback b budget h (callbacks_start + 16 * slot) (omega arith)) ∙ free_callback_byte at within);
+  pageable = λ page small. let e = rest_zero b budget h (pageable_start + page) (omega arith) in omega arith;
+  rest = λ at from to. rest_zero b budget h at (omega arith);
+}
+
+records_none : (b : List ℕ) (budget : ℕ) → IsBlank b budget → KeepsRecords (records_part b)
+records_none b budget h = record {
+  each = λ place at within small. absurd (let none = no_records (records_part b) (records_zero b budget h) in omega arith);
+  rest = λ at behind within. records_zero b budget h at;
+}
+
+free_handles : (b : List ℕ) (budget : ℕ) → IsBlank b budget → KeepsHandles (handles_part b)
+free_handles b budget h = record {
+  rest = λ place at small from to. handles_zero b budget h (16 * place + at);
+  free = λ place at small none within. handles_zero b budget h (16 * place + at);
+}
+
+absent_entries : (b : List ℕ) (budget : ℕ) → IsBlank b budget → HasBlockEntries (handles_part b) (tables_part b) (taken_part b) budget
+absent_entries b budget h = record {
+  named = λ place offset small within. absurd (let none = no_pages b budget h place in omega arith);
+  absent = λ page small outside. no_entry b budget h page;
+  once = λ page other small within ne there. absurd (there (no_entry b budget h page));
+  idle = λ frame page within small free named. let none = no_entry b budget h page in omega arith;
+  busy = λ frame within taken. absurd (taken (taken_zero b budget h frame));
+  bits = λ frame. let none = taken_zero b budget h frame in omega arith;
+  beyond = λ frame from to. taken_zero b budget h frame;
+}
+
+one_entry : (b : List ℕ) (budget : ℕ) → IsBlank b budget → OneEntry (arena_part b)
+one_entry b budget h = record { each = arena_byte b budget h; zeros = arena_zero b budget h }
+
+-- a new memory holds a world
+pub blank_holds : (b : List ℕ) (budget : ℕ) → budget ≤ MAX_PAGES → IsBlank b budget → Holds b budget
+blank_holds b budget most h = record {
+  size = h.size;
+  most = most;
+  fixed = fixed_entries b budget h;
+  rows = free_rows b budget h;
+  vectors = host_vectors b budget h;
+  records = records_none b budget h;
+  handles = free_handles b budget h;
+  blocks = absent_entries b budget h;
+  count = none_used (taken_part b) (taken_zero b budget h) ∙ sym (no_pages_together (handles_part b) (no_pages b budget h));
+  locks = record { outside = λ page small outside. no_lock b budget h page };
+  arena = keeps_one_entry (arena_part b) (one_entry b budget h);
+}
+
+-- and which one
+no_block : (handles tables locks frames : List ℕ) (place : ℕ) → pages_of handles place ≡ 0 → block_in handles tables locks frames place ≡ None
+unfolding block_in
+no_block handles tables locks frames place e = rw e refl
+
+no_blocks : (b : List ℕ) (budget : ℕ) → IsBlank b budget →
+    blocks_in (handles_part b) (tables_part b) (locks_part b) (budget_part b budget) ≡ listed MAX_BLOCKS (λ place. None)
+no_blocks b budget h = same_listed MAX_BLOCKS (block_in (handles_part b) (tables_part b) (locks_part b) (budget_part b budget)) (λ place. None)
+    (λ place small. no_block (handles_part b) (tables_part b) (locks_part b) (budget_part b budget) place (no_pages b budget h place))
+
+no_rows : (b : List ℕ) (budget : ℕ) → IsBlank b budget → rows_from (rows_part b) 0 ≡ listed DESCRIPTORS (λ index. None)
+unfolding rows_from
+no_rows b budget h = same_listed DESCRIPTORS (λ index. row_at (rows_part b) (0 + 16 * index)) (λ index. None)
+    (λ index small. no_row b budget h (0 + 16 * index))
+
+interrupts : (b : List ℕ) (budget : ℕ) → IsBlank b budget →
+    interrupt_vectors_in (vectors_part b) ≡ listed INTERRUPT_VECTORS (λ n. host_pointer (PROTECTED_VECTOR_TRAPS + n))
+interrupts b budget h = same_listed INTERRUPT_VECTORS (λ n. pointer_at (vectors_part b) (8 * n)) (λ n. host_pointer (PROTECTED_VECTOR_TRAPS + n))
+    (λ n small. vector_is b budget h n (omega arith)
+    ∙ ap vector_of (let e : 0x200 + n ≡ 0xF0200 + n - 0xF0000 = omega arith in e))
+
+exceptions : (b : List ℕ) (budget : ℕ) → IsBlank b budget →
+    exception_vectors_in (vectors_part b) ≡ listed EXCEPTION_VECTORS (λ n. host_pointer (EXCEPTION_TRAPS + n))
+exceptions b budget h = same_listed EXCEPTION_VECTORS (λ n. pointer_at (vectors_part b) (exceptions_start + 8 * n)) (λ n. host_pointer (EXCEPTION_TRAPS + n))
+    (λ n small. ap (λ (at : ℕ). pointer_at (vectors_part b) at) (let e : 0x800 + 8 * n ≡ 8 * (0x100 + n) = omega arith in e)
+    ∙ vector_is b budget h (0x100 + n) (omega arith)
+    ∙ ap vector_of (let e : 0x200 + (0x100 + n) ≡ 0xF0300 + n - 0xF0000 = omega arith in e))
+
+no_callbacks : (b : List ℕ) (budget : ℕ) → IsBlank b budget → callbacks_in (vectors_part b) ≡ listed CALLBACKS (λ slot. None)
+no_callbacks b budget h = same_listed CALLBACKS (λ slot. callback_at (vectors_part b) (callbacks_start + 16 * slot)) (λ slot. None)
+    (λ slot small. no_callback b budget h (callbacks_start + 16 * slot) (omega arith))
+
+not_pageable : (b : List ℕ) (budget : ℕ) → IsBlank b budget → pageable_in (vectors_part b) ≡ listed DOS_VIEW_PAGES (λ page. false)
+not_pageable b budget h = same_listed DOS_VIEW_PAGES (λ page. nat_eq (slice_index (vectors_part b) (pageable_start + page)) 1) (λ page. false)
+    (λ page small. ap (λ (v : ℕ). nat_eq v 1) (rest_zero b budget h (pageable_start + page) (omega arith)))
+
+pub blank_world_is : (b : List ℕ) (budget : ℕ) → IsBlank b budget → world_of b budget Real no_regs true None ≡ blank_world budget
+unfolding world_of blank_world
+blank_world_is b budget h =
+    rw (
+      h.megabyte,
+      arena_is_whole (arena_part b) (one_entry b budget h),
+      no_blocks b budget h,
+      not_pageable b budget h,
+      no_rows b budget h,
+      interrupts b budget h,
+      exceptions b budget h,
+      no_callbacks b budget h,
+      no_calls (records_part b) (records_zero b budget h),
+    )

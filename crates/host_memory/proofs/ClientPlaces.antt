@@ -1,0 +1,115 @@
+-- The places that the client may write, and where they stand in the memory.
+use Rattle.std.proofs.Common.{◌≡◌, ℕ, suc, ◌*◌, ◌<◌, ◌≤◌, ◌⊎◌, inl, inr, Bool, true, List, length, refl, ap, ◌∙◌, sym, subst, arith, Option, Some, None}
+use Rattle.std.proofs.lemmas.Bool.{ltb-true}
+use Rattle.client_world.specs.declared.registers.Mode.{Mode}
+use Rattle.client_world.specs.declared.registers.Regs.{Regs}
+use Rattle.client_world.specs.declared.registers.Width.{Width}
+use Rattle.client_world.specs.declared.place.Place.{Place}
+use Rattle.client_world.specs.declared.place.Place.TheVariants.{Dos, Block, Host, Nothing}
+use Rattle.client_world.specs.declared.host_frames.TheConstants.{PAGE_SIZE, BUDGET_FRAMES}
+use Rattle.client_world.specs.declared.memory_map.TheConstants.{DOS_SIZE, ROM_START}
+use Rattle.client_world.specs.Access.{may_touch, HasByte, IsHeld}
+use Rattle.client_world.specs.Soundness.{SoundBlocks}
+use Rattle.client_world.specs.World.{World, MemoryBlock, block_at}
+use Rattle.host_memory.specs.Layout.{world_of, address_of, handles_part, tables_part, locks_part, budget_part, taken_part, blocks_in}
+use Rattle.host_memory.specs.Holds.{Holds}
+use Rattle.host_memory.proofs.WorldParts.{blocks_is}
+use Rattle.host_memory.proofs.BlockRows.{HasRanges, ranges, held_row}
+use Rattle.host_memory.proofs.BlockBytes.{IsBlockByte, spot_small}
+use Rattle.host_memory.proofs.ByteLaw.{block_spot}
+
+-- the place is a byte of the megabyte, below its read-only part or below a bound
+pub record InMegabyte (p : Place) (bound : ℕ) : Type 0 where
+  pub at : ℕ
+  pub is : p ≡ Dos at
+  pub low : at < bound
+
+-- or a byte of a block
+pub record InBlockBytes (handles : List ℕ) (p : Place) : Type 0 where
+  pub place : ℕ
+  pub at : ℕ
+  pub is : p ≡ Block (suc place) at
+  pub byte : IsBlockByte handles place at
+
+abbrev pub StandsBelow : List ℕ → ℕ → Place → Type 0
+StandsBelow handles bound p = InMegabyte p bound ⊎ InBlockBytes handles p
+
+-- the client may write there
+abbrev pub IsWritable : List ℕ → Place → Type 0
+IsWritable handles p = StandsBelow handles ROM_START p
+
+-- a block that has the byte
+record HasBlock (block : Option MemoryBlock) (at : ℕ) : Type 0 where
+  held : MemoryBlock
+  there : block ≡ Some held
+  inside : at < length held.bytes
+
+has_block : (block : Option MemoryBlock) (at : ℕ) → HasByte block at → HasBlock block at
+has_block None at byte = absurd byte
+has_block (Some block) at byte = record { held = block; there = refl; inside = byte }
+
+byte_in : (handles tables locks frames : List ℕ) (number at : ℕ) → HasByte (block_at (blocks_in handles tables locks frames) number) at →
+    InBlockBytes handles (Block number at)
+byte_in handles tables locks frames number at byte =
+    let has = has_block (block_at (blocks_in handles tables locks frames) number) at byte in
+    let row = held_row handles tables locks frames number has.held has.there in
+    let inside = has.inside in
+    let long = row.gives.bytes in
+    record {
+      place = row.place;
+      at = at;
+      is = ap (λ (n : ℕ). Block n at) row.named;
+      byte = record { within = row.within; inside = omega arith };
+    }
+
+-- what the client holds of the world stands in the memory
+stands_in : (b : List ℕ) (budget : ℕ) (w : World) (p : Place) (bound : ℕ) →
+    w.blocks ≡ blocks_in (handles_part b) (tables_part b) (locks_part b) (budget_part b budget) →
+    ((at : ℕ) → p ≡ Dos at → at < bound) → IsHeld w p → StandsBelow (handles_part b) bound p
+stands_in b budget w (Dos at) bound e low held = inl (record { at = at; is = refl; low = low at refl })
+stands_in b budget w (Block number at) bound e low held =
+    inr (byte_in (handles_part b) (tables_part b) (locks_part b) (budget_part b budget) number at (subst (λ (bs : List (Option MemoryBlock)). HasByte (block_at bs number) at) e held))
+stands_in b budget w Host bound e low held = absurd held
+stands_in b budget w Nothing bound e low held = absurd held
+
+below_rom : (p : Place) (at : ℕ) → may_touch p true ≡ true → p ≡ Dos at → at < ROM_START
+below_rom p at may e = ltb-true at ROM_START (ap (λ (q : Place). may_touch q true) (sym e) ∙ may)
+
+-- a place that the client holds and may write is one of these
+pub writable : (b : List ℕ) (budget : ℕ) (mode : Mode) (regs : Regs) (vif : Bool) (width : Option Width) (p : Place) → may_touch p true ≡ true →
+    IsHeld (world_of b budget mode regs vif width) p → IsWritable (handles_part b) p
+writable b budget mode regs vif width p may held =
+    stands_in b budget (world_of b budget mode regs vif width) p ROM_START (blocks_is b budget mode regs vif width) (λ at e. below_rom p at may e) held
+
+-- the rows of the blocks of a world whose blocks are sound
+pub ranges_of : (b : List ℕ) (budget pages : ℕ) (mode : Mode) (regs : Regs) (vif : Bool) (width : Option Width) →
+    SoundBlocks (world_of b budget mode regs vif width).blocks pages → HasRanges (handles_part b)
+ranges_of b budget pages mode regs vif width sound =
+    ranges (handles_part b) (tables_part b) (locks_part b) (budget_part b budget) pages
+    (subst (λ (bs : List (Option MemoryBlock)). SoundBlocks bs pages) (blocks_is b budget mode regs vif width) sound)
+
+-- addresses
+
+pub address_dos : (b : List ℕ) (at : ℕ) → address_of b (Dos at) ≡ at
+unfolding address_of
+address_dos b at = refl
+
+-- the place stands in the megabyte below that bound, or among the budget frames
+pub address_outside : (b : List ℕ) (budget : ℕ) → Holds b budget → (bound : ℕ) (p : Place) → StandsBelow (handles_part b) bound p →
+    (address_of b p < bound) ⊎ (PAGE_SIZE * BUDGET_FRAMES ≤ address_of b p)
+address_outside b budget holds bound p at = elim at [
+  | inl dos ↦ inl (let low = dos.low in let e = ap (address_of b) dos.is ∙ address_dos b dos.at in omega arith)
+  | inr block ↦ inr (let e = ap (address_of b) block.is ∙ block_spot b budget block.place block.at holds block.byte.within block.byte.inside in omega arith)
+]
+
+-- and in the memory
+pub address_inside : (b : List ℕ) (budget : ℕ) → Holds b budget → (p : Place) → StandsBelow (handles_part b) DOS_SIZE p → address_of b p < length b
+address_inside b budget holds p at =
+    let size = holds.size in
+    elim at [
+      | inl dos ↦ (let low = dos.low in let e = ap (address_of b) dos.is ∙ address_dos b dos.at in omega arith)
+      | inr block ↦ (
+          let e = ap (address_of b) block.is ∙ block_spot b budget block.place block.at holds block.byte.within block.byte.inside in
+          let small = spot_small (handles_part b) (tables_part b) (taken_part b) budget holds.blocks block.place block.at block.byte in
+          omega arith)
+    ]

@@ -1,0 +1,192 @@
+-- The writes of a new memory, one after the other, and what they leave: its tables, its megabyte, and zeros elsewhere.
+use Rattle.std.proofs.Common.{◌≡◌, ℕ, ◌+◌, ◌-◌, ◌*◌, ◌/◌, ◌%◌, ◌<◌, ◌≤◌, ◌⊎◌, inl, inr, zero, suc, List, length, slice_index, nat_eq, if◌then◌else◌, refl, ap, ◌∙◌, sym, arith, zero-add}
+use Rattle.std.proofs.lemmas.Bool.{cases_lt, lt-ltb, le-ltb}
+use Rattle.std.proofs.lemmas.Grind.{same_number_lists}
+use Rattle.client_world.specs.declared.dos_memory.DosEntry.{DosEntry}
+use Rattle.client_world.specs.declared.dos_memory.DosState.TheVariants.{Free}
+use Rattle.client_world.specs.declared.host_frames.TheConstants.{PAGE_SIZE, PAGE_DIRECTORY, LOW_TABLE, WINDOW_TABLE, BLOCK_TABLES, VECTORS, DOS_LIST, BUDGET_FRAMES}
+use Rattle.client_world.specs.declared.limits.TheConstants.{INTERRUPT_VECTORS}
+use Rattle.client_world.specs.declared.memory_map.TheConstants.{PARAGRAPH_SIZE, DOS_SIZE, VECTOR_TABLE_SIZE, ROM_START, ROM_BYTE, ARENA_START, ARENA_END}
+use Rattle.guest_ram.specs.Bytes.{put, region, dword, dword_bytes}
+use Rattle.guest_ram.specs.Listed.{listed, copies}
+use Rattle.guest_ram.specs.declared.ram.TheConstants.{FRAME_SIZE}
+use Rattle.guest_ram.proofs.PutLaws.{length-put, put_below, put_above, put_within, put_away, length-region, at_region, same_region, region-put, same_dword}
+use Rattle.guest_ram.proofs.ListedLaws.{length-listed, at_listed, length-copies, at_copies}
+use Rattle.page_tables.specs.declared.entry.TheConstants.{TABLE_ENTRIES}
+use Rattle.host_memory.specs.declared.blank.TheConstants.{VECTOR_HALVES}
+use Rattle.host_memory.specs.Blank.{plain_byte, vector_byte, blank_megabyte}
+use Rattle.host_memory.specs.DosList.{entry_bytes}
+use Rattle.host_memory.specs.Filling.{Written, real_vector_at, vector_half_at}
+use Rattle.host_memory.specs.Headers.{header_bytes}
+use Rattle.host_memory.specs.Layout.{dos_part}
+use Rattle.host_memory.specs.Tables.{directory_entry_at, low_entry_at, window_entry_at}
+use Rattle.host_memory.proofs.Filling.{written_dword}
+
+-- the one entry of DOS memory
+abbrev pub whole_arena : DosEntry
+whole_arena = record { at = ARENA_START; paras = ARENA_END - ARENA_START - 1; state = Free }
+
+-- the writes; of the two runs of bytes that are put, what they are
+pub record Fresh (budget : ℕ) (header row b0 b1 b2 b3 b4 b5 b6 b7 b8 : List ℕ) : Type 0 where
+  pub header_is : header ≡ header_bytes 0x5A whole_arena
+  pub row_is : row ≡ entry_bytes whole_arena
+  pub size : length b0 ≡ (BUDGET_FRAMES + budget) * FRAME_SIZE
+  pub zero : (at : ℕ) → slice_index b0 at ≡ 0
+  pub rom : b1 ≡ put b0 ROM_START (copies (DOS_SIZE - ROM_START) ROM_BYTE)
+  pub reals : Written real_vector_at 0 INTERRUPT_VECTORS b1 b2
+  pub head : b3 ≡ put b2 (PARAGRAPH_SIZE * ARENA_START) header
+  pub directory : Written directory_entry_at (PAGE_SIZE * PAGE_DIRECTORY) TABLE_ENTRIES b3 b4
+  pub low : Written low_entry_at (PAGE_SIZE * LOW_TABLE) TABLE_ENTRIES b4 b5
+  pub window : Written window_entry_at (PAGE_SIZE * WINDOW_TABLE) TABLE_ENTRIES b5 b6
+  pub list : b7 ≡ put b6 (PAGE_SIZE * DOS_LIST) row
+  pub vectors : Written vector_half_at (PAGE_SIZE * VECTORS) VECTOR_HALVES b7 b8
+
+-- the bytes of a new memory
+pub record IsBlank (b : List ℕ) (budget : ℕ) : Type 0 where
+  pub size : length b ≡ PAGE_SIZE * (BUDGET_FRAMES + budget)
+  pub megabyte : dos_part b ≡ blank_megabyte
+  pub directory : (k : ℕ) → k < TABLE_ENTRIES → dword b (PAGE_SIZE * PAGE_DIRECTORY + 4 * k) ≡ directory_entry_at k
+  pub low : (k : ℕ) → k < TABLE_ENTRIES → dword b (PAGE_SIZE * LOW_TABLE + 4 * k) ≡ low_entry_at k
+  pub window : (k : ℕ) → k < TABLE_ENTRIES → dword b (PAGE_SIZE * WINDOW_TABLE + 4 * k) ≡ window_entry_at k
+  pub list : (at : ℕ) → at < 8 → slice_index b (PAGE_SIZE * DOS_LIST + at) ≡ slice_index (entry_bytes whole_arena) at
+  pub vectors : (k at : ℕ) → k < VECTOR_HALVES → at < 4 →
+      slice_index b (PAGE_SIZE * VECTORS + (4 * k + at)) ≡ slice_index (dword_bytes (vector_half_at k)) at
+  pub zeros : (at : ℕ) → PAGE_SIZE * BLOCK_TABLES ≤ at →
+      (at < PAGE_SIZE * VECTORS) ⊎ (PAGE_SIZE * VECTORS + 4 * VECTOR_HALVES ≤ at) →
+      (at < PAGE_SIZE * DOS_LIST) ⊎ (PAGE_SIZE * DOS_LIST + 8 ≤ at) → slice_index b at ≡ 0
+
+length-header : (header : List ℕ) → header ≡ header_bytes 0x5A whole_arena → length header ≡ 16
+unfolding header_bytes
+length-header header e = ap length e
+
+-- the real vectors, byte by byte
+real_byte : (n r : ℕ) → n < 256 → r < 4 →
+    slice_index (dword_bytes (real_vector_at n)) r ≡ (if nat_eq r 0 then n else if nat_eq r 3 then 0xF0 else 0)
+real_byte n zero small within = omega arith
+real_byte n (suc zero) small within = omega arith
+real_byte n (suc (suc zero)) small within = omega arith
+real_byte n (suc (suc (suc zero))) small within = omega arith
+real_byte n (suc (suc (suc (suc r)))) small within = absurd (omega arith)
+
+-- the three ranges of a plain byte
+pub plain_vector : (k : ℕ) → k < VECTOR_TABLE_SIZE → plain_byte k ≡ vector_byte k
+plain_vector k small = rw (lt-ltb k 1024 small)
+
+pub plain_zero : (k : ℕ) → VECTOR_TABLE_SIZE ≤ k → k < ROM_START → plain_byte k ≡ 0
+plain_zero k from to = rw (le-ltb k 1024 from, lt-ltb k 983040 to)
+
+pub plain_rom : (k : ℕ) → ROM_START ≤ k → plain_byte k ≡ ROM_BYTE
+plain_rom k from = let past : 1024 ≤ k = omega arith in rw (le-ltb k 1024 past, le-ltb k 983040 from)
+
+-- a memory of zeros with read-only memory and the real vectors
+vectors_and_rom : (b0 b1 b2 : List ℕ) → DOS_SIZE ≤ length b0 → ((at : ℕ) → slice_index b0 at ≡ 0) →
+    b1 ≡ put b0 ROM_START (copies (DOS_SIZE - ROM_START) ROM_BYTE) → Written real_vector_at 0 INTERRUPT_VECTORS b1 b2 →
+    (k : ℕ) → k < DOS_SIZE → slice_index b2 k ≡ plain_byte k
+vectors_and_rom b0 b1 b2 room blank rom reals k small = elim (cases_lt k VECTOR_TABLE_SIZE) [
+  | inl vector ↦
+      ap (λ (p : ℕ). slice_index b2 p) (let e : k ≡ 0 + (4 * (k / 4) + k % 4) = omega arith in e)
+      ∙ reals.each (k / 4) (k % 4) (omega arith) (omega arith)
+      ∙ real_byte (k / 4) (k % 4) (omega arith) (omega arith)
+      ∙ sym (plain_vector k vector)
+  | inr past ↦ reals.others k (inr (omega arith)) ∙ ap (λ (b : List ℕ). slice_index b k) rom ∙ elim (cases_lt k ROM_START) [
+    | inl below ↦ put_below b0 ROM_START (copies (DOS_SIZE - ROM_START) ROM_BYTE) k below ∙ blank k ∙ sym (plain_zero k past below)
+    | inr inside ↦
+        put_within b0 ROM_START (copies (DOS_SIZE - ROM_START) ROM_BYTE) (k - ROM_START) k
+        (let long = length-copies (DOS_SIZE - ROM_START) ROM_BYTE in omega arith)
+        (let long = length-copies (DOS_SIZE - ROM_START) ROM_BYTE in omega arith) (omega arith)
+        ∙ at_copies (DOS_SIZE - ROM_START) ROM_BYTE (k - ROM_START) (omega arith) ∙ sym (plain_rom k inside)
+  ]
+]
+
+-- with the header of DOS memory it is the megabyte of a new memory
+with_header : (header b2 b3 : List ℕ) → header ≡ header_bytes 0x5A whole_arena → DOS_SIZE ≤ length b2 →
+    ((k : ℕ) → k < DOS_SIZE → slice_index b2 k ≡ plain_byte k) → b3 ≡ put b2 (PARAGRAPH_SIZE * ARENA_START) header →
+    dos_part b3 ≡ blank_megabyte
+unfolding blank_megabyte
+with_header header b2 b3 header_is room each e =
+    ap dos_part e
+    ∙ region-put b2 1536 header 0 DOS_SIZE 1536 refl (let long = length-header header header_is in omega arith)
+    ∙ ap (λ (dos : List ℕ). put dos 1536 header) plain
+    ∙ ap (λ (run : List ℕ). put (listed DOS_SIZE plain_byte) 1536 run) header_is
+  where
+    plain : region b2 0 DOS_SIZE ≡ listed DOS_SIZE plain_byte
+    plain = same_number_lists (region b2 0 DOS_SIZE) (listed DOS_SIZE plain_byte)
+        (length-region b2 0 DOS_SIZE room ∙ sym (length-listed DOS_SIZE plain_byte))
+        (λ k within.
+        let small : k < DOS_SIZE = omega (arith, length-region b2 0 DOS_SIZE room) in
+        at_region b2 0 DOS_SIZE k small ∙ ap (λ (p : ℕ). slice_index b2 p) (zero-add k) ∙ each k small
+        ∙ sym (at_listed DOS_SIZE plain_byte k 0 small))
+
+-- the writes leave the bytes of a new memory
+pub is_blank : (budget : ℕ) (header row b0 b1 b2 b3 b4 b5 b6 b7 b8 : List ℕ) → Fresh budget header row b0 b1 b2 b3 b4 b5 b6 b7 b8 → IsBlank b8 budget
+is_blank budget header row b0 b1 b2 b3 b4 b5 b6 b7 b8 w = record {
+  size = at_end ∙ at_tables ∙ at_head ∙ before ∙ w.size ∙ omega arith;
+  megabyte =
+      same_region b8 b3 0 DOS_SIZE (at_end ∙ at_tables)
+      (let e = at_end ∙ at_tables ∙ at_head ∙ before in let size = w.size in omega arith)
+      (λ at from to. in_megabyte at (omega arith))
+      ∙ with_header header b2 b3 w.header_is (let e = before in let size = w.size in omega arith)
+      (vectors_and_rom b0 b1 b2 (let room = w.size in omega arith) w.zero w.rom w.reals) w.head;
+  directory = λ k small.
+      same_dword b8 b4 (PAGE_SIZE * PAGE_DIRECTORY + 4 * k) (PAGE_SIZE * PAGE_DIRECTORY + 4 * k) (λ at within.
+      late (PAGE_SIZE * PAGE_DIRECTORY + 4 * k + at) (inl (omega arith)) (inl (omega arith))
+      ∙ w.window.others (PAGE_SIZE * PAGE_DIRECTORY + 4 * k + at) (inl (omega arith))
+      ∙ w.low.others (PAGE_SIZE * PAGE_DIRECTORY + 4 * k + at) (inl (omega arith)))
+      ∙ written_dword directory_entry_at (PAGE_SIZE * PAGE_DIRECTORY) TABLE_ENTRIES k b3 b4 w.directory small;
+  low = λ k small.
+      same_dword b8 b5 (PAGE_SIZE * LOW_TABLE + 4 * k) (PAGE_SIZE * LOW_TABLE + 4 * k) (λ at within.
+      late (PAGE_SIZE * LOW_TABLE + 4 * k + at) (inl (omega arith)) (inl (omega arith))
+      ∙ w.window.others (PAGE_SIZE * LOW_TABLE + 4 * k + at) (inl (omega arith)))
+      ∙ written_dword low_entry_at (PAGE_SIZE * LOW_TABLE) TABLE_ENTRIES k b4 b5 w.low small;
+  window = λ k small.
+      same_dword b8 b6 (PAGE_SIZE * WINDOW_TABLE + 4 * k) (PAGE_SIZE * WINDOW_TABLE + 4 * k) (λ at within.
+      late (PAGE_SIZE * WINDOW_TABLE + 4 * k + at) (inl (omega arith)) (inl (omega arith)))
+      ∙ written_dword window_entry_at (PAGE_SIZE * WINDOW_TABLE) TABLE_ENTRIES k b5 b6 w.window small;
+  list = λ at small.
+      w.vectors.others (PAGE_SIZE * DOS_LIST + at) (inr (omega arith))
+      ∙ ap (λ (b : List ℕ). slice_index b (PAGE_SIZE * DOS_LIST + at)) w.list
+      ∙ put_within b6 (PAGE_SIZE * DOS_LIST) row at (PAGE_SIZE * DOS_LIST + at)
+      (let e = at_tables ∙ at_head ∙ before in let size = w.size in let long = long_row in omega arith) (let long = long_row in omega arith) refl
+      ∙ ap (λ (run : List ℕ). slice_index run at) w.row_is;
+  vectors = w.vectors.each;
+  zeros = λ at from no_vector no_list.
+      late at no_vector no_list
+      ∙ w.window.others at (inr (omega arith)) ∙ w.low.others at (inr (omega arith)) ∙ w.directory.others at (inr (omega arith))
+      ∙ ap (λ (b : List ℕ). slice_index b at) w.head ∙ put_above b2 (PARAGRAPH_SIZE * ARENA_START) header at (let long = long_header in omega arith)
+      ∙ w.reals.others at (inr (omega arith)) ∙ ap (λ (b : List ℕ). slice_index b at) w.rom
+      ∙ put_above b0 ROM_START (copies (DOS_SIZE - ROM_START) ROM_BYTE) at (let long = length-copies (DOS_SIZE - ROM_START) ROM_BYTE in omega arith)
+      ∙ w.zero at;
+}
+  where
+    long_row : length row ≡ 8
+    long_row = ap length w.row_is
+
+    long_header : length header ≡ 16
+    long_header = length-header header w.header_is
+
+    before : length b2 ≡ length b0
+    before = w.reals.size ∙ ap length w.rom ∙ length-put b0 ROM_START (copies (DOS_SIZE - ROM_START) ROM_BYTE)
+
+    at_head : length b3 ≡ length b2
+    at_head = ap length w.head ∙ length-put b2 (PARAGRAPH_SIZE * ARENA_START) header
+
+    at_tables : length b6 ≡ length b3
+    at_tables = w.window.size ∙ w.low.size ∙ w.directory.size
+
+    at_end : length b8 ≡ length b6
+    at_end = w.vectors.size ∙ ap length w.list ∙ length-put b6 (PAGE_SIZE * DOS_LIST) row
+
+    -- what the last two writes leave
+    late : (at : ℕ) → (at < PAGE_SIZE * VECTORS) ⊎ (PAGE_SIZE * VECTORS + 4 * VECTOR_HALVES ≤ at) →
+        (at < PAGE_SIZE * DOS_LIST) ⊎ (PAGE_SIZE * DOS_LIST + 8 ≤ at) → slice_index b8 at ≡ slice_index b6 at
+    late at no_vector no_list =
+        w.vectors.others at no_vector ∙ ap (λ (b : List ℕ). slice_index b at) w.list
+        ∙ put_away b6 (PAGE_SIZE * DOS_LIST) row at (elim no_list [
+          | inl below ↦ inr below
+          | inr above ↦ inl (let long = long_row in omega arith)
+        ])
+
+    in_megabyte : (at : ℕ) → at < DOS_SIZE → slice_index b8 at ≡ slice_index b3 at
+    in_megabyte at small =
+        late at (inl (omega arith)) (inl (omega arith))
+        ∙ w.window.others at (inl (omega arith)) ∙ w.low.others at (inl (omega arith)) ∙ w.directory.others at (inl (omega arith))

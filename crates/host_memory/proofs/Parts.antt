@@ -1,0 +1,238 @@
+-- All parts of the memory together, and the world and what the memory must keep as functions of them alone. A write is one equation of
+-- the parts (`PutParts`), and from it follow the world after it and that the memory still holds one.
+use Rattle.std.proofs.Common.{◌≡◌, ℕ, zero, suc, ◌+◌, ◌*◌, ◌≤◌, Bool, List, length, refl, ap, ◌∙◌, sym, subst}
+use Rattle.std.specs.declared.option.Option.{Option}
+use Rattle.client_world.specs.declared.registers.Mode.{Mode}
+use Rattle.client_world.specs.declared.registers.Regs.{Regs}
+use Rattle.client_world.specs.declared.registers.Width.{Width}
+use Rattle.client_world.specs.declared.place.Place.{Place}
+use Rattle.client_world.specs.declared.place.Place.TheVariants.{Dos, Block, Host, Nothing}
+use Rattle.client_world.specs.declared.host_frames.TheConstants.{PAGE_SIZE, BUDGET_FRAMES}
+use Rattle.client_world.specs.declared.limits.TheConstants.{MAX_PAGES}
+use Rattle.client_world.specs.World.{World}
+use Rattle.guest_ram.specs.Count.{used}
+use Rattle.desc_table.specs.Rows.{rows_from}
+use Rattle.host_memory.specs.Layout.{world_of, address_of, dos_part, fixed_part, tables_part, rows_part, vectors_part, records_part, handles_part, locks_part, arena_part, taken_part, budget_part, blocks_in}
+use Rattle.host_memory.specs.Vectors.{interrupt_vectors_in, exception_vectors_in, callbacks_in, pageable_in, KeepsVectors}
+use Rattle.host_memory.specs.Records.{calls_in, KeepsRecords}
+use Rattle.host_memory.specs.DosList.{arena_in, KeepsArena}
+use Rattle.host_memory.specs.Tables.{HasFixedEntries, HasBlockEntries}
+use Rattle.host_memory.specs.Holds.{Holds, KeepsRows, KeepsHandles, KeepsLocks, all_pages}
+
+-- the bytes of each part
+pub record MemoryParts : Type 0 where
+  pub dos : List ℕ
+  pub fixed : List ℕ
+  pub tables : List ℕ
+  pub rows : List ℕ
+  pub vectors : List ℕ
+  pub records : List ℕ
+  pub handles : List ℕ
+  pub locks : List ℕ
+  pub arena : List ℕ
+  pub taken : List ℕ
+  pub frames : List ℕ
+
+abbrev pub parts_of : List ℕ → ℕ → MemoryParts
+parts_of b budget = record {
+  dos = dos_part b;
+  fixed = fixed_part b;
+  tables = tables_part b;
+  rows = rows_part b;
+  vectors = vectors_part b;
+  records = records_part b;
+  handles = handles_part b;
+  locks = locks_part b;
+  arena = arena_part b;
+  taken = taken_part b;
+  frames = budget_part b budget;
+}
+
+-- the memory has that many bytes
+abbrev pub HasSize : List ℕ → ℕ → Type 0
+HasSize b budget = length b ≡ PAGE_SIZE * (BUDGET_FRAMES + budget)
+
+-- the world that the parts hold
+abbrev pub world_of_parts : MemoryParts → ℕ → Mode → Regs → Bool → Option Width → World
+world_of_parts parts budget mode regs vif width = record {
+  mode = mode;
+  regs = regs;
+  vif = vif;
+  width = width;
+  dos = parts.dos;
+  arena = arena_in parts.arena;
+  blocks = blocks_in parts.handles parts.tables parts.locks parts.frames;
+  budget = budget;
+  pageable = pageable_in parts.vectors;
+  descriptors = rows_from parts.rows 0;
+  interrupt_vectors = interrupt_vectors_in parts.vectors;
+  exception_vectors = exception_vectors_in parts.vectors;
+  callbacks = callbacks_in parts.vectors;
+  calls = calls_in parts.records;
+}
+
+pub world_is : (b : List ℕ) (budget : ℕ) (mode : Mode) (regs : Regs) (vif : Bool) (width : Option Width) →
+    world_of b budget mode regs vif width ≡ world_of_parts (parts_of b budget) budget mode regs vif width
+unfolding world_of
+world_is b budget mode regs vif width = refl
+
+-- the world of a memory whose parts are known
+pub world_by : (c : List ℕ) (budget : ℕ) (parts : MemoryParts) → parts_of c budget ≡ parts →
+    (mode : Mode) (regs : Regs) (vif : Bool) (width : Option Width) →
+    world_of c budget mode regs vif width ≡ world_of_parts parts budget mode regs vif width
+world_by c budget parts e mode regs vif width =
+    world_is c budget mode regs vif width ∙ ap (λ (p : MemoryParts). world_of_parts p budget mode regs vif width) e
+
+-- what the parts must keep
+pub record HoldsParts (parts : MemoryParts) (budget : ℕ) : Type 0 where
+  pub fixed : HasFixedEntries parts.fixed
+  pub rows : KeepsRows parts.rows
+  pub vectors : KeepsVectors parts.vectors
+  pub records : KeepsRecords parts.records
+  pub handles : KeepsHandles parts.handles
+  pub blocks : HasBlockEntries parts.handles parts.tables parts.taken budget
+  pub count : used parts.taken ≡ all_pages parts.handles
+  pub locks : KeepsLocks parts.handles parts.locks
+  pub arena : KeepsArena parts.arena
+
+pub holds_parts : (b : List ℕ) (budget : ℕ) → Holds b budget → HoldsParts (parts_of b budget) budget
+holds_parts b budget holds = record {
+  fixed = holds.fixed;
+  rows = holds.rows;
+  vectors = holds.vectors;
+  records = holds.records;
+  handles = holds.handles;
+  blocks = holds.blocks;
+  count = holds.count;
+  locks = holds.locks;
+  arena = holds.arena;
+}
+
+parts_hold : (c : List ℕ) (budget : ℕ) → HasSize c budget → budget ≤ MAX_PAGES → HoldsParts (parts_of c budget) budget → Holds c budget
+parts_hold c budget size most holds = record {
+  size = size;
+  most = most;
+  fixed = holds.fixed;
+  rows = holds.rows;
+  vectors = holds.vectors;
+  records = holds.records;
+  handles = holds.handles;
+  blocks = holds.blocks;
+  count = holds.count;
+  locks = holds.locks;
+  arena = holds.arena;
+}
+
+-- a memory whose parts are known holds a world where they keep it
+pub holds_by : (c : List ℕ) (budget : ℕ) (parts : MemoryParts) → parts_of c budget ≡ parts → HasSize c budget → budget ≤ MAX_PAGES →
+    HoldsParts parts budget → Holds c budget
+holds_by c budget parts e size most holds =
+    parts_hold c budget size most (subst (λ (p : MemoryParts). HoldsParts p budget) (sym e) holds)
+
+-- places keep their addresses where the rows of blocks and the page entries are the same
+pub addresses_by : (b c : List ℕ) → handles_part c ≡ handles_part b → tables_part c ≡ tables_part b → (place : Place) →
+    address_of c place ≡ address_of b place
+unfolding address_of
+addresses_by b c handles tables (Dos at) = refl
+addresses_by b c handles tables (Block zero at) = refl
+addresses_by b c handles tables (Block (suc place) at) = rw (handles, tables)
+addresses_by b c handles tables Host = refl
+addresses_by b c handles tables Nothing = refl
+
+-- one part after another may change; each has its own condition
+
+pub holds_with_dos : (parts : MemoryParts) (budget : ℕ) (dos : List ℕ) → HoldsParts parts budget → HoldsParts (record parts { dos = dos }) budget
+holds_with_dos parts budget dos h = record {
+  fixed = h.fixed;
+  rows = h.rows;
+  vectors = h.vectors;
+  records = h.records;
+  handles = h.handles;
+  blocks = h.blocks;
+  count = h.count;
+  locks = h.locks;
+  arena = h.arena;
+}
+
+pub holds_with_frames : (parts : MemoryParts) (budget : ℕ) (frames : List ℕ) → HoldsParts parts budget → HoldsParts (record parts { frames = frames }) budget
+holds_with_frames parts budget frames h = record {
+  fixed = h.fixed;
+  rows = h.rows;
+  vectors = h.vectors;
+  records = h.records;
+  handles = h.handles;
+  blocks = h.blocks;
+  count = h.count;
+  locks = h.locks;
+  arena = h.arena;
+}
+
+pub holds_with_rows : (parts : MemoryParts) (budget : ℕ) (rows : List ℕ) → KeepsRows rows → HoldsParts parts budget →
+    HoldsParts (record parts { rows = rows }) budget
+holds_with_rows parts budget rows keeps h = record {
+  fixed = h.fixed;
+  rows = keeps;
+  vectors = h.vectors;
+  records = h.records;
+  handles = h.handles;
+  blocks = h.blocks;
+  count = h.count;
+  locks = h.locks;
+  arena = h.arena;
+}
+
+pub holds_with_vectors : (parts : MemoryParts) (budget : ℕ) (vectors : List ℕ) → KeepsVectors vectors → HoldsParts parts budget →
+    HoldsParts (record parts { vectors = vectors }) budget
+holds_with_vectors parts budget vectors keeps h = record {
+  fixed = h.fixed;
+  rows = h.rows;
+  vectors = keeps;
+  records = h.records;
+  handles = h.handles;
+  blocks = h.blocks;
+  count = h.count;
+  locks = h.locks;
+  arena = h.arena;
+}
+
+pub holds_with_records : (parts : MemoryParts) (budget : ℕ) (records : List ℕ) → KeepsRecords records → HoldsParts parts budget →
+    HoldsParts (record parts { records = records }) budget
+holds_with_records parts budget records keeps h = record {
+  fixed = h.fixed;
+  rows = h.rows;
+  vectors = h.vectors;
+  records = keeps;
+  handles = h.handles;
+  blocks = h.blocks;
+  count = h.count;
+  locks = h.locks;
+  arena = h.arena;
+}
+
+pub holds_with_locks : (parts : MemoryParts) (budget : ℕ) (locks : List ℕ) → KeepsLocks parts.handles locks → HoldsParts parts budget →
+    HoldsParts (record parts { locks = locks }) budget
+holds_with_locks parts budget locks keeps h = record {
+  fixed = h.fixed;
+  rows = h.rows;
+  vectors = h.vectors;
+  records = h.records;
+  handles = h.handles;
+  blocks = h.blocks;
+  count = h.count;
+  locks = keeps;
+  arena = h.arena;
+}
+
+pub holds_with_arena : (parts : MemoryParts) (budget : ℕ) (arena : List ℕ) → KeepsArena arena → HoldsParts parts budget →
+    HoldsParts (record parts { arena = arena }) budget
+holds_with_arena parts budget arena keeps h = record {
+  fixed = h.fixed;
+  rows = h.rows;
+  vectors = h.vectors;
+  records = h.records;
+  handles = h.handles;
+  blocks = h.blocks;
+  count = h.count;
+  locks = h.locks;
+  arena = keeps;
+}

@@ -1,0 +1,12 @@
+pub mod Blank
+pub mod DosList
+pub mod Filling
+pub mod Headers
+pub mod Holds
+pub mod HoldsWorld
+pub mod Law
+pub mod Layout
+pub mod Records
+pub mod Tables
+pub mod Vectors
+pub mod View

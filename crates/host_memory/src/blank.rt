@@ -1,0 +1,232 @@
+// A new memory: real mode, no block, no descriptor, the vectors that lead to the host, and all of DOS memory free.
+ghost use Rattle.std.specs.Prelude.{◌≡◌, ◌≤◌, ◌<◌, ◌+◌, ◌*◌, ℕ, IfOk, None, length, true};
+ghost use Rattle.client_world.specs.declared.registers.Mode.TheVariants.{Real};
+ghost use Rattle.client_world.specs.Soundness.{IsSound};
+ghost use Rattle.host_memory.specs.Blank.{no_regs, blank_world};
+ghost use Rattle.host_memory.specs.DosList.{state_code, entry_bytes};
+ghost use Rattle.host_memory.specs.Filling.{Written, real_vector_at, vector_half_at};
+ghost use Rattle.host_memory.specs.Headers.{owner_of, header_bytes};
+ghost use Rattle.host_memory.specs.Holds.{Holds};
+ghost use Rattle.host_memory.specs.Layout.{world_of};
+ghost use Rattle.host_memory.specs.Tables.{directory_entry_at, low_entry_at, window_entry_at};
+
+use client_world::host_frames::{
+    BLOCK_TABLES, BUDGET_FRAMES, DOS_FRAMES, DOS_LIST, LOW_TABLE, PAGE_DIRECTORY, PAGE_SIZE,
+    VECTORS, WINDOW_TABLE,
+};
+use client_world::limits::{EXCEPTION_VECTORS, INTERRUPT_VECTORS, MAX_PAGES};
+use client_world::memory_map::{
+    ARENA_END, ARENA_START, BLOCK_REGION_PAGES, DOS_SIZE, DOS_VIEW_PAGES, HOST_WINDOW,
+    PARAGRAPH_SIZE, PSP_SEGMENT, ROM_BYTE, ROM_SEGMENT, ROM_START, SEGMENT_SIZE,
+};
+use client_world::selectors::{HOST_CODE, selector_of};
+use client_world::traps::PROTECTED_VECTOR_TRAPS;
+use client_world::{DosEntry, DosState};
+use guest_ram::Ram;
+use page_tables::{
+    ENTRY_SIZE, SUPERVISOR_WRITABLE, TABLE_ENTRIES, TABLE_SPAN, USER_READ_ONLY, USER_WRITABLE,
+};
+use std::alloc::{AllocError, Global};
+
+// The page tables of the block region.
+const BLOCK_TABLE_COUNT: u32 = BLOCK_REGION_PAGES / TABLE_ENTRIES;
+
+// The doublewords of the protected vectors, two for each.
+const VECTOR_HALVES: u32 = 2 * (INTERRUPT_VECTORS + EXCEPTION_VECTORS);
+
+// The letter of the last header of DOS memory: 'Z'. Source: MS-DOS memory control blocks.
+const LAST_HEADER: u8 = 0x5A;
+
+// The one entry of DOS memory: all of the arena is free.
+const WHOLE_ARENA: DosEntry = DosEntry {
+    at: ARENA_START as u16,
+    paras: (ARENA_END - ARENA_START - 1) as u16,
+    state: DosState::Free,
+};
+
+// The directory's entry at an index.
+fn directory_entry(index: u32) -> u32
+    requires { index < TABLE_ENTRIES }
+    ensures { result ≡ directory_entry_at index }
+{
+    if index == 0 {
+        PAGE_SIZE * LOW_TABLE + USER_WRITABLE
+    } else if index <= BLOCK_TABLE_COUNT {
+        PAGE_SIZE * (BLOCK_TABLES + (index - 1)) + USER_WRITABLE
+    } else if index == HOST_WINDOW / TABLE_SPAN {
+        PAGE_SIZE * WINDOW_TABLE + SUPERVISOR_WRITABLE
+    } else {
+        0
+    }
+}
+
+// The entry of a page of the first 4 MB.
+fn low_entry(page: u32) -> u32
+    requires { page < TABLE_ENTRIES }
+    ensures { result ≡ low_entry_at page }
+{
+    if page < ROM_START / PAGE_SIZE {
+        PAGE_SIZE * page + USER_WRITABLE
+    } else if page < DOS_FRAMES {
+        PAGE_SIZE * page + USER_READ_ONLY
+    } else if page < DOS_VIEW_PAGES {
+        PAGE_SIZE * (page - DOS_FRAMES) + USER_WRITABLE
+    } else {
+        0
+    }
+}
+
+// The entry of a page of the host's window.
+fn window_entry(page: u32) -> u32
+    requires { page < TABLE_ENTRIES }
+    ensures { result ≡ window_entry_at page }
+{
+    if page < BUDGET_FRAMES - PAGE_DIRECTORY {
+        PAGE_SIZE * (PAGE_DIRECTORY + page) + SUPERVISOR_WRITABLE
+    } else {
+        0
+    }
+}
+
+// The real vector of a number.
+fn real_vector(n: u32) -> u32
+    requires { n < INTERRUPT_VECTORS }
+    ensures { result ≡ real_vector_at n }
+{
+    SEGMENT_SIZE * u32::from(ROM_SEGMENT) + n
+}
+
+// A half of a protected vector: its offset, or its selector.
+fn vector_half(k: u32) -> u32
+    requires { k < VECTOR_HALVES }
+    ensures { result ≡ vector_half_at k }
+{
+    if k % 2 == 0 {
+        PROTECTED_VECTOR_TRAPS - ROM_START + k / 2
+    } else {
+        u32::from(selector_of(HOST_CODE))
+    }
+}
+
+// The owner of a block of DOS memory, as its header names it.
+fn owner(state: DosState) -> u16
+    ensures { result ≡ owner_of state }
+{
+    match state {
+        DosState::Free => 0,
+        DosState::Used | DosState::Dpmi => PSP_SEGMENT,
+    }
+}
+
+// The sixteen bytes of an entry's header.
+#[tactic(auto, unfolding(crate::specs::Headers::header_bytes))]
+fn header(letter: u8, entry: DosEntry) -> [u8; 16]
+    ensures { result ≡ header_bytes letter entry }
+{
+    let mut bytes = [0; 16];
+    bytes[0] = letter;
+    bytes[1..3].copy_from_slice(&owner(entry.state).to_le_bytes());
+    bytes[3..5].copy_from_slice(&entry.paras.to_le_bytes());
+    bytes
+}
+
+// The code of a state in the list of DOS memory.
+fn code(state: DosState) -> u8
+    ensures { result ≡ state_code state }
+{
+    match state {
+        DosState::Free => 1,
+        DosState::Used => 2,
+        DosState::Dpmi => 3,
+    }
+}
+
+// The eight bytes of an entry in the list of DOS memory.
+fn listed_entry(entry: DosEntry) -> [u8; 8]
+    ensures { result ≡ entry_bytes entry }
+{
+    let mut bytes = [0; 8];
+    bytes[..2].copy_from_slice(&entry.at.to_le_bytes());
+    bytes[2..4].copy_from_slice(&entry.paras.to_le_bytes());
+    bytes[4] = code(entry.state);
+    bytes
+}
+
+fn fill_directory(ram: &mut Ram)
+    requires { PAGE_SIZE * BUDGET_FRAMES ≤ length ram.old }
+    ensures { Written directory_entry_at (PAGE_SIZE * PAGE_DIRECTORY) TABLE_ENTRIES ram.old ram.new }
+{
+    for index in 0..TABLE_ENTRIES {
+        ram.set32(
+            PAGE_SIZE * PAGE_DIRECTORY + ENTRY_SIZE * index,
+            directory_entry(index),
+        );
+    }
+}
+
+fn fill_low_table(ram: &mut Ram)
+    requires { PAGE_SIZE * BUDGET_FRAMES ≤ length ram.old }
+    ensures { Written low_entry_at (PAGE_SIZE * LOW_TABLE) TABLE_ENTRIES ram.old ram.new }
+{
+    for page in 0..TABLE_ENTRIES {
+        ram.set32(PAGE_SIZE * LOW_TABLE + ENTRY_SIZE * page, low_entry(page));
+    }
+}
+
+fn fill_window_table(ram: &mut Ram)
+    requires { PAGE_SIZE * BUDGET_FRAMES ≤ length ram.old }
+    ensures { Written window_entry_at (PAGE_SIZE * WINDOW_TABLE) TABLE_ENTRIES ram.old ram.new }
+{
+    for page in 0..TABLE_ENTRIES {
+        ram.set32(
+            PAGE_SIZE * WINDOW_TABLE + ENTRY_SIZE * page,
+            window_entry(page),
+        );
+    }
+}
+
+fn fill_real_vectors(ram: &mut Ram)
+    requires { PAGE_SIZE * BUDGET_FRAMES ≤ length ram.old }
+    ensures { Written real_vector_at 0 INTERRUPT_VECTORS ram.old ram.new }
+{
+    for n in 0..INTERRUPT_VECTORS {
+        ram.set32(4 * n, real_vector(n));
+    }
+}
+
+fn fill_protected_vectors(ram: &mut Ram)
+    requires { PAGE_SIZE * BUDGET_FRAMES ≤ length ram.old }
+    ensures { Written vector_half_at (PAGE_SIZE * VECTORS) VECTOR_HALVES ram.old ram.new }
+{
+    for k in 0..VECTOR_HALVES {
+        ram.set32(PAGE_SIZE * VECTORS + 4 * k, vector_half(k));
+    }
+}
+
+/// The memory of a new machine whose blocks may take so many pages together, 1 to 4096.
+pub fn blank_memory(alloc: Global, pages: u32) -> Result<Ram, AllocError>
+    requires some { 0 < pages }
+    requires few { pages ≤ MAX_PAGES }
+    ensures holds { IfOk result (λ ram. Holds ram pages) }
+    ensures world { IfOk result (λ ram. world_of ram pages Real no_regs true None ≡ blank_world pages) }
+    ensures sound { IfOk result (λ ram. IsSound (blank_world pages)) }
+{
+    let mut ram = Ram::new(alloc, BUDGET_FRAMES + pages)?;
+    ram.fill(ROM_START, DOS_SIZE - ROM_START, ROM_BYTE);
+    fill_real_vectors(&mut ram);
+    ram.write(
+        PARAGRAPH_SIZE * ARENA_START,
+        &header(LAST_HEADER, WHOLE_ARENA),
+    );
+    fill_directory(&mut ram);
+    fill_low_table(&mut ram);
+    fill_window_table(&mut ram);
+    ram.write(PAGE_SIZE * DOS_LIST, &listed_entry(WHOLE_ARENA));
+    fill_protected_vectors(&mut ram);
+    Ok(ram)
+}
+
+/// The world of a new machine is sound.
+pub fn a_blank_world_is_sound()
+    ensures { (budget : ℕ) → IsSound (blank_world budget) }
+{}

@@ -1,0 +1,14 @@
+//! The world in the bytes of the memory: where each part of it stands in the host's frames, and what the bytes must be.
+//! It promises, in laws over its definitions, that a walk of the page tables ends exactly where the client may touch, at the world's byte,
+//! and that a new memory holds the blank world. It stands on the descriptor table and the page tables, and has no state of its own.
+#![tactic(auto)]
+
+mod blank;
+mod laws;
+#[cfg(test)]
+mod tests;
+
+pub use blank::{a_blank_world_is_sound, blank_memory};
+pub use laws::{
+    every_memory_that_holds_a_world_has_its_bytes, every_walk_ends_where_the_client_may_touch,
+};
