@@ -1,0 +1,115 @@
+-- A write moves no place: the same accesses are allowed after it, at the same places, and the same are refused.
+use Rattle.std.proofs.Common.{◌≡◌, ℕ, ◌+◌, Bool, List, [], ◌∷◌, refl, ap, ◌∙◌, Result, Ok, Err}
+use Rattle.std.specs.Prelude.{is_ok}
+use Rattle.client_world.specs.declared.faults.Fault.{Fault}
+use Rattle.client_world.specs.declared.place.Place.{Place}
+use Rattle.client_world.specs.declared.place.Place.TheVariants.{Dos, Block, Host, Nothing}
+use Rattle.client_world.specs.declared.registers.Mode.{Mode}
+use Rattle.client_world.specs.declared.registers.Regs.{Regs}
+use Rattle.client_world.specs.declared.segments.FarPtr.{FarPtr}
+use Rattle.client_world.specs.declared.segments.SegReg.{SegReg}
+use Rattle.client_world.specs.declared.segments.SegReg.TheVariants.{Es}
+use Rattle.client_world.specs.Access.{access, far_access, is_reachable, segment_base, protected_base, place_in, places_at, touched_places, with_byte_of, with_bytes_of}
+use Rattle.client_world.specs.Selector.{Row}
+use Rattle.client_world.specs.World.{World, MemoryBlock}
+use Rattle.client_world.proofs.PlaceLaws.{place_in-with_byte_of, places_from-same}
+use Rattle.std.specs.declared.option.Option.{Option}
+use Rattle.host_memory.specs.View.{MachineView}
+use Rattle.guest_space.specs.Transfer.{with_places, stored, refusal, fault_of}
+use Rattle.guest_space.proofs.Machines.{with_places_world}
+
+-- two worlds that an access can't tell apart
+pub record SameAccess (w u : World) : Type 0 where
+  pub mode : u.mode ≡ w.mode
+  pub regs : u.regs ≡ w.regs
+  pub descriptors : u.descriptors ≡ w.descriptors
+  pub places : (at : ℕ) → place_in u.blocks at ≡ place_in w.blocks at
+
+same_world : (w : World) → SameAccess w w
+same_world w = record { mode = refl; regs = refl; descriptors = refl; places = λ at. refl }
+
+pub same_then : (w u t : World) → SameAccess w u → SameAccess u t → SameAccess w t
+same_then w u t before after = record {
+  mode = after.mode ∙ before.mode;
+  regs = after.regs ∙ before.regs;
+  descriptors = after.descriptors ∙ before.descriptors;
+  places = λ at. after.places at ∙ before.places at;
+}
+
+byte_mode : (w : World) (p : Place) (x : ℕ) → (with_byte_of w p x).mode ≡ w.mode
+byte_mode w (Dos at) x = refl
+byte_mode w (Block number at) x = refl
+byte_mode w Host x = refl
+byte_mode w Nothing x = refl
+
+byte_regs : (w : World) (p : Place) (x : ℕ) → (with_byte_of w p x).regs ≡ w.regs
+byte_regs w (Dos at) x = refl
+byte_regs w (Block number at) x = refl
+byte_regs w Host x = refl
+byte_regs w Nothing x = refl
+
+byte_descriptors : (w : World) (p : Place) (x : ℕ) → (with_byte_of w p x).descriptors ≡ w.descriptors
+byte_descriptors w (Dos at) x = refl
+byte_descriptors w (Block number at) x = refl
+byte_descriptors w Host x = refl
+byte_descriptors w Nothing x = refl
+
+same_byte : (w : World) (p : Place) (x : ℕ) → SameAccess w (with_byte_of w p x)
+same_byte w p x = record {
+  mode = byte_mode w p x;
+  regs = byte_regs w p x;
+  descriptors = byte_descriptors w p x;
+  places = place_in-with_byte_of w p x;
+}
+
+same_bytes : (w : World) (places : List Place) (bytes : List ℕ) → SameAccess w (with_bytes_of w places bytes)
+same_bytes w [] bytes = same_world w
+same_bytes w (p ∷ places) [] = same_world w
+same_bytes w (p ∷ places) (x ∷ bytes) =
+    same_then w (with_byte_of w p x) (with_bytes_of (with_byte_of w p x) places bytes) (same_byte w p x) (same_bytes (with_byte_of w p x) places bytes)
+
+pub same_places : (v : MachineView) (places : List Place) (bytes : List ℕ) → SameAccess v.world (with_places v places bytes).world
+same_places v places bytes = rw (with_places_world v places bytes) (same_bytes v.world places bytes)
+
+pub same_stored : (v : MachineView) (seg : SegReg) (offset n : ℕ) (bytes : List ℕ) → SameAccess v.world (stored v seg offset n bytes).world
+unfolding stored
+same_stored v seg offset n bytes = same_places v _ bytes
+
+-- the same places are given
+same_at : (a b : List (Option MemoryBlock)) → ((at : ℕ) → place_in b at ≡ place_in a at) → (r : Result ℕ Fault) (offset n : ℕ) (write : Bool) →
+    places_at b r offset n write ≡ places_at a r offset n write
+same_at a b same (Ok base) offset n write =
+    ap (λ (places : List Place). touched_places places write) (places_from-same b a same (base + offset) n)
+same_at a b same (Err fault) offset n write = refl
+
+pub access_same : (w u : World) → SameAccess w u → (seg : SegReg) (offset n : ℕ) (write : Bool) → access u seg offset n write ≡ access w seg offset n write
+unfolding access
+access_same w u same seg offset n write =
+    same_at w.blocks u.blocks same.places (segment_base u.mode u.regs u.descriptors seg offset n write) offset n write
+    ∙ ap (λ (m : Mode). places_at w.blocks (segment_base m u.regs u.descriptors seg offset n write) offset n write) same.mode
+    ∙ ap (λ (r : Regs). places_at w.blocks (segment_base w.mode r u.descriptors seg offset n write) offset n write) same.regs
+    ∙ ap (λ (rows : List Row). places_at w.blocks (segment_base w.mode w.regs rows seg offset n write) offset n write) same.descriptors
+
+pub far_access_same : (w u : World) → SameAccess w u → (p : FarPtr) (n : ℕ) (write : Bool) → far_access u p n write ≡ far_access w p n write
+unfolding far_access
+far_access_same w u same p n write =
+    same_at w.blocks u.blocks same.places (protected_base u.descriptors Es p.sel p.off n write) p.off n write
+    ∙ ap (λ (rows : List Row). places_at w.blocks (protected_base rows Es p.sel p.off n write) p.off n write) same.descriptors
+
+pub refusal_same : (w u : World) → SameAccess w u → (seg : SegReg) (offset n : ℕ) (write : Bool) → refusal u seg offset n write ≡ refusal w seg offset n write
+unfolding refusal
+refusal_same w u same seg offset n write = ap fault_of (access_same w u same seg offset n write)
+
+-- the laws of it
+
+pub near_kept : (v : MachineView) (places : List Place) (bytes : List ℕ) (seg : SegReg) (offset n : ℕ) (write : Bool) →
+    access (with_places v places bytes).world seg offset n write ≡ access v.world seg offset n write
+near_kept v places bytes = access_same v.world (with_places v places bytes).world (same_places v places bytes)
+
+pub far_kept : (v : MachineView) (places : List Place) (bytes : List ℕ) (p : FarPtr) (n : ℕ) (write : Bool) →
+    far_access (with_places v places bytes).world p n write ≡ far_access v.world p n write
+far_kept v places bytes = far_access_same v.world (with_places v places bytes).world (same_places v places bytes)
+
+pub reachable_kept : (v : MachineView) (places : List Place) (bytes : List ℕ) (p : FarPtr) (n : ℕ) (write : Bool) →
+    is_reachable (with_places v places bytes).world p n write ≡ is_reachable v.world p n write
+reachable_kept v places bytes p n write = ap is_ok (far_kept v places bytes p n write)

@@ -1,0 +1,17 @@
+pub mod Accesses
+pub mod Codes
+pub mod DistinctPlaces
+pub mod Entered
+pub mod FarLaws
+pub mod Fars
+pub mod HostRows
+pub mod KeptAccess
+pub mod Machines
+pub mod OnlyWritten
+pub mod OwnParts
+pub mod Parts
+pub mod Puts
+pub mod ReadBack
+pub mod RowCalls
+pub mod Runs
+pub mod Writes

@@ -1,0 +1,139 @@
+-- A part of a run that a segment allows is allowed too, from the same linear address.
+use Rattle.std.proofs.Common.{◌≡◌, ℕ, ◌+◌, ◌*◌, ◌≤◌, ◌^◌, inl, inr, Bool, true, false, ◌&&◌, not, List, refl, ap, arith, None, Some, Result, Ok, Err}
+use Rattle.std.specs.Prelude.{nat_lt, nat_le, if◌then◌else◌}
+use Rattle.std.proofs.lemmas.Bool.{cases_Bool}
+use Rattle.std.proofs.lemmas.Bool.Decides.{nat_tests}
+use Rattle.client_world.specs.declared.faults.Fault.{Fault}
+use Rattle.client_world.specs.declared.faults.TheConstants.{SEGMENT_NOT_PRESENT, GENERAL_PROTECTION}
+use Rattle.client_world.specs.declared.memory_map.TheConstants.{PARAGRAPH_SIZE, SEGMENT_SIZE}
+use Rattle.client_world.specs.declared.descriptors.Desc.{Desc}
+use Rattle.client_world.specs.declared.descriptors.Kind.{Kind}
+use Rattle.client_world.specs.declared.descriptors.Kind.TheVariants.{Data, Code}
+use Rattle.client_world.specs.declared.registers.Mode.{Mode}
+use Rattle.client_world.specs.declared.registers.Mode.TheVariants.{Real, Protected}
+use Rattle.client_world.specs.declared.registers.Regs.{Regs}
+use Rattle.client_world.specs.declared.segments.SegReg.{SegReg}
+use Rattle.client_world.specs.declared.segments.SegReg.TheVariants.{Cs}
+use Rattle.client_world.specs.Access.{fault_with, stack_or, suits_register, base_in_row, protected_base, real_base, segment_base}
+use Rattle.client_world.specs.Descriptor.{is_inside, expands_down, is_code, is_writable, byte_limit, greatest_offset}
+use Rattle.client_world.specs.Segments.{selector}
+use Rattle.client_world.specs.Selector.{Row, is_null, row_of_selector, selector_code}
+
+-- limits
+up_part : (offset n k m limit : ℕ) → k + m ≤ n → nat_le (offset + n) limit ≡ true → nat_le (offset + k + m) limit ≡ true
+up_part offset n k m limit h e = grind (arith, nat_tests)
+
+ups_part : (offset n k m limit other : ℕ) → k + m ≤ n → (nat_le (offset + n) limit && nat_le (offset + n) other) ≡ true →
+    (nat_le (offset + k + m) limit && nat_le (offset + k + m) other) ≡ true
+ups_part offset n k m limit other h e = grind (arith, nat_tests)
+
+down_part : (offset n k m limit other : ℕ) → k + m ≤ n → (nat_lt limit offset && nat_le (offset + n) other) ≡ true →
+    (nat_lt limit (offset + k) && nat_le (offset + k + m) other) ≡ true
+down_part offset n k m limit other h e = grind (arith, nat_tests)
+
+pub inside_part : (d : Desc) (offset n k m : ℕ) → k + m ≤ n → is_inside d offset n ≡ true → is_inside d (offset + k) m ≡ true
+inside_part d offset n k m h e = elim (cases_Bool (expands_down d.kind)) [
+  | inl down ↦ rw down (down_part offset n k m (byte_limit d) (greatest_offset d + 1) h (rw down at e))
+  | inr up ↦ rw up (ups_part offset n k m (byte_limit d + 1) (2 ^ 32) h (rw up at e))
+]
+
+-- tests that are passed one after the other
+passed : (c : Bool) (f : Fault) (r : Result ℕ Fault) (base : ℕ) → (if c then Err f else r) ≡ Ok base → (c ≡ false) × (r ≡ Ok base)
+passed true f r base e = absurd cc
+passed false f r base e = (refl, e)
+
+pass : (c : Bool) (f : Fault) (r : Result ℕ Fault) (base : ℕ) → c ≡ false → r ≡ Ok base → (if c then Err f else r) ≡ Ok base
+pass true f r base wrong e = absurd cc
+pass false f r base _ e = e
+
+abbrev base_ok : ℕ → Result ℕ Fault
+base_ok a = Ok a
+
+allowed : (c : Bool) (f : Fault) (a base : ℕ) → (if c then Ok a else Err f) ≡ Ok base → (c ≡ true) × (base_ok a ≡ Ok base)
+allowed true f a base e = (refl, e)
+allowed false f a base e = absurd cc
+
+not_false : (c : Bool) → not c ≡ false → c ≡ true
+not_false true e = refl
+not_false false e = absurd cc
+
+true_not : (c : Bool) → c ≡ true → not c ≡ false
+true_not true e = refl
+true_not false e = absurd cc
+
+pub row_part : (seg : SegReg) (sel : ℕ) (row : Row) (offset n k m : ℕ) (write : Bool) (base : ℕ) → k + m ≤ n →
+    base_in_row seg sel row offset n write ≡ Ok base → base_in_row seg sel row (offset + k) m write ≡ Ok base
+row_part seg sel None offset n k m write base h e = absurd cc
+row_part seg sel (Some row) offset n k m write base h e =
+    let suits = passed (not (suits_register seg row.0.kind)) (fault_with (stack_or seg GENERAL_PROTECTION) (selector_code sel)) _ base e in
+    let present = passed (not row.0.present) (fault_with (stack_or seg SEGMENT_NOT_PRESENT) (selector_code sel)) _ base suits.1 in
+    let writable = passed (write && not (is_writable row.0.kind)) (fault_with GENERAL_PROTECTION 0) _ base present.1 in
+    let inside = passed (not (is_inside row.0 offset n)) (fault_with (stack_or seg GENERAL_PROTECTION) 0) _ base writable.1 in
+    let part = inside_part row.0 offset n k m h (not_false (is_inside row.0 offset n) inside.0) in
+    pass (not (suits_register seg row.0.kind)) (fault_with (stack_or seg GENERAL_PROTECTION) (selector_code sel)) _ base suits.0
+    (pass (not row.0.present) (fault_with (stack_or seg SEGMENT_NOT_PRESENT) (selector_code sel)) _ base present.0
+    (pass (write && not (is_writable row.0.kind)) (fault_with GENERAL_PROTECTION 0) _ base writable.0
+    (pass (not (is_inside row.0 (offset + k) m)) (fault_with (stack_or seg GENERAL_PROTECTION) 0) _ base (true_not (is_inside row.0 (offset + k) m) part) inside.1)))
+
+pub protected_part : (rows : List Row) (seg : SegReg) (sel offset n k m : ℕ) (write : Bool) (base : ℕ) → k + m ≤ n →
+    protected_base rows seg sel offset n write ≡ Ok base → protected_base rows seg sel (offset + k) m write ≡ Ok base
+protected_part rows seg sel offset n k m write base h e =
+    let some = passed (is_null sel) (fault_with GENERAL_PROTECTION 0) _ base e in
+    pass (is_null sel) (fault_with GENERAL_PROTECTION 0) _ base some.0 (row_part seg sel (row_of_selector rows sel) offset n k m write base h some.1)
+
+pub real_part : (seg : SegReg) (segment offset n k m base : ℕ) → k + m ≤ n → real_base seg segment offset n ≡ Ok base →
+    real_base seg segment (offset + k) m ≡ Ok base
+real_part seg segment offset n k m base h e =
+    let inside = allowed (nat_le (offset + n) SEGMENT_SIZE) (fault_with (stack_or seg GENERAL_PROTECTION) 0) (segment * PARAGRAPH_SIZE) base e in
+    rw (up_part offset n k m SEGMENT_SIZE h inside.0) inside.1
+
+pub segment_part : (mode : Mode) (r : Regs) (rows : List Row) (seg : SegReg) (offset n k m : ℕ) (write : Bool) (base : ℕ) → k + m ≤ n →
+    segment_base mode r rows seg offset n write ≡ Ok base → segment_base mode r rows seg (offset + k) m write ≡ Ok base
+unfolding segment_base
+segment_part Real r rows seg offset n k m write base h e = real_part seg (selector r seg) offset n k m base h e
+segment_part Protected r rows seg offset n k m write base h e = protected_part rows seg (selector r seg) offset n k m write base h e
+
+-- code doesn't expand down: one of its bytes is inside where all bytes before it are
+code_goes_up : (kind : Kind) → is_code kind ≡ true → expands_down kind ≡ false
+code_goes_up (Data writable down) e = absurd cc
+code_goes_up Code e = refl
+
+code_inside : (d : Desc) (offset at : ℕ) → is_code d.kind ≡ true → is_inside d offset (at + 1) ≡ is_inside d (offset + at) 1
+code_inside d offset at code =
+    let up = code_goes_up d.kind code in
+    let same : offset + (at + 1) ≡ offset + at + 1 = omega arith in
+    rw up (ap (λ (end : ℕ). nat_le end (byte_limit d + 1) && nat_le end (2 ^ 32)) same)
+
+code_row : (sel : ℕ) (row : Row) (offset at : ℕ) → base_in_row Cs sel row offset (at + 1) false ≡ base_in_row Cs sel row (offset + at) 1 false
+code_row sel None offset at = refl
+code_row sel (Some row) offset at = elim (cases_Bool (is_code row.0.kind)) [
+  | inl code ↦ rw (code_inside row.0 offset at code) refl
+  | inr none ↦ rw none refl
+]
+
+pub code_base : (mode : Mode) (r : Regs) (rows : List Row) (offset at : ℕ) →
+    segment_base mode r rows Cs offset (at + 1) false ≡ segment_base mode r rows Cs (offset + at) 1 false
+unfolding segment_base
+code_base Real r rows offset at =
+    let same : offset + (at + 1) ≡ offset + at + 1 = omega arith in
+    ap (λ (end : ℕ). if nat_le end SEGMENT_SIZE then Ok (selector r Cs * PARAGRAPH_SIZE) else Err (fault_with (stack_or Cs GENERAL_PROTECTION) 0)) same
+code_base Protected r rows offset at =
+    ap (λ (x : Result ℕ Fault). if is_null (selector r Cs) then Err (fault_with GENERAL_PROTECTION 0) else x)
+    (code_row (selector r Cs) (row_of_selector rows (selector r Cs)) offset at)
+
+-- and where a run may be written it may be read
+row_read : (seg : SegReg) (sel : ℕ) (row : Row) (offset n base : ℕ) → base_in_row seg sel row offset n true ≡ Ok base →
+    base_in_row seg sel row offset n false ≡ Ok base
+row_read seg sel None offset n base e = absurd cc
+row_read seg sel (Some row) offset n base e =
+    let suits = passed (not (suits_register seg row.0.kind)) (fault_with (stack_or seg GENERAL_PROTECTION) (selector_code sel)) _ base e in
+    let present = passed (not row.0.present) (fault_with (stack_or seg SEGMENT_NOT_PRESENT) (selector_code sel)) _ base suits.1 in
+    let writable = passed (not (is_writable row.0.kind)) (fault_with GENERAL_PROTECTION 0) _ base present.1 in
+    pass (not (suits_register seg row.0.kind)) (fault_with (stack_or seg GENERAL_PROTECTION) (selector_code sel)) _ base suits.0
+    (pass (not row.0.present) (fault_with (stack_or seg SEGMENT_NOT_PRESENT) (selector_code sel)) _ base present.0 writable.1)
+
+pub protected_read : (rows : List Row) (seg : SegReg) (sel offset n base : ℕ) → protected_base rows seg sel offset n true ≡ Ok base →
+    protected_base rows seg sel offset n false ≡ Ok base
+protected_read rows seg sel offset n base e =
+    let some = passed (is_null sel) (fault_with GENERAL_PROTECTION 0) _ base e in
+    pass (is_null sel) (fault_with GENERAL_PROTECTION 0) _ base some.0 (row_read seg sel (row_of_selector rows sel) offset n base some.1)

@@ -1,0 +1,90 @@
+-- What was written at a pointer is read there again.
+use Rattle.std.proofs.Common.{◌≡◌, ◌≢◌, ℕ, zero, suc, ◌<◌, true, List, [], ◌∷◌, length, slice_index, slice_index_or, slice_set, refl, ap, ◌∙◌, sym, arith, None, Some, Option, get_or-set_same, get_or-set_other, length-set}
+use Rattle.std.proofs.lemmas.Bool.{ltb-true}
+use Rattle.client_world.specs.declared.place.Place.{Place}
+use Rattle.client_world.specs.declared.place.Place.TheVariants.{Dos, Block, Host, Nothing}
+use Rattle.client_world.specs.declared.memory_map.TheConstants.{ROM_START, DOS_SIZE}
+use Rattle.client_world.specs.Access.{may_touch, byte_of, bytes_of, bytes_of_block, with_block_byte, with_byte_of, with_bytes_of, HasByte, IsHeld}
+use Rattle.client_world.specs.World.{World, MemoryBlock}
+use Rattle.guest_space.proofs.Machines.{CanWrite, CanWriteAll, held_there, can_write_after}
+
+-- a byte that is held and written is the byte there
+set_byte : (block : Option MemoryBlock) (at x : ℕ) → HasByte block at → slice_index (bytes_of_block (with_block_byte block at x)) at ≡ x
+set_byte None at x held = absurd held
+set_byte (Some block) at x held = get_or-set_same block.bytes at x 0 held
+
+other_byte : (block : Option MemoryBlock) (at k x : ℕ) → k ≢ at → slice_index (bytes_of_block (with_block_byte block at x)) k ≡ slice_index (bytes_of_block block) k
+other_byte None at k x other = refl
+other_byte (Some block) at k x other = get_or-set_other block.bytes at k x 0 other
+
+block_there : (blocks : List (Option MemoryBlock)) (n at x : ℕ) → HasByte (slice_index_or blocks n None) at →
+    slice_index (bytes_of_block (slice_index_or (slice_set blocks n (with_block_byte (slice_index_or blocks n None) at x)) n None)) at ≡ x
+block_there [] n at x held = absurd held
+block_there (o ∷ blocks) zero at x held = set_byte o at x held
+block_there (o ∷ blocks) (suc n) at x held = block_there blocks n at x held
+
+block_kept : (blocks : List (Option MemoryBlock)) (n m at k x : ℕ) → (n ≡ m → k ≢ at) →
+    slice_index (bytes_of_block (slice_index_or (slice_set blocks n (with_block_byte (slice_index_or blocks n None) at x)) m None)) k
+    ≡ slice_index (bytes_of_block (slice_index_or blocks m None)) k
+block_kept [] n m at k x other = refl
+block_kept (o ∷ blocks) zero zero at k x other = other_byte o at k x (other refl)
+block_kept (o ∷ blocks) zero (suc m) at k x other = refl
+block_kept (o ∷ blocks) (suc n) zero at k x other = refl
+block_kept (o ∷ blocks) (suc n) (suc m) at k x other = block_kept blocks n m at k x (λ e. other (ap suc e))
+
+-- a byte of another place stays
+byte_kept : (w : World) (q p : Place) (x : ℕ) → (q ≡ p → ⊥) → byte_of (with_byte_of w q x) p ≡ byte_of w p
+byte_kept w (Dos a) (Dos b) x other = get_or-set_other w.dos a b x 0 (λ e. other (ap Dos (sym e)))
+byte_kept w (Dos a) (Block number b) x other = refl
+byte_kept w (Dos a) Host x other = refl
+byte_kept w (Dos a) Nothing x other = refl
+byte_kept w (Block number a) (Dos b) x other = refl
+byte_kept w (Block zero a) (Block m b) x other = refl
+byte_kept w (Block (suc n) a) (Block zero b) x other = refl
+byte_kept w (Block (suc n) a) (Block (suc m) b) x other =
+    block_kept w.blocks n m a b x (λ e f. other (ap (λ (j : ℕ). Block (suc j) a) e ∙ ap (Block (suc m)) (sym f)))
+byte_kept w (Block number a) Host x other = refl
+byte_kept w (Block number a) Nothing x other = refl
+byte_kept w Host p x other = refl
+byte_kept w Nothing p x other = refl
+
+-- the byte of the place is the one that was written
+byte_there : (w : World) (p : Place) (x : ℕ) → length w.dos ≡ DOS_SIZE → may_touch p true ≡ true → IsHeld w p → byte_of (with_byte_of w p x) p ≡ x
+byte_there w (Dos at) x size may held = let low = ltb-true at ROM_START may in get_or-set_same w.dos at x 0 (omega arith)
+byte_there w (Block zero at) x size may held = absurd held
+byte_there w (Block (suc n) at) x size may held = block_there w.blocks n at x held
+byte_there w Host x size may held = absurd held
+byte_there w Nothing x size may held = absurd held
+
+dos_size : (w : World) (p : Place) (x : ℕ) → length w.dos ≡ DOS_SIZE → length (with_byte_of w p x).dos ≡ DOS_SIZE
+dos_size w (Dos at) x size = length-set w.dos at x ∙ size
+dos_size w (Block number at) x size = size
+dos_size w Host x size = size
+dos_size w Nothing x size = size
+
+bytes_kept : (w : World) (places : List Place) (bytes : List ℕ) (p : Place) →
+    ((i : ℕ) → i < length places → slice_index_or places i Nothing ≡ p → ⊥) → byte_of (with_bytes_of w places bytes) p ≡ byte_of w p
+bytes_kept w [] bytes p other = refl
+bytes_kept w (q ∷ places) [] p other = refl
+bytes_kept w (q ∷ places) (x ∷ bytes) p other =
+    bytes_kept (with_byte_of w q x) places bytes p (λ i within. other (suc i) (omega arith)) ∙ byte_kept w q p x (other 0 (omega arith))
+
+-- no place stands twice among them
+abbrev pub AreDistinct : List Place → Type 0
+AreDistinct places = (i j : ℕ) → i < length places → j < length places → slice_index_or places i Nothing ≡ slice_index_or places j Nothing → i ≡ j
+
+pub read_back : (w : World) (places : List Place) (bytes : List ℕ) → length w.dos ≡ DOS_SIZE → CanWriteAll w places → AreDistinct places →
+    length bytes ≡ length places → bytes_of (with_bytes_of w places bytes) places ≡ bytes
+read_back w [] [] size can distinct same = refl
+read_back w [] (x ∷ bytes) size can distinct same = absurd cc
+read_back w (p ∷ places) [] size can distinct same = absurd cc
+read_back w (p ∷ places) (x ∷ bytes) size can distinct same =
+    let first : CanWrite w p = can 0 (omega arith) in
+    let here : byte_of (with_bytes_of (with_byte_of w p x) places bytes) p ≡ x =
+    bytes_kept (with_byte_of w p x) places bytes p
+    (λ i within e. (let twice : suc i ≡ 0 = distinct (suc i) 0 (omega arith) (omega arith) e in absurd cc))
+    ∙ byte_there w p x size first.may (held_there w p first) in
+    let later = read_back (with_byte_of w p x) places bytes (dos_size w p x size)
+    (λ i within. can_write_after w p (slice_index_or places i Nothing) x (can (suc i) (omega arith)))
+    (λ i j one two e. (let next : suc i ≡ suc j = distinct (suc i) (suc j) (omega arith) (omega arith) e in omega arith)) (omega arith) in
+    ap (λ (y : ℕ). y ∷ bytes_of (with_bytes_of (with_byte_of w p x) places bytes) places) here ∙ ap (λ (ys : List ℕ). x ∷ ys) later

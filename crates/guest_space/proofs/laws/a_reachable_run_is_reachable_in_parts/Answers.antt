@@ -1,0 +1,5 @@
+use Rattle.guest_space.proofs.Fars.{parts_reachable}
+use Rattle.guest_space.proofs.laws.a_reachable_run_is_reachable_in_parts.Goals as goal
+
+pub returns : goal.returns
+returns c = parts_reachable

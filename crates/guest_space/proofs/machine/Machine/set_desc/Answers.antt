@@ -1,0 +1,28 @@
+use Rattle.std.proofs.Common.{sym, subst, slice_set}
+use Rattle.client_world.specs.Soundness.{IsSound}
+use Rattle.host_memory.specs.View.{MachineView}
+use Rattle.host_memory.proofs.RowWrites.{row_world, row_holds}
+use Rattle.guest_space.proofs.RowCalls.{fits_of_sound}
+use Rattle.guest_space.proofs.machine.Machine.set_desc.Goals as goal
+
+pub set-requires-clause-limit : goal.set-requires-clause-limit
+set-requires-clause-limit c =
+    fits_of_sound c.args.self.now.world.descriptors c.args.index c.args.row c.requires.sound.descriptors c.requires.index
+
+pub invariant_of-self : goal.invariant_of-self
+invariant_of-self c =
+    let m = c.self.inside in
+    let fits = fits_of_sound c.args.self.now.world.descriptors c.args.index c.args.row c.requires.sound.descriptors c.requires.index in
+    let sound = subst (λ (v : MachineView). IsSound (record v.world { descriptors = slice_set v.world.descriptors c.args.index c.args.row }))
+    (sym c.self.view_is) c.requires.sound in
+    rw c.set.ensures.bytes (
+      row_holds m.ram m.pages c.self.invariant.0 c.args.index c.args.row c.requires.index fits,
+      subst IsSound (sym (row_world m.ram m.pages c.self.invariant.0 m.mode m.regs m.vif m.width c.args.index c.args.row c.requires.index fits)) sound,
+    )
+
+pub returns-clause-world : goal.returns-clause-world
+returns-clause-world c =
+    let m = c.self.inside in
+    let fits = fits_of_sound c.args.self.now.world.descriptors c.args.index c.args.row c.requires.sound.descriptors c.requires.index in
+    rw (← c.self.view_is, c.set.ensures.bytes)
+    (row_world m.ram m.pages c.self.invariant.0 m.mode m.regs m.vif m.width c.args.index c.args.row c.requires.index fits)

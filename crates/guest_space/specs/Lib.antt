@@ -1,0 +1,6 @@
+pub mod Code
+pub mod Dos
+pub mod Far
+pub mod Machines
+pub mod Pending
+pub mod Transfer

@@ -1,0 +1,39 @@
+-- Writes that are asked for one after another: all of them are probed first, and then all are made. Source: own.
+use Rattle.std.specs.Prelude.{ℕ, ◌%◌, true, List, [], ◌∷◌, None, Some, nat_eq, if◌then◌else◌}
+use Rattle.std.specs.declared.option.Option.{Option}
+use Rattle.client_world.specs.declared.faults.Fault.{Fault}
+use Rattle.client_world.specs.World.{World}
+use Rattle.guest_ram.specs.Bytes.{dword_bytes}
+use Rattle.host_memory.specs.Vectors.{word_bytes}
+use Rattle.host_memory.specs.View.{MachineView}
+use Rattle.guest_space.specs.declared.pending.Write.{Write}
+use Rattle.guest_space.specs.Transfer.{refusal, stored}
+
+-- the bytes of a number of 8, 16 or 32 bits, least byte first
+abbrev pub number_bytes : ℕ → ℕ → List ℕ
+number_bytes width value =
+    if nat_eq width 8 then value % 0x100 ∷ [] else
+    if nat_eq width 16 then word_bytes (value % 0x10000) else
+    dword_bytes value
+
+-- the bytes of a width
+abbrev pub byte_count : ℕ → ℕ
+byte_count width = if nat_eq width 8 then 1 else if nat_eq width 16 then 2 else 4
+
+-- the fault of a write, if it has one
+unfoldable pub write_refusal : World → Write → Option Fault
+write_refusal w x = refusal w x.seg x.off (byte_count x.width) true
+
+-- the machine after it
+unfoldable pub written : MachineView → Write → MachineView
+written v x = stored v x.seg x.off (byte_count x.width) (number_bytes x.width x.value)
+
+-- the fault of the first of some writes that has one. Each is asked in the world before all of them: a write moves no place
+unfoldable pub first_refusal : World → List Write → Option Fault
+first_refusal w [] = None
+first_refusal w (x ∷ xs) = elim (write_refusal w x) [ Some fault ↦ Some fault | None ↦ first_refusal w xs ]
+
+-- the machine after all of them
+unfoldable pub all_written : MachineView → List Write → MachineView
+all_written v [] = v
+all_written v (x ∷ xs) = all_written (written v x) xs

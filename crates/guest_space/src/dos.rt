@@ -1,0 +1,28 @@
+// Bytes of the DOS megabyte by their address.
+ghost use Rattle.std.specs.Prelude.{◌≡◌, ◌<◌, slice_index};
+ghost use Rattle.client_world.specs.declared.memory_map.TheConstants.{DOS_SIZE};
+ghost use Rattle.guest_space.specs.Dos.{with_dos_byte};
+
+use crate::machine::Machine;
+use client_world::memory_map::ROM_START;
+
+impl Machine {
+    /// The byte of the DOS megabyte at an address below 100000h.
+    pub fn dos8(&self, at: u32) -> u8
+        requires { at < DOS_SIZE }
+        ensures { result ≡ slice_index self.now.world.dos at }
+    {
+        self.ram.get8(at)
+    }
+
+    /// Puts a byte of the DOS megabyte at an address below 100000h; from F0000h on it is dropped.
+    pub fn set_dos8(&mut self, at: u32, v: u8)
+        requires { at < DOS_SIZE }
+        ensures world { self.new.world ≡ record self.old.world { dos = with_dos_byte self.old.world.dos at v } }
+        ensures bytes { self.new.bytes ≡ with_dos_byte self.old.bytes at v }
+    {
+        if at < ROM_START {
+            self.ram.set8(at, v);
+        }
+    }
+}

@@ -1,0 +1,24 @@
+//! The machine: the model's world, held in the bytes of one memory.
+//! It promises that each call answers from the world, or changes the part of it that it names, and that the bytes hold the world after
+//! every call. It stands on `host_memory`, the descriptor table and the page tables.
+#![tactic(auto)]
+
+mod code;
+mod descriptors;
+mod dos;
+mod far;
+mod laws;
+mod loading;
+mod machine;
+mod memory;
+mod pending;
+mod segments;
+#[cfg(test)]
+mod tests;
+
+pub use laws::{
+    a_part_is_read_as_in_the_run, a_reachable_run_is_reachable_in_parts, a_write_changes_no_access,
+    every_write_changes_only_its_places, what_was_written_is_read,
+};
+pub use machine::Machine;
+pub use pending::Write;

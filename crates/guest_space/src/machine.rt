@@ -1,0 +1,146 @@
+// The machine: what the processor keeps, and the memory that holds all else.
+ghost use Rattle.std.specs.Prelude.{◌≡◌, ◌≢◌, ◌≤◌, ◌<◌, IfOk, None, Some};
+ghost use Rattle.client_world.specs.declared.limits.TheConstants.{MAX_PAGES};
+ghost use Rattle.client_world.specs.declared.registers.Mode.TheVariants.{Protected as protected};
+ghost use Rattle.client_world.specs.Soundness.{HasSegments, IsSound};
+ghost use Rattle.host_memory.specs.Blank.{blank_world};
+ghost use Rattle.host_memory.specs.HoldsWorld.{HoldsWorld};
+
+use client_world::limits::MAX_PAGES;
+use client_world::{Mode, Regs, Width};
+use guest_ram::Ram;
+use host_memory::blank_memory;
+use std::alloc::{AllocError, Global};
+use std::marker::Model;
+
+/// A machine. Its descriptors, vectors, memory blocks, records, callbacks and the list of DOS memory stand in the bytes of its memory alone;
+/// contracts see the world that they hold, and the bytes.
+#[derive(Drop)]
+pub struct Machine {
+    pub(crate) ram: Ram,
+    pub(crate) pages: u32,
+    pub(crate) regs: Regs,
+    pub(crate) mode: Mode,
+    pub(crate) width: Option<Width>,
+    pub(crate) vif: bool,
+}
+
+impl Model for Machine {
+    ghost use Rattle.client_world.specs.Soundness.{IsSound};
+    ghost use Rattle.host_memory.specs.View.{MachineView};
+    ghost use Rattle.host_memory.specs.Layout.{world_of};
+    ghost use Rattle.host_memory.specs.Holds.{Holds};
+
+    ghost Value = { MachineView };
+
+    ghost view = { λ m. record { world = world_of m.ram m.pages m.mode m.regs m.vif m.width; bytes = m.ram } };
+
+    ghost invariant = { λ m. (Holds m.ram m.pages) × (IsSound (world_of m.ram m.pages m.mode m.regs m.vif m.width)) };
+}
+
+impl Machine {
+    /// A new machine with a budget of 1 to `MAX_PAGES` pages for memory blocks. Source: own.
+    pub fn new(alloc: Global, pages: u32) -> Result<Machine, AllocError>
+        requires some { 0 < pages }
+        requires few { pages ≤ MAX_PAGES }
+        ensures { IfOk result (λ machine. machine.world ≡ blank_world pages) }
+    {
+        let ram = blank_memory(alloc, pages)?;
+        Ok(Machine {
+            ram,
+            pages,
+            regs: Regs::ZERO,
+            mode: Mode::Real,
+            width: None,
+            vif: true,
+        })
+    }
+
+    /// The memory, which holds the world. Every world of a machine is sound.
+    pub fn ram(&self) -> &Ram
+        ensures bytes { result.now ≡ self.now.bytes }
+        ensures holds { HoldsWorld self.now.bytes self.now.world }
+        ensures sound { IsSound self.now.world }
+    {
+        &self.ram
+    }
+
+    /// Every world of a machine is sound.
+    pub fn soundness(&self)
+        ensures { IsSound self.now.world }
+    {
+        let _ = &self.ram;
+    }
+
+    /// The registers.
+    #[tactic(auto, unfolding(host_memory::specs::Layout::world_of))]
+    pub fn regs(&self) -> Regs
+        ensures { result ≡ self.now.world.regs }
+    {
+        self.regs
+    }
+
+    /// Sets the registers.
+    pub fn set_regs(&mut self, r: Regs)
+        ensures world { self.new.world ≡ record self.old.world { regs = r } }
+        ensures bytes { self.new.bytes ≡ self.old.bytes }
+    {
+        segments_fit(r);
+        self.regs = r;
+    }
+
+    /// The processor's mode.
+    #[tactic(auto, unfolding(host_memory::specs::Layout::world_of))]
+    pub fn mode(&self) -> Mode
+        ensures { result ≡ self.now.world.mode }
+    {
+        self.mode
+    }
+
+    /// Sets the processor's mode; to protected mode only once there is a width.
+    pub fn set_mode(&mut self, m: Mode)
+        requires width { m ≡ protected → self.old.world.width ≢ None }
+        ensures world { self.new.world ≡ record self.old.world { mode = m } }
+        ensures bytes { self.new.bytes ≡ self.old.bytes }
+    {
+        self.mode = m;
+    }
+
+    /// The client's width, `None` before its entry to protected mode.
+    #[tactic(auto, unfolding(host_memory::specs::Layout::world_of))]
+    pub fn width(&self) -> Option<Width>
+        ensures { result ≡ self.now.world.width }
+    {
+        self.width
+    }
+
+    /// Whether virtual interrupts are enabled.
+    #[tactic(auto, unfolding(host_memory::specs::Layout::world_of))]
+    pub fn vif(&self) -> bool
+        ensures { result ≡ self.now.world.vif }
+    {
+        self.vif
+    }
+
+    /// Enables or disables virtual interrupts.
+    pub fn set_vif(&mut self, on: bool)
+        ensures world { self.new.world ≡ record self.old.world { vif = on } }
+        ensures bytes { self.new.bytes ≡ self.old.bytes }
+    {
+        self.vif = on;
+    }
+
+    /// The pages that memory blocks may have together.
+    #[tactic(auto, unfolding(host_memory::specs::Layout::world_of))]
+    pub fn budget(&self) -> u32
+        ensures budget { result ≡ self.now.world.budget }
+        ensures most { result ≤ MAX_PAGES }
+    {
+        self.pages
+    }
+}
+
+// Each segment register holds a word: the type says so, and contracts see numbers alone.
+pub(crate) fn segments_fit(r: Regs)
+    ensures { HasSegments r }
+{}

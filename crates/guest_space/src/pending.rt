@@ -1,0 +1,92 @@
+// Writes that are probed all together before the first is made.
+ghost use Rattle.std.specs.Prelude.{◌≡◌, OnOk, IfErr, None, Some};
+ghost use Rattle.guest_space.specs.Pending.{byte_count, number_bytes, write_refusal, written, first_refusal, all_written};
+
+use crate::machine::Machine;
+use client_world::{Fault, SegReg};
+
+/// A write that is asked for: a number of 8, 16 or 32 bits (any other width counts as 32) at an offset of a segment register. Source: own.
+#[derive(Clone, Copy, Debug, PartialEq, Eq)]
+pub struct Write {
+    pub seg: SegReg,
+    pub off: u32,
+    pub width: u8,
+    pub value: u32,
+}
+
+// The bytes of a number of so many bits.
+fn byte_count(width: u8) -> u32
+    ensures { result ≡ byte_count width }
+{
+    match width {
+        8 => 1,
+        16 => 2,
+        _ => 4,
+    }
+}
+
+// The bytes of the low 16 bits of a number.
+fn word_bytes(v: u32) -> [u8; 2]
+    ensures { result ≡ number_bytes 16 v }
+{
+    ((v % 0x1_0000) as u16).to_le_bytes()
+}
+
+// The bytes of a number of 32 bits.
+fn dword_bytes(v: u32) -> [u8; 4]
+    ensures { result ≡ number_bytes 32 v }
+{
+    v.to_le_bytes()
+}
+
+impl Machine {
+    // The fault of a write, if it has one.
+    fn fault_of_write(&self, x: &Write) -> Option<Fault>
+        ensures { result ≡ write_refusal self.now.world x.now }
+    {
+        self.probe(x.seg, x.off, byte_count(x.width), true).err()
+    }
+
+    // Makes a write that has no fault.
+    fn make(&mut self, x: &Write)
+        requires { write_refusal self.old.world x.now ≡ None }
+        ensures { self.new ≡ written self.old x.now }
+    {
+        let _ = if x.width == 8 {
+            self.write(x.seg, x.off, [(x.value % 0x100) as u8])
+        } else if x.width == 16 {
+            self.write(x.seg, x.off, word_bytes(x.value))
+        } else {
+            self.write(x.seg, x.off, dword_bytes(x.value))
+        };
+    }
+
+    /// The fault of the first of some writes that has one.
+    pub fn first_fault(&self, writes: &[Write]) -> Option<Fault>
+        ensures { result ≡ first_refusal self.now.world writes.now }
+    {
+        for x in writes {
+            if let Some(fault) = self.fault_of_write(x) {
+                return Some(fault);
+            }
+        }
+        None
+    }
+
+    /// Makes all of some writes in their order, or, where one of them has a fault, none of them: the first such fault is the answer.
+    pub fn write_all(&mut self, writes: &[Write]) -> Result<(), Fault>
+        ensures done { OnOk result ((first_refusal self.old.world writes.now ≡ None)
+            × (self.new ≡ all_written self.old writes.now)) }
+        ensures refused { IfErr result (λ fault.
+            (first_refusal self.old.world writes.now ≡ Some fault) × (self.new ≡ self.old)) }
+    {
+        if let Some(fault) = self.first_fault(writes) {
+            return Err(fault);
+        }
+
+        for x in writes {
+            self.make(x);
+        }
+        Ok(())
+    }
+}

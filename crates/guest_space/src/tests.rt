@@ -1,0 +1,129 @@
+// A machine is the memory and what the processor keeps, and nothing else; and what its accesses answer.
+use crate::machine::Machine;
+use crate::segments::fault_with;
+use client_world::{
+    Desc, Kind, Mode, Origin, Regs, SegReg, Width, a_plain_descriptor_keeps_a_world_sound,
+};
+use guest_ram::Ram;
+use std::alloc::{AllocError, Global};
+use std::test::Fail;
+
+// All fields of a machine, with their types: with one more this isn't compiled.
+fn parts(machine: &Machine) -> (&Ram, u32, Regs, Mode, Option<Width>, bool) {
+    let Machine {
+        ram,
+        pages,
+        regs,
+        mode,
+        width,
+        vif,
+    } = machine;
+    let ram: &Ram = ram;
+    let pages: u32 = *pages;
+    let regs: Regs = *regs;
+    let mode: Mode = *mode;
+    let width: Option<Width> = *width;
+    let vif: bool = *vif;
+    (ram, pages, regs, mode, width, vif)
+}
+
+#[test]
+fn a_machine_keeps_nothing_but_its_memory_and_the_processor(rt: HostRuntime) -> Result<(), Fail> {
+    let machine = Machine::new(rt.alloc(), 1)?;
+    let (ram, pages, regs, mode, width, vif) = parts(&machine);
+    assert_eq!(rt; ram.len(), 1_638_400);
+    assert_eq!(rt; pages, 1);
+    assert_eq!(rt; regs, Regs::ZERO);
+    assert_eq!(rt; mode, Mode::Real);
+    assert_eq!(rt; width, None);
+    assert_eq!(rt; vif, true);
+    Ok(())
+}
+
+// Writable data from address 0 on, up to FFFFFFFFh.
+const FLAT: Desc = Desc {
+    base: 0,
+    limit: 0xF_FFFF,
+    gran: true,
+    size: true,
+    avl: false,
+    present: true,
+    kind: Kind::Data {
+        writable: true,
+        down: false,
+    },
+};
+
+// A machine in protected mode in which selector 022Fh names that.
+#[tactic(auto, unfolding(host_memory::specs::Blank::blank_world))]
+fn flat_machine(alloc: Global) -> Result<Machine, AllocError> {
+    let mut machine = Machine::new(alloc, 1)?;
+    machine.set_width(Width::Sixteen);
+    machine.set_mode(Mode::Protected);
+    machine.soundness();
+    a_plain_descriptor_keeps_a_world_sound();
+    machine.set_desc(69, Some((FLAT, Origin::Own)));
+    Ok(machine)
+}
+
+#[test]
+fn accesses_in_protected_mode(rt: HostRuntime) -> Result<(), Fail> {
+    let mut machine = flat_machine(rt.alloc())?;
+    assert_eq!(rt; machine.ram().len(), 1_638_400);
+    assert_eq!(rt; machine.load_seg(SegReg::Ds, 0x22F), Ok(()));
+    let mut regs = machine.regs();
+    regs.fs = 0x237;
+    machine.set_regs(regs);
+
+    // Segment registers, offsets, and the faults of a byte's read there.
+    let faults = [
+        (SegReg::Ds, 0xC000_0000, 0x0E, 5),
+        (SegReg::Ds, 0x20_0000, 0x0E, 4),
+        (SegReg::Es, 0, 0x0D, 0),
+        (SegReg::Fs, 0, 0x0D, 0x234),
+    ];
+    for (seg, off, number, code) in faults {
+        assert_eq!(rt; machine.read::<1>(seg, off), Err(fault_with(number, code)));
+    }
+
+    assert_eq!(rt; machine.load_seg(SegReg::Ss, 0), Err(fault_with(0x0D, 0)));
+    assert_eq!(rt;
+        machine.load_seg(SegReg::Fs, 0x237),
+        Err(fault_with(0x0D, 0x234))
+    );
+
+    // The megabyte's end, and its start behind that.
+    assert_eq!(rt; machine.read(SegReg::Ds, 0xF_FFFE), Ok([0xF4, 0xF4, 0, 0]));
+    assert_eq!(rt;
+        machine.write(SegReg::Ds, 0xF_0000, [0]),
+        Err(fault_with(0x0E, 7))
+    );
+    assert_eq!(rt;
+        machine.write(SegReg::Ds, 0x10_0000, [0x78, 0x56, 0x34, 0x12]),
+        Ok(())
+    );
+    assert_eq!(rt; machine.read(SegReg::Ds, 0), Ok([0x78, 0x56, 0x34, 0x12]));
+    Ok(())
+}
+
+#[test]
+fn accesses_in_real_mode(rt: HostRuntime) -> Result<(), Fail> {
+    let mut machine = Machine::new(rt.alloc(), 1)?;
+    assert_eq!(rt; machine.load_seg(SegReg::Ss, 0x75), Ok(()));
+
+    // Segment registers, and the faults of a word's write at their last byte.
+    for (seg, number) in [(SegReg::Ss, 0x0C), (SegReg::Es, 0x0D)] {
+        assert_eq!(rt;
+            machine.write(seg, 0xFFFF, [0, 0]),
+            Err(fault_with(number, 0))
+        );
+    }
+
+    assert_eq!(rt; machine.load_seg(SegReg::Ss, 0), Ok(()));
+    let mut regs = machine.regs();
+    regs.cs = 0xF000;
+    regs.eip = 0xFFF8;
+    machine.set_regs(regs);
+    assert_eq!(rt; machine.code().as_slice(), [0xF4; 8].as_slice());
+    Ok(())
+}
