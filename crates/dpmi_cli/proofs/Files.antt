@@ -7,7 +7,7 @@ use Rattle.std.proofs.lemmas.Grind.{common_steps}
 use Rattle.std.specs.declared.option.Option.{Option}
 use Rattle.client_world.specs.declared.outcome.LoadFault.{LoadFault}
 use Rattle.client_world.specs.World.{HostWorld}
-use Rattle.host_run.specs.Start.{refusal, started}
+use Rattle.host_run.specs.Start.{refusal, started, blank}
 use Rattle.host_run.proofs.Front.{refusal_front, started_front}
 use Rattle.dpmi_io.specs.Causes.{Rose}
 use Rattle.dpmi_io.specs.Content.{Files, Lacks, Starts as Opens}
@@ -19,11 +19,11 @@ use Rattle.dpmi_cli.specs.Words.{meaning, file_names}
 
 -- a file whose first bytes are taken starts what they start
 verdict_starts : (file bytes : List ℕ) (w : HostWorld) → IsFront bytes file → refusal bytes ≡ None →
-    w ≡ started bytes → verdict_of file ≡ Starts w
+    w ≡ started 1024 1000 bytes → verdict_of file ≡ Starts w
 verdict_starts file bytes w front taken is =
     let same : refusal (take 1057 file) ≡ None = sym (ap refusal front) ∙ taken in
     let none : refusal file ≡ None = sym (refusal_front file) ∙ same in
-    let world : started file ≡ w = sym (started_front file same) ∙ sym (ap started front) ∙ sym is in
+    let world : started 1024 1000 file ≡ w = sym (started_front 1024 1000 file same) ∙ sym (ap (started 1024 1000) front) ∙ sym is in
     rw (none, verdict_of) (ap Starts world)
 
 -- a file whose first bytes are refused is refused for that
@@ -43,11 +43,13 @@ file_comes : (files : Option Files) (name bytes : List ℕ) (v : Verdict) → Ha
 file_comes None name bytes v (file, front) each = (file, each file front)
 file_comes (Some files) name bytes v has each = of_file (files name) (IsFront bytes) v has each
 
--- a file that is taken
-pub file_starts : (files : Option Files) (name bytes : List ℕ) (w : HostWorld) → HasFront files name bytes →
-    refusal bytes ≡ None → w ≡ started bytes → Comes files name (Starts w)
-file_starts files name bytes w has taken is =
-    file_comes files name bytes (Starts w) has (λ file front. verdict_starts file bytes w front taken is)
+-- a file that is taken, in a host that is new
+pub file_starts : (files : Option Files) (name bytes : List ℕ) (before w : HostWorld) → HasFront files name bytes →
+    before ≡ blank 1024 1000 → refusal bytes ≡ None → w ≡ started before.machine.budget before.keep bytes →
+    Comes files name (Starts w)
+file_starts files name bytes before w has new taken is =
+    let usual : w ≡ started 1024 1000 bytes = is ∙ ap (λ (v : HostWorld). started v.machine.budget v.keep bytes) new in
+    file_comes files name bytes (Starts w) has (λ file front. verdict_starts file bytes w front taken usual)
 
 -- a file that is refused
 pub file_refuses : (files : Option Files) (name bytes : List ℕ) (fault : LoadFault) →

@@ -2,7 +2,7 @@
 use Rattle.std.specs.Prelude.{ℕ, List, None, Some, All, ⊤}
 use Rattle.std.specs.Option.{option_map}
 use Rattle.std.specs.declared.option.Option.{Option}
-use Rattle.client_world.specs.declared.limits.TheConstants.{DEFAULT_BOUND}
+use Rattle.client_world.specs.declared.limits.TheConstants.{DEFAULT_BOUND, DEFAULT_PAGES, DEFAULT_TRACE}
 use Rattle.client_world.specs.declared.outcome.Exit.{Exit}
 use Rattle.client_world.specs.declared.outcome.Exit.TheVariants.{Exited, Fault, Bound, NoKeys, ConsoleFull, Deep, Stray, LostStructure, BadFrame, BadSwitch, Unbuilt}
 use Rattle.client_world.specs.World.{HostWorld}
@@ -24,9 +24,12 @@ pub data Verdict : Type 0 where
   Refuses : Reason → Verdict
   Starts : HostWorld → Verdict
 
--- the verdict on a file
+-- the verdict on a file; the run that it starts has the page budget and the number of trace lines that are usual
 abbrev pub verdict_of : List ℕ → Verdict
-verdict_of file = elim (refusal file) [ None ↦ Starts (started file) | Some fault ↦ Refuses (Load fault) ]
+verdict_of file = elim (refusal file) [
+  | None ↦ Starts (started DEFAULT_PAGES DEFAULT_TRACE file)
+  | Some fault ↦ Refuses (Load fault)
+]
 
 -- the verdict on the words; none where the file that they name isn't there
 abbrev pub verdict : List (List ℕ) → Files → Option Verdict

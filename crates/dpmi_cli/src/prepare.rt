@@ -1,5 +1,6 @@
 // What comes before the run: the words, the memory, the file and the load.
 ghost use Rattle.std.specs.Prelude.{◌≡◌, ◌≤◌, ◌⊎◌, map, string_bytes, None, Some, length, take, IfOk, OnErr, IsErrOf};
+ghost use Rattle.client_world.specs.declared.limits.TheConstants.{DEFAULT_PAGES, DEFAULT_TRACE};
 ghost use Rattle.dpmi_cli.specs.Answer.{verdict_in};
 ghost use Rattle.dpmi_cli.specs.Load.{HasFront, Comes, FailsAt, loaded, IsNew};
 ghost use Rattle.host_run.specs.Start.{blank};
@@ -68,7 +69,7 @@ fn load_file<F: Shelf>(
     host: &mut Host,
 ) -> Result<Option<LoadFault>, ShelfFail>
     requires room { length buf.old ≡ FRONT_SIZE }
-    requires blank { host.old ≡ blank }
+    requires blank { host.old ≡ blank DEFAULT_PAGES DEFAULT_TRACE }
     ensures told { IfOk result (λ fault.
         Comes (F.files shelf.old) (string_bytes name) (loaded fault host.new)) }
     ensures new { IfOk result (λ fault. IsNew (loaded fault host.new)) }

@@ -5,7 +5,7 @@ use Rattle.std.specs.declared.option.Option.{Option}
 use Rattle.std.proofs.lemmas.Bool.{cond_both, and_parts, ltb-true, lt-ltb}
 use Rattle.std.proofs.lemmas.List.Elements.{All-nil, All-cons, All-append}
 use Rattle.client_world.specs.declared.registers.Regs.{Regs}
-use Rattle.client_world.specs.Access.{linear_address, place_of, IsHeld}
+use Rattle.client_world.specs.Access.{linear_address, place_in, place_of, IsHeld}
 use Rattle.client_world.specs.Memory.{takes_word}
 use Rattle.client_world.specs.Soundness.{IsSound}
 use Rattle.client_world.specs.World.{World}
@@ -40,7 +40,7 @@ decoded P a b c x y z n at_a at_b at_c none =
 -- what is decoded was fetched so
 fetched : (w : World) → IsSound w → IfSome (instruction_at w) (IsFetched w)
 fetched w s =
-    let small : code_byte w 1 < 0x100 = s.bytes _ in
+    let small : code_byte w 1 < 0x100 = s.megabyte.bytes _ in
     let P : Option Instruction → Type 0 = λ o. IfSome o (IsFetched w) in
     let first = code_byte w 0 in
     let can_fetch = is_fetchable w in
@@ -59,6 +59,7 @@ fetched w s =
 
 -- below 110000h all is the client's
 low_held : (w v : World) (linear : ℕ) → linear < 0x110000 → IsHeld v (place_of w linear)
+unfolding place_in
 low_held w v linear low = rw (lt-ltb linear 0x110000 low) tt
 
 -- so are bytes inside the limit of a real-mode segment

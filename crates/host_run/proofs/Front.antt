@@ -44,9 +44,9 @@ refusal_front f = elim (leb_tells (length f) 1057) [
       ∙ sym (refusal_long f (omega arith))
 ]
 
-pub started_front : (f : List ℕ) → refusal (take 1057 f) ≡ None → started (take 1057 f) ≡ started f
-started_front f taken = elim (leb_tells (length f) 1057) [
-  | inl short ↦ ap started (take_all 1057 f short.1)
+pub started_front : (pages keep : ℕ) (f : List ℕ) → refusal (take 1057 f) ≡ None → started pages keep (take 1057 f) ≡ started pages keep f
+started_front pages keep f taken = elim (leb_tells (length f) 1057) [
+  | inl short ↦ ap (started pages keep) (take_all 1057 f short.1)
   | inr long ↦
       let len : length (take 1057 f) ≡ 1057 = length-take-le 1057 f (omega arith) in
       absurd (not_none (get_or (take 1057 f) 0 0) (get_or (take 1057 f) 1 0) (sym (refusal_long (take 1057 f) (omega arith)) ∙ taken))

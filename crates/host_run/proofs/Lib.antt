@@ -5,6 +5,7 @@ mod LoadedBytes
 mod MegabyteBytes
 mod Runs
 pub mod Sound
+mod SoundBlank
 mod SoundBytes
 mod SoundStart
 mod SoundTurns

@@ -7,17 +7,12 @@ use Rattle.client_world.specs.declared.registers.Flags.{Flags}
 use Rattle.client_world.specs.Access.{linear_address, dos_address}
 use Rattle.client_world.specs.Memory.{byte_at, word_at, with_word_at, takes_word}
 use Rattle.client_world.specs.Registers.{flags_image}
+use Rattle.client_world.specs.Soundness.{SoundMegabyte}
 use Rattle.host_run.specs.Start.{megabyte}
 use Rattle.host_run.proofs.MegabyteBytes.{length_megabyte, megabyte_at}
 
--- the part of `IsSound` that speaks of the megabyte
-pub record IsWhole (dos : List ℕ) : Type 0 where
-  pub size : length dos ≡ 0x100000
-  pub bytes : (at : ℕ) → get_or dos at 0 < 0x100
-  pub rom : (at : ℕ) → 0xF0000 ≤ at → at < 0x100000 → get_or dos at 0 ≡ 0xF4
-
 -- two bytes make a word
-pub word_below : (dos : List ℕ) (segment offset : ℕ) → IsWhole dos → word_at dos segment offset < 0x10000
+pub word_below : (dos : List ℕ) (segment offset : ℕ) → SoundMegabyte dos → word_at dos segment offset < 0x10000
 word_below dos segment offset s =
     let low : byte_at dos segment offset < 0x100 = s.bytes _ in
     let high : byte_at dos segment (offset + 1) < 0x100 = s.bytes _ in
@@ -33,7 +28,7 @@ set_bytes dos i v s room small at =
     ]
 
 -- a byte below the read-only part may be written
-set_whole : (dos : List ℕ) (i v : ℕ) → IsWhole dos → i < 0xF0000 → v < 0x100 → IsWhole (set dos i v)
+set_whole : (dos : List ℕ) (i v : ℕ) → SoundMegabyte dos → i < 0xF0000 → v < 0x100 → SoundMegabyte (set dos i v)
 set_whole dos i v s low small = record {
   size = length-set dos i v ∙ s.size;
   bytes = let room : i < length dos = let size = s.size in omega arith in set_bytes dos i v s.bytes room small;
@@ -50,8 +45,8 @@ takes_high : (segment offset : ℕ) → IsTrue (takes_word segment offset) →
 takes_high segment offset takes = grind (arith, nat_tests)
 
 -- a word that may be written leaves the megabyte whole
-pub word_whole : (dos : List ℕ) (segment offset v : ℕ) → IsWhole dos → IsTrue (takes_word segment offset) →
-    v < 0x10000 → IsWhole (with_word_at dos segment offset v)
+pub word_whole : (dos : List ℕ) (segment offset v : ℕ) → SoundMegabyte dos → IsTrue (takes_word segment offset) →
+    v < 0x10000 → SoundMegabyte (with_word_at dos segment offset v)
 word_whole dos segment offset v s takes small =
     set_whole _ _ _ (set_whole dos _ _ s (takes_low segment offset takes) (omega arith)) (takes_high segment offset takes) (omega arith)
 
@@ -66,7 +61,7 @@ flags_below f interrupt = omega (arith, cond_most)
 
 -- a filled megabyte is whole, if it is filled so
 pub megabyte_whole : (f : ℕ → ℕ) → ((k : ℕ) → f k < 0x100) → ((k : ℕ) → 0xF0000 ≤ k → f k ≡ 0xF4) →
-    IsWhole (megabyte f)
+    SoundMegabyte (megabyte f)
 megabyte_whole f small rom = record {
   size = length_megabyte f;
   bytes = λ k. elim (leb_tells 0x100000 k) [

@@ -1,11 +1,11 @@
 -- The blank world and the world that a file starts are sound.
-use Rattle.std.proofs.Common.{arith, ◌≡◌, ◌≤◌, ◌<◌, ◌-◌, ℕ, List, length, get_or}
+use Rattle.std.proofs.Common.{arith, ◌≡◌, ◌≤◌, ◌<◌, ◌-◌, ℕ, List, length, get_or, true}
 use Rattle.std.proofs.lemmas.Bool.Decides.{nat_tests}
 use Rattle.client_world.specs.Soundness.{IsSound}
-use Rattle.host_run.specs.Start.{blank_byte, blank_machine, loaded_byte, started_machine}
+use Rattle.host_run.specs.Start.{blank_byte, blank_machine, loaded_byte, megabyte, no_regs, started_machine, started_regs}
 use Rattle.host_run.proofs.LoadedBytes.{blank_byte-rom}
 use Rattle.host_run.proofs.SoundBytes.{megabyte_whole}
-use Rattle.host_run.proofs.SoundTurns.{sound_of}
+use Rattle.host_run.proofs.SoundBlank.{blank_parts_sound}
 
 -- the blank megabyte is made of bytes
 blank_small : (k : ℕ) → blank_byte k < 0x100
@@ -24,15 +24,16 @@ loaded_rom : (code : List ℕ) (n : ℕ) → n ≤ 1024 → (k : ℕ) → 0xF000
 loaded_rom code n few k above = let blank : blank_byte k ≡ 0xF4 = blank_byte-rom k above in grind (arith, nat_tests)
 
 -- the first machine
-pub first_sound : IsSound blank_machine
-first_sound =
-    sound_of blank_machine (megabyte_whole blank_byte blank_small blank_byte-rom)
+pub first_sound : (pages : ℕ) → IsSound (blank_machine pages)
+first_sound pages =
+    blank_parts_sound no_regs true (megabyte blank_byte) pages
     (record { es = omega arith; cs = omega arith; ss = omega arith; ds = omega arith; fs = omega arith; gs = omega arith })
+    (megabyte_whole blank_byte blank_small blank_byte-rom)
 
 -- a machine that is started with little code, of bytes
-pub code_sound : (code : List ℕ) → ((at : ℕ) → get_or code at 0 < 0x100) → length code ≤ 1024 →
-    IsSound (started_machine code)
-code_sound code small few =
-    sound_of (started_machine code)
-    (megabyte_whole (loaded_byte code (length code)) (loaded_small code (length code) small) (loaded_rom code (length code) few))
+pub code_sound : (pages : ℕ) (code : List ℕ) → ((at : ℕ) → get_or code at 0 < 0x100) → length code ≤ 1024 →
+    IsSound (started_machine pages code)
+code_sound pages code small few =
+    blank_parts_sound (started_regs (length code)) true (megabyte (loaded_byte code (length code))) pages
     (record { es = omega arith; cs = omega arith; ss = omega arith; ds = omega arith; fs = omega arith; gs = omega arith })
+    (megabyte_whole (loaded_byte code (length code)) (loaded_small code (length code) small) (loaded_rom code (length code) few))

@@ -1,6 +1,6 @@
 -- The stack in real mode, and an interrupt's frame: IP, CS and the flags image, as words from SS:SP up.
 -- Source: 80386 Programmer's Reference Manual, ch. 17, INT and IRET, and ch. 15.
-use Rattle.std.specs.Prelude.{ℕ, ◌+◌, ◌-◌, ◌*◌, ◌%◌, List, Bool, false, ◌&&◌}
+use Rattle.std.specs.Prelude.{ℕ, ◌+◌, ◌-◌, ◌*◌, List, Bool, false, ◌&&◌}
 use Rattle.client_world.specs.declared.registers.Regs.{Regs}
 use Rattle.client_world.specs.declared.registers.TheConstants.{INTERRUPT_BIT}
 use Rattle.client_world.specs.declared.memory_map.TheConstants.{SEGMENT_SIZE}

@@ -1,6 +1,6 @@
 -- The instructions of this stage: MOV of an immediate into a register, and INT.
 -- Source: 80386 Programmer's Reference Manual, ch. 17, MOV and INT.
-use Rattle.std.specs.Prelude.{ℕ, ◌+◌, ◌-◌, ◌*◌, ◌%◌, Bool, ◌&&◌, nat_eq, nat_lt, nat_le, if◌then◌else◌, None, Some, Ok, Err}
+use Rattle.std.specs.Prelude.{ℕ, ◌+◌, ◌-◌, ◌*◌, Bool, ◌&&◌, nat_eq, nat_lt, nat_le, if◌then◌else◌, None, Some, Ok, Err}
 use Rattle.std.specs.declared.option.Option.{Option}
 use Rattle.std.specs.declared.result.Result.{Result}
 use Rattle.client_world.specs.declared.registers.Regs.{Regs}

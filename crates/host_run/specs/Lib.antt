@@ -1,3 +1,4 @@
+pub mod BlankParts
 pub mod Frame
 pub mod Instruction
 pub mod Turn

@@ -1,6 +1,6 @@
 -- The first world of a host, the files that are taken, and the world that a file starts.
 -- Source: MS-DOS Programmer's Reference, the EXE header; the memory map and the order of refusals are own.
-use Rattle.std.specs.Prelude.{ℕ, ◌+◌, ◌-◌, ◌/◌, ◌%◌, List, [], ◌∷◌, ◌++◌, length, take, drop, map, Bool, true, false, ◌&&◌, nat_eq, nat_lt, nat_le, if◌then◌else◌, None, Some, slice_index}
+use Rattle.std.specs.Prelude.{◌≡◌, ℕ, ◌+◌, ◌-◌, ◌/◌, ◌%◌, List, [], ◌∷◌, ◌++◌, length, take, drop, map, Bool, true, false, ◌&&◌, nat_eq, nat_lt, nat_le, if◌then◌else◌, None, Some, slice_index}
 use Rattle.std.specs.List.{range_with_len}
 use Rattle.std.specs.Cmp.Lexicographic.{pointwise}
 use Rattle.std.specs.declared.option.Option.{Option}
@@ -11,6 +11,7 @@ use Rattle.client_world.specs.declared.registers.Mode.TheVariants.{Real}
 use Rattle.client_world.specs.declared.outcome.LoadFault.{LoadFault}
 use Rattle.client_world.specs.declared.outcome.LoadFault.TheVariants.{ShortHeader, Signature, Unbuilt}
 use Rattle.client_world.specs.World.{World, HostWorld}
+use Rattle.host_run.specs.BlankParts.{blank_arena, blank_blocks, blank_pageable, blank_descriptors, blank_interrupt_vectors, blank_exception_vectors, blank_callbacks}
 use Rattle.host_run.specs.declared.header.TheConstants.{HEADER_SIZE, MZ_HEADER_SIZE, MAX_CODE, FIRST_STACK_POINTER}
 
 -- the size of the megabyte under a name of its own, so that no proof counts to it
@@ -58,17 +59,50 @@ no_regs = record {
   gs = 0;
 }
 
--- the machine before a load: real mode, registers 0, virtual interrupts enabled
-abbrev pub blank_machine : World
-blank_machine = record { mode = Real; regs = no_regs; vif = true; dos = megabyte blank_byte }
+-- a machine in real mode before its entry, with these registers, this virtual interrupt flag, this megabyte and this page budget; its
+-- other parts are blank
+abbrev pub machine_with : Regs → Bool → List ℕ → ℕ → World
+machine_with regs vif dos budget = record {
+  mode = Real;
+  regs = regs;
+  vif = vif;
+  width = None;
+  dos = dos;
+  arena = blank_arena;
+  blocks = blank_blocks;
+  budget = budget;
+  pageable = blank_pageable;
+  descriptors = blank_descriptors;
+  interrupt_vectors = blank_interrupt_vectors;
+  exception_vectors = blank_exception_vectors;
+  callbacks = blank_callbacks;
+  calls = [];
+}
 
--- a host that has run nothing, on that machine
-abbrev pub new_host : World → HostWorld
-new_host machine = record { machine = machine; console = []; steps = 0; exit = None }
+-- the machine before a load, with a budget of so many pages: registers 0, virtual interrupts enabled
+abbrev pub blank_machine : ℕ → World
+blank_machine pages = machine_with no_regs true (megabyte blank_byte) pages
 
--- the world of a new host
-abbrev pub blank : HostWorld
-blank = new_host blank_machine
+-- a host that has run nothing, on that machine: no keystrokes, and a trace that keeps so many lines at most
+abbrev pub new_host : World → ℕ → HostWorld
+new_host machine keep = record {
+  machine = machine;
+  keys = [];
+  console = [];
+  keep = keep;
+  kept = [];
+  lines = 0;
+  steps = 0;
+  exit = None;
+}
+
+-- the world of a new host, by its page budget and the number of trace lines that are kept
+abbrev pub blank : ℕ → ℕ → HostWorld
+blank pages keep = new_host (blank_machine pages) keep
+
+-- the world of a host that is new
+abbrev pub IsBlank : HostWorld → Type 0
+IsBlank w = w ≡ blank w.machine.budget w.keep
 
 -- the header of the client with n bytes of code: no relocations, two header paragraphs, a minimum of 0010h and
 -- a maximum of FFFFh paragraphs, SS:SP behind the code and CS:IP at its first byte
@@ -113,21 +147,21 @@ loaded_byte code n at =
     if nat_le IMAGE_START at && nat_lt at (IMAGE_START + n) then slice_index code (at - IMAGE_START) else
     blank_byte at
 
--- the machine with the code at 0074h:0000h: CS:IP at its first byte, SS:SP behind it, DS and ES at 0064h
-abbrev pub started_machine : List ℕ → World
-started_machine code = record {
-  mode = Real;
-  regs = record no_regs {
-    esp = FIRST_STACK_POINTER;
-    cs = IMAGE_SEGMENT;
-    ss = IMAGE_SEGMENT + (length code + PARAGRAPH_SIZE - 1) / PARAGRAPH_SIZE;
-    ds = PSP_SEGMENT;
-    es = PSP_SEGMENT;
-  };
-  vif = true;
-  dos = megabyte (loaded_byte code (length code));
+-- the registers with which n bytes of code at 0074h:0000h start: CS:IP at their first byte, SS:SP behind them, DS and ES at 0064h
+abbrev pub started_regs : ℕ → Regs
+started_regs n = record no_regs {
+  esp = FIRST_STACK_POINTER;
+  cs = IMAGE_SEGMENT;
+  ss = IMAGE_SEGMENT + (n + PARAGRAPH_SIZE - 1) / PARAGRAPH_SIZE;
+  ds = PSP_SEGMENT;
+  es = PSP_SEGMENT;
 }
 
--- the world that a file starts
-abbrev pub started : List ℕ → HostWorld
-started file = new_host (started_machine (code_of file))
+-- the machine with the code there, and a budget of so many pages
+abbrev pub started_machine : ℕ → List ℕ → World
+started_machine pages code =
+    machine_with (started_regs (length code)) true (megabyte (loaded_byte code (length code))) pages
+
+-- the world that a file starts, by the page budget and the number of trace lines that are kept
+abbrev pub started : ℕ → ℕ → List ℕ → HostWorld
+started pages keep file = new_host (started_machine pages (code_of file)) keep

@@ -1,8 +1,8 @@
 -- One turn: it serves a trap byte, or runs one client instruction. Source: own.
-use Rattle.std.specs.Prelude.{◌+◌, ◌/◌, ◌%◌, [], ◌∷◌, ◌++◌, length, Bool, ◌&&◌, nat_eq, nat_lt, if◌then◌else◌, None, Some, Ok, Err}
+use Rattle.std.specs.Prelude.{◌+◌, [], ◌∷◌, ◌++◌, length, Bool, ◌&&◌, nat_eq, nat_lt, if◌then◌else◌, None, Some, Ok, Err}
 use Rattle.std.specs.declared.result.Result.{Result}
 use Rattle.client_world.specs.declared.limits.TheConstants.{CONSOLE_ROOM}
-use Rattle.client_world.specs.declared.memory_map.TheConstants.{DOS_CALL_TRAP}
+use Rattle.client_world.specs.declared.traps.TheConstants.{DOS_CALL_TRAP}
 use Rattle.client_world.specs.declared.outcome.Exit.{Exit}
 use Rattle.client_world.specs.declared.outcome.Exit.TheVariants.{Exited, ConsoleFull, Unbuilt}
 use Rattle.client_world.specs.Access.{linear_address}

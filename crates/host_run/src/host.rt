@@ -1,25 +1,28 @@
 // The host and its turns.
-ghost use Rattle.std.specs.Prelude.{◌≡◌, ◌≤◌, ◌<◌, ◌+◌, IfOk, OnOk, IfErr, Ok, Err, Some, None, length, vec_capacity};
+ghost use Rattle.std.specs.Prelude.{◌≡◌, ◌≤◌, ◌<◌, ◌+◌, [], IfOk, OnOk, IfErr, Ok, Err, Some, None, length, vec_capacity};
 ghost use Rattle.client_world.specs.declared.limits.TheConstants.{CONSOLE_ROOM};
 ghost use Rattle.client_world.specs.Soundness.{IsSound};
 ghost use Rattle.client_world.specs.World.{HostWorld};
-ghost use Rattle.host_run.specs.Start.{blank, refusal, started};
+ghost use Rattle.host_run.specs.Start.{blank, IsBlank, refusal, started};
 ghost use Rattle.host_run.specs.Turn.{is_at_dos_call, character_written, dos_call, work, turn};
 ghost use Rattle.host_run.specs.Run.{run};
 
 use crate::header::{HEADER_SIZE, check};
 use crate::machine::Machine;
 use client_world::limits::{CONSOLE_ROOM, MAX_KEYS, MAX_PAGES, MAX_STEPS, MAX_TRACE};
-use client_world::memory_map::{DOS_CALL_TRAP, PARAGRAPH_SIZE};
+use client_world::memory_map::PARAGRAPH_SIZE;
+use client_world::traps::DOS_CALL_TRAP;
 use client_world::{Exit, LoadFault};
 use std::alloc::{AllocError, Global};
 use std::marker::Model;
 
-/// A client's machine, what it wrote, how many turns were made, and how the run ended.
+/// A client's machine, what it wrote, how many turns were made, and how the run ended. This stage uses no keystrokes and
+/// notes no line of a trace: its world shows none of either.
 #[derive(Drop)]
 pub struct Host {
     machine: Machine,
     console: Vec<u8>,
+    keep: u32,
     steps: u32,
     exit: Option<Exit>,
 }
@@ -27,29 +30,38 @@ pub struct Host {
 impl Model for Host {
     ghost Value = { HostWorld };
 
-    ghost view = { λ h. record { machine = h.machine; console = h.console.items; steps = h.steps; exit = h.exit } };
+    ghost view = { λ h. record {
+      machine = h.machine;
+      keys = [];
+      console = h.console.items;
+      keep = h.keep;
+      kept = [];
+      lines = 0;
+      steps = h.steps;
+      exit = h.exit;
+    } };
 
     ghost invariant = { λ h. (length h.console.items ≤ CONSOLE_ROOM) × (CONSOLE_ROOM ≤ vec_capacity h.console) };
 }
 
 impl Host {
-    /// A host that has run nothing, on blank memory. The page budget, the keystrokes and the number of trace lines
-    /// that are kept are within their limits; this stage doesn't use them yet.
+    /// A host that has run nothing, on blank memory. Its world has that page budget and that number of trace lines to
+    /// keep. They and the keystrokes are within their limits; this stage doesn't use any of them yet, and its world
+    /// shows no keystrokes.
     pub fn new(alloc: Global, pages: u32, keys: &[u8], keep: u32) -> Result<Host, AllocError>
         requires some_pages { 0 < pages }
         requires pages { pages ≤ MAX_PAGES }
         requires keys { length keys.now ≤ MAX_KEYS }
         requires keep { keep ≤ MAX_TRACE }
-        ensures { IfOk result (λ host. host ≡ blank) }
+        ensures { IfOk result (λ host. host ≡ blank pages keep) }
     {
-        let _ = pages;
         let _ = keys;
-        let _ = keep;
-        let machine = Machine::new(alloc)?;
+        let machine = Machine::new(alloc, pages)?;
         let console = Vec::with_capacity(alloc, CONSOLE_ROOM as usize)?;
         Ok(Host {
             machine,
             console,
+            keep,
             steps: 0,
             exit: None,
         })
@@ -58,9 +70,9 @@ impl Host {
     /// Loads a client's file into a new host. It is refused for the first reason in the order of `LoadFault`,
     /// and nothing is changed then.
     pub fn load(&mut self, file: &[u8]) -> Result<(), LoadFault>
-        requires { self.old ≡ blank }
+        requires { IsBlank self.old }
         ensures taken { OnOk result (refusal file.now ≡ None) }
-        ensures started { OnOk result (self.new ≡ started file.now) }
+        ensures started { OnOk result (self.new ≡ started self.old.machine.budget self.old.keep file.now) }
         ensures sound { OnOk result (IsSound self.new.machine) }
         ensures refused { IfErr result (λ fault. refusal file.now ≡ Some fault) }
         ensures kept { IfErr result (λ _. self.new ≡ self.old) }

@@ -1,7 +1,7 @@
 // The laws of the host's runs. Each is a function with nothing to do: its contract is the law.
 ghost use Rattle.std.specs.Prelude.{◌≡◌, ◌≤◌, ◌<◌, ℕ, List, All, None, IsSome, length, slice_index, take};
 ghost use Rattle.client_world.specs.Access.{IsHeld};
-ghost use Rattle.client_world.specs.Soundness.{IsSound};
+ghost use Rattle.client_world.specs.Soundness.{IsSound, IsSoundHost};
 ghost use Rattle.client_world.specs.World.{HostWorld};
 ghost use Rattle.host_run.specs.declared.header.TheConstants.{FRONT_SIZE, MAX_CODE};
 ghost use Rattle.host_run.specs.Start.{blank, client, code_of, refusal, started};
@@ -16,15 +16,19 @@ pub fn every_touch_is_held()
 {}
 
 /// A turn leads from a sound world to a sound world: the megabyte keeps its size, its read-only part and its bytes,
-/// and each segment register stays a word.
+/// each segment register stays a word, and what the services keep stays sound. So it is for a host, with two lines of
+/// the trace for each turn at most.
 pub fn every_turn_is_sound()
-    ensures { (w : HostWorld) → IsSound w.machine → IsSound (turn w).machine }
+    ensures machine { (w : HostWorld) → IsSound w.machine → IsSound (turn w).machine }
+    ensures host { (w : HostWorld) → IsSoundHost w → IsSoundHost (turn w) }
 {}
 
-/// Any number of turns leads from a sound world to a sound world, and so does a run.
+/// Any number of turns leads from a sound world to a sound world, and so does a run. So it is for a host.
 pub fn every_run_is_sound()
     ensures turns { (w : HostWorld) → IsSound w.machine → (n : ℕ) → IsSound (turns w n).machine }
     ensures end { (w : HostWorld) → IsSound w.machine → (n : ℕ) → IsSound (run w n).machine }
+    ensures host_turns { (w : HostWorld) → IsSoundHost w → (n : ℕ) → IsSoundHost (turns w n) }
+    ensures host_end { (w : HostWorld) → IsSoundHost w → (n : ℕ) → IsSoundHost (run w n) }
 {}
 
 /// However many turns were made since a sound world, the next touches memory that the client holds, and no other.
@@ -35,9 +39,9 @@ pub fn every_touch_of_a_run_is_held()
 
 /// The world of a new host is sound, and so is the world that a file starts, if the file is one of bytes and is taken.
 pub fn every_start_is_sound()
-    ensures blank { IsSound blank.machine }
-    ensures started { (file : List ℕ) → ((at : ℕ) → slice_index file at < 0x100) → refusal file ≡ None →
-        IsSound (started file).machine }
+    ensures blank { (pages keep : ℕ) → IsSoundHost (blank pages keep) }
+    ensures started { (pages keep : ℕ) (file : List ℕ) → ((at : ℕ) → slice_index file at < 0x100) → refusal file ≡ None →
+        IsSoundHost (started pages keep file) }
 {}
 
 /// Once a run has ended, more turns change nothing.
@@ -53,8 +57,8 @@ pub fn a_run_past_an_exit_is_over()
 /// The first `FRONT_SIZE` bytes of a file decide whether it is taken and what it starts.
 pub fn the_front_of_a_file_decides()
     ensures refusal { (file : List ℕ) → refusal (take FRONT_SIZE file) ≡ refusal file }
-    ensures started { (file : List ℕ) → refusal (take FRONT_SIZE file) ≡ None →
-        started (take FRONT_SIZE file) ≡ started file }
+    ensures started { (pages keep : ℕ) (file : List ℕ) → refusal (take FRONT_SIZE file) ≡ None →
+        started pages keep (take FRONT_SIZE file) ≡ started pages keep file }
 {}
 
 /// The files that are taken are those of a client with 1 to 1,024 bytes of code: its header and the code.

@@ -1,9 +1,10 @@
-// The machine of this stage: the processor in real mode, and the DOS megabyte.
-ghost use Rattle.std.specs.Prelude.{◌≡◌, ◌≤◌, ◌<◌, IfOk, length};
+// The machine of this stage: the processor in real mode, and the DOS megabyte. The other parts of its world stay blank.
+ghost use Rattle.std.specs.Prelude.{◌≡◌, ◌≤◌, ◌<◌, IfOk, length, [], None};
 ghost use Rattle.client_world.specs.declared.memory_map.TheConstants.{DOS_SIZE};
 ghost use Rattle.client_world.specs.World.{World};
 ghost use Rattle.client_world.specs.Access.{linear_address, dos_address};
 ghost use Rattle.client_world.specs.Memory.{byte_at, word_at, with_word_at, takes_word, is_writable};
+ghost use Rattle.host_run.specs.BlankParts.{blank_arena, blank_blocks, blank_pageable, blank_descriptors, blank_interrupt_vectors, blank_exception_vectors, blank_callbacks};
 ghost use Rattle.host_run.specs.Start.{blank_machine, started_machine};
 
 use crate::header::{FIRST_STACK_POINTER, MAX_CODE};
@@ -16,19 +17,35 @@ use guest_ram::{FRAME_SIZE, Ram};
 use std::alloc::{AllocError, Global};
 use std::marker::Model;
 
-/// The processor and the memory that the client sees.
+/// The processor, the memory that the client sees, and the page budget, which this stage doesn't use.
 #[derive(Drop)]
 pub struct Machine {
     pub ram: Ram,
     pub regs: Regs,
     pub mode: Mode,
     pub vif: bool,
+    pub pages: u32,
 }
 
 impl Model for Machine {
     ghost Value = { World };
 
-    ghost view = { λ m. record { mode = m.mode; regs = m.regs; vif = m.vif; dos = m.ram } };
+    ghost view = { λ m. record {
+      mode = m.mode;
+      regs = m.regs;
+      vif = m.vif;
+      width = None;
+      dos = m.ram;
+      arena = blank_arena;
+      blocks = blank_blocks;
+      budget = m.pages;
+      pageable = blank_pageable;
+      descriptors = blank_descriptors;
+      interrupt_vectors = blank_interrupt_vectors;
+      exception_vectors = blank_exception_vectors;
+      callbacks = blank_callbacks;
+      calls = [];
+    } };
 
     ghost invariant = { λ m. length m.ram ≡ DOS_SIZE };
 }
@@ -61,9 +78,9 @@ pub fn is_word_writable(segment: u16, offset: u32) -> bool
 }
 
 impl Machine {
-    /// A machine in real mode on blank memory, with registers 0 and virtual interrupts enabled.
-    pub fn new(alloc: Global) -> Result<Machine, AllocError>
-        ensures { IfOk result (λ machine. machine ≡ blank_machine) }
+    /// A machine in real mode on blank memory, with registers 0, virtual interrupts enabled, and a budget of so many pages.
+    pub fn new(alloc: Global, pages: u32) -> Result<Machine, AllocError>
+        ensures { IfOk result (λ machine. machine ≡ blank_machine pages) }
     {
         let mut ram = Ram::new(alloc, DOS_SIZE / FRAME_SIZE)?;
         fill_blank(&mut ram);
@@ -72,14 +89,15 @@ impl Machine {
             regs: Regs::ZERO,
             mode: Mode::Real,
             vif: true,
+            pages,
         })
     }
 
     /// Puts a client's code into a new machine, and sets the registers with which it starts.
     pub fn start(&mut self, code: &[u8])
-        requires blank { self.old ≡ blank_machine }
+        requires blank { self.old ≡ blank_machine self.old.budget }
         requires few { length code.now ≤ MAX_CODE }
-        ensures { self.new ≡ started_machine code.now }
+        ensures { self.new ≡ started_machine self.old.budget code.now }
     {
         load_code(&mut self.ram, code);
         self.regs.esp = FIRST_STACK_POINTER;

@@ -1,5 +1,5 @@
 use Rattle.std.proofs.Common.{map, string_bytes, subst, sym}
-use Rattle.dpmi_cli.specs.Answer.{verdict_in}
+use Rattle.dpmi_cli.specs.Answer.{Verdict, verdict_in}
 use Rattle.dpmi_cli.specs.Causes.{Answers}
 use Rattle.dpmi_cli.proofs.Complete.{verdict_map}
 use Rattle.dpmi_cli.proofs.command.answer_words.Goals as goal
@@ -11,4 +11,5 @@ returns-in-Ok-Refused-clause-answers g c not_three not_five =
     let gives =
     subst (λ p. Answers (verdict_in p) before now (g.O.Sink.faults c.args.out.now) (g.O.Sink.faults c.refuse.new.out) c.refuse.result)
     (sym c.in-Ok-Refused.field-0-is) c.refuse.ensures.answers in
-    verdict_map (map string_bytes c.args.words.now) _ _ _ gives c.in-Ok-Refused.ensures.told
+    let P : Verdict → Type 0 = λ v. Answers v before now (g.O.Sink.faults c.args.out.now) (g.O.Sink.faults c.refuse.new.out) c.refuse.result in
+    verdict_map (map string_bytes c.args.words.now) _ _ P gives c.in-Ok-Refused.ensures.told

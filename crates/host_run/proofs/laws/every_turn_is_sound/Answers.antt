@@ -1,5 +1,8 @@
-use Rattle.host_run.proofs.Sound.{turn_sound}
+use Rattle.host_run.proofs.Sound.{turn_sound, host_turn_sound}
 use Rattle.host_run.proofs.laws.every_turn_is_sound.Goals as goal
 
-pub returns : goal.returns
-returns c = turn_sound
+pub returns-clause-machine : goal.returns-clause-machine
+returns-clause-machine c = turn_sound
+
+pub returns-clause-host : goal.returns-clause-host
+returns-clause-host c = host_turn_sound
