@@ -1,0 +1,48 @@
+-- The stack: the stack pointer is ESP where the segment in SS has B = 1, else SP; the other half stays.
+-- Source: 80386 Programmer's Reference Manual, ch. 2, "Stack Implementation", and ch. 17, PUSH and POP.
+use Rattle.std.specs.Prelude.{ℕ, ◌+◌, ◌-◌, ◌*◌, ◌^◌, Bool, false, if◌then◌else◌, None, Some}
+use Rattle.client_world.specs.declared.registers.Mode.TheVariants.{Real, Protected}
+use Rattle.client_world.specs.declared.registers.Regs.{Regs}
+use Rattle.client_world.specs.declared.segments.SegReg.TheVariants.{Ss}
+use Rattle.client_world.specs.Registers.{with_low_half}
+use Rattle.client_world.specs.Selector.{Row, row_of_selector}
+use Rattle.client_world.specs.World.{World}
+use Rattle.guest_space.specs.Pending.{byte_count}
+use Rattle.insn_plan.specs.Act.{Input, From, Pending, with_regs}
+use Rattle.insn_plan.specs.Operands.{and_write}
+use Rattle.insn_plan.specs.Registers.{cut_address}
+
+-- the segment has B = 1
+abbrev pub has_size_bit : Row → Bool
+has_size_bit None = false
+has_size_bit (Some row) = row.0.size
+
+-- the stack pointer is ESP
+unfoldable pub has_big_stack : World → Bool
+has_big_stack w = elim w.mode [ Real ↦ false | Protected ↦ has_size_bit (row_of_selector w.descriptors w.regs.ss) ]
+
+-- the stack pointer of some registers
+abbrev pub stack_pointer : World → Regs → ℕ
+stack_pointer w r = cut_address (has_big_stack w) r.esp
+
+-- the registers with another stack pointer
+abbrev pub with_stack_pointer : World → ℕ → Regs → Regs
+with_stack_pointer w sp r = record r { esp = if has_big_stack w then sp else with_low_half r.esp sp }
+
+-- a number of a width pushed: the stack pointer goes down by its bytes, and it stands there
+unfoldable pub pushed : World → ℕ → ℕ → Pending → Pending
+pushed w width v p =
+    let sp = cut_address (has_big_stack w) (stack_pointer w p.regs + 2 ^ 32 - byte_count width) in
+    and_write Ss sp width v (with_regs (with_stack_pointer w sp p.regs) p)
+
+-- the stack pointer so many bytes further up
+abbrev pub stack_pointer_up : World → ℕ → Regs → ℕ
+stack_pointer_up w n r = cut_address (has_big_stack w) (stack_pointer w r + n)
+
+-- the item of a width at a place of the stack, counted from the top
+unfoldable pub stack_item : World → ℕ → ℕ → Input
+stack_item w width place = From Ss (stack_pointer_up w (byte_count width * place) w.regs) (byte_count width)
+
+-- the registers after so many items of a width were popped
+unfoldable pub items_popped : World → ℕ → ℕ → Regs → Regs
+items_popped w width n r = with_stack_pointer w (stack_pointer_up w (byte_count width * n) r) r

@@ -1,0 +1,32 @@
+// The conditions of Jcc and SETcc.
+ghost use Rattle.std.specs.Prelude.{◌≡◌};
+ghost use Rattle.insn_plan.specs.Conditions.{condition, even_condition};
+
+use client_world::Flags;
+
+// The condition of an even number, by half the number.
+fn even_condition(half: u8, f: Flags) -> bool
+    ensures { result ≡ even_condition half f }
+{
+    match half {
+        0 => f.of,
+        1 => f.cf,
+        2 => f.zf,
+        3 => f.cf || f.zf,
+        4 => f.sf,
+        5 => f.pf,
+        6 => f.sf != f.of,
+        _ => f.zf || f.sf != f.of,
+    }
+}
+
+/// Whether a condition 0 to 15 holds. Source: 80386 Programmer's Reference Manual, appendix D.
+pub fn condition(n: u8, f: Flags) -> bool
+    ensures { result ≡ condition n f }
+{
+    if n % 2 == 0 {
+        even_condition(n / 2, f)
+    } else {
+        !even_condition(n / 2, f)
+    }
+}

@@ -1,0 +1,89 @@
+// Numbers read from memory.
+ghost use Rattle.std.specs.Prelude.{◌≡◌};
+ghost use Rattle.guest_space.specs.Pending.{byte_count};
+ghost use Rattle.insn_plan.specs.Act.{From, IsCount, IsCountOfWidth, value_of, number_of};
+
+use client_world::{Event, SegReg};
+use guest_space::Machine;
+
+/// The bytes of a width of 8, 16 or 32 bits.
+pub fn byte_count(width: u8) -> u8
+    ensures value { result ≡ byte_count width }
+    ensures count { IsCountOfWidth result }
+{
+    match width {
+        8 => 1,
+        16 => 2,
+        _ => 4,
+    }
+}
+
+// The number of one byte.
+#[tactic(auto, using(crate::proofs::Numbers::number_of_one))]
+fn byte(bytes: [u8; 1]) -> u32
+    ensures { result ≡ number_of bytes }
+{
+    u32::from(bytes[0])
+}
+
+// The number of two bytes, least byte first.
+#[tactic(auto, using(crate::proofs::Numbers::number_of_two))]
+fn word(bytes: [u8; 2]) -> u32
+    ensures { result ≡ number_of bytes }
+{
+    u32::from(u16::from_le_bytes(bytes))
+}
+
+// The number of four bytes, least byte first.
+#[tactic(auto, using(crate::proofs::Numbers::number_of_four))]
+fn doubleword(bytes: [u8; 4]) -> u32
+    ensures { result ≡ number_of bytes }
+{
+    u32::from_le_bytes(bytes)
+}
+
+// The number of six bytes, least byte first.
+#[tactic(auto, using(crate::proofs::Numbers::number_of_six))]
+fn three_words(bytes: [u8; 6]) -> u64
+    ensures { result ≡ number_of bytes }
+{
+    u64::from_le_bytes([
+        bytes[0], bytes[1], bytes[2], bytes[3], bytes[4], bytes[5], 0, 0,
+    ])
+}
+
+// The number of eight bytes, least byte first.
+#[tactic(auto, using(crate::proofs::Numbers::number_of_eight))]
+fn quadword(bytes: [u8; 8]) -> u64
+    ensures { result ≡ number_of bytes }
+{
+    u64::from_le_bytes(bytes)
+}
+
+/// The number of 1, 2 or 4 bytes at an offset of a segment register, or the fault of the access.
+#[tactic(auto, unfolding(crate::specs::Act::value_of))]
+pub(crate) fn read_width(m: &Machine, seg: SegReg, off: u32, count: u8) -> Result<u32, Event>
+    requires { IsCountOfWidth count }
+    ensures { result ≡ value_of m.now.world (From seg off count) }
+{
+    match count {
+        1 => Ok(byte(m.read::<1>(seg, off)?)),
+        2 => Ok(word(m.read::<2>(seg, off)?)),
+        _ => Ok(doubleword(m.read::<4>(seg, off)?)),
+    }
+}
+
+/// The number of 1, 2, 4, 6 or 8 bytes at an offset of a segment register, or the fault of the access.
+#[tactic(auto, unfolding(crate::specs::Act::value_of))]
+pub(crate) fn read_number(m: &Machine, seg: SegReg, off: u32, count: u8) -> Result<u64, Event>
+    requires { IsCount count }
+    ensures { result ≡ value_of m.now.world (From seg off count) }
+{
+    match count {
+        1 => Ok(u64::from(byte(m.read::<1>(seg, off)?))),
+        2 => Ok(u64::from(word(m.read::<2>(seg, off)?))),
+        4 => Ok(u64::from(doubleword(m.read::<4>(seg, off)?))),
+        6 => Ok(three_words(m.read::<6>(seg, off)?)),
+        _ => Ok(quadword(m.read::<8>(seg, off)?)),
+    }
+}
