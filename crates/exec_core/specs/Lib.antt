@@ -1,0 +1,10 @@
+pub mod Arithmetic
+pub mod Bits
+pub mod Dispatch
+pub mod Decimal
+pub mod FlagRows
+pub mod Moves
+pub mod Products
+pub mod Shifts
+pub mod Stacks
+pub mod Strings

@@ -1,0 +1,19 @@
+//! The data instructions: moves, arithmetic and logic, shifts, products, decimal rows, bits, strings, the stack's general rows, flags.
+//! It promises that an instruction does what its row says, or raises its fault and changes nothing.
+//! It stands on plans of instructions, and on the arithmetic.
+#![tactic(auto)]
+
+mod arithmetic;
+mod bits;
+mod decimal;
+mod dispatch;
+mod flag_rows;
+mod moves;
+mod products;
+mod shifts;
+mod stacks;
+mod strings;
+#[cfg(test)]
+mod tests;
+
+pub use dispatch::{is_core, run_core};
