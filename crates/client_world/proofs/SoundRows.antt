@@ -107,6 +107,7 @@ IsSound-row w index row s some small fits plain unlike clients =
       megabyte = s.megabyte;
       arena = s.arena;
       blocks = s.blocks;
+      block_bytes = s.block_bytes;
       pageable = s.pageable;
       descriptors = sound_descriptors w.descriptors index row s.descriptors small fits plain;
       runs = sound_runs w.descriptors index row w.arena s.runs within plain unlike;

@@ -11,7 +11,7 @@ use Rattle.client_world.specs.declared.place.Place.TheVariants.{Dos, Block, Host
 use Rattle.client_world.specs.declared.memory_map.TheConstants.{ROM_START}
 use Rattle.client_world.specs.Access.{may_touch, with_byte_of, with_bytes_of, with_block_byte, byte_of, bytes_of}
 use Rattle.client_world.specs.World.{World, MemoryBlock, block_at, with_block_at}
-use Rattle.client_world.specs.Soundness.{IsSound, HasSegments, SoundMegabyte, SoundBlocks, SoundWidth, IsBlock, pages_of_block, pages_of_blocks}
+use Rattle.client_world.specs.Soundness.{IsSound, HasSegments, SoundMegabyte, SoundBlocks, SoundWidth, IsBlock, HoldBytes, pages_of_block, pages_of_blocks}
 
 -- the megabyte
 
@@ -133,6 +133,28 @@ SoundBlocks-written blocks budget number at v s = record {
   within = subst (λ (n : ℕ). n ≤ budget) (sym (pages-written blocks number at v)) s.within;
 }
 
+-- a byte among bytes leaves bytes
+bytes-set : (xs : List ℕ) (at v : ℕ) → ((k : ℕ) → slice_index xs k < 0x100) → v < 0x100 → (k : ℕ) → slice_index (slice_set xs at v) k < 0x100
+bytes-set [] at v small fits k = omega arith
+bytes-set (x ∷ xs) zero v small fits zero = fits
+bytes-set (x ∷ xs) zero v small fits (suc k) = small (suc k)
+bytes-set (x ∷ xs) (suc at) v small fits zero = small 0
+bytes-set (x ∷ xs) (suc at) v small fits (suc k) = bytes-set xs at v (λ j. small (suc j)) fits k
+
+bytes_with : (old : Option MemoryBlock) (at v : ℕ) (block : MemoryBlock) →
+    ((was : MemoryBlock) → old ≡ Some was → (k : ℕ) → slice_index was.bytes k < 0x100) → v < 0x100 → with_block_byte old at v ≡ Some block →
+    (k : ℕ) → slice_index block.bytes k < 0x100
+bytes_with None at v block small fits e = absurd cc
+bytes_with (Some was) at v block small fits e = λ k.
+    let same : record was { bytes = slice_set was.bytes at v } ≡ block = same_Some _ _ e in
+    subst (λ (b : MemoryBlock). slice_index b.bytes k < 0x100) same (bytes-set was.bytes at v (small was refl) fits k)
+
+pub HoldBytes-written : (blocks : List (Option MemoryBlock)) (number at v : ℕ) → HoldBytes blocks → v < 0x100 → HoldBytes (written blocks number at v)
+HoldBytes-written blocks number at v small fits handle block e = elim (written_at blocks number at v handle) [
+  | inl same ↦ small handle block (sym same ∙ e)
+  | inr byte ↦ bytes_with (block_at blocks handle) at v block (small handle) fits (sym byte ∙ e)
+]
+
 -- a change that no width looks at
 keeps_width : (width : Option Width) (w c : World) → c.mode ≡ w.mode → c.descriptors ≡ w.descriptors →
     ((handle : ℕ) → block_at w.blocks handle ≡ None → block_at c.blocks handle ≡ None) →
@@ -152,6 +174,7 @@ IsSound-dos w dos s megabyte = record {
   megabyte = megabyte;
   arena = s.arena;
   blocks = s.blocks;
+  block_bytes = s.block_bytes;
   pageable = s.pageable;
   descriptors = s.descriptors;
   runs = s.runs;
@@ -162,12 +185,13 @@ IsSound-dos w dos s megabyte = record {
   width = keeps_width w.width w (record w { dos = dos }) refl refl (λ handle none. none) refl refl s.width;
 }
 
-IsSound-block : (w : World) (number at v : ℕ) → IsSound w → IsSound (record w { blocks = written w.blocks number at v })
-IsSound-block w number at v s = record {
+IsSound-block : (w : World) (number at v : ℕ) → IsSound w → v < 0x100 → IsSound (record w { blocks = written w.blocks number at v })
+IsSound-block w number at v s small = record {
   segments = s.segments;
   megabyte = s.megabyte;
   arena = s.arena;
   blocks = SoundBlocks-written w.blocks w.budget number at v s.blocks;
+  block_bytes = HoldBytes-written w.blocks number at v s.block_bytes small;
   pageable = s.pageable;
   descriptors = s.descriptors;
   runs = s.runs;
@@ -183,7 +207,7 @@ IsSound-block w number at v s = record {
 pub IsSound-with_byte_of : (w : World) (p : Place) (v : ℕ) → IsSound w → may_touch p true ≡ true → v < 0x100 → IsSound (with_byte_of w p v)
 IsSound-with_byte_of w (Dos at) v s may small =
     IsSound-dos w (slice_set w.dos at v) s (SoundMegabyte-set w.dos at v s.megabyte (ltb-true at ROM_START may) small)
-IsSound-with_byte_of w (Block number at) v s may small = IsSound-block w number at v s
+IsSound-with_byte_of w (Block number at) v s may small = IsSound-block w number at v s small
 IsSound-with_byte_of w Host v s may small = s
 IsSound-with_byte_of w Nothing v s may small = s
 
@@ -220,6 +244,7 @@ IsSound-regs w r s segments = record {
   megabyte = s.megabyte;
   arena = s.arena;
   blocks = s.blocks;
+  block_bytes = s.block_bytes;
   pageable = s.pageable;
   descriptors = s.descriptors;
   runs = s.runs;
@@ -236,6 +261,7 @@ IsSound-vif w vif s = record {
   megabyte = s.megabyte;
   arena = s.arena;
   blocks = s.blocks;
+  block_bytes = s.block_bytes;
   pageable = s.pageable;
   descriptors = s.descriptors;
   runs = s.runs;
@@ -252,6 +278,7 @@ with_mode w mode s width = record {
   megabyte = s.megabyte;
   arena = s.arena;
   blocks = s.blocks;
+  block_bytes = s.block_bytes;
   pageable = s.pageable;
   descriptors = s.descriptors;
   runs = s.runs;

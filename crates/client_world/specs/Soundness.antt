@@ -63,6 +63,10 @@ pub record SoundBlocks (blocks : List (Option MemoryBlock)) (budget : ℕ) : Typ
   pub apart : (one other : ℕ) (first second : MemoryBlock) → one ≢ other → block_at blocks one ≡ Some first → block_at blocks other ≡ Some second → AreApart first second
   pub within : pages_of_blocks blocks ≤ budget
 
+-- what the blocks hold are bytes
+abbrev pub HoldBytes : List (Option MemoryBlock) → Type 0
+HoldBytes blocks = (handle : ℕ) (block : MemoryBlock) → block_at blocks handle ≡ Some block → (at : ℕ) → slice_index block.bytes at < 0x100
+
 -- the row has that origin
 abbrev pub HasOrigin : Row → Origin → Type 0
 HasOrigin None origin = ⊥
@@ -204,6 +208,7 @@ pub record IsSound (w : World) : Type 0 where
   pub megabyte : SoundMegabyte w.dos
   pub arena : IsArena w.arena
   pub blocks : SoundBlocks w.blocks w.budget
+  pub block_bytes : HoldBytes w.blocks
   pub pageable : length w.pageable ≡ DOS_VIEW_PAGES
   pub descriptors : SoundDescriptors w.descriptors
   pub runs : SoundRuns w.descriptors w.arena

@@ -1,9 +1,10 @@
 // DOS memory: the entries of the arena.
 
 /// What the block of an entry is. Source: own.
-#[derive(Clone, Copy, Debug, PartialEq, Eq)]
+#[derive(Clone, Copy, Debug, Default, PartialEq, Eq)]
 pub enum DosState {
     /// No block: its paragraphs are free.
+    #[default]
     Free,
     /// A block that a DOS call or the loader made.
     Used,
@@ -12,7 +13,7 @@ pub enum DosState {
 }
 
 /// An entry of the arena: the paragraph of its header, the paragraphs of its block behind that, and what the block is. Source: own.
-#[derive(Clone, Copy, Debug, PartialEq, Eq)]
+#[derive(Clone, Copy, Debug, Default, PartialEq, Eq)]
 pub struct DosEntry {
     pub at: u16,
     pub paras: u16,

@@ -34,6 +34,16 @@ pub enum LoadFault {
     ShortHeader,
     /// The file doesn't begin with `MZ`.
     Signature,
+    /// The bytes of the last page are more than a page has, or there are no pages, or the header is longer than they are.
+    LastPage,
+    /// The relocation table passes the end of the file.
+    RelocTable,
+    /// The program doesn't fit DOS memory.
+    NoRoom,
+    /// A relocation lies outside the program block.
+    RelocTarget,
+    /// The first instruction lies outside the program block.
+    EntryOutside,
     /// The file has another form than the one that this stage of the loader takes.
     Unbuilt,
 }
