@@ -102,6 +102,7 @@ IsSound-width w width s e =
       megabyte = s.megabyte;
       arena = s.arena;
       blocks = s.blocks;
+      block_bytes = s.block_bytes;
       pageable = s.pageable;
       descriptors = sound_rows rows width (length-set (slice_set w.descriptors HOST_CODE host_code) HOST_STACKS (host_stacks width)
           ∙ length-set w.descriptors HOST_CODE host_code ∙ s.descriptors.indices) host;

@@ -1,9 +1,17 @@
 pub mod Accesses
+pub mod ArenaHeaders
+pub mod ArenaLists
+pub mod ArenaPuts
+pub mod ArenaReads
+pub mod ArenaRuns
+pub mod ArenaSplices
+pub mod ArenaWrites
 pub mod Codes
 pub mod DistinctPlaces
 pub mod Entered
 pub mod FarLaws
 pub mod Fars
+pub mod Fills
 pub mod HostRows
 pub mod KeptAccess
 pub mod Machines

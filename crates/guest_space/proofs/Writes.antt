@@ -1,5 +1,5 @@
 -- Writes one after another: a write changes no refusal of the others, so what is left of them leads to the same end.
-use Rattle.std.proofs.Common.{◌≡◌, ◌≢◌, ℕ, suc, ◌+◌, ◌/◌, ◌%◌, ◌<◌, ◌≤◌, true, false, List, [], ◌∷◌, length, drop, slice_index_or, refl, ap, ◌∙◌, sym, arith, None, Some, Result, Ok, Err}
+use Rattle.std.proofs.Common.{◌≡◌, ◌≢◌, ℕ, suc, ◌+◌, ◌/◌, ◌%◌, ◌^◌, ◌<◌, ◌≤◌, true, false, List, [], ◌∷◌, length, drop, slice_index_or, refl, ap, ◌∙◌, sym, arith, None, Some, Result, Ok, Err}
 use Rattle.std.specs.Prelude.{nat_eq, OnOk, IfErr, MatchResult}
 use Rattle.std.specs.Result.{result_err}
 use Rattle.std.specs.declared.option.Option.{Option}
@@ -7,6 +7,7 @@ use Rattle.std.proofs.lemmas.List.{drop_all}
 use Rattle.std.proofs.Math.Seq.{drop-cons}
 use Rattle.client_world.specs.declared.faults.Fault.{Fault}
 use Rattle.client_world.specs.World.{World}
+use Rattle.guest_ram.specs.Bytes.{dword_bytes}
 use Rattle.host_memory.specs.View.{MachineView}
 use Rattle.guest_space.specs.declared.pending.Write.{Write}
 use Rattle.guest_space.specs.Pending.{byte_count, number_bytes, write_refusal, written, first_refusal, all_written}
@@ -145,4 +146,6 @@ word_is value = ap (λ (high : ℕ). value % 0x10000 % 0x100 ∷ high ∷ []) (o
 pub dword_is : (value : ℕ) → value < 0x100000000 →
     value % 0x100 ∷ value / 0x100 % 0x100 ∷ value / 0x10000 % 0x100 ∷ value / 0x1000000 % 0x100 ∷ [] ≡ number_bytes 32 value
 dword_is value small =
-    ap (λ (high : ℕ). value % 0x100 ∷ value / 0x100 % 0x100 ∷ value / 0x10000 % 0x100 ∷ high ∷ []) (omega arith)
+    let whole : value % 2 ^ 32 ≡ value = omega arith in
+    let last : value / 0x1000000 % 0x100 ≡ value / 0x1000000 = omega arith in
+    ap (λ (high : ℕ). value % 0x100 ∷ value / 0x100 % 0x100 ∷ value / 0x10000 % 0x100 ∷ high ∷ []) last ∙ ap dword_bytes (sym whole)

@@ -1,3 +1,4 @@
+pub mod Arena
 pub mod Code
 pub mod Dos
 pub mod Far

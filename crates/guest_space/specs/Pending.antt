@@ -1,5 +1,5 @@
 -- Writes that are asked for one after another: all of them are probed first, and then all are made. Source: own.
-use Rattle.std.specs.Prelude.{ℕ, ◌%◌, true, List, [], ◌∷◌, None, Some, nat_eq, if◌then◌else◌}
+use Rattle.std.specs.Prelude.{ℕ, ◌%◌, ◌^◌, true, List, [], ◌∷◌, None, Some, nat_eq, if◌then◌else◌}
 use Rattle.std.specs.declared.option.Option.{Option}
 use Rattle.client_world.specs.declared.faults.Fault.{Fault}
 use Rattle.client_world.specs.World.{World}
@@ -14,7 +14,7 @@ abbrev pub number_bytes : ℕ → ℕ → List ℕ
 number_bytes width value =
     if nat_eq width 8 then value % 0x100 ∷ [] else
     if nat_eq width 16 then word_bytes (value % 0x10000) else
-    dword_bytes value
+    dword_bytes (value % 2 ^ 32)
 
 -- the bytes of a width
 abbrev pub byte_count : ℕ → ℕ

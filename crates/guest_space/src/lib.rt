@@ -3,6 +3,7 @@
 //! every call. It stands on `host_memory`, the descriptor table and the page tables.
 #![tactic(auto)]
 
+mod arena;
 mod code;
 mod descriptors;
 mod dos;

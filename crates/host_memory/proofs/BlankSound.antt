@@ -171,6 +171,7 @@ blank_is_sound budget = record {
   megabyte = megabyte_sound;
   arena = arena_sound;
   blocks = blocks_sound budget;
+  block_bytes = λ handle block there at. absurd (none_some (block_at (listed MAX_BLOCKS nothing) handle) block (no_block handle) there);
   pageable = length-listed DOS_VIEW_PAGES (λ page. false);
   descriptors = rows_sound;
   runs = runs_sound;

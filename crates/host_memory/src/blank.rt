@@ -3,13 +3,12 @@ ghost use Rattle.std.specs.Prelude.{◌≡◌, ◌≤◌, ◌<◌, ◌+◌, ◌*
 ghost use Rattle.client_world.specs.declared.registers.Mode.TheVariants.{Real};
 ghost use Rattle.client_world.specs.Soundness.{IsSound};
 ghost use Rattle.host_memory.specs.Blank.{no_regs, blank_world};
-ghost use Rattle.host_memory.specs.DosList.{state_code, entry_bytes};
 ghost use Rattle.host_memory.specs.Filling.{Written, real_vector_at, vector_half_at};
-ghost use Rattle.host_memory.specs.Headers.{owner_of, header_bytes};
 ghost use Rattle.host_memory.specs.Holds.{Holds};
 ghost use Rattle.host_memory.specs.Layout.{world_of};
 ghost use Rattle.host_memory.specs.Tables.{directory_entry_at, low_entry_at, window_entry_at};
 
+use crate::dos_list::{header, listed_entry};
 use client_world::host_frames::{
     BLOCK_TABLES, BUDGET_FRAMES, DOS_FRAMES, DOS_LIST, LOW_TABLE, PAGE_DIRECTORY, PAGE_SIZE,
     VECTORS, WINDOW_TABLE,
@@ -17,7 +16,7 @@ use client_world::host_frames::{
 use client_world::limits::{EXCEPTION_VECTORS, INTERRUPT_VECTORS, MAX_PAGES};
 use client_world::memory_map::{
     ARENA_END, ARENA_START, BLOCK_REGION_PAGES, DOS_SIZE, DOS_VIEW_PAGES, HOST_WINDOW,
-    PARAGRAPH_SIZE, PSP_SEGMENT, ROM_BYTE, ROM_SEGMENT, ROM_START, SEGMENT_SIZE,
+    PARAGRAPH_SIZE, ROM_BYTE, ROM_SEGMENT, ROM_START, SEGMENT_SIZE,
 };
 use client_world::selectors::{HOST_CODE, selector_of};
 use client_world::traps::PROTECTED_VECTOR_TRAPS;
@@ -106,50 +105,6 @@ fn vector_half(k: u32) -> u32
     } else {
         u32::from(selector_of(HOST_CODE))
     }
-}
-
-// The owner of a block of DOS memory, as its header names it.
-fn owner(state: DosState) -> u16
-    ensures { result ≡ owner_of state }
-{
-    match state {
-        DosState::Free => 0,
-        DosState::Used | DosState::Dpmi => PSP_SEGMENT,
-    }
-}
-
-// The sixteen bytes of an entry's header.
-#[tactic(auto, unfolding(crate::specs::Headers::header_bytes))]
-fn header(letter: u8, entry: DosEntry) -> [u8; 16]
-    ensures { result ≡ header_bytes letter entry }
-{
-    let mut bytes = [0; 16];
-    bytes[0] = letter;
-    bytes[1..3].copy_from_slice(&owner(entry.state).to_le_bytes());
-    bytes[3..5].copy_from_slice(&entry.paras.to_le_bytes());
-    bytes
-}
-
-// The code of a state in the list of DOS memory.
-fn code(state: DosState) -> u8
-    ensures { result ≡ state_code state }
-{
-    match state {
-        DosState::Free => 1,
-        DosState::Used => 2,
-        DosState::Dpmi => 3,
-    }
-}
-
-// The eight bytes of an entry in the list of DOS memory.
-fn listed_entry(entry: DosEntry) -> [u8; 8]
-    ensures { result ≡ entry_bytes entry }
-{
-    let mut bytes = [0; 8];
-    bytes[..2].copy_from_slice(&entry.at.to_le_bytes());
-    bytes[2..4].copy_from_slice(&entry.paras.to_le_bytes());
-    bytes[4] = code(entry.state);
-    bytes
 }
 
 fn fill_directory(ram: &mut Ram)

@@ -1,0 +1,179 @@
+-- The headers of all entries written into the memory: they change the megabyte alone, below its read-only part, and leave it sound.
+use Rattle.std.proofs.Common.{◌≡◌, ℕ, zero, suc, ◌+◌, ◌*◌, ◌<◌, ◌≤◌, inl, inr, nat_eq, if◌then◌else◌, List, [], ◌∷◌, length, get_or, set, slice_index, drop, refl, ap, ◌∙◌, sym, arith, length-drop, drop-cons}
+use Rattle.std.proofs.lemmas.Bool.{cases_eq, eq-eqb, ne_eqb}
+use Rattle.client_world.specs.declared.dos_memory.DosEntry.{DosEntry}
+use Rattle.client_world.specs.declared.dos_memory.DosState.{DosState}
+use Rattle.client_world.specs.declared.dos_memory.DosState.TheVariants.{Free, Used, Dpmi}
+use Rattle.client_world.specs.declared.host_frames.TheConstants.{PAGE_SIZE, DOS_LIST}
+use Rattle.client_world.specs.declared.memory_map.TheConstants.{ARENA_START, ARENA_END, PARAGRAPH_SIZE, ROM_START}
+use Rattle.client_world.specs.DosMemory.{Fills, IsArena}
+use Rattle.client_world.specs.Soundness.{SoundMegabyte}
+use Rattle.client_world.proofs.SoundWrites.{SoundMegabyte-set}
+use Rattle.guest_ram.specs.Bytes.{put}
+use Rattle.guest_ram.proofs.PutLaws.{length-put, region-put_below}
+use Rattle.host_memory.specs.DosList.{entry_at, entry_count, entry_size, arena_in}
+use Rattle.host_memory.specs.Headers.{header_letter, header_bytes, owner_of, with_headers}
+use Rattle.host_memory.specs.Layout.{arena_part, dos_part}
+use Rattle.host_memory.proofs.Parts.{MemoryParts, parts_of, HasSize}
+use Rattle.host_memory.proofs.PutParts.{put_dos, size_put}
+use Rattle.guest_space.proofs.ArenaLists.{length-arena_in}
+use Rattle.guest_space.proofs.ArenaReads.{HasFrames, entry_there}
+use Rattle.guest_space.proofs.Fills.{fills_at}
+
+pub length-header : (letter : ℕ) (entry : DosEntry) → length (header_bytes letter entry) ≡ 16
+unfolding header_bytes
+length-header letter entry = refl
+
+-- the bytes of a header are bytes
+abbrev AllBytes : List ℕ → Type 0
+AllBytes [] = Unit {0}
+AllBytes (x ∷ xs) = (x < 0x100) × AllBytes xs
+
+each_byte : (xs : List ℕ) → AllBytes xs → (k : ℕ) → slice_index xs k < 0x100
+each_byte [] h k = omega arith
+each_byte (x ∷ xs) h zero = h.0
+each_byte (x ∷ xs) h (suc k) = each_byte xs h.1 k
+
+owner_small : (state : DosState) → owner_of state < 0x10000
+owner_small Free = omega arith
+owner_small Used = omega arith
+owner_small Dpmi = omega arith
+
+zero_fits : 0 < 0x100
+zero_fits = omega arith
+
+header_fits : (letter : ℕ) (entry : DosEntry) → letter < 0x100 → entry.paras < 0x10000 → (k : ℕ) → slice_index (header_bytes letter entry) k < 0x100
+unfolding header_bytes
+header_fits letter entry small paras =
+    let owner = owner_small entry.state in
+    each_byte (header_bytes letter entry) (
+      small,
+      (
+        omega arith,
+        (
+          omega arith,
+          (
+            omega arith,
+            (
+              omega arith,
+              (
+                zero_fits,
+                (
+                  zero_fits,
+                  (
+                    zero_fits,
+                    (
+                      zero_fits,
+                      (
+                        zero_fits,
+                        (
+                          zero_fits,
+                          (zero_fits, (zero_fits, (zero_fits, (zero_fits, (zero_fits, tt))))),
+                        ),
+                      ),
+                    ),
+                  ),
+                ),
+              ),
+            ),
+          ),
+        ),
+      ),
+    )
+
+letter_fits : (es : List DosEntry) → header_letter es < 0x100
+letter_fits [] = omega arith
+letter_fits (e ∷ es) = omega arith
+
+-- bytes below read-only memory leave the megabyte sound
+SoundMegabyte-put : (dos : List ℕ) (at : ℕ) (xs : List ℕ) → SoundMegabyte dos → at + length xs ≤ ROM_START → ((k : ℕ) → slice_index xs k < 0x100) →
+    SoundMegabyte (put dos at xs)
+SoundMegabyte-put dos at [] sound low fits = sound
+SoundMegabyte-put dos at (x ∷ xs) sound low fits =
+    SoundMegabyte-put (set dos at x) (at + 1) xs (SoundMegabyte-set dos at x sound (omega arith) (fits 0)) (omega arith) (λ k. fits (suc k))
+
+pub SoundMegabyte-headers : (dos : List ℕ) (es : List DosEntry) (from : ℕ) → SoundMegabyte dos → Fills from es ARENA_END → SoundMegabyte (with_headers dos es)
+SoundMegabyte-headers dos [] from sound fills = sound
+SoundMegabyte-headers dos (e ∷ es) from sound fills =
+    let room = fills_at (e ∷ es) from ARENA_END 0 e fills (omega arith) in
+    let ends = room.ends in
+    let long = length-header (header_letter es) e in
+    SoundMegabyte-headers (put dos (PARAGRAPH_SIZE * e.at) (header_bytes (header_letter es) e)) es (from + 1 + e.paras)
+    (SoundMegabyte-put dos (PARAGRAPH_SIZE * e.at) (header_bytes (header_letter es) e) sound (omega arith)
+    (header_fits (header_letter es) e (letter_fits es) (omega arith)))
+    fills.1
+
+-- in the whole memory they are written into the megabyte, and nothing else changes
+pub length-headers : (b : List ℕ) (es : List DosEntry) → length (with_headers b es) ≡ length b
+length-headers b [] = refl
+length-headers b (e ∷ es) =
+    length-headers (put b (PARAGRAPH_SIZE * e.at) (header_bytes (header_letter es) e)) es
+    ∙ length-put b (PARAGRAPH_SIZE * e.at) (header_bytes (header_letter es) e)
+
+pub headers_parts : (b : List ℕ) (budget : ℕ) (es : List DosEntry) (from : ℕ) → HasSize b budget → Fills from es ARENA_END →
+    parts_of (with_headers b es) budget ≡ record (parts_of b budget) { dos = with_headers (dos_part b) es }
+headers_parts b budget [] from size fills = refl
+headers_parts b budget (e ∷ es) from size fills =
+    let room = fills_at (e ∷ es) from ARENA_END 0 e fills (omega arith) in
+    let ends = room.ends in
+    let long = length-header (header_letter es) e in
+    let at = PARAGRAPH_SIZE * e.at in
+    let xs = header_bytes (header_letter es) e in
+    headers_parts (put b at xs) budget es (from + 1 + e.paras) (size_put b budget at xs size) fills.1
+    ∙ ap (λ (p : MemoryParts). record p { dos = with_headers p.dos es }) (put_dos b budget at at xs size refl (omega arith))
+
+-- where the header of the entry that is read stands
+pub header_room : (b c : List ℕ) (place : ℕ) (entry : DosEntry) → IsArena (arena_in (arena_part b)) → arena_part c ≡ arena_part b →
+    place < entry_count (arena_part b) → entry ≡ entry_at c (PAGE_SIZE * DOS_LIST + entry_size * place) → PARAGRAPH_SIZE * entry.at + 16 ≤ PARAGRAPH_SIZE * ARENA_END
+header_room b c place entry arena same small is =
+    let long = length-arena_in (arena_part b) in
+    let room = fills_at (arena_in (arena_part b)) ARENA_START ARENA_END place entry arena.fills (omega arith) in
+    let ends = room.ends in
+    let at = ap (λ (e : DosEntry). e.at) (is ∙ entry_there b c place entry same small) in
+    omega arith
+
+-- the letter by the entries behind
+letter_is : (es : List DosEntry) (place n : ℕ) → length es ≡ n → place < n → (if nat_eq (place + 1) n then 0x5A else 0x4D) ≡ header_letter (drop (place + 1) es)
+letter_is es place n e small = elim (cases_eq (place + 1) n) [
+  | inl last ↦ rw (eq-eqb (place + 1) n last) (none (drop (place + 1) es) (omega (arith, length-drop (place + 1) es)))
+  | inr more ↦ rw (ne_eqb (place + 1) n more) (some (drop (place + 1) es) (omega (arith, length-drop (place + 1) es)))
+]
+  where
+    none : (xs : List DosEntry) → length xs ≡ 0 → 0x5A ≡ header_letter xs
+    none [] long = refl
+    none (x ∷ xs) long = absurd (omega arith)
+
+    some : (xs : List DosEntry) → 0 < length xs → 0x4D ≡ header_letter xs
+    some [] long = absurd (omega arith)
+    some (x ∷ xs) long = refl
+
+pub one_header : (b c last : List ℕ) (n place : ℕ) (entry : DosEntry) (letter : ℕ) → n ≡ entry_count (arena_part b) → place < n →
+    arena_part c ≡ arena_part b → entry ≡ entry_at c (PAGE_SIZE * DOS_LIST + entry_size * place) → letter ≡ (if nat_eq (place + 1) n then 0x5A else 0x4D) →
+    with_headers c (drop place (arena_in (arena_part b))) ≡ last →
+    with_headers (put c (PARAGRAPH_SIZE * entry.at) (header_bytes letter entry)) (drop (place + 1) (arena_in (arena_part b))) ≡ last
+one_header b c last n place entry letter count small same is by so_far =
+    let es = arena_in (arena_part b) in
+    let long = length-arena_in (arena_part b) in
+    let here : entry ≡ get_or es place entry = is ∙ entry_there b c place entry same (omega arith) in
+    let letter_here : letter ≡ header_letter (drop (place + 1) es) = by ∙ letter_is es place n (long ∙ sym count) small in
+    let rest : drop place es ≡ get_or es place entry ∷ drop (place + 1) es = drop-cons es place entry (omega arith)
+    ∙ ap (λ (k : ℕ). get_or es place entry ∷ drop k es) (let next : suc place ≡ place + 1 = omega arith in next) in
+    ap (λ (l : ℕ). with_headers (put c (PARAGRAPH_SIZE * entry.at) (header_bytes l entry)) (drop (place + 1) es)) letter_here
+    ∙ ap (λ (e : DosEntry). with_headers (put c (PARAGRAPH_SIZE * e.at) (header_bytes (header_letter (drop (place + 1) es)) e)) (drop (place + 1) es)) here
+    ∙ ap (with_headers c) (sym rest)
+    ∙ so_far
+
+-- it leaves the list
+pub header_away : (c : List ℕ) (at letter : ℕ) (entry : DosEntry) → HasFrames c → at + 16 ≤ PARAGRAPH_SIZE * ARENA_END →
+    arena_part (put c at (header_bytes letter entry)) ≡ arena_part c
+header_away c at letter entry frames low =
+    let long = length-header letter entry in
+    region-put_below c at (header_bytes letter entry) (PAGE_SIZE * DOS_LIST) (PAGE_SIZE * 80) (omega arith) (omega arith)
+
+-- and behind the last entry nothing is left
+pub no_header_left : (c : List ℕ) (es : List DosEntry) (place : ℕ) → length es ≤ place → with_headers c (drop place es) ≡ c
+no_header_left c es place past = ap (with_headers c) (empty (drop place es) (omega (arith, length-drop place es)))
+  where
+    empty : (xs : List DosEntry) → length xs ≡ 0 → xs ≡ []
+    empty [] long = refl
+    empty (x ∷ xs) long = absurd (omega arith)

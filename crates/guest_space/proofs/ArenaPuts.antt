@@ -1,0 +1,104 @@
+-- The three writes that put entries of DOS memory in place of others stay in the frames of the list, and leave there the bytes of the entries
+-- after them.
+use Rattle.std.proofs.Common.{◌≡◌, ℕ, ◌+◌, ◌-◌, ◌*◌, ◌<◌, ◌≤◌, ◌⊎◌, inl, inr, List, length, get_or, refl, ap, ◌∙◌, sym, arith, zero-add, add_assoc}
+use Rattle.std.proofs.lemmas.Bool.{cases_lt}
+use Rattle.std.proofs.lemmas.Grind.{same_number_lists}
+use Rattle.client_world.specs.declared.dos_memory.DosEntry.{DosEntry}
+use Rattle.guest_ram.specs.Bytes.{put, region}
+use Rattle.guest_ram.specs.Listed.{copies}
+use Rattle.guest_ram.proofs.ListedLaws.{length-copies}
+use Rattle.guest_ram.proofs.PutLaws.{length-put, put_above, put_below, put_within, length-region, at_region, region-put}
+use Rattle.host_memory.specs.DosList.{entry_count, entry_room, list_size, arena_in, KeepsArena}
+use Rattle.host_memory.specs.Layout.{arena_part}
+use Rattle.host_memory.proofs.ListsClaim.{entries_few}
+use Rattle.guest_space.specs.Arena.{spliced, list_bytes, arena_bytes}
+use Rattle.guest_space.proofs.ArenaLists.{length-list_bytes, length-arena_bytes, length-arena_in, arena_bytes_are}
+use Rattle.guest_space.proofs.ArenaReads.{HasFrames, list_start}
+use Rattle.guest_space.proofs.ArenaSplices.{spliced_bytes, splice_is, length-spliced}
+
+-- a memory that differs in a part alone is the one in which that part is put
+is_put : (b c xs : List ℕ) (lo n : ℕ) → length xs ≡ n → length c ≡ length b → lo + n ≤ length b → region c lo n ≡ xs →
+    ((at : ℕ) → (at < lo) ⊎ (lo + n ≤ at) → get_or c at 0 ≡ get_or b at 0) → c ≡ put b lo xs
+is_put b c xs lo n long size room part others = same_number_lists c (put b lo xs) (size ∙ sym (length-put b lo xs)) (λ at small.
+    elim (cases_lt at lo) [
+      | inl low ↦ others at (inl low) ∙ sym (put_below b lo xs at low)
+      | inr high ↦ elim (cases_lt at (lo + n)) [
+        | inl inside ↦
+            ap (λ (k : ℕ). get_or c k 0) (let same : at ≡ lo + (at - lo) = omega arith in same)
+            ∙ sym (at_region c lo n (at - lo) (omega arith))
+            ∙ ap (λ (ys : List ℕ). get_or ys (at - lo) 0) part
+            ∙ sym (put_within b lo xs (at - lo) at (omega arith) (omega arith) (omega arith))
+        | inr past ↦ others at (inr past) ∙ sym (put_above b lo xs at (omega arith))
+      ]
+    ])
+
+region-region : (b : List ℕ) (lo n at m : ℕ) → lo + n ≤ length b → at + m ≤ n → region (region b lo n) at m ≡ region b (lo + at) m
+region-region b lo n at m room within =
+    let outer : length (region b lo n) ≡ n = length-region b lo n room in
+    let inner : length (region (region b lo n) at m) ≡ m = length-region (region b lo n) at m (omega arith) in
+    same_number_lists (region (region b lo n) at m) (region b (lo + at) m) (inner ∙ sym (length-region b (lo + at) m (omega arith))) (λ k small.
+    at_region (region b lo n) at m k (omega arith) ∙ at_region b lo n (at + k) (omega arith)
+    ∙ ap (λ (j : ℕ). get_or b j 0) (sym (add_assoc lo at k)) ∙ sym (at_region b (lo + at) m k (omega arith)))
+
+-- the three writes stay in the part of the list
+record IsSplice (b c : List ℕ) (n place old : ℕ) (new : List DosEntry) : Type 0 where
+  pub size : length c ≡ length b
+  pub part : arena_part c ≡ spliced_bytes (arena_part b) 0 n place old new
+  pub others : (at : ℕ) → (at < list_start) ⊎ (list_start + list_size ≤ at) → get_or c at 0 ≡ get_or b at 0
+
+is_splice : (b : List ℕ) (n place old : ℕ) (new : List DosEntry) → HasFrames b → n ≤ entry_room → place + old ≤ n → n + length new ≤ entry_room + old →
+    IsSplice b (spliced_bytes b list_start n place old new) n place old new
+is_splice b n place old new frames few within fits =
+    let count = length new in
+    let from = list_start + 8 * (place + old) in
+    let moved = region b from (8 * (n - (place + old))) in
+    let long : length moved ≡ 8 * (n - (place + old)) = length-region b from (8 * (n - (place + old))) (omega arith) in
+    let b1 = put b (list_start + 8 * (place + count)) moved in
+    let size1 : length b1 ≡ length b = length-put b (list_start + 8 * (place + count)) moved in
+    let bytes = list_bytes new in
+    let long-new : length bytes ≡ 8 * count = length-list_bytes new in
+    let b2 = put b1 (list_start + 8 * place) bytes in
+    let size2 : length b2 ≡ length b1 = length-put b1 (list_start + 8 * place) bytes in
+    let none = copies (8 * (old - count)) 0 in
+    let long-none : length none ≡ 8 * (old - count) = length-copies (8 * (old - count)) 0 in
+    let end = list_start + 8 * (n - old + count) in
+    record {
+      size = length-put b2 end none ∙ size2 ∙ size1;
+      part = region-put b2 end none list_start list_size (8 * (n - old + count)) refl (omega arith)
+          ∙ ap (λ (a : List ℕ). put a (8 * (n - old + count)) none)
+          (region-put b1 (list_start + 8 * place) bytes list_start list_size (8 * place) refl (omega arith)
+          ∙ ap (λ (a : List ℕ). put a (8 * place) bytes)
+          (region-put b (list_start + 8 * (place + count)) moved list_start list_size (8 * (place + count)) refl (omega arith)
+          ∙ ap (λ (xs : List ℕ). put (arena_part b) (8 * (place + count)) xs)
+          (sym (region-region b list_start list_size (8 * (place + old)) (8 * (n - (place + old))) (omega arith) (omega arith)))))
+          ∙ no_start (arena_part b) (8 * (place + old)) (8 * (place + count)) (8 * place) (8 * (n - old + count)) (8 * (n - (place + old))) bytes none;
+      others = λ at away. elim away [
+        | inl low ↦ put_below b2 end none at (omega arith) ∙ put_below b1 (list_start + 8 * place) bytes at (omega arith)
+            ∙ put_below b (list_start + 8 * (place + count)) moved at (omega arith)
+        | inr high ↦ put_above b2 end none at (omega arith) ∙ put_above b1 (list_start + 8 * place) bytes at (omega arith)
+            ∙ put_above b (list_start + 8 * (place + count)) moved at (omega arith)
+      ];
+    }
+  where
+    no_start : (a : List ℕ) (from to here end n : ℕ) (bytes none : List ℕ) →
+        put (put (put a to (region a from n)) here bytes) end none ≡ put (put (put a (0 + to) (region a (0 + from) n)) (0 + here) bytes) (0 + end) none
+    no_start a from to here end n bytes none = rw (zero-add to, zero-add from, zero-add here, zero-add end) refl
+
+-- so they put the bytes of the entries after it
+pub splice_put : (b : List ℕ) (n place old : ℕ) (new : List DosEntry) → HasFrames b → KeepsArena (arena_part b) → n ≡ entry_count (arena_part b) →
+    place + old ≤ n → n + length new ≤ entry_room + old →
+    spliced_bytes b list_start n place old new ≡ put b list_start (arena_bytes (spliced (arena_in (arena_part b)) place old new))
+splice_put b n place old new frames keeps count within fits =
+    let few = entries_few (arena_part b) 0 entry_room in
+    let es = arena_in (arena_part b) in
+    let long : length es ≡ n = length-arena_in (arena_part b) ∙ sym count in
+    let size : length (arena_part b) ≡ list_size = length-region b list_start list_size (omega arith) in
+    let total = length-spliced es place old new (omega arith) in
+    let done = is_splice b n place old new frames (omega arith) within fits in
+    is_put b (spliced_bytes b list_start n place old new) (arena_bytes (spliced es place old new)) list_start list_size
+    (length-arena_bytes (spliced es place old new) (omega arith)) done.size (omega arith)
+    (done.part
+    ∙ ap (λ (a : List ℕ). spliced_bytes a 0 n place old new) (arena_bytes_are (arena_part b) size few keeps)
+    ∙ ap (λ (k : ℕ). spliced_bytes (arena_bytes es) 0 k place old new) (sym long)
+    ∙ splice_is es place old new (omega arith) (omega arith) (omega arith))
+    done.others

@@ -1,0 +1,98 @@
+-- Entries in place of others, where INT 31h function 0100h made none of either: those that it made are the same, and so the descriptors of
+-- DOS blocks belong to entries still.
+use Rattle.std.proofs.Common.{◌≡◌, ℕ, zero, suc, ◌+◌, ◌⊎◌, inl, inr, true, List, [], ◌∷◌, ◌++◌, Some, take, drop, ap, ◌∙◌, sym, subst}
+use Rattle.std.specs.List.{slice_get}
+use Rattle.std.proofs.lemmas.Option.{same_Some}
+use Rattle.std.proofs.lemmas.List.{take-append-drop, drop-drop}
+use Rattle.client_world.specs.declared.dos_memory.DosEntry.{DosEntry}
+use Rattle.client_world.specs.DosMemory.{is_dpmi}
+use Rattle.client_world.specs.Selector.{Row}
+use Rattle.client_world.specs.Soundness.{SoundRuns}
+use Rattle.guest_space.specs.Arena.{spliced, NoneMade}
+
+-- the entry is one of them
+abbrev Has : DosEntry → List DosEntry → Type 0
+Has entry [] = ⊥
+Has entry (e ∷ es) = (e ≡ entry) ⊎ Has entry es
+
+has_left : (entry : DosEntry) (xs ys : List DosEntry) → Has entry xs → Has entry (xs ++ ys)
+has_left entry [] ys h = absurd h
+has_left entry (x ∷ xs) ys (inl e) = inl e
+has_left entry (x ∷ xs) ys (inr h) = inr (has_left entry xs ys h)
+
+has_right : (entry : DosEntry) (xs ys : List DosEntry) → Has entry ys → Has entry (xs ++ ys)
+has_right entry [] ys h = h
+has_right entry (x ∷ xs) ys h = inr (has_right entry xs ys h)
+
+has_either : (entry : DosEntry) (xs ys : List DosEntry) → Has entry (xs ++ ys) → Has entry xs ⊎ Has entry ys
+has_either entry [] ys h = inr h
+has_either entry (x ∷ xs) ys (inl e) = inl (inl e)
+has_either entry (x ∷ xs) ys (inr h) = elim (has_either entry xs ys h) [
+  | inl left ↦ inl (inr left)
+  | inr right ↦ inr right
+]
+
+-- it stands at a place
+record Stands (entry : DosEntry) (es : List DosEntry) : Type 0 where
+  pub place : ℕ
+  pub there : slice_get es place ≡ Some entry
+
+stands : (entry : DosEntry) (es : List DosEntry) → Has entry es → Stands entry es
+stands entry [] h = absurd h
+stands entry (e ∷ es) (inl same) = record { place = 0; there = ap (λ (x : DosEntry). Some x) same }
+stands entry (e ∷ es) (inr h) = let rest = stands entry es h in record { place = suc rest.place; there = rest.there }
+
+has_there : (entry : DosEntry) (es : List DosEntry) (place : ℕ) → slice_get es place ≡ Some entry → Has entry es
+has_there entry [] place there = cc
+has_there entry (e ∷ es) zero there = inl (same_Some e entry there)
+has_there entry (e ∷ es) (suc place) there = inr (has_there entry es place there)
+
+-- where none is made, one that is made is none of them
+none_made : (entry : DosEntry) (es : List DosEntry) → NoneMade es → is_dpmi entry.state ≡ true → ¬ Has entry es
+none_made entry [] none made h = h
+none_made entry (e ∷ es) none made (inl same) = let plain = none.0 in cc
+none_made entry (e ∷ es) none made (inr h) = none_made entry es none.1 made h
+
+-- the entries are those in front, the ones taken out, and those behind
+parts_are : (es : List DosEntry) (place old : ℕ) → take place es ++ (take old (drop place es) ++ drop (place + old) es) ≡ es
+parts_are es place old =
+    ap (λ (xs : List DosEntry). take place es ++ (take old (drop place es) ++ xs)) (sym (drop-drop old place es))
+    ∙ ap (λ (xs : List DosEntry). take place es ++ xs) (take-append-drop old (drop place es))
+    ∙ take-append-drop place es
+
+-- one that is made stays, and none comes
+kept_made : (entry : DosEntry) (es : List DosEntry) (place old : ℕ) (new : List DosEntry) → NoneMade (take old (drop place es)) →
+    is_dpmi entry.state ≡ true → Has entry es → Has entry (spliced es place old new)
+kept_made entry es place old new none made h =
+    let all : Has entry (take place es ++ (take old (drop place es) ++ drop (place + old) es)) = subst (Has entry) (sym (parts_are es place old)) h in
+    elim (has_either entry (take place es) (take old (drop place es) ++ drop (place + old) es) all) [
+      | inl front ↦ has_left entry (take place es) (new ++ drop (place + old) es) front
+      | inr rest ↦ elim (has_either entry (take old (drop place es)) (drop (place + old) es) rest) [
+        | inl out ↦ absurd (none_made entry (take old (drop place es)) none made out)
+        | inr behind ↦ has_right entry (take place es) (new ++ drop (place + old) es) (has_right entry new (drop (place + old) es) behind)
+      ]
+    ]
+
+was_made : (entry : DosEntry) (es : List DosEntry) (place old : ℕ) (new : List DosEntry) → NoneMade new →
+    is_dpmi entry.state ≡ true → Has entry (spliced es place old new) → Has entry es
+was_made entry es place old new none made h = subst (Has entry) (parts_are es place old)
+    (elim (has_either entry (take place es) (new ++ drop (place + old) es) h) [
+      | inl front ↦ has_left entry (take place es) (take old (drop place es) ++ drop (place + old) es) front
+      | inr rest ↦ elim (has_either entry new (drop (place + old) es) rest) [
+        | inl fresh ↦ absurd (none_made entry new none made fresh)
+        | inr behind ↦ has_right entry (take place es) (take old (drop place es) ++ drop (place + old) es)
+            (has_right entry (take old (drop place es)) (drop (place + old) es) behind)
+      ]
+    ])
+
+pub SoundRuns-spliced : (rows : List Row) (es : List DosEntry) (place old : ℕ) (new : List DosEntry) → SoundRuns rows es →
+    NoneMade (take old (drop place es)) → NoneMade new → SoundRuns rows (spliced es place old new)
+SoundRuns-spliced rows es place old new sound gone none = record {
+  runs = λ at entry there made.
+      (let was = stands entry es (was_made entry es place old new none made (has_there entry (spliced es place old new) at there)) in
+      sound.runs was.place entry was.there made);
+  entries = λ index segment has.
+      (let was = sound.entries index segment has in
+      let kept = stands was.entry (spliced es place old new) (kept_made was.entry es place old new gone was.made (has_there was.entry es was.place was.there)) in
+      record { place = kept.place; entry = was.entry; there = kept.there; made = was.made; starts = was.starts });
+}

@@ -1,0 +1,171 @@
+-- The memory after entries of DOS memory took the place of others and all headers were written: the world that it holds, which is sound.
+use Rattle.std.proofs.Common.{◌≡◌, ℕ, ◌+◌, ◌≤◌, Bool, List, length, take, drop, refl, ap, ◌∙◌, sym, subst, arith, Option, Some, None}
+use Rattle.std.proofs.lemmas.Grind.{same_number_lists}
+use Rattle.client_world.specs.declared.dos_memory.DosEntry.{DosEntry}
+use Rattle.client_world.specs.declared.registers.Mode.{Mode}
+use Rattle.client_world.specs.declared.registers.Regs.{Regs}
+use Rattle.client_world.specs.declared.registers.Width.{Width}
+use Rattle.client_world.specs.declared.memory_map.TheConstants.{ARENA_START, ARENA_END}
+use Rattle.client_world.specs.DosMemory.{IsArena}
+use Rattle.client_world.specs.Soundness.{IsSound, SoundWidth}
+use Rattle.client_world.specs.World.{World}
+use Rattle.guest_ram.specs.Bytes.{put}
+use Rattle.guest_ram.proofs.PutLaws.{length-put, put_within, length-region, region-put}
+use Rattle.host_memory.specs.DosList.{entry_count, list_size, arena_in}
+use Rattle.host_memory.specs.Headers.{with_headers}
+use Rattle.host_memory.specs.Holds.{Holds}
+use Rattle.host_memory.specs.Layout.{arena_part, dos_part, world_of}
+use Rattle.host_memory.specs.View.{MachineView}
+use Rattle.host_memory.proofs.Parts.{MemoryParts, parts_of, HasSize, world_by, holds_by, holds_parts, holds_with_arena, holds_with_dos}
+use Rattle.host_memory.proofs.PutParts.{put_arena, size_put}
+use Rattle.host_memory.proofs.WorldParts.{arena_is}
+use Rattle.guest_space.specs.Arena.{spliced, NoneMade, with_entries, arena_bytes}
+use Rattle.guest_space.specs.Machines.{Processor, held_world}
+use Rattle.guest_space.proofs.ArenaHeaders.{headers_parts, length-headers, SoundMegabyte-headers}
+use Rattle.guest_space.proofs.ArenaLists.{length-arena_bytes, length-arena_in, arena_back, arena_keeps}
+use Rattle.guest_space.proofs.ArenaReads.{HasFrames, list_start}
+use Rattle.guest_space.proofs.ArenaRuns.{SoundRuns-spliced}
+use Rattle.guest_space.proofs.ArenaSplices.{length-spliced}
+use Rattle.guest_space.proofs.Fills.{fills_long}
+
+-- entries that are an arena have room
+pub arena_few : (es : List DosEntry) → IsArena es → ARENA_START + length es ≤ ARENA_END
+arena_few es arena = fills_long es ARENA_START ARENA_END arena.fills
+
+-- the memory after both
+abbrev pub with_arena : List ℕ → List DosEntry → List ℕ
+with_arena b es = with_headers (put b list_start (arena_bytes es)) es
+
+put_all : (b xs : List ℕ) → length xs ≡ length b → put b 0 xs ≡ xs
+put_all b xs size = same_number_lists (put b 0 xs) xs (length-put b 0 xs ∙ sym size) (λ at small.
+    put_within b 0 xs at at (omega arith) (omega (arith, length-put b 0 xs)) (omega arith))
+
+arena_parts : (b : List ℕ) (budget : ℕ) (es : List DosEntry) → HasSize b budget → IsArena es →
+    parts_of (with_arena b es) budget ≡ record (parts_of b budget) { arena = arena_bytes es; dos = with_headers (dos_part b) es }
+arena_parts b budget es size arena =
+    let few = arena_few es arena in
+    let xs = arena_bytes es in
+    let long : length xs ≡ list_size = length-arena_bytes es (omega arith) in
+    let part : length (arena_part b) ≡ list_size = length-region b list_start list_size (omega arith) in
+    headers_parts (put b list_start xs) budget es ARENA_START (size_put b budget list_start xs size) arena.fills
+    ∙ ap (λ (p : MemoryParts). record p { dos = with_headers p.dos es })
+    (put_arena b budget list_start 0 xs size (omega arith) (omega arith)
+    ∙ ap (λ (a : List ℕ). record (parts_of b budget) { arena = a }) (put_all (arena_part b) xs (long ∙ sym part)))
+
+pub arena_world : (b : List ℕ) (budget : ℕ) → Holds b budget → (mode : Mode) (regs : Regs) (vif : Bool) (width : Option Width) (es : List DosEntry) → IsArena es →
+    world_of (with_arena b es) budget mode regs vif width
+    ≡ record (world_of b budget mode regs vif width) { arena = es; dos = with_headers (world_of b budget mode regs vif width).dos es }
+unfolding world_of
+arena_world b budget holds mode regs vif width es arena =
+    let few = arena_few es arena in
+    world_by (with_arena b es) budget (record (parts_of b budget) { arena = arena_bytes es; dos = with_headers (dos_part b) es })
+    (arena_parts b budget es holds.size arena) mode regs vif width
+    ∙ ap (λ (xs : List DosEntry). record (world_of b budget mode regs vif width) { arena = xs; dos = with_headers (dos_part b) es })
+    (arena_back es (omega arith))
+
+pub arena_holds : (b : List ℕ) (budget : ℕ) → Holds b budget → (es : List DosEntry) → IsArena es → Holds (with_arena b es) budget
+arena_holds b budget holds es arena =
+    let few = arena_few es arena in
+    holds_by (with_arena b es) budget (record (parts_of b budget) { arena = arena_bytes es; dos = with_headers (dos_part b) es })
+    (arena_parts b budget es holds.size arena)
+    (length-headers (put b list_start (arena_bytes es)) es ∙ length-put b list_start (arena_bytes es) ∙ holds.size) holds.most
+    (holds_with_dos (record (parts_of b budget) { arena = arena_bytes es }) budget (with_headers (dos_part b) es)
+    (holds_with_arena (parts_of b budget) budget (arena_bytes es) (arena_keeps es (omega arith)) (holds_parts b budget holds)))
+
+-- the world after it is sound
+keeps_width : (width : Option Width) (w : World) (es : List DosEntry) (dos : List ℕ) → SoundWidth width w → SoundWidth width (record w { arena = es; dos = dos })
+keeps_width None w es dos s = record { mode = s.mode; descriptors = s.descriptors; blocks = s.blocks; callbacks = s.callbacks; calls = s.calls }
+keeps_width (Some width) w es dos s = s
+
+pub IsSound-entries : (w : World) (place old : ℕ) (new : List DosEntry) → IsSound w → NoneMade (take old (drop place w.arena)) → NoneMade new →
+    IsArena (spliced w.arena place old new) → IsSound (with_entries w place old new)
+unfolding with_entries
+IsSound-entries w place old new s gone none arena = record {
+  segments = s.segments;
+  megabyte = SoundMegabyte-headers w.dos (spliced w.arena place old new) ARENA_START s.megabyte arena.fills;
+  arena = arena;
+  blocks = s.blocks;
+  block_bytes = s.block_bytes;
+  pageable = s.pageable;
+  descriptors = s.descriptors;
+  runs = SoundRuns-spliced w.descriptors w.arena place old new s.runs gone none;
+  interrupt_vectors = s.interrupt_vectors;
+  exception_vectors = s.exception_vectors;
+  callbacks = s.callbacks;
+  depth = s.depth;
+  width = keeps_width w.width w (spliced w.arena place old new) (with_headers w.dos (spliced w.arena place old new)) s.width;
+}
+
+-- what a machine's view shows of the list
+
+pub arena_of : (k : Processor) (b : List ℕ) (v : MachineView) → record { world = held_world k b; bytes = b } ≡ v → v.world.arena ≡ arena_in (arena_part b)
+arena_of k b v is = ap (λ (x : MachineView). x.world.arena) (sym is) ∙ arena_is b k.budget k.mode k.regs k.vif k.width
+
+pub count_of : (k : Processor) (b : List ℕ) (v : MachineView) → record { world = held_world k b; bytes = b } ≡ v →
+    length v.world.arena ≡ entry_count (arena_part b)
+count_of k b v is = ap (λ (es : List DosEntry). length es) (arena_of k b v is) ∙ length-arena_in (arena_part b)
+
+-- the entries after it have room
+pub splice_fits : (es : List DosEntry) (place old : ℕ) (new : List DosEntry) → place + old ≤ length es → IsArena (spliced es place old new) →
+    ARENA_START + (length es + length new) ≤ ARENA_END + old
+splice_fits es place old new within arena =
+    let total = length-spliced es place old new within in
+    let few = arena_few (spliced es place old new) arena in
+    omega arith
+
+-- the memory before the headers are written
+pub part_after : (b : List ℕ) (es : List DosEntry) → HasFrames b → IsArena es → arena_part (put b list_start (arena_bytes es)) ≡ arena_bytes es
+part_after b es frames arena =
+    let few = arena_few es arena in
+    let xs = arena_bytes es in
+    let long : length xs ≡ list_size = length-arena_bytes es (omega arith) in
+    let part : length (arena_part b) ≡ list_size = length-region b list_start list_size (omega arith) in
+    region-put b list_start xs list_start list_size 0 (omega arith) (omega arith) ∙ put_all (arena_part b) xs (long ∙ sym part)
+
+pub arena_after : (b : List ℕ) (es : List DosEntry) → HasFrames b → IsArena es → arena_in (arena_part (put b list_start (arena_bytes es))) ≡ es
+arena_after b es frames arena =
+    let few = arena_few es arena in
+    ap arena_in (part_after b es frames arena) ∙ arena_back es (omega arith)
+
+pub count_after : (b a : List ℕ) (es : List DosEntry) → HasFrames b → IsArena es → a ≡ put b list_start (arena_bytes es) → entry_count (arena_part a) ≡ length es
+count_after b a es frames arena is =
+    sym (length-arena_in (arena_part a))
+    ∙ ap (λ (x : List ℕ). length (arena_in (arena_part x))) is
+    ∙ ap (λ (xs : List DosEntry). length xs) (arena_after b es frames arena)
+
+-- what the writes put is said of the machine's entries
+pub replaced_is : (b a : List ℕ) (es : List DosEntry) (place old : ℕ) (xs new : List DosEntry) → es ≡ arena_in (arena_part b) → xs ≡ new →
+    a ≡ put b list_start (arena_bytes (spliced (arena_in (arena_part b)) place old xs)) → a ≡ put b list_start (arena_bytes (spliced es place old new))
+replaced_is b a es place old xs new of is put_there = rw (of, ← is) put_there
+
+pub written_is : (b a c : List ℕ) (es : List DosEntry) → HasFrames b → IsArena es → a ≡ put b list_start (arena_bytes es) →
+    c ≡ with_headers a (arena_in (arena_part a)) → c ≡ with_arena b es
+written_is b a c es frames arena is headers =
+    headers ∙ ap (λ (x : List ℕ). with_headers x (arena_in (arena_part x))) is
+    ∙ ap (with_headers (put b list_start (arena_bytes es))) (arena_after b es frames arena)
+
+-- the memory after it holds the world with these entries, which is sound
+pub entries_holds : (k : Processor) (b c : List ℕ) (v : MachineView) (place old : ℕ) (new : List DosEntry) → record { world = held_world k b; bytes = b } ≡ v →
+    Holds b k.budget → IsArena (spliced v.world.arena place old new) → c ≡ with_arena b (spliced v.world.arena place old new) → Holds c k.budget
+entries_holds k b c v place old new view holds arena is = rw is (arena_holds b k.budget holds (spliced v.world.arena place old new) arena)
+
+with_entries_is : (w : World) (place old : ℕ) (new : List DosEntry) →
+    record w { arena = spliced w.arena place old new; dos = with_headers w.dos (spliced w.arena place old new) } ≡ with_entries w place old new
+unfolding with_entries
+with_entries_is w place old new = refl
+
+pub entries_world : (k : Processor) (b c : List ℕ) (v : MachineView) (place old : ℕ) (new : List DosEntry) → record { world = held_world k b; bytes = b } ≡ v →
+    Holds b k.budget → IsArena (spliced v.world.arena place old new) → c ≡ with_arena b (spliced v.world.arena place old new) →
+    held_world k c ≡ with_entries v.world place old new
+entries_world k b c v place old new view holds arena is =
+    ap (held_world k) is
+    ∙ arena_world b k.budget holds k.mode k.regs k.vif k.width (spliced v.world.arena place old new) arena
+    ∙ ap (λ (x : MachineView). record x.world { arena = spliced v.world.arena place old new; dos = with_headers x.world.dos (spliced v.world.arena place old new) }) view
+    ∙ with_entries_is v.world place old new
+
+pub entries_sound : (k : Processor) (b c : List ℕ) (v : MachineView) (place old : ℕ) (new : List DosEntry) → record { world = held_world k b; bytes = b } ≡ v →
+    Holds b k.budget → IsSound (held_world k b) → NoneMade (take old (drop place v.world.arena)) → NoneMade new →
+    IsArena (spliced v.world.arena place old new) → c ≡ with_arena b (spliced v.world.arena place old new) → IsSound (held_world k c)
+entries_sound k b c v place old new view holds sound gone none arena is =
+    subst IsSound (sym (entries_world k b c v place old new view holds arena is))
+    (IsSound-entries v.world place old new (subst (λ (x : MachineView). IsSound x.world) view sound) gone none arena)

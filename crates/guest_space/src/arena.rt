@@ -1,0 +1,158 @@
+// The entries of DOS memory, which stand in the host's frames, and their headers in the megabyte.
+ghost use Rattle.std.specs.Prelude.{◌≡◌, ◌≤◌, ◌<◌, ◌+◌, ◌*◌, length, take, drop, slice_index_or, nat_eq, if◌then◌else◌};
+ghost use Rattle.client_world.specs.declared.dos_memory.DosEntry.{DosEntry};
+ghost use Rattle.client_world.specs.declared.host_frames.TheConstants.{PAGE_SIZE, BUDGET_FRAMES, DOS_LIST};
+ghost use Rattle.client_world.specs.DosMemory.{IsArena};
+ghost use Rattle.guest_ram.specs.Bytes.{put};
+ghost use Rattle.host_memory.specs.DosList.{state_of, entry_at, entry_count, entry_room, entry_size, arena_in, KeepsArena};
+ghost use Rattle.host_memory.specs.Headers.{with_headers};
+ghost use Rattle.host_memory.specs.Layout.{arena_part};
+ghost use Rattle.guest_space.specs.Arena.{spliced, NoneMade, with_entries, list_bytes, arena_bytes};
+
+use crate::machine::Machine;
+use arrayvec::ArrayVec;
+use client_world::host_frames::{DOS_LIST, PAGE_SIZE};
+use client_world::memory_map::PARAGRAPH_SIZE;
+use client_world::{DosEntry, DosState};
+use guest_ram::Ram;
+use host_memory::{header, listed_entry};
+
+// Where the list stands in the memory.
+const LIST_START: u32 = PAGE_SIZE * DOS_LIST;
+
+// The bytes of an entry there.
+const ENTRY_SIZE: u32 = 8;
+
+// The entries for which there is room.
+const ENTRY_ROOM: u32 = PAGE_SIZE * 80 / ENTRY_SIZE;
+
+// The state of a code in the list.
+fn state(code: u8) -> DosState
+    ensures { result ≡ state_of code }
+{
+    match code {
+        1 => DosState::Free,
+        2 => DosState::Used,
+        _ => DosState::Dpmi,
+    }
+}
+
+// The entry at an address of the memory.
+#[tactic(auto, unfolding(host_memory::specs::DosList::entry_at))]
+fn entry(ram: &Ram, at: u32) -> DosEntry
+    requires { at + entry_size ≤ length ram.now }
+    ensures { result ≡ entry_at ram.now at }
+{
+    let _size = ram.len();
+    DosEntry {
+        at: ram.get16(at),
+        paras: ram.get16(at + 2),
+        state: state(ram.get8(at + 4)),
+    }
+}
+
+// The number of entries.
+fn entry_count(ram: &Ram) -> u32
+    requires { PAGE_SIZE * BUDGET_FRAMES ≤ length ram.now }
+    ensures count { result ≡ entry_count (arena_part ram.now) }
+    ensures few { result ≤ entry_room }
+{
+    for place in 0..ENTRY_ROOM {
+        if ram.get8(LIST_START + ENTRY_SIZE * place + 4) == 0 {
+            return place;
+        }
+    }
+    ENTRY_ROOM
+}
+
+// Writes entries one behind the other.
+fn write_entries(ram: &mut Ram, at: u32, entries: &[DosEntry])
+    requires { at + entry_size * length entries.now ≤ length ram.old }
+    ensures bytes { ram.new ≡ put ram.old at (list_bytes entries.now) }
+    ensures size { length ram.new ≡ length ram.old }
+{
+    let _size = ram.len();
+    let mut place = at;
+    for entry in entries {
+        ram.write(place, &listed_entry(*entry));
+        place += ENTRY_SIZE;
+    }
+}
+
+// Puts entries in place of so many old ones, of n in all.
+fn replace_entries(ram: &mut Ram, n: u32, place: u32, old: u32, new: &[DosEntry])
+    requires frames { PAGE_SIZE * BUDGET_FRAMES ≤ length ram.old }
+    requires keeps { KeepsArena (arena_part ram.old) }
+    requires count { n ≡ entry_count (arena_part ram.old) }
+    requires few { n ≤ entry_room }
+    requires within { place + old ≤ n }
+    requires fits { n + length new.now ≤ entry_room + old }
+    ensures { ram.new ≡ put ram.old (PAGE_SIZE * DOS_LIST) (arena_bytes (spliced (arena_in (arena_part ram.old)) place old new.now)) }
+{
+    let count = new.len() as u32;
+    let from = LIST_START + ENTRY_SIZE * (place + old);
+    let to = LIST_START + ENTRY_SIZE * (place + count);
+    ram.copy(from, to, ENTRY_SIZE * (n - (place + old)));
+    write_entries(ram, LIST_START + ENTRY_SIZE * place, new);
+    let end = LIST_START + ENTRY_SIZE * (n - old + count);
+    ram.fill(end, ENTRY_SIZE * old.saturating_sub(count), 0);
+}
+
+// The letter of the header of an entry, of n in all: 'Z' of the last one, 'M' of the others. Source: MS-DOS memory control blocks.
+fn letter(place: u32, n: u32) -> u8
+    requires { place < n }
+    ensures { result ≡ (if nat_eq (place + 1) n then 0x5A else 0x4D) }
+{
+    if place + 1 == n { 0x5A } else { 0x4D }
+}
+
+// Writes the header of each of n entries.
+fn write_headers(ram: &mut Ram, n: u32)
+    requires frames { PAGE_SIZE * BUDGET_FRAMES ≤ length ram.old }
+    requires count { n ≡ entry_count (arena_part ram.old) }
+    requires few { n ≤ entry_room }
+    requires arena { IsArena (arena_in (arena_part ram.old)) }
+    ensures { ram.new ≡ with_headers ram.old (arena_in (arena_part ram.old)) }
+{
+    for place in 0..n {
+        let entry = entry(ram, LIST_START + ENTRY_SIZE * place);
+        let bytes = header(letter(place, n), entry);
+        ram.write(PARAGRAPH_SIZE * entry.at as u32, &bytes);
+    }
+}
+
+impl Machine {
+    /// The number of entries of DOS memory, which are an arena.
+    pub fn arena_len(&self) -> u16
+        ensures count { result ≡ length self.now.world.arena }
+        ensures sound { IsArena self.now.world.arena }
+    {
+        entry_count(&self.ram) as u16
+    }
+
+    /// The entry of DOS memory at a place.
+    pub fn arena(&self, place: u16) -> DosEntry
+        requires { place < length self.now.world.arena }
+        ensures { (default : DosEntry) → result ≡ slice_index_or self.now.world.arena place default }
+    {
+        entry(&self.ram, LIST_START + ENTRY_SIZE * place as u32)
+    }
+
+    /// Puts entries of DOS memory in place of so many old ones from a place on, and writes the header of every entry. INT 31h function
+    /// 0100h made none of them. Source: own.
+    pub fn arena_put(&mut self, place: u16, old: u16, new: &ArrayVec<DosEntry, 3>)
+        requires within { place + old ≤ length self.old.world.arena }
+        requires old_plain { NoneMade (take old (drop place self.old.world.arena)) }
+        requires new_plain { NoneMade new.now.items }
+        requires sound { IsArena (spliced self.old.world.arena place old new.now.items) }
+        ensures world { self.new.world ≡ with_entries self.old.world place old new.now.items }
+        ensures bytes { self.new.bytes ≡ with_headers
+            (put self.old.bytes (PAGE_SIZE * DOS_LIST) (arena_bytes (spliced self.old.world.arena place old new.now.items)))
+            (spliced self.old.world.arena place old new.now.items) }
+    {
+        let n = entry_count(&self.ram);
+        let entries = new.as_slice();
+        replace_entries(&mut self.ram, n, place as u32, old as u32, entries);
+        write_headers(&mut self.ram, n - old as u32 + entries.len() as u32);
+    }
+}
