@@ -1,0 +1,58 @@
+-- Far transfers in both modes: JMP, CALL, RETF, IRET.
+-- Source: 80386 Programmer's Reference Manual, ch. 17, JMP, CALL, RET, IRET; that a far jump or call takes a selector of any privilege
+-- level and stores level 3 is own.
+use Rattle.std.specs.Prelude.{ℕ, ◌+◌, Bool, false, true}
+use Rattle.client_world.specs.declared.registers.Mode.TheVariants.{Real, Protected}
+use Rattle.client_world.specs.declared.selectors.TheConstants.{CLIENT_PRIVILEGE}
+use Rattle.client_world.specs.Loading.{transfer_fault}
+use Rattle.client_world.specs.Registers.{low_half}
+use Rattle.client_world.specs.Selector.{selector_code}
+use Rattle.client_world.specs.World.{World}
+use Rattle.insn_forms.specs.declared.insn.Insn.{Insn}
+use Rattle.insn_plan.specs.Act.{Act, ◌>>=◌, Pending, done, unchanged, unless_fault, with_regs}
+use Rattle.insn_plan.specs.Stack.{pushed, stack_item, items_popped}
+use Rattle.exec_flow.specs.FlagImages.{flags_popped}
+use Rattle.exec_flow.specs.Pointers.{pointer, pointer_selector, pointer_offset}
+use Rattle.exec_flow.specs.Transfers.{immediate, released}
+
+-- what CS holds after a transfer to a selector: in protected mode with privilege level 3
+unfoldable pub code_selector : World → ℕ → ℕ
+code_selector w sel = elim w.mode [ Real ↦ sel | Protected ↦ selector_code sel + CLIENT_PRIVILEGE ]
+
+-- the transfer itself, with what else the instruction leaves; a return takes privilege level 3 alone
+unfoldable pub far_transfer : World → ℕ → ℕ → Bool → Pending → Act
+far_transfer w sel ip return p = unless_fault (transfer_fault w sel ip return)
+    (done (with_regs (record p.regs { cs = code_selector w sel; eip = ip }) p))
+
+-- JMP far
+unfoldable pub jump_far : World → Insn → Act
+jump_far w i = do
+  p ← pointer w i i.first
+  far_transfer w (pointer_selector i p) (pointer_offset i p) false (unchanged w)
+
+-- CALL far: CS and the instruction pointer behind it are pushed
+unfoldable pub call_far : World → Insn → Act
+call_far w i = do
+  p ← pointer w i i.first
+  far_transfer w (pointer_selector i p) (pointer_offset i p) false
+      (pushed w i.width w.regs.eip (pushed w i.width w.regs.cs (unchanged w)))
+
+-- RETF: the instruction pointer and CS are popped, and then the bytes of the operand are dropped
+unfoldable pub retf : World → Insn → Act
+retf w i = do
+  ip ← stack_item w i.width 0
+  cs ← stack_item w i.width 1
+  far_transfer w (low_half cs) ip true
+      (with_regs (released w (immediate i.first) (items_popped w i.width 2 w.regs)) (unchanged w))
+
+-- a frame popped that an interrupt pushed, in items of so many bits: the instruction pointer, CS and the flags image
+unfoldable pub frame_popped : World → ℕ → Act
+frame_popped w bits = do
+  ip ← stack_item w bits 0
+  cs ← stack_item w bits 1
+  image ← stack_item w bits 2
+  far_transfer w (low_half cs) ip true (flags_popped w image (with_regs (items_popped w bits 3 w.regs) (unchanged w)))
+
+-- IRET
+unfoldable pub iret : World → Insn → Act
+iret w i = frame_popped w i.width

@@ -1,0 +1,40 @@
+-- Flags images on the stack, and the virtual interrupt flag: PUSHF, POPF, CLI, STI.
+-- Source: 80386 Programmer's Reference Manual, ch. 17, PUSHF, POPF, CLI, STI; what stands for IF is DPMI 0.9, "Interrupt State", and own.
+use Rattle.std.specs.Prelude.{ℕ, Bool, true, false}
+use Rattle.client_world.specs.declared.registers.Mode.TheVariants.{Real, Protected}
+use Rattle.client_world.specs.declared.registers.TheConstants.{INTERRUPT_BIT}
+use Rattle.client_world.specs.Registers.{flags_image, flags_of_image, has_bit, low_half}
+use Rattle.client_world.specs.World.{World}
+use Rattle.insn_forms.specs.declared.insn.Insn.{Insn}
+use Rattle.insn_plan.specs.Act.{Act, ◌>>=◌, Pending, done, unchanged, with_regs}
+use Rattle.insn_plan.specs.Stack.{pushed, stack_item, items_popped}
+
+-- IF as PUSHF shows it: in real mode the virtual flag, in protected mode 1
+abbrev pub shown_interrupt : World → Bool
+shown_interrupt w = elim w.mode [ Real ↦ w.vif | Protected ↦ true ]
+
+-- PUSHF: the image of the flags; the upper half of one of 32 bits is 0
+unfoldable pub pushf : World → Insn → Act
+pushf w i = done (pushed w i.width (flags_image w.regs.flags (shown_interrupt w)) (unchanged w))
+
+-- the virtual flag after an image is popped: in real mode its IF, in protected mode what it was
+abbrev pub popped_interrupt : World → ℕ → Bool
+popped_interrupt w image = elim w.mode [ Real ↦ has_bit (low_half image) INTERRUPT_BIT | Protected ↦ w.vif ]
+
+-- what an image that is popped leaves: its flags, and the virtual flag; its upper half counts for nothing
+unfoldable pub flags_popped : World → ℕ → Pending → Pending
+flags_popped w image p =
+    record p { regs = record p.regs { flags = flags_of_image (low_half image) }; vif = popped_interrupt w image }
+
+-- POPF
+unfoldable pub popf : World → Insn → Act
+popf w i = do
+  image ← stack_item w i.width 0
+  done (flags_popped w image (with_regs (items_popped w i.width 1 w.regs) (unchanged w)))
+
+-- CLI and STI change the virtual flag in both modes
+unfoldable pub cli : World → Act
+cli w = done (record (unchanged w) { vif = false })
+
+unfoldable pub sti : World → Act
+sti w = done (record (unchanged w) { vif = true })

@@ -1,0 +1,11 @@
+pub mod Dispatch
+pub mod FarTransfers
+pub mod FlagImages
+pub mod Frames
+pub mod Interrupts
+pub mod Pointers
+pub mod Ports
+pub mod Questions
+pub mod Raising
+pub mod Segments
+pub mod Transfers

@@ -1,0 +1,43 @@
+-- Far pointers: an offset of the operand size, and behind it a selector. One in memory is read in one access.
+-- Source: 80386 Programmer's Reference Manual, ch. 2, "Pointer", and ch. 17, JMP, CALL and LES; that it is one access is own.
+use Rattle.std.specs.Prelude.{ℕ, ◌+◌, ◌*◌, ◌/◌, ◌%◌, ◌^◌, nat_eq, if◌then◌else◌}
+use Rattle.client_world.specs.Registers.{low_half}
+use Rattle.client_world.specs.World.{World}
+use Rattle.insn_forms.specs.declared.insn.Insn.{Insn}
+use Rattle.insn_forms.specs.declared.insn.Operand.{Operand}
+use Rattle.insn_forms.specs.declared.insn.Operand.TheVariants.{Empty, Reg, Seg, Mem, Imm, Far}
+use Rattle.insn_plan.specs.Act.{Given, From, Input}
+use Rattle.insn_plan.specs.Registers.{offset_of}
+
+-- an operand in memory read as so many bytes; another operand has none
+unfoldable pub memory_bytes : World → Insn → ℕ → Operand → Input
+memory_bytes w i n Empty = Given 0
+memory_bytes w i n (Reg own number) = Given 0
+memory_bytes w i n (Seg seg) = Given 0
+memory_bytes w i n (Mem f) = From f.seg (offset_of w.regs i.addr32 f) n
+memory_bytes w i n (Imm v) = Given 0
+memory_bytes w i n (Far p) = Given 0
+
+-- the numbers above an offset of the operand size count units of this
+abbrev pub offset_range : Insn → ℕ
+offset_range i = if nat_eq i.width 16 then 2 ^ 16 else 2 ^ 32
+
+-- the bytes of a far pointer in memory
+abbrev pub pointer_bytes : Insn → ℕ
+pointer_bytes i = if nat_eq i.width 16 then 4 else 6
+
+-- a far pointer as one number, the offset lowest: that of the instruction, or one in memory
+unfoldable pub pointer : World → Insn → Operand → Input
+pointer w i Empty = Given 0
+pointer w i (Reg own number) = Given 0
+pointer w i (Seg seg) = Given 0
+pointer w i (Mem f) = memory_bytes w i (pointer_bytes i) (Mem f)
+pointer w i (Imm v) = Given 0
+pointer w i (Far p) = Given (p.off + offset_range i * p.sel)
+
+-- its parts
+abbrev pub pointer_offset : Insn → ℕ → ℕ
+pointer_offset i p = p % offset_range i
+
+abbrev pub pointer_selector : Insn → ℕ → ℕ
+pointer_selector i p = low_half (p / offset_range i)

@@ -1,0 +1,71 @@
+-- Segment registers loaded and stored: MOV, PUSH and POP with one of them, and LES, LDS, LSS, LFS, LGS.
+-- Source: 80386 Programmer's Reference Manual, ch. 17, MOV, PUSH, POP, and LGS/LSS/LDS/LES/LFS; that MOV to a register of 32 bits clears its
+-- upper half, and PUSH of 32 bits pushes zeros there, is own.
+use Rattle.std.specs.Prelude.{ℕ}
+use Rattle.client_world.specs.declared.segments.SegReg.{SegReg}
+use Rattle.client_world.specs.Loading.{register_fault}
+use Rattle.client_world.specs.Registers.{low_half}
+use Rattle.client_world.specs.Segments.{with_selector}
+use Rattle.client_world.specs.World.{World}
+use Rattle.insn_forms.specs.declared.insn.Insn.{Insn}
+use Rattle.insn_forms.specs.declared.insn.Operand.TheVariants.{Empty, Reg, Seg, Mem, Imm, Far}
+use Rattle.insn_plan.specs.Act.{Act, ◌>>=◌, Pending, done, unchanged, unless_fault, with_regs}
+use Rattle.insn_plan.specs.Operands.{source, put}
+use Rattle.insn_plan.specs.Stack.{pushed, stack_item, items_popped}
+use Rattle.exec_flow.specs.Pointers.{pointer, pointer_selector, pointer_offset}
+
+-- a segment register loaded, with what else the instruction leaves; in real mode every word loads
+unfoldable pub segment_loaded : World → SegReg → ℕ → Pending → Act
+segment_loaded w seg sel p = unless_fault (register_fault w seg sel) (done (with_regs (with_selector p.regs seg sel) p))
+
+-- MOV of a word into a segment register
+unfoldable pub mov_to_segment : World → Insn → SegReg → Act
+mov_to_segment w i seg = do
+  v ← source w.regs i.addr32 16 i.second
+  segment_loaded w seg (low_half v) (unchanged w)
+
+-- MOV from a segment register, which is a word in memory and the whole of a register
+unfoldable pub mov_from_segment : World → Insn → Act
+mov_from_segment w i = do
+  v ← source w.regs i.addr32 16 i.second
+  done (put w.regs i.addr32 16 i.first v (unchanged w))
+
+-- MOV with a segment register
+unfoldable pub mov_segment : World → Insn → Act
+mov_segment w i = elim i.first [
+  | Seg seg ↦ mov_to_segment w i seg
+  | Empty ↦ mov_from_segment w i
+  | Reg own number ↦ mov_from_segment w i
+  | Mem f ↦ mov_from_segment w i
+  | Imm v ↦ mov_from_segment w i
+  | Far p ↦ mov_from_segment w i
+]
+
+-- PUSH of a segment register
+unfoldable pub push_segment : World → Insn → Act
+push_segment w i = do
+  v ← source w.regs i.addr32 i.width i.first
+  done (pushed w i.width v (unchanged w))
+
+-- POP of a segment register, the low word of an item
+unfoldable pub pop_into : World → Insn → SegReg → Act
+pop_into w i seg = do
+  v ← stack_item w i.width 0
+  segment_loaded w seg (low_half v) (with_regs (items_popped w i.width 1 w.regs) (unchanged w))
+
+-- that of the first operand; without one there is nothing to do
+unfoldable pub pop_segment : World → Insn → Act
+pop_segment w i = elim i.first [
+  | Seg seg ↦ pop_into w i seg
+  | Empty ↦ done (unchanged w)
+  | Reg own number ↦ done (unchanged w)
+  | Mem f ↦ done (unchanged w)
+  | Imm v ↦ done (unchanged w)
+  | Far p ↦ done (unchanged w)
+]
+
+-- LES, LDS, LSS, LFS, LGS: a far pointer from memory, its selector into the segment register and its offset into the first operand
+unfoldable pub load_pointer : SegReg → World → Insn → Act
+load_pointer seg w i = do
+  p ← pointer w i i.second
+  segment_loaded w seg (pointer_selector i p) (put w.regs i.addr32 i.width i.first (pointer_offset i p) (unchanged w))

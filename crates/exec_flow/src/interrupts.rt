@@ -1,0 +1,78 @@
+// Software interrupts, and what they push.
+ghost use Rattle.std.specs.Prelude.{◌≡◌, ◌+◌, [], length};
+ghost use Rattle.exec_flow.specs.Interrupts.{frame_bits, int, int3, interrupt_pushed, into, item_bits};
+ghost use Rattle.insn_plan.specs.Plan.{fresh, pending_of, planned, Plans};
+
+use crate::transfers::immediate;
+use client_world::{Event, Mode, Width};
+use guest_space::Machine;
+use insn_forms::Insn;
+use insn_plan::Next;
+
+/// INT. Source: 80386 Programmer's Reference Manual, ch. 17, "INT/INTO".
+#[tactic(auto, unfolding(crate::specs::Interrupts::int))]
+pub(crate) fn int(m: &Machine, i: &Insn, len: u8, next: &mut Next) -> Result<(), Event>
+    ensures { Plans next.new result (planned m.now.world [] (int i.now len)) }
+{
+    Err(Event::Soft {
+        number: (immediate(&i.first) % 0x100) as u8,
+        len,
+    })
+}
+
+/// INT 3. Source: as above; that it is the client's interrupt 3 is own.
+#[tactic(auto, unfolding(crate::specs::Interrupts::int3))]
+pub(crate) fn int3(m: &Machine, len: u8, next: &mut Next) -> Result<(), Event>
+    ensures { Plans next.new result (planned m.now.world [] (int3 len)) }
+{
+    Err(Event::Soft { number: 3, len })
+}
+
+/// INTO. Source: as above; that it is the client's interrupt 4 is own.
+#[tactic(auto, unfolding(crate::specs::Interrupts::into))]
+pub(crate) fn into(m: &Machine, len: u8, next: &mut Next) -> Result<(), Event>
+    requires fresh { next.old ≡ fresh m.now.world }
+    ensures { Plans next.new result (planned m.now.world [] (into m.now.world len)) }
+{
+    if m.regs().flags.of {
+        Err(Event::Soft { number: 4, len })
+    } else {
+        Ok(())
+    }
+}
+
+// The bits of an item of a client's frames.
+fn item_bits(width: Option<Width>) -> u8
+    ensures { result ≡ item_bits width }
+{
+    match width {
+        None | Some(Width::Sixteen) => 16,
+        Some(Width::ThirtyTwo) => 32,
+    }
+}
+
+/// The bits of an item of an interrupt's frame: in real mode 16, in protected mode the client's. Source: DPMI 0.9, "Interrupts".
+pub fn frame_bits(m: &Machine) -> u8
+    ensures { result ≡ frame_bits m.now.world }
+{
+    match m.mode() {
+        Mode::Real => 16,
+        Mode::Protected => item_bits(m.width()),
+    }
+}
+
+/// Pushes what a software interrupt pushes: the flags image with the virtual interrupt flag, CS, and the instruction pointer behind it.
+/// Source: 80386 Programmer's Reference Manual, ch. 17, "INT/INTO"; DPMI 0.9, "Interrupt State".
+#[tactic(auto, unfolding(crate::specs::Interrupts::interrupt_pushed))]
+pub fn push_interrupt_frame(m: &Machine, next: &mut Next)
+    requires fresh { next.old ≡ fresh m.now.world }
+    ensures pushed { pending_of next.new ≡ interrupt_pushed m.now.world }
+    ensures reads { next.new.reads ≡ next.old.reads }
+    ensures room { length next.new.writes ≡ length next.old.writes + 3 }
+{
+    let r = m.regs();
+    let bits = frame_bits(m);
+    next.push(m, bits, u32::from(r.flags.image(m.vif())));
+    next.push(m, bits, u32::from(r.cs));
+    next.push(m, bits, r.eip);
+}

@@ -1,0 +1,20 @@
+//! Transfers, segments and the system's instructions: jumps, calls, returns, frames, flags images, segment registers, descriptor questions.
+//! It promises that an instruction does what its row says, or raises its fault and changes nothing, or is a software interrupt.
+//! It stands on plans of instructions.
+#![tactic(auto)]
+
+mod dispatch;
+mod far_transfers;
+mod flag_images;
+mod frames;
+mod interrupts;
+mod pointers;
+mod ports;
+mod questions;
+mod raising;
+mod segments;
+mod transfers;
+
+pub use dispatch::run_flow;
+pub use far_transfers::pop_frame;
+pub use interrupts::{frame_bits, push_interrupt_frame};
