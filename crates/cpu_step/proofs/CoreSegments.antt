@@ -1,0 +1,297 @@
+-- No row of exec_core changes a segment register.
+use Rattle.std.proofs.Common.{ℕ, nat_eq, Bool, true, Option, None, Some}
+use Rattle.client_world.specs.declared.registers.Flags.{Flags}
+use Rattle.client_world.specs.declared.registers.Regs.{Regs}
+use Rattle.client_world.specs.World.{World}
+use Rattle.cpu_values.specs.Word.{cut}
+use Rattle.cpu_alu.specs.Sums.{sub_of}
+use Rattle.exec_core.specs.Arithmetic.{Formula, SingleFormula, binary, compare, unary}
+use Rattle.exec_core.specs.Bits.{setcc, bit_test, bit_change, bit_scan}
+use Rattle.exec_core.specs.Decimal.{with_ax_in, adjust, aad, aam, aam_done}
+use Rattle.exec_core.specs.Dispatch.{core_row}
+use Rattle.exec_core.specs.FlagRows.{clc, stc, cmc, cld, std, lahf, sahf, wait}
+use Rattle.exec_core.specs.Moves.{mov, movzx, movsx, xchg, lea, xlat, cbw, cwd}
+use Rattle.exec_core.specs.Products.{Product, Quotient, with_double, multiply, multiply_two, multiply_three, is_empty, imul, divided, divide}
+use Rattle.exec_core.specs.Shifts.{DoubleFormula, shift, double_shift}
+use Rattle.exec_core.specs.Stacks.{push, pop, pusha, popa}
+use Rattle.exec_core.specs.Strings.{is_repeated, is_over, with_source_next, with_destination_next, repeated, goes_on_with, movs, cmps, stos, lods, scas}
+use Rattle.insn_forms.specs.declared.insn.Insn.{Insn}
+use Rattle.insn_forms.specs.declared.insn.Op.{Op}
+use Rattle.insn_forms.specs.declared.insn.Op.TheVariants as ops
+use Rattle.insn_plan.specs.Registers.{register, with_register}
+use Rattle.insn_plan.specs.Stack.{pushed, items_popped}
+use Rattle.cpu_step.proofs.SegmentWords.{HoldWords, LeavesWords, words_if, leaves_if, words_register, words_put, words_pushed}
+
+-- ---- arithmetic, shifts and bits
+
+binary_leaves : (f : Formula) (w : World) (i : Insn) → HoldWords w.regs → LeavesWords (binary f w i)
+unfolding binary
+binary_leaves f w i s = λ a b. words_put _ _ _ _ _ _ s
+
+compare_leaves : (f : Formula) (w : World) (i : Insn) → HoldWords w.regs → LeavesWords (compare f w i)
+unfolding compare
+compare_leaves f w i s = λ a b. s
+
+unary_leaves : (f : SingleFormula) (w : World) (i : Insn) → HoldWords w.regs → LeavesWords (unary f w i)
+unfolding unary
+unary_leaves f w i s = λ a. words_put _ _ _ _ _ _ s
+
+shift_leaves : (f : Formula) (w : World) (i : Insn) → HoldWords w.regs → LeavesWords (shift f w i)
+unfolding shift
+shift_leaves f w i s = λ a count. words_put _ _ _ _ _ _ s
+
+double_shift_leaves : (f : DoubleFormula) (w : World) (i : Insn) → HoldWords w.regs → LeavesWords (double_shift f w i)
+unfolding double_shift
+double_shift_leaves f w i s = λ a b count. words_put _ _ _ _ _ _ s
+
+setcc_leaves : (w : World) (i : Insn) (n : ℕ) → HoldWords w.regs → LeavesWords (setcc w i n)
+unfolding setcc
+setcc_leaves w i n s = words_put _ _ _ _ _ _ s
+
+bit_test_leaves : (w : World) (i : Insn) → HoldWords w.regs → LeavesWords (bit_test w i)
+unfolding bit_test
+bit_test_leaves w i s = λ offset a. s
+
+bit_change_leaves : (f : ℕ → ℕ → ℕ) (w : World) (i : Insn) → HoldWords w.regs → LeavesWords (bit_change f w i)
+unfolding bit_change
+bit_change_leaves f w i s = λ offset a. words_put _ _ _ _ _ _ s
+
+bit_scan_leaves : (f : ℕ → ℕ → ℕ) (w : World) (i : Insn) → HoldWords w.regs → LeavesWords (bit_scan f w i)
+unfolding bit_scan
+bit_scan_leaves f w i s = λ v. leaves_if (nat_eq (cut i.width v) 0) _ _ s (words_put _ _ _ _ _ _ s)
+
+-- ---- decimal adjustment, products and quotients
+
+with_ax_words : (r : Regs) (result : ℕ × Flags) → HoldWords r → HoldWords (with_ax_in r result)
+with_ax_words r result s = words_register _ _ _ _ s
+
+adjust_leaves : (f : ℕ → Flags → ℕ × Flags) (w : World) → HoldWords w.regs → LeavesWords (adjust f w)
+unfolding adjust
+adjust_leaves f w s = with_ax_words w.regs _ s
+
+aad_leaves : (w : World) (i : Insn) → HoldWords w.regs → LeavesWords (aad w i)
+unfolding aad
+aad_leaves w i s = λ base. with_ax_words w.regs _ s
+
+aam_done_leaves : (w : World) (o : Option (ℕ × Flags)) → HoldWords w.regs → LeavesWords (aam_done w o)
+aam_done_leaves w None s = tt
+aam_done_leaves w (Some result) s = with_ax_words w.regs result s
+
+aam_leaves : (w : World) (i : Insn) → HoldWords w.regs → LeavesWords (aam w i)
+unfolding aam
+aam_leaves w i s = λ base. aam_done_leaves w _ s
+
+double_words : (width low high : ℕ) (r : Regs) → HoldWords r → HoldWords (with_double width low high r)
+double_words width low high r s = words_register _ _ _ _ (words_register _ _ _ _ s)
+
+multiply_leaves : (f : Product) (w : World) (i : Insn) → HoldWords w.regs → LeavesWords (multiply f w i)
+unfolding multiply
+multiply_leaves f w i s = λ a. double_words _ _ _ _ s
+
+multiply_two_leaves : (w : World) (i : Insn) → HoldWords w.regs → LeavesWords (multiply_two w i)
+unfolding multiply_two
+multiply_two_leaves w i s = λ a b. words_put _ _ _ _ _ _ s
+
+multiply_three_leaves : (w : World) (i : Insn) → HoldWords w.regs → LeavesWords (multiply_three w i)
+unfolding multiply_three
+multiply_three_leaves w i s = λ a b. words_put _ _ _ _ _ _ s
+
+imul_leaves : (w : World) (i : Insn) → HoldWords w.regs → LeavesWords (imul w i)
+unfolding imul
+imul_leaves w i s = leaves_if (is_empty i.second) _ _ (multiply_leaves _ w i s)
+    (leaves_if (is_empty i.third) _ _ (multiply_two_leaves w i s) (multiply_three_leaves w i s))
+
+divided_leaves : (w : World) (width : ℕ) (o : Option (ℕ × ℕ)) → HoldWords w.regs → LeavesWords (divided w width o)
+divided_leaves w width None s = tt
+divided_leaves w width (Some q) s = double_words width q.0 q.1 w.regs s
+
+divide_leaves : (f : Quotient) (w : World) (i : Insn) → HoldWords w.regs → LeavesWords (divide f w i)
+unfolding divide
+divide_leaves f w i s = λ by. divided_leaves w i.width _ s
+
+-- ---- moves and flags
+
+mov_leaves : (w : World) (i : Insn) → HoldWords w.regs → LeavesWords (mov w i)
+unfolding mov
+mov_leaves w i s = λ v. words_put _ _ _ _ _ _ s
+
+movzx_leaves : (w : World) (i : Insn) (n : ℕ) → HoldWords w.regs → LeavesWords (movzx w i n)
+unfolding movzx
+movzx_leaves w i n s = λ v. words_put _ _ _ _ _ _ s
+
+movsx_leaves : (w : World) (i : Insn) (n : ℕ) → HoldWords w.regs → LeavesWords (movsx w i n)
+unfolding movsx
+movsx_leaves w i n s = λ v. words_put _ _ _ _ _ _ s
+
+xchg_leaves : (w : World) (i : Insn) → HoldWords w.regs → LeavesWords (xchg w i)
+unfolding xchg
+xchg_leaves w i s = λ a b. words_put _ _ _ _ _ _ (words_put _ _ _ _ _ _ s)
+
+lea_leaves : (w : World) (i : Insn) → HoldWords w.regs → LeavesWords (lea w i)
+unfolding lea
+lea_leaves w i s = words_put _ _ _ _ _ _ s
+
+xlat_leaves : (w : World) (i : Insn) → HoldWords w.regs → LeavesWords (xlat w i)
+unfolding xlat
+xlat_leaves w i s = λ v. words_register _ _ _ _ s
+
+cbw_leaves : (w : World) (i : Insn) → HoldWords w.regs → LeavesWords (cbw w i)
+unfolding cbw
+cbw_leaves w i s = words_register _ _ _ _ s
+
+cwd_leaves : (w : World) (i : Insn) → HoldWords w.regs → LeavesWords (cwd w i)
+unfolding cwd
+cwd_leaves w i s = words_register _ _ _ _ s
+
+lahf_leaves : (w : World) → HoldWords w.regs → LeavesWords (lahf w)
+unfolding lahf
+lahf_leaves w s = words_register _ _ _ _ s
+
+-- the rows that change flags alone, or nothing
+record FlagsAlone (w : World) : Type 0 where
+  clc_leaves : LeavesWords (clc w)
+  stc_leaves : LeavesWords (stc w)
+  cmc_leaves : LeavesWords (cmc w)
+  cld_leaves : LeavesWords (cld w)
+  std_leaves : LeavesWords (std w)
+  sahf_leaves : LeavesWords (sahf w)
+  wait_leaves : LeavesWords (wait w)
+
+flags_alone : (w : World) → HoldWords w.regs → FlagsAlone w
+unfolding clc stc cmc cld std sahf wait
+flags_alone w s = record {
+  clc_leaves = s;
+  stc_leaves = s;
+  cmc_leaves = s;
+  cld_leaves = s;
+  std_leaves = s;
+  sahf_leaves = s;
+  wait_leaves = s;
+}
+
+-- ---- stacks
+
+push_leaves : (w : World) (i : Insn) → HoldWords w.regs → LeavesWords (push w i)
+unfolding push
+push_leaves w i s = λ v. words_pushed _ _ _ _ s
+
+pop_leaves : (w : World) (i : Insn) → HoldWords w.regs → LeavesWords (pop w i)
+unfolding pop items_popped
+pop_leaves w i s = λ v. words_put _ _ _ _ _ _ s
+
+pusha_leaves : (w : World) (i : Insn) → HoldWords w.regs → LeavesWords (pusha w i)
+unfolding pusha pushed
+pusha_leaves w i s = s
+
+popa_leaves : (w : World) (i : Insn) → HoldWords w.regs → LeavesWords (popa w i)
+unfolding popa items_popped
+popa_leaves w i s = λ di si bp bx dx cx ax.
+    let none = items_popped w i.width 8 w.regs in
+    let one = with_register none i.width 7 di in
+    let two = with_register one i.width 6 si in
+    let three = with_register two i.width 5 bp in
+    let four = with_register three i.width 3 bx in
+    let five = with_register four i.width 2 dx in
+    let six = with_register five i.width 1 cx in
+    words_register six i.width 0 ax (words_register five i.width 1 cx (words_register four i.width 2 dx (words_register three i.width 3 bx
+    (words_register two i.width 5 bp (words_register one i.width 6 si (words_register none i.width 7 di s))))))
+
+-- ---- strings
+
+repeated_words : (w : World) (i : Insn) (len : ℕ) (goes_on : Bool) (r : Regs) → HoldWords r → HoldWords (repeated w i len goes_on r)
+repeated_words w i len goes_on r s = words_if (is_repeated i.rep) _ _ s s
+
+movs_leaves : (w : World) (i : Insn) (len : ℕ) → HoldWords w.regs → LeavesWords (movs w i len)
+unfolding movs
+movs_leaves w i len s = leaves_if (is_over w i) _ _ s (λ v. repeated_words w i len true (with_source_next w i (with_destination_next w i w.regs)) s)
+
+cmps_leaves : (w : World) (i : Insn) (len : ℕ) → HoldWords w.regs → LeavesWords (cmps w i len)
+unfolding cmps
+cmps_leaves w i len s = leaves_if (is_over w i) _ _ s (λ a b.
+    let f = (sub_of i.width (cut i.width a) (cut i.width b) w.regs.flags).1 in
+    repeated_words w i len (goes_on_with i.rep f) (with_source_next w i (with_destination_next w i (record w.regs { flags = f }))) s)
+
+stos_leaves : (w : World) (i : Insn) (len : ℕ) → HoldWords w.regs → LeavesWords (stos w i len)
+unfolding stos
+stos_leaves w i len s = leaves_if (is_over w i) _ _ s (repeated_words w i len true (with_destination_next w i w.regs) s)
+
+lods_leaves : (w : World) (i : Insn) (len : ℕ) → HoldWords w.regs → LeavesWords (lods w i len)
+unfolding lods
+lods_leaves w i len s = leaves_if (is_over w i) _ _ s (λ v.
+    repeated_words w i len true (with_source_next w i (with_register w.regs i.width 0 v)) (words_register _ _ _ _ s))
+
+scas_leaves : (w : World) (i : Insn) (len : ℕ) → HoldWords w.regs → LeavesWords (scas w i len)
+unfolding scas
+scas_leaves w i len s = leaves_if (is_over w i) _ _ s (λ b.
+    let f = (sub_of i.width (cut i.width (register w.regs i.width 0)) (cut i.width b) w.regs.flags).1 in
+    repeated_words w i len (goes_on_with i.rep f) (with_destination_next w i (record w.regs { flags = f })) s)
+
+-- ---- all of them
+
+pub core_leaves : (op : Op) (w : World) (i : Insn) (len : ℕ) → HoldWords w.regs → LeavesWords (core_row op w i len)
+unfolding core_row
+core_leaves ops.Add w i len s = binary_leaves _ w i s
+core_leaves ops.Or w i len s = binary_leaves _ w i s
+core_leaves ops.Adc w i len s = binary_leaves _ w i s
+core_leaves ops.Sbb w i len s = binary_leaves _ w i s
+core_leaves ops.And w i len s = binary_leaves _ w i s
+core_leaves ops.Sub w i len s = binary_leaves _ w i s
+core_leaves ops.Xor w i len s = binary_leaves _ w i s
+core_leaves ops.Cmp w i len s = compare_leaves _ w i s
+core_leaves ops.Test w i len s = compare_leaves _ w i s
+core_leaves ops.Inc w i len s = unary_leaves _ w i s
+core_leaves ops.Dec w i len s = unary_leaves _ w i s
+core_leaves ops.Not w i len s = unary_leaves _ w i s
+core_leaves ops.Neg w i len s = unary_leaves _ w i s
+core_leaves ops.Mul w i len s = multiply_leaves _ w i s
+core_leaves ops.Imul w i len s = imul_leaves w i s
+core_leaves ops.Div w i len s = divide_leaves _ w i s
+core_leaves ops.Idiv w i len s = divide_leaves _ w i s
+core_leaves ops.Daa w i len s = adjust_leaves _ w s
+core_leaves ops.Das w i len s = adjust_leaves _ w s
+core_leaves ops.Aaa w i len s = adjust_leaves _ w s
+core_leaves ops.Aas w i len s = adjust_leaves _ w s
+core_leaves ops.Aam w i len s = aam_leaves w i s
+core_leaves ops.Aad w i len s = aad_leaves w i s
+core_leaves ops.Rol w i len s = shift_leaves _ w i s
+core_leaves ops.Ror w i len s = shift_leaves _ w i s
+core_leaves ops.Rcl w i len s = shift_leaves _ w i s
+core_leaves ops.Rcr w i len s = shift_leaves _ w i s
+core_leaves ops.Shl w i len s = shift_leaves _ w i s
+core_leaves ops.Shr w i len s = shift_leaves _ w i s
+core_leaves ops.Sar w i len s = shift_leaves _ w i s
+core_leaves ops.Shld w i len s = double_shift_leaves _ w i s
+core_leaves ops.Shrd w i len s = double_shift_leaves _ w i s
+core_leaves ops.Bt w i len s = bit_test_leaves w i s
+core_leaves ops.Bts w i len s = bit_change_leaves _ w i s
+core_leaves ops.Btr w i len s = bit_change_leaves _ w i s
+core_leaves ops.Btc w i len s = bit_change_leaves _ w i s
+core_leaves ops.Bsf w i len s = bit_scan_leaves _ w i s
+core_leaves ops.Bsr w i len s = bit_scan_leaves _ w i s
+core_leaves (ops.Setcc n) w i len s = setcc_leaves w i n s
+core_leaves ops.Mov w i len s = mov_leaves w i s
+core_leaves (ops.Movzx n) w i len s = movzx_leaves w i n s
+core_leaves (ops.Movsx n) w i len s = movsx_leaves w i n s
+core_leaves ops.Xchg w i len s = xchg_leaves w i s
+core_leaves ops.Lea w i len s = lea_leaves w i s
+core_leaves ops.Xlat w i len s = xlat_leaves w i s
+core_leaves ops.Cbw w i len s = cbw_leaves w i s
+core_leaves ops.Cwd w i len s = cwd_leaves w i s
+core_leaves ops.Lahf w i len s = lahf_leaves w s
+core_leaves ops.Sahf w i len s = (flags_alone w s).sahf_leaves
+core_leaves ops.Push w i len s = push_leaves w i s
+core_leaves ops.Pop w i len s = pop_leaves w i s
+core_leaves ops.Pusha w i len s = pusha_leaves w i s
+core_leaves ops.Popa w i len s = popa_leaves w i s
+core_leaves ops.Movs w i len s = movs_leaves w i len s
+core_leaves ops.Cmps w i len s = cmps_leaves w i len s
+core_leaves ops.Stos w i len s = stos_leaves w i len s
+core_leaves ops.Lods w i len s = lods_leaves w i len s
+core_leaves ops.Scas w i len s = scas_leaves w i len s
+core_leaves ops.Clc w i len s = (flags_alone w s).clc_leaves
+core_leaves ops.Stc w i len s = (flags_alone w s).stc_leaves
+core_leaves ops.Cmc w i len s = (flags_alone w s).cmc_leaves
+core_leaves ops.Cld w i len s = (flags_alone w s).cld_leaves
+core_leaves ops.Std w i len s = (flags_alone w s).std_leaves
+core_leaves ops.Wait w i len s = (flags_alone w s).wait_leaves
+core_leaves _ w i len s = s

@@ -1,0 +1,268 @@
+-- A row of exec_flow puts words alone into segment registers.
+use Rattle.std.proofs.Common.{ℕ, zero, suc, ◌+◌, ◌/◌, ◌%◌, ◌<◌, ◌^◌, arith, nat_eq, nat_lt, Bool, false, not, ◌&&◌, ◌||◌, None, Some}
+use Rattle.client_world.specs.declared.descriptors.Desc.{Desc}
+use Rattle.client_world.specs.declared.registers.Mode.{Mode}
+use Rattle.client_world.specs.declared.registers.Mode.TheVariants.{Real, Protected}
+use Rattle.client_world.specs.declared.segments.SegReg.{SegReg}
+use Rattle.client_world.specs.declared.segments.SegReg.TheVariants.{Cs}
+use Rattle.client_world.specs.declared.selectors.TheConstants.{CLIENT_PRIVILEGE}
+use Rattle.client_world.specs.Loading.{register_fault, transfer_fault}
+use Rattle.client_world.specs.Selector.{Row, selector_code, privilege_of}
+use Rattle.client_world.specs.World.{World}
+use Rattle.exec_flow.specs.Dispatch.{flow_row}
+use Rattle.exec_flow.specs.FarTransfers.{code_selector, far_transfer, jump_far, call_far, retf, frame_popped, iret}
+use Rattle.exec_flow.specs.FlagImages.{pushf, flags_popped, popf, cli, sti}
+use Rattle.exec_flow.specs.Frames.{frames_pushed, frame_made, enter, leave, is_less, bound}
+use Rattle.exec_flow.specs.Interrupts.{int, int3, into}
+use Rattle.exec_flow.specs.Pointers.{offset_range}
+use Rattle.exec_flow.specs.Ports.{input, output}
+use Rattle.exec_flow.specs.Questions.{verify, told, tell, arpl}
+use Rattle.exec_flow.specs.Raising.{invalid_opcode, privileged, escape, in_protected, load_table}
+use Rattle.exec_flow.specs.Segments.{segment_loaded, mov_to_segment, mov_from_segment, mov_segment, push_segment, pop_into, pop_segment, load_pointer}
+use Rattle.exec_flow.specs.Transfers.{at_operand_size, near_transfer, jcc, jcxz, count_down, counted_down, loop_while, jmp, call, immediate, ret}
+use Rattle.insn_forms.specs.declared.insn.Insn.{Insn}
+use Rattle.insn_forms.specs.declared.insn.Op.{Op}
+use Rattle.insn_forms.specs.declared.insn.Op.TheVariants as ops
+use Rattle.insn_forms.specs.declared.insn.Operand.{Operand}
+use Rattle.insn_forms.specs.declared.insn.Operand.TheVariants.{Empty, Reg, Seg, Mem, Imm, Far}
+use Rattle.insn_plan.specs.Act.{Act, Pending, unchanged}
+use Rattle.insn_plan.specs.Conditions.{condition}
+use Rattle.insn_plan.specs.Counter.{counter}
+use Rattle.insn_plan.specs.Stack.{items_popped}
+use Rattle.cpu_step.proofs.SegmentWords.{HoldWords, LeavesWords, leaves_if, leaves_by_mode, leaves_unless, words_register, words_put, words_pushed, words_selector, half_is_word}
+
+-- ---- near transfers
+
+near_leaves : (w : World) (i : Insn) (ip : ℕ) (p : Pending) → HoldWords p.regs → LeavesWords (near_transfer w i ip p)
+unfolding near_transfer
+near_leaves w i ip p s = leaves_unless (transfer_fault w w.regs.cs (at_operand_size i ip) false) _ s
+
+jcc_leaves : (w : World) (i : Insn) (n : ℕ) → HoldWords w.regs → LeavesWords (jcc w i n)
+unfolding jcc
+jcc_leaves w i n s = λ ip. leaves_if (condition n w.regs.flags) _ _ (near_leaves w i ip (unchanged w) s) s
+
+jcxz_leaves : (w : World) (i : Insn) → HoldWords w.regs → LeavesWords (jcxz w i)
+unfolding jcxz
+jcxz_leaves w i s = λ ip. leaves_if (nat_eq (counter w i) 0) _ _ (near_leaves w i ip (unchanged w) s) s
+
+loop_leaves : (holds : Bool) (w : World) (i : Insn) → HoldWords w.regs → LeavesWords (loop_while holds w i)
+unfolding loop_while
+loop_leaves holds w i s = λ ip. leaves_if (holds && not (nat_eq (count_down w i) 0)) _ _ (near_leaves w i ip (counted_down w i) s) s
+
+jmp_leaves : (w : World) (i : Insn) → HoldWords w.regs → LeavesWords (jmp w i)
+unfolding jmp
+jmp_leaves w i s = λ ip. near_leaves w i ip (unchanged w) s
+
+call_leaves : (w : World) (i : Insn) → HoldWords w.regs → LeavesWords (call w i)
+unfolding call
+call_leaves w i s = λ ip. near_leaves w i ip _ (words_pushed _ _ _ _ s)
+
+ret_leaves : (w : World) (i : Insn) → HoldWords w.regs → LeavesWords (ret w i)
+unfolding ret items_popped
+ret_leaves w i s = λ ip. near_leaves w i ip _ s
+
+-- ---- far transfers
+
+code_by_mode : (m : Mode) (sel : ℕ) → sel < 0x10000 → elim m as (λ _. ℕ) [ Real ↦ sel | Protected ↦ selector_code sel + CLIENT_PRIVILEGE ] < 0x10000
+code_by_mode Real sel small = small
+code_by_mode Protected sel small = omega arith
+
+pub code_is_word : (w : World) (sel : ℕ) → sel < 0x10000 → code_selector w sel < 0x10000
+unfolding code_selector
+code_is_word w sel small = code_by_mode w.mode sel small
+
+far_leaves : (w : World) (sel ip : ℕ) (return : Bool) (p : Pending) → sel < 0x10000 → HoldWords p.regs → LeavesWords (far_transfer w sel ip return p)
+unfolding far_transfer
+far_leaves w sel ip return p small s =
+    leaves_unless (transfer_fault w sel ip return) _ (words_selector p.regs Cs (code_selector w sel) s (code_is_word w sel small))
+
+jump_far_leaves : (w : World) (i : Insn) → HoldWords w.regs → LeavesWords (jump_far w i)
+unfolding jump_far
+jump_far_leaves w i s = λ p. far_leaves w _ _ _ _ (half_is_word (p / offset_range i)) s
+
+call_far_leaves : (w : World) (i : Insn) → HoldWords w.regs → LeavesWords (call_far w i)
+unfolding call_far
+call_far_leaves w i s = λ p. far_leaves w _ _ _ _ (half_is_word (p / offset_range i)) (words_pushed _ _ _ _ (words_pushed _ _ _ _ s))
+
+retf_leaves : (w : World) (i : Insn) → HoldWords w.regs → LeavesWords (retf w i)
+unfolding retf items_popped
+retf_leaves w i s = λ ip cs. far_leaves w _ _ _ _ (half_is_word cs) s
+
+pub frame_leaves : (w : World) (bits : ℕ) → HoldWords w.regs → LeavesWords (frame_popped w bits)
+unfolding frame_popped flags_popped items_popped
+frame_leaves w bits s = λ ip cs image. far_leaves w _ _ _ _ (half_is_word cs) s
+
+iret_leaves : (w : World) (i : Insn) → HoldWords w.regs → LeavesWords (iret w i)
+unfolding iret
+iret_leaves w i s = frame_leaves w i.width s
+
+-- ---- segment registers
+
+loaded_leaves : (w : World) (seg : SegReg) (sel : ℕ) (p : Pending) → sel < 0x10000 → HoldWords p.regs → LeavesWords (segment_loaded w seg sel p)
+unfolding segment_loaded
+loaded_leaves w seg sel p small s = leaves_unless (register_fault w seg sel) _ (words_selector p.regs seg sel s small)
+
+mov_to_leaves : (w : World) (i : Insn) (seg : SegReg) → HoldWords w.regs → LeavesWords (mov_to_segment w i seg)
+unfolding mov_to_segment
+mov_to_leaves w i seg s = λ v. loaded_leaves w seg _ _ (half_is_word v) s
+
+mov_from_leaves : (w : World) (i : Insn) → HoldWords w.regs → LeavesWords (mov_from_segment w i)
+unfolding mov_from_segment
+mov_from_leaves w i s = λ v. words_put _ _ _ _ _ _ s
+
+-- what is done with a segment register, and with any other operand
+by_operand : (o : Operand) (f : SegReg → Act) (other : Act) → ((seg : SegReg) → LeavesWords (f seg)) → LeavesWords other →
+    LeavesWords (elim o [ Seg seg ↦ f seg | Empty ↦ other | Reg own number ↦ other | Mem form ↦ other | Imm v ↦ other | Far p ↦ other ])
+by_operand Empty f other one rest = rest
+by_operand (Reg own number) f other one rest = rest
+by_operand (Seg seg) f other one rest = one seg
+by_operand (Mem form) f other one rest = rest
+by_operand (Imm v) f other one rest = rest
+by_operand (Far p) f other one rest = rest
+
+mov_segment_leaves : (w : World) (i : Insn) → HoldWords w.regs → LeavesWords (mov_segment w i)
+unfolding mov_segment
+mov_segment_leaves w i s = by_operand i.first (mov_to_segment w i) (mov_from_segment w i) (λ seg. mov_to_leaves w i seg s) (mov_from_leaves w i s)
+
+push_segment_leaves : (w : World) (i : Insn) → HoldWords w.regs → LeavesWords (push_segment w i)
+unfolding push_segment
+push_segment_leaves w i s = λ v. words_pushed _ _ _ _ s
+
+pop_into_leaves : (w : World) (i : Insn) (seg : SegReg) → HoldWords w.regs → LeavesWords (pop_into w i seg)
+unfolding pop_into items_popped
+pop_into_leaves w i seg s = λ v. loaded_leaves w seg _ _ (half_is_word v) s
+
+pop_segment_leaves : (w : World) (i : Insn) → HoldWords w.regs → LeavesWords (pop_segment w i)
+unfolding pop_segment
+pop_segment_leaves w i s = by_operand i.first (pop_into w i) _ (λ seg. pop_into_leaves w i seg s) s
+
+pointer_leaves : (seg : SegReg) (w : World) (i : Insn) → HoldWords w.regs → LeavesWords (load_pointer seg w i)
+unfolding load_pointer
+pointer_leaves seg w i s = λ p. loaded_leaves w seg _ _ (half_is_word (p / offset_range i)) (words_put _ _ _ _ _ _ s)
+
+-- ---- flags, frames, ports and questions
+
+pushf_leaves : (w : World) (i : Insn) → HoldWords w.regs → LeavesWords (pushf w i)
+unfolding pushf
+pushf_leaves w i s = words_pushed _ _ _ _ s
+
+popf_leaves : (w : World) (i : Insn) → HoldWords w.regs → LeavesWords (popf w i)
+unfolding popf flags_popped items_popped
+popf_leaves w i s = λ image. s
+
+frames_leave : (w : World) (i : Insn) (level n : ℕ) (p : Pending) (rest : Pending → Act) → ((q : Pending) → HoldWords q.regs → LeavesWords (rest q)) →
+    HoldWords p.regs → LeavesWords (frames_pushed w i level n p rest)
+unfolding frames_pushed
+frames_leave w i level zero p rest leaves s = leaves p s
+frames_leave w i level (suc n) p rest leaves s = λ v. frames_leave w i (level + 1) n _ rest leaves (words_pushed _ _ _ _ s)
+
+frame_words : (w : World) (i : Insn) (frame : ℕ) (p : Pending) → HoldWords p.regs → HoldWords (frame_made w i frame p).regs
+unfolding frame_made
+frame_words w i frame p s = words_register _ _ _ _ s
+
+enter_leaves : (w : World) (i : Insn) → HoldWords w.regs → LeavesWords (enter w i)
+unfolding enter
+enter_leaves w i s =
+    leaves_if (nat_eq (immediate i.second % 32) 0) _ _ (frame_words w i _ _ (words_pushed _ _ _ _ s))
+    (frames_leave w i 1 _ _ _ (λ q t. frame_words w i _ _ (words_pushed _ _ _ _ t)) (words_pushed _ _ _ _ s))
+
+leave_leaves : (w : World) (i : Insn) → HoldWords w.regs → LeavesWords (leave w i)
+unfolding leave items_popped
+leave_leaves w i s = λ bp. words_register _ _ _ _ s
+
+bound_leaves : (w : World) (i : Insn) → HoldWords w.regs → LeavesWords (bound w i)
+unfolding bound
+bound_leaves w i s = λ index pair. leaves_if (is_less i.width index pair || is_less i.width (pair / 2 ^ i.width) index) _ _ tt s
+
+into_leaves : (w : World) (len : ℕ) → HoldWords w.regs → LeavesWords (into w len)
+unfolding into
+into_leaves w len s = leaves_if w.regs.flags.of _ _ tt s
+
+in_leaves : (w : World) (i : Insn) → HoldWords w.regs → LeavesWords (input w i)
+unfolding input
+in_leaves w i s = words_put _ _ _ _ _ _ s
+
+in_protected_leaves : (w : World) (act : Act) → LeavesWords act → LeavesWords (in_protected w act)
+unfolding in_protected invalid_opcode
+in_protected_leaves w act s = leaves_by_mode w.mode invalid_opcode act tt s
+
+verify_leaves : (test : Row → Bool) (w : World) (i : Insn) → HoldWords w.regs → LeavesWords (verify test w i)
+unfolding verify
+verify_leaves test w i s = in_protected_leaves w _ (λ sel. s)
+
+told_leaves : (number : Desc → ℕ) (w : World) (i : Insn) (row : Row) → HoldWords w.regs → LeavesWords (told number w i row)
+told_leaves number w i None s = s
+told_leaves number w i (Some row) s = words_put _ _ _ _ _ _ s
+
+tell_leaves : (number : Desc → ℕ) (w : World) (i : Insn) → HoldWords w.regs → LeavesWords (tell number w i)
+unfolding tell
+tell_leaves number w i s = in_protected_leaves w _ (λ sel. told_leaves number w i _ s)
+
+arpl_leaves : (w : World) (i : Insn) → HoldWords w.regs → LeavesWords (arpl w i)
+unfolding arpl
+arpl_leaves w i s = in_protected_leaves w _ (λ a b. leaves_if (nat_lt (privilege_of a) (privilege_of b)) _ _ (words_put _ _ _ _ _ _ s) s)
+
+load_table_leaves : (w : World) → LeavesWords (load_table w)
+unfolding load_table privileged
+load_table_leaves w = in_protected_leaves w _ tt
+
+-- ---- all of them. Those that raise an exception alone, or leave the registers, are plain
+
+pub flow_leaves : (op : Op) (w : World) (i : Insn) (len : ℕ) → HoldWords w.regs → LeavesWords (flow_row op w i len)
+unfolding flow_row int int3 cli sti output invalid_opcode privileged escape
+flow_leaves ops.Mov w i len s = mov_segment_leaves w i s
+flow_leaves ops.Push w i len s = push_segment_leaves w i s
+flow_leaves ops.Pop w i len s = pop_segment_leaves w i s
+flow_leaves ops.Pushf w i len s = pushf_leaves w i s
+flow_leaves ops.Popf w i len s = popf_leaves w i s
+flow_leaves (ops.Jcc n) w i len s = jcc_leaves w i n s
+flow_leaves ops.Jcxz w i len s = jcxz_leaves w i s
+flow_leaves ops.Loop w i len s = loop_leaves _ w i s
+flow_leaves ops.Loope w i len s = loop_leaves _ w i s
+flow_leaves ops.Loopne w i len s = loop_leaves _ w i s
+flow_leaves ops.Jmp w i len s = jmp_leaves w i s
+flow_leaves ops.JmpFar w i len s = jump_far_leaves w i s
+flow_leaves ops.Call w i len s = call_leaves w i s
+flow_leaves ops.CallFar w i len s = call_far_leaves w i s
+flow_leaves ops.Ret w i len s = ret_leaves w i s
+flow_leaves ops.Retf w i len s = retf_leaves w i s
+flow_leaves ops.Int w i len s = tt
+flow_leaves ops.Int3 w i len s = tt
+flow_leaves ops.Into w i len s = into_leaves w len s
+flow_leaves ops.Iret w i len s = iret_leaves w i s
+flow_leaves ops.Bound w i len s = bound_leaves w i s
+flow_leaves ops.Enter w i len s = enter_leaves w i s
+flow_leaves ops.Leave w i len s = leave_leaves w i s
+flow_leaves ops.Cli w i len s = s
+flow_leaves ops.Sti w i len s = s
+flow_leaves ops.Hlt w i len s = tt
+flow_leaves ops.In w i len s = in_leaves w i s
+flow_leaves ops.Out w i len s = s
+flow_leaves ops.Ins w i len s = tt
+flow_leaves ops.Outs w i len s = tt
+flow_leaves ops.Les w i len s = pointer_leaves _ w i s
+flow_leaves ops.Lds w i len s = pointer_leaves _ w i s
+flow_leaves ops.Lss w i len s = pointer_leaves _ w i s
+flow_leaves ops.Lfs w i len s = pointer_leaves _ w i s
+flow_leaves ops.Lgs w i len s = pointer_leaves _ w i s
+flow_leaves ops.Lar w i len s = tell_leaves _ w i s
+flow_leaves ops.Lsl w i len s = tell_leaves _ w i s
+flow_leaves ops.Verr w i len s = verify_leaves _ w i s
+flow_leaves ops.Verw w i len s = verify_leaves _ w i s
+flow_leaves ops.Arpl w i len s = arpl_leaves w i s
+flow_leaves ops.Sldt w i len s = tt
+flow_leaves ops.Str w i len s = tt
+flow_leaves ops.Lldt w i len s = load_table_leaves w
+flow_leaves ops.Ltr w i len s = load_table_leaves w
+flow_leaves ops.Sgdt w i len s = tt
+flow_leaves ops.Sidt w i len s = tt
+flow_leaves ops.Lgdt w i len s = tt
+flow_leaves ops.Lidt w i len s = tt
+flow_leaves ops.Smsw w i len s = tt
+flow_leaves ops.Lmsw w i len s = tt
+flow_leaves ops.Clts w i len s = tt
+flow_leaves ops.MovControl w i len s = tt
+flow_leaves ops.MovDebug w i len s = tt
+flow_leaves ops.MovTest w i len s = tt
+flow_leaves ops.Esc w i len s = tt
+flow_leaves _ w i len s = s

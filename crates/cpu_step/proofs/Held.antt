@@ -1,0 +1,157 @@
+-- Every place that an instruction touches is the client's.
+use Rattle.std.proofs.Common.{◌≡◌, ℕ, zero, suc, ◌+◌, ◌*◌, Bool, true, false, List, [], ◌∷◌, refl, if◌then◌else◌, Option, None, Some, Result, Ok, Err}
+use Rattle.std.specs.Prelude.{All}
+use Rattle.std.proofs.lemmas.List.Elements.{All-nil, All-cons, All-append, All-weaker}
+use Rattle.client_world.specs.declared.faults.Event.{Event}
+use Rattle.client_world.specs.declared.faults.Event.TheVariants.{Fault as fault, Soft}
+use Rattle.client_world.specs.declared.faults.Fault.{Fault}
+use Rattle.client_world.specs.declared.place.Place.{Place}
+use Rattle.client_world.specs.declared.place.Place.TheVariants.{Dos, Block, Host, Nothing}
+use Rattle.client_world.specs.declared.registers.Mode.{Mode}
+use Rattle.client_world.specs.declared.registers.Mode.TheVariants.{Real, Protected}
+use Rattle.client_world.specs.declared.segments.SegReg.{SegReg}
+use Rattle.client_world.specs.declared.segments.SegReg.TheVariants.{Cs}
+use Rattle.client_world.specs.Access.{access, segment_base, places_at, places_from, place_in, linear, first_forbidden, unless_forbidden, may_touch, IsHeld}
+use Rattle.client_world.specs.World.{World}
+use Rattle.client_world.proofs.PlaceLaws.{held-place}
+use Rattle.exec_flow.specs.Interrupts.{interrupt_pushed}
+use Rattle.guest_space.specs.Code.{code_room}
+use Rattle.guest_space.specs.declared.pending.Write.{Write}
+use Rattle.guest_space.specs.Pending.{byte_count, first_refusal}
+use Rattle.insn_decode.specs.declared.decoding.Decoded.{Decoded}
+use Rattle.insn_decode.specs.declared.decoding.Decoded.TheVariants.{Whole, More, Invalid}
+use Rattle.insn_decode.specs.Decode.{decoded}
+use Rattle.insn_plan.specs.Act.{Act, End, Read, Input, Given, From, value_of}
+use Rattle.insn_plan.specs.Plan.{Plan, planned}
+use Rattle.cpu_step.specs.Step.{has_big_code, code, client_row}
+use Rattle.cpu_step.specs.Touched.{and_then, fetched, input_read, all_read, all_pushed, vector_places, vector_read, all_written, executed_touches, moved, decoded_touches, touched}
+
+abbrev AreHeld : World → List Place → Type 0
+AreHeld w places = All (IsHeld w) places
+
+-- ---- an access that is granted
+
+granted : (c : Bool) (rest : Option Place) (p : Place) → (if c then rest else Some p) ≡ None → (c ≡ true) × (rest ≡ None)
+granted true rest p e = (refl, e)
+granted false rest p e = absurd cc
+
+run_held : (w : World) (at n : ℕ) (write : Bool) → first_forbidden (places_from w.blocks at n) write ≡ None →
+    AreHeld w (places_from w.blocks at n)
+unfolding places_from
+run_held w at zero write e = All-nil (IsHeld w)
+run_held w at (suc n) write e =
+    let p = place_in w.blocks (linear at) in
+    let rest = places_from w.blocks (at + 1) n in
+    let both = granted (may_touch p write) (first_forbidden rest write) p e in
+    All-cons (IsHeld w) p rest (held-place w (linear at) write both.0) (run_held w (at + 1) n write both.1)
+
+-- the places of an answer are the client's
+abbrev GivesHeld : World → Result (List Place) Fault → Type 0
+GivesHeld w (Ok places) = AreHeld w places
+GivesHeld w (Err f) = Unit {0}
+
+unless_held : (w : World) (o : Option Place) (places : List Place) (write : Bool) → (o ≡ None → AreHeld w places) →
+    GivesHeld w (unless_forbidden o places write)
+unless_held w None places write h = h refl
+unless_held w (Some p) places write h = tt
+
+based_held : (w : World) (r : Result ℕ Fault) (offset n : ℕ) (write : Bool) → GivesHeld w (places_at w.blocks r offset n write)
+based_held w (Ok base) offset n write =
+    let places = places_from w.blocks (base + offset) n in
+    unless_held w (first_forbidden places write) places write (run_held w (base + offset) n write)
+based_held w (Err f) offset n write = tt
+
+access_held : (w : World) (seg : SegReg) (offset n : ℕ) (write : Bool) → GivesHeld w (access w seg offset n write)
+unfolding access
+access_held w seg offset n write = based_held w (segment_base w.mode w.regs w.descriptors seg offset n write) offset n write
+
+then_held : (w : World) (r : Result (List Place) Fault) (more : List Place) → GivesHeld w r → AreHeld w more → AreHeld w (and_then r more)
+then_held w (Ok places) more h rest = All-append (IsHeld w) places more h rest
+then_held w (Err f) more h rest = All-nil (IsHeld w)
+
+-- ---- fetches, reads and writes
+
+fetched_held : (w : World) (at n : ℕ) → AreHeld w (fetched w at n)
+unfolding fetched
+fetched_held w at zero = All-nil (IsHeld w)
+fetched_held w at (suc n) =
+    then_held w (access w Cs (w.regs.eip + at) 1 false) (fetched w (at + 1) n) (access_held w Cs (w.regs.eip + at) 1 false) (fetched_held w (at + 1) n)
+
+input_held : (w : World) (input : Input) (more : List Place) → AreHeld w more → AreHeld w (input_read w input more)
+input_held w (Given v) more rest = rest
+input_held w (From seg off n) more rest = then_held w (access w seg off n false) more (access_held w seg off n false) rest
+
+value_held : (w : World) (r : Result ℕ Event) (more : ℕ → List Place) → ((v : ℕ) → AreHeld w (more v)) →
+    AreHeld w (elim r [ Ok v ↦ more v | Err e ↦ [] ])
+value_held w (Ok v) more rest = rest v
+value_held w (Err e) more rest = All-nil (IsHeld w)
+
+all_read_held : (w : World) (act : Act) → AreHeld w (all_read w act)
+unfolding all_read
+all_read_held w (End outcome) = All-nil (IsHeld w)
+all_read_held w (Read input rest) =
+    input_held w input (elim (value_of w input) [ Ok v ↦ all_read w (rest v) | Err e ↦ [] ])
+    (value_held w (value_of w input) (λ v. all_read w (rest v)) (λ v. all_read_held w (rest v)))
+
+all_pushed_held : (w : World) (writes : List Write) → AreHeld w (all_pushed w writes)
+unfolding all_pushed
+all_pushed_held w [] = All-nil (IsHeld w)
+all_pushed_held w (x ∷ writes) =
+    then_held w (access w x.seg x.off (byte_count x.width) true) (all_pushed w writes) (access_held w x.seg x.off (byte_count x.width) true) (all_pushed_held w writes)
+
+-- ---- a software interrupt
+
+dos_held : (w : World) (at : ℕ) (more : List Place) → AreHeld w more → AreHeld w (Dos at ∷ more)
+dos_held w at more rest = All-cons (IsHeld w) (Dos at) more tt rest
+
+vector_held : (w : World) (n : ℕ) → AreHeld w (vector_places n)
+vector_held w n =
+    let fourth = dos_held w (4 * n + 3) [] (All-nil (IsHeld w)) in
+    let third = dos_held w (4 * n + 2) (Dos (4 * n + 3) ∷ []) fourth in
+    let second = dos_held w (4 * n + 1) (Dos (4 * n + 2) ∷ Dos (4 * n + 3) ∷ []) third in
+    dos_held w (4 * n) (Dos (4 * n + 1) ∷ Dos (4 * n + 2) ∷ Dos (4 * n + 3) ∷ []) second
+
+where_pushed_held : (w : World) (o : Option Fault) (n : ℕ) → AreHeld w (elim o [ None ↦ vector_places n | Some f ↦ [] ])
+where_pushed_held w None n = vector_held w n
+where_pushed_held w (Some f) n = All-nil (IsHeld w)
+
+by_mode_held : (w : World) (mode : Mode) (places : List Place) → AreHeld w places → AreHeld w (elim mode [ Real ↦ places | Protected ↦ [] ])
+by_mode_held w Real places h = h
+by_mode_held w Protected places h = All-nil (IsHeld w)
+
+vector_read_held : (w : World) (n : ℕ) → AreHeld w (vector_read w n)
+vector_read_held w n =
+    let refused = first_refusal w (interrupt_pushed w).writes in
+    by_mode_held w w.mode (elim refused [ None ↦ vector_places n | Some f ↦ [] ]) (where_pushed_held w refused n)
+
+all_written_held : (w : World) (r : Result Plan Event) → AreHeld w (all_written w r)
+all_written_held w (Ok p) = all_pushed_held w p.writes
+all_written_held w (Err (fault f)) = All-nil (IsHeld w)
+all_written_held w (Err (Soft n len)) =
+    All-append (IsHeld w) (all_pushed w (interrupt_pushed w).writes) (vector_read w n)
+    (all_pushed_held w (interrupt_pushed w).writes) (vector_read_held w n)
+
+-- ---- the whole instruction: EIP has no part in what the client holds
+
+executed_held : (w : World) (act : Act) → AreHeld w (executed_touches w act)
+executed_held w act =
+    All-append (IsHeld w) (all_read w act) (all_written w (planned w [] act)) (all_read_held w act) (all_written_held w (planned w [] act))
+
+back : (w : World) (len : ℕ) (p : Place) → IsHeld (moved len w) p → IsHeld w p
+back w len (Dos at) h = h
+back w len (Block number at) h = h
+back w len Host h = h
+back w len Nothing h = h
+
+decoded_held : (w : World) (d : Decoded) → AreHeld w (decoded_touches w d)
+decoded_held w (Whole insn len) =
+    let act = client_row (moved len w) insn len in
+    All-weaker (IsHeld (moved len w)) (IsHeld w) (back w len) (executed_touches (moved len w) act) (executed_held (moved len w) act)
+decoded_held w More = All-nil (IsHeld w)
+decoded_held w Invalid = All-nil (IsHeld w)
+
+pub touched_held : (w : World) → AreHeld w (touched w)
+unfolding touched
+touched_held w =
+    let d = decoded (has_big_code w) (code w) in
+    All-append (IsHeld w) (fetched w 0 code_room) (decoded_touches w d) (fetched_held w 0 code_room) (decoded_held w d)

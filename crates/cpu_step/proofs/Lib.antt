@@ -1,0 +1,9 @@
+pub mod CodeBytes
+pub mod CoreOrFlow
+pub mod CoreSegments
+pub mod FlowSegments
+pub mod Held
+pub mod Outcomes
+pub mod SegmentWords
+pub mod SoundSteps
+pub mod SoundWritten

@@ -1,0 +1,126 @@
+-- What an instruction leaves in the segment registers are words. Here the shared words of the rows.
+use Rattle.std.proofs.Common.{◌≡◌, ℕ, ◌-◌, ◌<◌, List, ◌++◌, arith, nat_eq, nat_lt, if◌then◌else◌, Bool, true, false, Option, None, Some, Result, Ok, Err}
+use Rattle.client_world.specs.declared.faults.Event.{Event}
+use Rattle.client_world.specs.declared.faults.Fault.{Fault}
+use Rattle.client_world.specs.declared.registers.Mode.{Mode}
+use Rattle.client_world.specs.declared.registers.Mode.TheVariants.{Real, Protected}
+use Rattle.client_world.specs.declared.registers.Regs.{Regs}
+use Rattle.client_world.specs.declared.segments.SegReg.{SegReg}
+use Rattle.client_world.specs.declared.segments.SegReg.TheVariants.{Es, Cs, Ss, Ds, Fs, Gs}
+use Rattle.client_world.specs.Registers.{low_half}
+use Rattle.client_world.specs.Segments.{with_selector}
+use Rattle.client_world.specs.Soundness.{HasSegments}
+use Rattle.client_world.specs.World.{World}
+use Rattle.insn_forms.specs.declared.insn.Operand.{Operand}
+use Rattle.insn_forms.specs.declared.insn.Operand.TheVariants.{Empty, Reg, Seg, Mem, Imm, Far}
+use Rattle.insn_plan.specs.declared.next.Access.{Access}
+use Rattle.insn_plan.specs.Act.{Act, End, Read, Outcome, Done, Raise, Interrupt, Pending, unless_fault, value_of}
+use Rattle.insn_plan.specs.Operands.{put}
+use Rattle.insn_plan.specs.Plan.{Plan, planned, access_of}
+use Rattle.insn_plan.specs.Registers.{with_register32, with_register}
+use Rattle.insn_plan.specs.Stack.{pushed}
+
+-- ---- six words: the other registers have no part in it, so registers that differ in those alone have one proof
+
+pub record AreWords (es cs ss ds fs gs : ℕ) : Type 0 where
+  pub es_fits : es < 0x10000
+  pub cs_fits : cs < 0x10000
+  pub ss_fits : ss < 0x10000
+  pub ds_fits : ds < 0x10000
+  pub fs_fits : fs < 0x10000
+  pub gs_fits : gs < 0x10000
+
+abbrev pub HoldWords : Regs → Type 0
+HoldWords r = AreWords r.es r.cs r.ss r.ds r.fs r.gs
+
+pub words_of : (r : Regs) → HasSegments r → HoldWords r
+words_of r s = record { es_fits = s.es; cs_fits = s.cs; ss_fits = s.ss; ds_fits = s.ds; fs_fits = s.fs; gs_fits = s.gs }
+
+pub segments_of : (r : Regs) → HoldWords r → HasSegments r
+segments_of r s = record { es = s.es_fits; cs = s.cs_fits; ss = s.ss_fits; ds = s.ds_fits; fs = s.fs_fits; gs = s.gs_fits }
+
+-- ---- an instruction, whatever it reads
+
+abbrev pub EndsInWords : Outcome → Type 0
+EndsInWords (Done p) = HoldWords p.regs
+EndsInWords (Raise f) = Unit {0}
+EndsInWords (Interrupt number len) = Unit {0}
+
+abbrev pub LeavesWords : Act → Type 0
+LeavesWords (End outcome) = EndsInWords outcome
+LeavesWords (Read input rest) = (v : ℕ) → LeavesWords (rest v)
+
+-- after a read
+read_words : (r : Result ℕ Event) (next : ℕ → Result Plan Event) (p : Plan) → ((v : ℕ) → next v ≡ Ok p → HasSegments p.regs) →
+    elim r as (λ _. Result Plan Event) [ Ok v ↦ next v | Err e ↦ Err e ] ≡ Ok p → HasSegments p.regs
+read_words (Ok v) next p words e = words v e
+read_words (Err event) next p words e = absurd cc
+
+pub planned_words : (w : World) (reads : List Access) (act : Act) (p : Plan) → LeavesWords act → planned w reads act ≡ Ok p → HasSegments p.regs
+planned_words w reads (End (Done q)) p s e =
+    let same : q.regs ≡ p.regs = cc in
+    rw (← same) (segments_of q.regs s)
+planned_words w reads (End (Raise f)) p s e = absurd cc
+planned_words w reads (End (Interrupt number len)) p s e = absurd cc
+planned_words w reads (Read input rest) p s e =
+    read_words (value_of w input) (λ v. planned w (reads ++ access_of input) (rest v)) p
+    (λ v plan. planned_words w (reads ++ access_of input) (rest v) p (s v) plan) e
+
+-- ---- choices
+
+pub words_if : (c : Bool) (r q : Regs) → HoldWords r → HoldWords q → HoldWords (if c then r else q)
+words_if true r q one other = one
+words_if false r q one other = other
+
+pub leaves_if : (c : Bool) (a b : Act) → LeavesWords a → LeavesWords b → LeavesWords (if c then a else b)
+leaves_if true a b one other = one
+leaves_if false a b one other = other
+
+pub leaves_by_mode : (m : Mode) (a b : Act) → LeavesWords a → LeavesWords b → LeavesWords (elim m [ Real ↦ a | Protected ↦ b ])
+leaves_by_mode Real a b one other = one
+leaves_by_mode Protected a b one other = other
+
+pub leaves_unless : (o : Option Fault) (act : Act) → LeavesWords act → LeavesWords (unless_fault o act)
+leaves_unless None act s = s
+leaves_unless (Some f) act s = tt
+
+-- ---- general registers
+
+pub words_register32 : (r : Regs) (n v : ℕ) → HoldWords r → HoldWords (with_register32 r n v)
+unfolding with_register32
+words_register32 r n v s =
+    words_if (nat_eq n 0) _ _ s (words_if (nat_eq n 1) _ _ s (words_if (nat_eq n 2) _ _ s (words_if (nat_eq n 3) _ _ s
+    (words_if (nat_eq n 4) _ _ s (words_if (nat_eq n 5) _ _ s (words_if (nat_eq n 6) _ _ s s))))))
+
+pub words_register : (r : Regs) (width n v : ℕ) → HoldWords r → HoldWords (with_register r width n v)
+unfolding with_register
+words_register r width n v s =
+    words_if (nat_eq width 8) _ _
+    (words_if (nat_lt n 4) _ _ (words_register32 r n _ s) (words_register32 r (n - 4) _ s))
+    (words_if (nat_eq width 16) _ _ (words_register32 r n _ s) (words_register32 r n _ s))
+
+pub words_put : (r : Regs) (addr32 : Bool) (width : ℕ) (o : Operand) (v : ℕ) (p : Pending) → HoldWords p.regs → HoldWords (put r addr32 width o v p).regs
+unfolding put
+words_put r addr32 width Empty v p s = s
+words_put r addr32 width (Reg own number) v p s = words_register p.regs own number v s
+words_put r addr32 width (Seg seg) v p s = s
+words_put r addr32 width (Mem f) v p s = s
+words_put r addr32 width (Imm x) v p s = s
+words_put r addr32 width (Far pointer) v p s = s
+
+pub words_pushed : (w : World) (width v : ℕ) (p : Pending) → HoldWords p.regs → HoldWords (pushed w width v p).regs
+unfolding pushed
+words_pushed w width v p s = s
+
+-- ---- a segment register, with a word
+
+pub words_selector : (r : Regs) (seg : SegReg) (sel : ℕ) → HoldWords r → sel < 0x10000 → HoldWords (with_selector r seg sel)
+words_selector r Es sel s small = record { es_fits = small; cs_fits = s.cs_fits; ss_fits = s.ss_fits; ds_fits = s.ds_fits; fs_fits = s.fs_fits; gs_fits = s.gs_fits }
+words_selector r Cs sel s small = record { es_fits = s.es_fits; cs_fits = small; ss_fits = s.ss_fits; ds_fits = s.ds_fits; fs_fits = s.fs_fits; gs_fits = s.gs_fits }
+words_selector r Ss sel s small = record { es_fits = s.es_fits; cs_fits = s.cs_fits; ss_fits = small; ds_fits = s.ds_fits; fs_fits = s.fs_fits; gs_fits = s.gs_fits }
+words_selector r Ds sel s small = record { es_fits = s.es_fits; cs_fits = s.cs_fits; ss_fits = s.ss_fits; ds_fits = small; fs_fits = s.fs_fits; gs_fits = s.gs_fits }
+words_selector r Fs sel s small = record { es_fits = s.es_fits; cs_fits = s.cs_fits; ss_fits = s.ss_fits; ds_fits = s.ds_fits; fs_fits = small; gs_fits = s.gs_fits }
+words_selector r Gs sel s small = record { es_fits = s.es_fits; cs_fits = s.cs_fits; ss_fits = s.ss_fits; ds_fits = s.ds_fits; fs_fits = s.fs_fits; gs_fits = small }
+
+pub half_is_word : (v : ℕ) → low_half v < 0x10000
+half_is_word v = omega arith

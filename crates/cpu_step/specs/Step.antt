@@ -1,0 +1,83 @@
+-- One instruction of the client: twice, as what the grammar says of the code bytes, and as what reading them from left to right gives.
+-- Source: 80386 Programmer's Reference Manual, ch. 9 and 17; which of several exceptions is raised, and that an instruction of more than 15
+-- bytes is a general protection fault with code 0 before its next byte is fetched, is own.
+use Rattle.std.specs.Prelude.{◌≡◌, ◌<◌, ℕ, ◌+◌, ◌%◌, ◌^◌, Bool, false, List, [], ◌++◌, length, Ok, Err, nat_eq, if◌then◌else◌}
+use Rattle.std.specs.declared.result.Result.{Result}
+use Rattle.client_world.specs.declared.faults.Event.{Event}
+use Rattle.client_world.specs.declared.faults.Event.TheVariants.{Fault as fault}
+use Rattle.client_world.specs.declared.faults.Fault.{Fault}
+use Rattle.client_world.specs.declared.faults.TheConstants.{GENERAL_PROTECTION, INVALID_OPCODE}
+use Rattle.client_world.specs.declared.registers.Mode.TheVariants.{Real, Protected}
+use Rattle.client_world.specs.Access.{fault_with}
+use Rattle.client_world.specs.Selector.{row_of_selector}
+use Rattle.client_world.specs.World.{World}
+use Rattle.exec_core.specs.Dispatch.{is_core, core_row}
+use Rattle.exec_flow.specs.Dispatch.{flow_row}
+use Rattle.guest_space.specs.Code.{code_byte, code_from, code_room}
+use Rattle.host_memory.specs.View.{MachineView}
+use Rattle.insn_decode.specs.declared.decoding.Decoded.{Decoded}
+use Rattle.insn_decode.specs.declared.decoding.Decoded.TheVariants.{Whole, More, Invalid}
+use Rattle.insn_decode.specs.Decode.{decoded}
+use Rattle.insn_forms.specs.declared.insn.Insn.{Insn}
+use Rattle.insn_forms.specs.Grammar.{Spelling, HasSpelling, BeginsSpelling}
+use Rattle.insn_plan.specs.Act.{Act}
+use Rattle.insn_plan.specs.Plan.{planned, carried_out}
+use Rattle.insn_plan.specs.Stack.{has_size_bit}
+
+-- operands and addresses have 32 bits where nothing else is said: the code segment has D = 1
+unfoldable pub has_big_code : World → Bool
+has_big_code w = elim w.mode [ Real ↦ false | Protected ↦ has_size_bit (row_of_selector w.descriptors w.regs.cs) ]
+
+-- the code bytes from CS:EIP on: 15 of them, or those before the first that can't be fetched
+abbrev pub code : World → List ℕ
+code w = code_from w 0 code_room
+
+-- the machine with EIP behind an instruction of so many bytes
+abbrev pub behind : ℕ → MachineView → MachineView
+behind len v = record v { world = record v.world { regs = record v.world.regs { eip = (v.world.regs.eip + len) % 2 ^ 32 } } }
+
+-- what an instruction of so many bytes does
+unfoldable pub client_row : World → Insn → ℕ → Act
+client_row w insn len =
+    if is_core insn.op insn.first insn.second then core_row insn.op w insn len else flow_row insn.op w insn len
+
+-- the machine after it, or its event
+unfoldable pub executed : MachineView → Insn → ℕ → Result MachineView Event
+executed v insn len = carried_out (behind len v) (planned (behind len v).world [] (client_row (behind len v).world insn len))
+
+-- ---- what the grammar says
+
+-- this is what the client's next instruction comes to
+pub record IsStep (v : MachineView) (outcome : Result MachineView Event) : Type 0 where
+  -- the first of the code bytes spell an instruction: what it does
+  pub whole : (insn : Insn) (front rest : List ℕ) → code v.world ≡ front ++ rest → Spelling (has_big_code v.world) insn front →
+      outcome ≡ executed v insn (length front)
+  -- they spell none, and are the first bytes of none
+  pub invalid : ¬ HasSpelling (has_big_code v.world) (code v.world) → ¬ BeginsSpelling (has_big_code v.world) (code v.world) →
+      outcome ≡ Err (fault (fault_with INVALID_OPCODE 0))
+  -- they spell none, and are the first bytes of one which is too long
+  pub too_long : ¬ HasSpelling (has_big_code v.world) (code v.world) → BeginsSpelling (has_big_code v.world) (code v.world) →
+      length (code v.world) ≡ code_room → outcome ≡ Err (fault (fault_with GENERAL_PROTECTION 0))
+  -- they spell none, and are the first bytes of one whose next byte can't be fetched
+  pub cut_off : ¬ HasSpelling (has_big_code v.world) (code v.world) → BeginsSpelling (has_big_code v.world) (code v.world) →
+      length (code v.world) < code_room → (f : Fault) → code_byte v.world (length (code v.world)) ≡ Err f → outcome ≡ Err (fault f)
+
+-- ---- what reading gives
+
+-- the fault where the code bytes are only the first ones of an instruction; a next byte that can be fetched is one too many
+abbrev pub next_fault : Result ℕ Fault → Fault
+next_fault (Ok byte) = fault_with GENERAL_PROTECTION 0
+next_fault (Err f) = f
+
+abbrev pub unfinished : World → List ℕ → Fault
+unfinished w bytes =
+    if nat_eq (length bytes) code_room then fault_with GENERAL_PROTECTION 0 else next_fault (code_byte w (length bytes))
+
+abbrev pub step_of : MachineView → Decoded → Result MachineView Event
+step_of v (Whole insn len) = executed v insn len
+step_of v Invalid = Err (fault (fault_with INVALID_OPCODE 0))
+step_of v More = Err (fault (unfinished v.world (code v.world)))
+
+-- the machine after the client's next instruction, or its event
+unfoldable pub client_step : MachineView → Result MachineView Event
+client_step v = step_of v (decoded (has_big_code v.world) (code v.world))

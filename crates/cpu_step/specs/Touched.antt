@@ -1,0 +1,81 @@
+-- The places that the client's next instruction touches, in the order of the accesses: the bytes that are fetched, what it reads, what it
+-- writes; and what its software interrupt pushes, and the vector that this reads. An access that faults names no place, and nothing is accessed
+-- behind it. Source: own.
+use Rattle.std.specs.Prelude.{ℕ, zero, suc, ◌+◌, ◌*◌, ◌%◌, ◌^◌, true, false, List, [], ◌∷◌, ◌++◌, Ok, Err, None, Some}
+use Rattle.std.specs.declared.result.Result.{Result}
+use Rattle.client_world.specs.declared.faults.Event.{Event}
+use Rattle.client_world.specs.declared.faults.Event.TheVariants.{Fault as fault, Soft}
+use Rattle.client_world.specs.declared.faults.Fault.{Fault}
+use Rattle.client_world.specs.declared.place.Place.{Place}
+use Rattle.client_world.specs.declared.place.Place.TheVariants.{Dos}
+use Rattle.client_world.specs.declared.registers.Mode.TheVariants.{Real, Protected}
+use Rattle.client_world.specs.declared.segments.SegReg.TheVariants.{Cs}
+use Rattle.client_world.specs.Access.{access}
+use Rattle.client_world.specs.World.{World}
+use Rattle.exec_flow.specs.Interrupts.{interrupt_pushed}
+use Rattle.guest_space.specs.Code.{code_room}
+use Rattle.guest_space.specs.declared.pending.Write.{Write}
+use Rattle.guest_space.specs.Pending.{byte_count, first_refusal}
+use Rattle.insn_decode.specs.declared.decoding.Decoded.{Decoded}
+use Rattle.insn_decode.specs.declared.decoding.Decoded.TheVariants.{Whole, More, Invalid}
+use Rattle.insn_decode.specs.Decode.{decoded}
+use Rattle.insn_plan.specs.Act.{Act, End, Read, Input, Given, From, value_of}
+use Rattle.insn_plan.specs.Plan.{Plan, planned}
+use Rattle.cpu_step.specs.Step.{has_big_code, code, client_row}
+
+-- the places of an access, and of what comes behind it where it doesn't fault
+abbrev pub and_then : Result (List Place) Fault → List Place → List Place
+and_then (Ok places) more = places ++ more
+and_then (Err f) more = []
+
+-- the code bytes from a place on, n at most
+unfoldable pub fetched : World → ℕ → ℕ → List Place
+fetched w at zero = []
+fetched w at (suc n) = and_then (access w Cs (w.regs.eip + at) 1 false) (fetched w (at + 1) n)
+
+-- the reads of an instruction
+abbrev pub input_read : World → Input → List Place → List Place
+input_read w (Given v) more = more
+input_read w (From seg off n) more = and_then (access w seg off n false) more
+
+unfoldable pub all_read : World → Act → List Place
+all_read w (End outcome) = []
+all_read w (Read input rest) = input_read w input (elim (value_of w input) [ Ok v ↦ all_read w (rest v) | Err e ↦ [] ])
+
+-- writes
+unfoldable pub all_pushed : World → List Write → List Place
+all_pushed w [] = []
+all_pushed w (x ∷ xs) = and_then (access w x.seg x.off (byte_count x.width) true) (all_pushed w xs)
+
+-- the real-mode vector of an interrupt
+abbrev pub vector_places : ℕ → List Place
+vector_places n = Dos (4 * n) ∷ Dos (4 * n + 1) ∷ Dos (4 * n + 2) ∷ Dos (4 * n + 3) ∷ []
+
+-- it is read in real mode, where all was pushed
+abbrev pub vector_read : World → ℕ → List Place
+vector_read w n = elim w.mode [
+  | Real ↦ elim (first_refusal w (interrupt_pushed w).writes) [ None ↦ vector_places n | Some f ↦ [] ]
+  | Protected ↦ []
+]
+
+-- what follows the reads
+abbrev pub all_written : World → Result Plan Event → List Place
+all_written w (Ok p) = all_pushed w p.writes
+all_written w (Err (fault f)) = []
+all_written w (Err (Soft number len)) = all_pushed w (interrupt_pushed w).writes ++ vector_read w number
+
+-- an instruction, with EIP behind it
+abbrev pub executed_touches : World → Act → List Place
+executed_touches w act = all_read w act ++ all_written w (planned w [] act)
+
+abbrev pub moved : ℕ → World → World
+moved len w = record w { regs = record w.regs { eip = (w.regs.eip + len) % 2 ^ 32 } }
+
+abbrev pub decoded_touches : World → Decoded → List Place
+decoded_touches w (Whole insn len) = executed_touches (moved len w) (client_row (moved len w) insn len)
+decoded_touches w More = []
+decoded_touches w Invalid = []
+
+-- all of them
+unfoldable pub touched : World → List Place
+touched w = fetched w 0 code_room ++ decoded_touches w (decoded (has_big_code w) (code w))

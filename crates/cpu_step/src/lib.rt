@@ -1,0 +1,12 @@
+//! The client's next instruction: fetched, decoded and carried out.
+//! It promises that a step is what the grammar says of the code bytes, that an event changes nothing, and that what a step touches is the
+//! client's. It stands on the decoder and on the two executing crates.
+#![tactic(auto)]
+
+mod laws;
+mod steps;
+#[cfg(test)]
+mod tests;
+
+pub use laws::{a_step_has_one_outcome, every_step_is_sound, every_touched_place_is_held};
+pub use steps::{has_big_code, step};

@@ -1,0 +1,113 @@
+// The client's next instruction.
+ghost use Rattle.std.specs.Prelude.{◌≡◌, []};
+ghost use Rattle.insn_forms.specs.Kinds.{IsWellFormed};
+ghost use Rattle.insn_plan.specs.Plan.{Follows, carried_out, planned};
+ghost use Rattle.cpu_step.specs.Step.{behind, client_row, client_step, executed, has_big_code, unfinished};
+
+use arrayvec::ArrayVec;
+use client_world::faults::{GENERAL_PROTECTION, INVALID_OPCODE};
+use client_world::{Event, Fault, Mode, Regs};
+use exec_core::{is_core, run_core};
+use exec_flow::run_flow;
+use guest_space::Machine;
+use insn_decode::{Decoded, decode};
+use insn_forms::{Insn, every_instruction_is_well_formed};
+
+/// Whether operands and addresses have 32 bits where no prefix says otherwise: the code segment has D = 1.
+/// Source: 80386 Programmer's Reference Manual, ch. 16, "How the 80386 Implements 16-Bit and 32-Bit Features".
+#[tactic(auto, unfolding(crate::specs::Step::has_big_code))]
+pub fn has_big_code(m: &Machine) -> bool
+    ensures { result ≡ has_big_code m.now.world }
+{
+    match m.mode() {
+        Mode::Real => false,
+        Mode::Protected => match m.desc_of(m.regs().cs) {
+            None => false,
+            Some((d, _)) => d.size,
+        },
+    }
+}
+
+// Moves EIP behind an instruction of so many bytes.
+fn move_behind(m: &mut Machine, len: u8)
+    ensures { m.new ≡ behind len m.old }
+{
+    let mut r = m.regs();
+    r.eip = r.eip.wrapping_add(u32::from(len));
+    m.set_regs(r);
+}
+
+// Sets the registers, and changes nothing else.
+fn put_back(m: &mut Machine, r: Regs)
+    ensures { m.new ≡ record m.old { world = record m.old.world { regs = r } } }
+{
+    m.set_regs(r);
+}
+
+// Runs an instruction whose EIP is already behind it, by the crate that has it.
+#[tactic(auto, unfolding(crate::specs::Step::client_row), using(crate::proofs::CoreOrFlow::flow_where_not_core))]
+fn run(m: &mut Machine, insn: &Insn, len: u8) -> Result<(), Event>
+    requires { IsWellFormed insn.now }
+    ensures { Follows m.old m.new result
+        (carried_out m.old (planned m.old.world [] (client_row m.old.world insn.now len))) }
+{
+    if is_core(insn) {
+        run_core(m, insn, len)
+    } else {
+        run_flow(m, insn, len)
+    }
+}
+
+// Executes an instruction of so many bytes; an event leaves the machine as it was, EIP too.
+#[tactic(auto, unfolding(crate::specs::Step::executed))]
+fn execute(m: &mut Machine, insn: &Insn, len: u8) -> Result<(), Event>
+    requires { IsWellFormed insn.now }
+    ensures { Follows m.old m.new result (executed m.old insn.now len) }
+{
+    let before = m.regs();
+    move_behind(m, len);
+    match run(m, insn, len) {
+        Ok(()) => Ok(()),
+        Err(event) => {
+            put_back(m, before);
+            Err(event)
+        }
+    }
+}
+
+// The fault where the code bytes are only the first ones of an instruction.
+fn unfinished(m: &Machine, bytes: &ArrayVec<u8, 15>) -> Fault
+    ensures { result ≡ unfinished m.now.world bytes.now.items }
+{
+    let too_long = Fault {
+        number: GENERAL_PROTECTION,
+        code: 0,
+    };
+    if bytes.is_full() {
+        return too_long;
+    }
+    match m.fetch(bytes.len() as u8) {
+        Ok(_) => too_long,
+        Err(fault) => fault,
+    }
+}
+
+/// Makes the client's next instruction, or gives its event, which leaves the machine as it was.
+/// Source: 80386 Programmer's Reference Manual, ch. 9, "Exception 6" and "Exception 13", and ch. 17.
+#[tactic(auto, unfolding(crate::specs::Step::client_step))]
+pub fn step(m: &mut Machine) -> Result<(), Event>
+    ensures { Follows m.old m.new result (client_step m.old) }
+{
+    let code = m.code();
+    match decode(&code, has_big_code(m)) {
+        Decoded::Whole(insn, len) => {
+            every_instruction_is_well_formed();
+            execute(m, &insn, len)
+        }
+        Decoded::Invalid => Err(Event::Fault(Fault {
+            number: INVALID_OPCODE,
+            code: 0,
+        })),
+        Decoded::More => Err(Event::Fault(unfinished(m, &code))),
+    }
+}
