@@ -1,0 +1,121 @@
+-- What each call puts into the arena leaves one, and neither takes out nor puts in a block of INT 31h function 0100h.
+use Rattle.std.proofs.Common.{◌≡◌, ℕ, ◌+◌, ◌-◌, ◌<◌, ◌≤◌, Bool, true, false, List, [], ◌∷◌, length, take, drop, refl, ap, ◌∙◌, sym, arith}
+use Rattle.std.proofs.lemmas.Bool.{false≢true}
+use Rattle.client_world.specs.declared.dos_memory.DosEntry.{DosEntry}
+use Rattle.client_world.specs.declared.memory_map.TheConstants.{ARENA_END}
+use Rattle.client_world.specs.DosMemory.{is_free, is_dpmi, Fills, IsArena}
+use Rattle.guest_space.specs.Arena.{spliced, NoneMade}
+use Rattle.dos_blocks.specs.Blocks.{nowhere, entry_of, block_state, split, is_of_kind, free_behind, possible, free_before, room_before, joined}
+use Rattle.dos_blocks.proofs.Founds.{HasFit, HasBlock}
+use Rattle.dos_blocks.proofs.NeighbourLaws.{free_plain, used_plain, take_one, behind_within, behind_fills, behind_plain, behind_right, possible_ends, is_before}
+use Rattle.dos_blocks.proofs.Splicing.{joined_next, arena-spliced}
+use Rattle.dos_blocks.proofs.Splits.{fills-split, joined-split, some-split, starts-split, plain-split}
+
+-- what `arena_put` asks of entries in place of others
+pub record CanPut (es : List DosEntry) (place old : ℕ) (new : List DosEntry) : Type 0 where
+  pub within : place + old ≤ length es
+  pub old_plain : NoneMade (take old (drop place es))
+  pub new_plain : NoneMade new
+  pub sound : IsArena (spliced es place old new)
+
+-- a block isn't free
+pub held_state : (for_dpmi : Bool) → is_free (block_state for_dpmi) ≡ false
+held_state true = refl
+held_state false = refl
+
+plain_state : (for_dpmi : Bool) → for_dpmi ≡ false → is_dpmi (block_state for_dpmi) ≡ false
+plain_state true h = cc
+plain_state false h = refl
+
+plain_kind : (for_dpmi : Bool) (entry : DosEntry) → for_dpmi ≡ false → is_of_kind for_dpmi entry.state ≡ true → is_dpmi entry.state ≡ false
+plain_kind true entry h kind = cc
+plain_kind false entry h kind = used_plain entry.state kind
+
+-- a block is given
+
+pub can_give : (es : List DosEntry) (for_dpmi : Bool) (n place : ℕ) → for_dpmi ≡ false → IsArena es → HasFit es n place →
+    CanPut es place 1 (split (block_state for_dpmi) (entry_of es place).at n (entry_of es place).paras)
+can_give es for_dpmi n place dos arena fit =
+    let small = fit.small in
+    let state = block_state for_dpmi in
+    let at = (entry_of es place).at in
+    let paras = (entry_of es place).paras in
+    record {
+      within = omega arith;
+      old_plain = rw (take_one es place small) (free_plain (entry_of es place).state fit.free, tt);
+      new_plain = plain-split state at n paras (plain_state for_dpmi dos);
+      sound = arena-spliced es place 1 (split state at n paras) nowhere arena (omega arith)
+          (λ from to f. (let one : Fills from (entry_of es place ∷ []) to = rw (take_one es place small) at f in
+          fills-split state at n paras from to fit.room one.0 one.1))
+          (joined-split state at n paras (held_state for_dpmi))
+          (record {
+            some = some-split state at n paras;
+            left = λ j next free. starts-split state at n paras (held_state for_dpmi);
+            right = λ inside. joined_next es place nowhere arena.joined inside fit.free;
+          });
+    }
+
+-- a block is resized
+
+pub can_resize : (es : List DosEntry) (for_dpmi : Bool) (n segment place : ℕ) → for_dpmi ≡ false → IsArena es → HasBlock for_dpmi es segment place →
+    n ≤ possible es place → CanPut es place (1 + free_behind es place) (split (block_state for_dpmi) (entry_of es place).at n (possible es place))
+can_resize es for_dpmi n segment place dos arena block room =
+    let small = block.small in
+    let state = block_state for_dpmi in
+    let at = (entry_of es place).at in
+    let paras = possible es place in
+    record {
+      within = behind_within es place small;
+      old_plain = behind_plain es place small (plain_kind for_dpmi (entry_of es place) dos block.kind);
+      new_plain = plain-split state at n paras (plain_state for_dpmi dos);
+      sound = arena-spliced es place (1 + free_behind es place) (split state at n paras) nowhere arena (behind_within es place small)
+          (λ from to f. (let filled = behind_fills es place from to small f in
+          fills-split state at n paras from to room filled.starts filled.ends))
+          (joined-split state at n paras (held_state for_dpmi))
+          (record {
+            some = some-split state at n paras;
+            left = λ j next free. starts-split state at n paras (held_state for_dpmi);
+            right = behind_right es place arena;
+          });
+    }
+
+-- a block is freed
+
+pub can_free : (es : List DosEntry) (for_dpmi : Bool) (segment place : ℕ) → for_dpmi ≡ false → IsArena es → HasBlock for_dpmi es segment place →
+    CanPut es (place - free_before es place) (free_before es place + (1 + free_behind es place)) (joined es place ∷ [])
+can_free es for_dpmi segment place dos arena block =
+    let small = block.small in
+    let front = is_before es place arena small in
+    let behind = behind_within es place small in
+    let in_front = front.within in
+    let end : place - free_before es place + (free_before es place + (1 + free_behind es place)) ≡ place + (1 + free_behind es place) = omega arith in
+    record {
+      within = omega arith;
+      old_plain = front.plain (1 + free_behind es place) (behind_plain es place small (plain_kind for_dpmi (entry_of es place) dos block.kind));
+      new_plain = (refl, tt);
+      sound = arena-spliced es (place - free_before es place) (free_before es place + (1 + free_behind es place)) (joined es place ∷ []) nowhere arena
+          (omega arith)
+          (λ from to f. (let filled = behind_fills es place (from + room_before es place) to small (front.fills (1 + free_behind es place) from to f) in
+          let starts = filled.starts in
+          let ends = filled.ends in
+          (omega arith, omega arith)))
+          ((λ free. refl), tt)
+          (record {
+            some = omega arith;
+            left = λ j next free. absurd (false≢true (sym (front.left j next) ∙ free));
+            right = λ inside. ap (λ (n : ℕ). is_free (entry_of es n).state) end ∙ behind_right es place arena (omega arith);
+          });
+    }
+
+-- the numbers of what is free around a block
+pub record HasRoom (es : List DosEntry) (place : ℕ) : Type 0 where
+  pub before : room_before es place ≤ (entry_of es place).at
+  pub behind : (entry_of es place).at + 1 + possible es place ≤ ARENA_END
+
+pub has_room : (es : List DosEntry) (place : ℕ) → IsArena es → place < length es → HasRoom es place
+has_room es place arena small = record { before = (is_before es place arena small).fits; behind = possible_ends es place arena small }
+
+-- the same of what a call has read
+pub can_put : (es : List DosEntry) (place at old n : ℕ) (new put : List DosEntry) → CanPut es place old new → at ≡ place → n ≡ old → put ≡ new →
+    CanPut es at n put
+can_put es place at old n new put can at_is n_is put_is = rw (at_is, n_is, put_is) can

@@ -1,0 +1,57 @@
+-- A block given, resized or freed leads from a sound world to a sound one.
+use Rattle.std.proofs.Common.{◌≡◌, ℕ, ◌+◌, List, Bool, true, false, nat_le, if◌then◌else◌, refl, sym, Option, Some, None, Ok, Err}
+use Rattle.std.proofs.lemmas.Bool.{leb-true}
+use Rattle.client_world.specs.declared.dos_memory.DosEntry.{DosEntry}
+use Rattle.client_world.specs.declared.dos_memory.DosRefusal.TheVariants.{NoMemory}
+use Rattle.client_world.specs.Soundness.{IsSound}
+use Rattle.client_world.specs.World.{World}
+use Rattle.guest_space.specs.Arena.{with_entries}
+use Rattle.guest_space.proofs.ArenaWrites.{IsSound-entries}
+use Rattle.dos_blocks.specs.Blocks.{Done, first_fit, block_place, entry_of, block_state, split, free_behind, possible, allocated_at, allocated, resized_at, resized, freed_at, freed}
+use Rattle.dos_blocks.proofs.CallLaws.{CanPut, can_give, can_resize, can_free}
+use Rattle.dos_blocks.proofs.Founds.{found_fit, found_block}
+
+sound_put : (w : World) (place old : ℕ) (new : List DosEntry) → IsSound w → CanPut w.arena place old new → IsSound (with_entries w place old new)
+sound_put w place old new s can = IsSound-entries w place old new s can.old_plain can.new_plain can.sound
+
+-- a block is given
+
+sound_given : (w : World) (n : ℕ) (o : Option ℕ) → first_fit w.arena n 0 ≡ o → IsSound w → IsSound (allocated_at w false n o).world
+sound_given w n None e s = s
+sound_given w n (Some place) e s =
+    sound_put w place 1 _ s (can_give w.arena false n place refl s.arena (found_fit w.arena n place (sym e)))
+
+pub sound_allocated : (w : World) (n : ℕ) → IsSound w → IsSound (allocated w false n).world
+unfolding allocated
+sound_allocated w n s = sound_given w n (first_fit w.arena n 0) refl s
+
+-- resized
+
+sound_if : (c : Bool) (one other : Done (Unit {0})) → (c ≡ true → IsSound one.world) → IsSound other.world → IsSound (if c then one else other).world
+sound_if true one other s t = s refl
+sound_if false one other s t = t
+
+sound_where_found : (w : World) (segment n : ℕ) (o : Option ℕ) → block_place false w.arena segment 0 ≡ o → IsSound w → IsSound (resized_at w false n o).world
+sound_where_found w segment n None e s = s
+sound_where_found w segment n (Some place) e s =
+    let es = w.arena in
+    sound_if (nat_le n (possible es place))
+    (record { answer = Ok tt; world = with_entries w place (1 + free_behind es place) (split (block_state false) (entry_of es place).at n (possible es place)) })
+    (record { answer = Err (NoMemory (possible es place)); world = w })
+    (λ room. sound_put w place (1 + free_behind es place) _ s
+    (can_resize es false n segment place refl s.arena (found_block false es segment place (sym e)) (leb-true n (possible es place) room))) s
+
+pub sound_resized : (w : World) (segment n : ℕ) → IsSound w → IsSound (resized w false segment n).world
+unfolding resized
+sound_resized w segment n s = sound_where_found w segment n (block_place false w.arena segment 0) refl s
+
+-- freed
+
+sound_where_freed : (w : World) (segment : ℕ) (o : Option ℕ) → block_place false w.arena segment 0 ≡ o → IsSound w → IsSound (freed_at w o).world
+sound_where_freed w segment None e s = s
+sound_where_freed w segment (Some place) e s =
+    sound_put w _ _ _ s (can_free w.arena false segment place refl s.arena (found_block false w.arena segment place (sym e)))
+
+pub sound_freed : (w : World) (segment : ℕ) → IsSound w → IsSound (freed w false segment).world
+unfolding freed
+sound_freed w segment s = sound_where_freed w segment (block_place false w.arena segment 0) refl s

@@ -1,0 +1,121 @@
+-- Entries in place of others that fill the same paragraphs leave an arena, where none of them is free beside a free one.
+use Rattle.std.proofs.Common.{◌≡◌, ℕ, zero, suc, ◌+◌, ◌<◌, ◌≤◌, inl, inr, Bool, true, false, List, [], ◌∷◌, ◌++◌, length, get_or, take, drop, refl, ap, ◌∙◌, sym, subst, arith, zero-add}
+use Rattle.std.proofs.lemmas.List.{take-append-drop}
+use Rattle.std.proofs.lemmas.Bool.{cases_lt}
+use Rattle.client_world.specs.declared.dos_memory.DosEntry.{DosEntry}
+use Rattle.client_world.specs.declared.memory_map.TheConstants.{ARENA_START, ARENA_END}
+use Rattle.client_world.specs.DosMemory.{is_free, Fills, IsJoined, starts_free, IsArena}
+use Rattle.guest_space.specs.Arena.{spliced}
+use Rattle.dos_blocks.proofs.Searches.{dropped, none_left}
+
+-- lists that fill paragraphs one behind the other fill them together, and the other way round
+
+fills-append : (xs ys : List DosEntry) (from mid to : ℕ) → Fills from xs mid → Fills mid ys to → Fills from (xs ++ ys) to
+fills-append [] ys from mid to f g = subst (λ (at : ℕ). Fills at ys to) (sym f) g
+fills-append (x ∷ xs) ys from mid to f g = (f.0, fills-append xs ys (from + 1 + x.paras) mid to f.1 g)
+
+record FillsBoth (xs ys : List DosEntry) (from to : ℕ) : Type 0 where
+  pub mid : ℕ
+  pub left : Fills from xs mid
+  pub right : Fills mid ys to
+
+fills_both : (xs ys : List DosEntry) (from to : ℕ) → Fills from (xs ++ ys) to → FillsBoth xs ys from to
+fills_both [] ys from to f = record { mid = from; left = refl; right = f }
+fills_both (x ∷ xs) ys from to f =
+    let rest = fills_both xs ys (from + 1 + x.paras) to f.1 in
+    record { mid = rest.mid; left = (f.0, rest.left); right = rest.right }
+
+-- the new entries fill what the old ones filled
+abbrev pub FillsAlike : List DosEntry → List DosEntry → Type 0
+FillsAlike xs ys = (from to : ℕ) → Fills from xs to → Fills from ys to
+
+fills-spliced : (es : List DosEntry) (from to place old : ℕ) (new : List DosEntry) → Fills from es to → place + old ≤ length es →
+    FillsAlike (take old (drop place es)) new → Fills from (spliced es place old new) to
+fills-spliced es from to zero old new f within alike =
+    let both = fills_both (take old es) (drop old es) from to (subst (λ (xs : List DosEntry). Fills from xs to) (sym (take-append-drop old es)) f) in
+    subst (λ (n : ℕ). Fills from (new ++ drop n es) to) (sym (zero-add old))
+    (fills-append new (drop old es) from both.mid to (alike from both.mid both.left) both.right)
+fills-spliced [] from to (suc place) old new f within alike = absurd (omega arith)
+fills-spliced (e ∷ es) from to (suc place) old new f within alike =
+    subst (λ (n : ℕ). Fills from (e ∷ (take place es ++ (new ++ drop n (e ∷ es)))) to) (let same : suc (place + old) ≡ suc place + old = omega arith in same)
+    (f.0, fills-spliced es (from + 1 + e.paras) to place old new f.1 (omega arith) alike)
+
+-- no two free neighbours
+
+starts_front : (new ys : List DosEntry) → 0 < length new → starts_free (new ++ ys) ≡ starts_free new
+starts_front [] ys some = absurd (omega arith)
+starts_front (x ∷ new) ys some = refl
+
+joined-drop : (es : List DosEntry) (place : ℕ) → IsJoined es → IsJoined (drop place es)
+joined-drop es zero j = j
+joined-drop [] (suc place) j = tt
+joined-drop (e ∷ es) (suc place) j = joined-drop es place j.1
+
+-- the last of the entries is free
+abbrev ends_free : List DosEntry → Bool
+ends_free [] = false
+ends_free (e ∷ []) = is_free e.state
+ends_free (e ∷ f ∷ es) = ends_free (f ∷ es)
+
+joined-append : (xs ys : List DosEntry) → IsJoined xs → IsJoined ys → (ends_free xs ≡ true → starts_free ys ≡ false) → IsJoined (xs ++ ys)
+joined-append [] ys x y seam = y
+joined-append (e ∷ []) ys x y seam = (seam, y)
+joined-append (e ∷ f ∷ xs) ys x y seam = (x.0, joined-append (f ∷ xs) ys x.1 y seam)
+
+-- behind a free entry stands none
+pub joined_next : (es : List DosEntry) (place : ℕ) (d : DosEntry) → IsJoined es → place + 1 < length es → is_free (get_or es place d).state ≡ true →
+    is_free (get_or es (place + 1) d).state ≡ false
+joined_next [] place d j small free = absurd (omega arith)
+joined_next (e ∷ []) zero d j small free = absurd (omega arith)
+joined_next (e ∷ x ∷ es) zero d j small free = j.0 free
+joined_next (e ∷ es) (suc place) d j small free =
+    ap (λ (n : ℕ). is_free (get_or (e ∷ es) n d).state) (let same : suc place + 1 ≡ suc (place + 1) = omega arith in same)
+    ∙ joined_next es place d j.1 (omega arith) free
+
+-- the neighbours of the new entries, of which there is one at least
+pub record FitsBetween (es : List DosEntry) (place old : ℕ) (new : List DosEntry) (d : DosEntry) : Type 0 where
+  pub some : 0 < length new
+  pub left : (j : ℕ) → j + 1 ≡ place → is_free (get_or es j d).state ≡ true → starts_free new ≡ false
+  pub right : place + old < length es → is_free (get_or es (place + old) d).state ≡ false
+
+starts_drop : (es : List DosEntry) (place : ℕ) (d : DosEntry) → (place < length es → is_free (get_or es place d).state ≡ false) → starts_free (drop place es) ≡ false
+starts_drop es place d h = elim (cases_lt place (length es)) [
+  | inl small ↦ ap starts_free (dropped es place d small) ∙ h small
+  | inr past ↦ ap starts_free (none_left es place past)
+]
+
+starts-spliced : (es : List DosEntry) (place old : ℕ) (new : List DosEntry) → suc place + old ≤ length es →
+    starts_free (spliced es (suc place) old new) ≡ starts_free es
+starts-spliced [] place old new within = absurd (omega arith)
+starts-spliced (e ∷ es) place old new within = refl
+
+joined-spliced : (es : List DosEntry) (place old : ℕ) (new : List DosEntry) (d : DosEntry) → IsJoined es → place + old ≤ length es → IsJoined new →
+    FitsBetween es place old new d → IsJoined (spliced es place old new)
+joined-spliced es zero old new d j within joined seams =
+    let right : old < length es → is_free (get_or es old d).state ≡ false =
+    λ small. ap (λ (n : ℕ). is_free (get_or es n d).state) (sym (zero-add old)) ∙ seams.right (omega arith) in
+    subst (λ (n : ℕ). IsJoined (new ++ drop n es)) (sym (zero-add old))
+    (joined-append new (drop old es) joined (joined-drop es old j) (λ free. starts_drop es old d right))
+joined-spliced [] (suc place) old new d j within joined seams = absurd (omega arith)
+joined-spliced (e ∷ es) (suc place) old new d j within joined seams =
+    subst (λ (n : ℕ). IsJoined (e ∷ (take place es ++ (new ++ drop n (e ∷ es))))) (let same : suc (place + old) ≡ suc place + old = omega arith in same) (
+      front place (omega arith) seams,
+      joined-spliced es place old new d j.1 (omega arith) joined (record {
+        some = seams.some;
+        left = λ i h free. seams.left (suc i) (omega arith) free;
+        right = λ small. ap (λ (n : ℕ). is_free (get_or (e ∷ es) n d).state) (let same : suc (place + old) ≡ suc place + old = omega arith in same)
+            ∙ seams.right (omega arith);
+      }),
+    )
+  where
+    front : (place : ℕ) → place + old ≤ length es → FitsBetween (e ∷ es) (suc place) old new d → is_free e.state ≡ true →
+        starts_free (take place es ++ (new ++ drop (place + old) es)) ≡ false
+    front zero within seams free = starts_front new (drop (0 + old) es) seams.some ∙ seams.left 0 (omega arith) free
+    front (suc place) within seams free = starts-spliced es place old new within ∙ j.0 free
+
+pub arena-spliced : (es : List DosEntry) (place old : ℕ) (new : List DosEntry) (d : DosEntry) → IsArena es → place + old ≤ length es →
+    FillsAlike (take old (drop place es)) new → IsJoined new → FitsBetween es place old new d → IsArena (spliced es place old new)
+arena-spliced es place old new d arena within alike joined seams = record {
+  fills = fills-spliced es ARENA_START ARENA_END place old new arena.fills within alike;
+  joined = joined-spliced es place old new d arena.joined within joined seams;
+}

@@ -1,0 +1,146 @@
+-- Blocks of DOS memory: which is given, resized or freed, and what becomes of the arena.
+-- Source: MS-DOS functions 48h, 49h and 4Ah; the first fit, that neighbouring free entries are always joined, and that a refusal changes nothing are own.
+use Rattle.std.specs.Prelude.{ℕ, ◌+◌, ◌-◌, Bool, true, false, ◌&&◌, nat_eq, nat_le, max, if◌then◌else◌, List, [], ◌∷◌, Some, None, Ok, Err, slice_index_or}
+use Rattle.std.specs.declared.option.Option.{Option}
+use Rattle.std.specs.declared.result.Result.{Result}
+use Rattle.client_world.specs.declared.dos_memory.DosEntry.{DosEntry}
+use Rattle.client_world.specs.declared.dos_memory.DosRefusal.{DosRefusal}
+use Rattle.client_world.specs.declared.dos_memory.DosRefusal.TheVariants.{NoMemory, WrongBlock}
+use Rattle.client_world.specs.declared.dos_memory.DosState.{DosState}
+use Rattle.client_world.specs.declared.dos_memory.DosState.TheVariants.{Free, Used, Dpmi}
+use Rattle.client_world.specs.DosMemory.{is_free, is_dpmi, block_segment}
+use Rattle.client_world.specs.World.{World}
+use Rattle.guest_space.specs.Arena.{with_entries}
+
+-- what a call answers, and the world after it
+pub record Done (A : Type 0) : Type 0 where
+  pub answer : Result A DosRefusal
+  pub world : World
+
+-- the entry at a place; where there is none it counts as one that isn't free
+abbrev pub nowhere : DosEntry
+nowhere = record { at = 0; paras = 0; state = Used }
+
+abbrev pub entry_of : List DosEntry → ℕ → DosEntry
+entry_of entries place = slice_index_or entries place nowhere
+
+-- the state of a block that a DOS call makes, or INT 31h function 0100h
+abbrev pub block_state : Bool → DosState
+block_state for_dpmi = if for_dpmi then Dpmi else Used
+
+-- ---- giving
+
+-- the entry is free, and has n paragraphs at least
+abbrev pub fits : DosEntry → ℕ → Bool
+fits entry n = is_free entry.state && nat_le n entry.paras
+
+-- the place of the first entry that fits, where the first of the list stands at a place
+unfoldable pub first_fit : List DosEntry → ℕ → ℕ → Option ℕ
+first_fit [] n place = None
+first_fit (entry ∷ entries) n place = if fits entry n then Some place else first_fit entries n (place + 1)
+
+-- the paragraphs of a free entry
+abbrev pub free_paras : DosEntry → ℕ
+free_paras entry = if is_free entry.state then entry.paras else 0
+
+-- the paragraphs of the largest free entry, 0 where there is none
+unfoldable pub largest : List DosEntry → ℕ
+largest [] = 0
+largest (entry ∷ entries) = max (free_paras entry) (largest entries)
+
+-- a block of n paragraphs at the front of so many, and the rest less a header as a free entry, where there is a rest
+abbrev pub split : DosState → ℕ → ℕ → ℕ → List DosEntry
+split state at n paras =
+    if nat_eq n paras then record { at = at; paras = n; state = state } ∷ [] else
+    record { at = at; paras = n; state = state } ∷ record { at = at + n + 1; paras = paras - n - 1; state = Free } ∷ []
+
+abbrev pub allocated_at : World → Bool → ℕ → Option ℕ → Done ℕ
+allocated_at w for_dpmi n None = record { answer = Err (NoMemory (largest w.arena)); world = w }
+allocated_at w for_dpmi n (Some place) = record {
+  answer = Ok (block_segment (entry_of w.arena place));
+  world = with_entries w place 1
+      (split (block_state for_dpmi) (entry_of w.arena place).at n (entry_of w.arena place).paras);
+}
+
+-- n paragraphs are given: the first entry that fits, and the segment of its block is the answer
+unfoldable pub allocated : World → Bool → ℕ → Done ℕ
+allocated w for_dpmi n = allocated_at w for_dpmi n (first_fit w.arena n 0)
+
+-- ---- blocks
+
+-- the entry's block is one of a DOS call, or one of INT 31h function 0100h
+abbrev pub is_used : DosState → Bool
+is_used Free = false
+is_used Used = true
+is_used Dpmi = false
+
+abbrev pub is_of_kind : Bool → DosState → Bool
+is_of_kind for_dpmi state = if for_dpmi then is_dpmi state else is_used state
+
+-- the block of that kind starts at the segment
+abbrev pub starts_at : Bool → DosEntry → ℕ → Bool
+starts_at for_dpmi entry segment = is_of_kind for_dpmi entry.state && nat_eq (block_segment entry) segment
+
+-- the place of the block of that kind which starts at a segment
+unfoldable pub block_place : Bool → List DosEntry → ℕ → ℕ → Option ℕ
+block_place for_dpmi [] segment place = None
+block_place for_dpmi (entry ∷ entries) segment place =
+    if starts_at for_dpmi entry segment then Some place else block_place for_dpmi entries segment (place + 1)
+
+-- how many free entries stand behind a place, one at most, and their paragraphs with the header's
+abbrev pub free_behind : List DosEntry → ℕ → ℕ
+free_behind entries place = if is_free (entry_of entries (place + 1)).state then 1 else 0
+
+abbrev pub room_behind : List DosEntry → ℕ → ℕ
+room_behind entries place =
+    if is_free (entry_of entries (place + 1)).state then 1 + (entry_of entries (place + 1)).paras else 0
+
+-- the most paragraphs that the block at a place can have
+abbrev pub possible : List DosEntry → ℕ → ℕ
+possible entries place = (entry_of entries place).paras + room_behind entries place
+
+-- ---- resizing
+
+abbrev pub resized_at : World → Bool → ℕ → Option ℕ → Done (Unit {0})
+resized_at w for_dpmi n None = record { answer = Err WrongBlock; world = w }
+resized_at w for_dpmi n (Some place) =
+    if nat_le n (possible w.arena place) then record {
+      answer = Ok tt;
+      world = with_entries w place (1 + free_behind w.arena place)
+          (split (block_state for_dpmi) (entry_of w.arena place).at n (possible w.arena place));
+    }
+    else record { answer = Err (NoMemory (possible w.arena place)); world = w }
+
+-- the block gets n paragraphs where it stands. This writes the headers also where it has as many already
+unfoldable pub resized : World → Bool → ℕ → ℕ → Done (Unit {0})
+resized w for_dpmi segment n = resized_at w for_dpmi n (block_place for_dpmi w.arena segment 0)
+
+-- ---- freeing
+
+-- how many free entries stand before a place, one at most, and their paragraphs with the header's
+abbrev pub free_before : List DosEntry → ℕ → ℕ
+free_before entries place = if nat_le 1 place && is_free (entry_of entries (place - 1)).state then 1 else 0
+
+abbrev pub room_before : List DosEntry → ℕ → ℕ
+room_before entries place =
+    if nat_le 1 place && is_free (entry_of entries (place - 1)).state then 1 + (entry_of entries (place - 1)).paras else 0
+
+-- the block at a place and the free entries beside it as one free entry
+abbrev pub joined : List DosEntry → ℕ → DosEntry
+joined entries place = record {
+  at = (entry_of entries place).at - room_before entries place;
+  paras = room_before entries place + possible entries place;
+  state = Free;
+}
+
+abbrev pub freed_at : World → Option ℕ → Done (Unit {0})
+freed_at w None = record { answer = Err WrongBlock; world = w }
+freed_at w (Some place) = record {
+  answer = Ok tt;
+  world = with_entries w (place - free_before w.arena place)
+      (free_before w.arena place + (1 + free_behind w.arena place)) (joined w.arena place ∷ []);
+}
+
+-- the block becomes free
+unfoldable pub freed : World → Bool → ℕ → Done (Unit {0})
+freed w for_dpmi segment = freed_at w (block_place for_dpmi w.arena segment 0)

@@ -1,0 +1,60 @@
+// A block is given.
+ghost use Rattle.std.specs.Prelude.{◌≡◌, ◌≤◌, ◌+◌, false, OnErr};
+ghost use Rattle.client_world.specs.declared.memory_map.TheConstants.{ARENA_END};
+ghost use Rattle.dos_blocks.specs.Blocks.{block_state, split, allocated};
+
+use crate::finding::{first_fit, largest};
+use arrayvec::ArrayVec;
+use client_world::{DosEntry, DosRefusal, DosState};
+use guest_space::Machine;
+
+// The state of a block that a DOS call makes, or INT 31h function 0100h.
+fn block_state(for_dpmi: bool) -> DosState
+    ensures { result ≡ block_state for_dpmi }
+{
+    if for_dpmi {
+        DosState::Dpmi
+    } else {
+        DosState::Used
+    }
+}
+
+/// A block of n paragraphs at the front of so many, and the rest less a header as a free entry, where there is a rest.
+pub(crate) fn split(for_dpmi: bool, at: u16, n: u16, paras: u16) -> ArrayVec<DosEntry, 3>
+    requires fits { n ≤ paras }
+    requires room { at + 1 + paras ≤ ARENA_END }
+    ensures { result.items ≡ split (block_state for_dpmi) at n paras }
+{
+    let mut entries = ArrayVec::new();
+    entries.push(DosEntry {
+        at,
+        paras: n,
+        state: block_state(for_dpmi),
+    });
+    if n != paras {
+        entries.push(DosEntry {
+            at: at + n + 1,
+            paras: paras - n - 1,
+            state: DosState::Free,
+        });
+    }
+    entries
+}
+
+/// Gives a block of so many paragraphs, and answers its segment. Source: MS-DOS function 48h.
+#[tactic(auto, unfolding(crate::specs::Blocks::allocated))]
+pub fn dos_alloc(m: &mut Machine, paras: u16, for_dpmi: bool) -> Result<u16, DosRefusal>
+    requires dos { for_dpmi ≡ false }
+    ensures answer { result ≡ (allocated m.old.world for_dpmi paras).answer }
+    ensures world { m.new.world ≡ (allocated m.old.world for_dpmi paras).world }
+    ensures refused { OnErr result (m.new ≡ m.old) }
+{
+    let Some(place) = first_fit(m, paras) else {
+        return Err(DosRefusal::NoMemory {
+            largest: largest(m),
+        });
+    };
+    let entry = m.arena(place);
+    m.arena_put(place, 1, &split(for_dpmi, entry.at, paras, entry.paras));
+    Ok(entry.at + 1)
+}

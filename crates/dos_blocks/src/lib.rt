@@ -1,0 +1,16 @@
+//! Blocks of DOS memory: given, resized and freed.
+//! It promises that each call answers and changes the arena as its definition says, and that a refusal changes nothing.
+//! It stands on `guest_space`; the DOS services and those of the DPMI host stand on it.
+#![tactic(auto)]
+
+mod allocating;
+mod finding;
+mod freeing;
+mod neighbours;
+mod resizing;
+#[cfg(test)]
+mod tests;
+
+pub use allocating::dos_alloc;
+pub use freeing::dos_free;
+pub use resizing::dos_resize;
