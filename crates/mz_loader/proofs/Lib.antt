@@ -1,0 +1,3 @@
+pub mod Relocating
+pub mod DosBytes
+pub mod SoundStart

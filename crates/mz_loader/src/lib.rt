@@ -1,0 +1,21 @@
+//! The loader of MZ files.
+//! It promises that a client starts in the world that its file defines, which is sound, and that a file is refused for the first reason and
+//! changes nothing.
+//! It stands on `guest_space`, whose machine it fills: bytes of the DOS megabyte, entries of DOS memory, and registers.
+#![tactic(auto)]
+
+mod blocks;
+mod header;
+mod image;
+mod laws;
+mod loading;
+mod prefix;
+mod reasons;
+mod registers;
+mod relocations;
+#[cfg(test)]
+mod tests;
+mod writing;
+
+pub use laws::every_start_is_sound;
+pub use loading::load;
