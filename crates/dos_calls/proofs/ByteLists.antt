@@ -1,0 +1,85 @@
+-- Lists of bytes: their parts, and those that are read from the megabyte.
+use Rattle.std.proofs.Common.{ℕ, zero, suc, ◌+◌, ◌/◌, ◌%◌, ◌<◌, ◌≤◌, List, [], ◌∷◌, ◌++◌, length, take, drop, arith, nat_eq, if◌then◌else◌, Bool, true, false, Option, None, Some}
+use Rattle.client_world.specs.Soundness.{SoundMegabyte}
+use Rattle.host_memory.specs.Vectors.{word_bytes}
+use Rattle.dos_calls.specs.Calls.{line_of}
+use Rattle.dos_calls.specs.DosBytes.{AreBytes, byte_at, bytes_from, dos_address, text_from}
+
+-- ---- parts
+
+pub no_bytes : AreBytes []
+no_bytes at = omega arith
+
+pub more_bytes : (x : ℕ) (xs : List ℕ) → x < 0x100 → AreBytes xs → AreBytes (x ∷ xs)
+more_bytes x xs small rest zero = small
+more_bytes x xs small rest (suc at) = rest at
+
+pub bytes_behind : (x : ℕ) (xs : List ℕ) → AreBytes (x ∷ xs) → AreBytes xs
+bytes_behind x xs bytes = λ at. bytes (suc at)
+
+pub bytes_append : (xs ys : List ℕ) → AreBytes xs → AreBytes ys → AreBytes (xs ++ ys)
+bytes_append [] ys one other = other
+bytes_append (x ∷ xs) ys one other = more_bytes x (xs ++ ys) (one 0) (bytes_append xs ys (bytes_behind x xs one) other)
+
+pub bytes_take : (n : ℕ) (xs : List ℕ) → AreBytes xs → AreBytes (take n xs)
+bytes_take zero xs bytes = no_bytes
+bytes_take (suc n) [] bytes = no_bytes
+bytes_take (suc n) (x ∷ xs) bytes = more_bytes x (take n xs) (bytes 0) (bytes_take n xs (bytes_behind x xs bytes))
+
+pub bytes_drop : (n : ℕ) (xs : List ℕ) → AreBytes xs → AreBytes (drop n xs)
+bytes_drop zero xs bytes = bytes
+bytes_drop (suc n) [] bytes = no_bytes
+bytes_drop (suc n) (x ∷ xs) bytes = bytes_drop n xs (bytes_behind x xs bytes)
+
+pub length-taken : (n : ℕ) (xs : List ℕ) → length (take n xs) ≤ n
+length-taken zero xs = omega arith
+length-taken (suc n) [] = omega arith
+length-taken (suc n) (x ∷ xs) = omega (arith, length-taken n xs)
+
+pub bytes_if : (c : Bool) (xs ys : List ℕ) → AreBytes xs → AreBytes ys → AreBytes (if c then xs else ys)
+bytes_if true xs ys one other = one
+bytes_if false xs ys one other = other
+
+-- ---- those of words
+
+pub bytes_word : (v : ℕ) → v < 0x10000 → AreBytes (word_bytes v)
+bytes_word v small = more_bytes (v % 0x100) (v / 0x100 ∷ []) (omega arith) (more_bytes (v / 0x100) [] (omega arith) no_bytes)
+
+-- ---- those that are read
+
+pub bytes_read : (dos : List ℕ) (segment offset n : ℕ) → SoundMegabyte dos → AreBytes (bytes_from dos segment offset n)
+unfolding bytes_from
+bytes_read dos segment offset zero s = no_bytes
+bytes_read dos segment offset (suc n) s =
+    more_bytes (byte_at dos segment offset) (bytes_from dos segment (offset + 1) n) (s.bytes (dos_address segment offset))
+    (bytes_read dos segment (offset + 1) n s)
+
+pub bytes_text : (dos : List ℕ) (segment offset n : ℕ) → SoundMegabyte dos → AreBytes (text_from dos segment offset n)
+unfolding text_from
+bytes_text dos segment offset zero s = no_bytes
+bytes_text dos segment offset (suc n) s =
+    bytes_if (nat_eq (byte_at dos segment offset) 0x24) [] (byte_at dos segment offset ∷ text_from dos segment (offset + 1) n) no_bytes
+    (more_bytes (byte_at dos segment offset) (text_from dos segment (offset + 1) n) (s.bytes (dos_address segment offset))
+    (bytes_text dos segment (offset + 1) n s))
+
+-- ---- a line and the keys behind it
+
+abbrev pub LineOfBytes : Option (List ℕ × List ℕ) → Type 0
+LineOfBytes None = Unit {0}
+LineOfBytes (Some line) = AreBytes line.0 × AreBytes line.1
+
+line_if : (c : Bool) (a b : Option (List ℕ × List ℕ)) → LineOfBytes a → LineOfBytes b → LineOfBytes (if c then a else b)
+line_if true a b one other = one
+line_if false a b one other = other
+
+line_behind : (key : ℕ) (o : Option (List ℕ × List ℕ)) → key < 0x100 → LineOfBytes o →
+    LineOfBytes (elim o [ None ↦ None | Some line ↦ Some (key ∷ line.0, line.1) ])
+line_behind key None small line = tt
+line_behind key (Some whole) small line = (more_bytes key whole.0 small line.0, line.1)
+
+pub bytes_line : (keys : List ℕ) → AreBytes keys → LineOfBytes (line_of keys)
+unfolding line_of
+bytes_line [] bytes = tt
+bytes_line (key ∷ keys) bytes =
+    line_if (nat_eq key 0x0D) (Some ([], keys)) _ (no_bytes, bytes_behind key keys bytes)
+    (line_behind key (line_of keys) (bytes 0) (bytes_line keys (bytes_behind key keys bytes)))

@@ -1,0 +1,7 @@
+use Rattle.std.proofs.Common.{rules}
+use Rattle.dos_calls.specs.Calls.{read_file}
+use Rattle.dos_calls.proofs.files.read_file.Goals as goal
+
+pub returns-then-low_half-eq0 : goal.returns-then-low_half-eq0
+unfolding read_file
+returns-then-low_half-eq0 c = λ console. let served = c.read_keys.ensures console in search rules

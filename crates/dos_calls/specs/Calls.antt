@@ -1,0 +1,257 @@
+-- The DOS calls of INT 21h, by AH, and what is served of INT 2Fh. A call sees the machine, the keys that are left, and the console.
+-- Source: MS-DOS functions 01h to 62h; which of them there are, and what a full console and missing keys do, is own.
+use Rattle.std.specs.Prelude.{ℕ, ◌+◌, ◌-◌, ◌*◌, true, false, ◌||◌, nat_eq, nat_le, if◌then◌else◌, List, [], ◌∷◌, ◌++◌, length, take, drop, Some, None, Ok, Err}
+use Rattle.std.specs.declared.option.Option.{Option}
+use Rattle.client_world.specs.declared.dos_memory.DosRefusal.TheVariants.{NoMemory, WrongBlock}
+use Rattle.client_world.specs.declared.limits.TheConstants.{CONSOLE_ROOM}
+use Rattle.client_world.specs.declared.memory_map.TheConstants.{PSP_SEGMENT, SEGMENT_SIZE}
+use Rattle.client_world.specs.declared.outcome.Exit.{Exit}
+use Rattle.client_world.specs.declared.outcome.Exit.TheVariants as exits
+use Rattle.client_world.specs.declared.registers.TheConstants.{CARRY_BIT, ZERO_BIT}
+use Rattle.client_world.specs.declared.services.DosDone.{DosDone}
+use Rattle.client_world.specs.declared.services.DosDone.TheVariants.{Served, Ended}
+use Rattle.client_world.specs.Registers.{low_byte, high_byte, low_half, with_low_byte, with_low_half}
+use Rattle.client_world.specs.World.{World}
+use Rattle.dos_blocks.specs.Blocks.{Done, allocated, freed, resized}
+use Rattle.guest_ram.specs.Bytes.{word_of}
+use Rattle.host_memory.specs.Vectors.{word_bytes}
+use Rattle.dos_calls.specs.DosBytes.{byte_at, with_bytes_at, bytes_from, text_from, with_stacked}
+
+-- what a call comes to
+pub record CallResult : Type 0 where
+  pub done : DosDone
+  pub world : World
+  pub keys : List ℕ
+  pub console : List ℕ
+
+-- what it sees
+pub record CallState : Type 0 where
+  pub world : World
+  pub keys : List ℕ
+  pub console : List ℕ
+
+-- it is served, with another machine and the keys that are left
+abbrev pub served : CallState → World → List ℕ → CallResult
+served s world keys = record { done = Served; world = world; keys = keys; console = s.console }
+
+-- it ends the client, and changes nothing
+abbrev pub ended : CallState → Exit → CallResult
+ended s exit = record { done = Ended exit; world = s.world; keys = s.keys; console = s.console }
+
+-- bytes go to the console, and it is served; where the console has no room for all, as many as fit are written, and the client ends
+unfoldable pub printed : CallState → List ℕ → World → List ℕ → CallResult
+printed s bytes world keys =
+    if nat_le (length s.console + length bytes) CONSOLE_ROOM then
+    record { done = Served; world = world; keys = keys; console = s.console ++ bytes }
+    else record {
+      done = Ended exits.ConsoleFull;
+      world = s.world;
+      keys = keys;
+      console = s.console ++ take (CONSOLE_ROOM - length s.console) bytes;
+    }
+
+-- the machine with other registers: AL, AX, BX
+abbrev pub with_al : ℕ → World → World
+with_al v w = record w { regs = record w.regs { eax = with_low_byte w.regs.eax v } }
+
+abbrev pub with_ax : ℕ → World → World
+with_ax v w = record w { regs = record w.regs { eax = with_low_half w.regs.eax v } }
+
+abbrev pub with_bx : ℕ → World → World
+with_bx v w = record w { regs = record w.regs { ebx = with_low_half w.regs.ebx v } }
+
+-- carry clear, and carry set with an error in AX
+abbrev pub without_carry : World → World
+without_carry w = with_stacked CARRY_BIT false w
+
+abbrev pub with_error : ℕ → World → World
+with_error code w = with_stacked CARRY_BIT true (with_ax code w)
+
+-- ---- characters
+
+-- the first key, or the end of the client without one
+abbrev pub with_key : CallState → (ℕ → List ℕ → CallResult) → CallResult
+with_key s rest = elim s.keys [ [] ↦ ended s exits.NoKeys | key ∷ keys ↦ rest key keys ]
+
+-- 01h: a key into AL, and to the console
+unfoldable pub read_echo : CallState → CallResult
+read_echo s = with_key s (λ key keys. printed s (key ∷ []) (with_al key s.world) keys)
+
+-- 02h: DL to the console
+unfoldable pub write_character : CallState → CallResult
+write_character s = printed s (low_byte s.world.regs.edx ∷ []) s.world s.keys
+
+-- 06h with DL = FFh: a key into AL and ZF clear, or AL = 0 and ZF set
+abbrev pub poll_key : CallState → CallResult
+poll_key s = elim s.keys [
+  | [] ↦ served s (with_stacked ZERO_BIT true (with_al 0 s.world)) []
+  | key ∷ keys ↦ served s (with_stacked ZERO_BIT false (with_al key s.world)) keys
+]
+
+-- 06h: DL to the console, or FFh asks for a key
+unfoldable pub direct_console : CallState → CallResult
+direct_console s = if nat_eq (low_byte s.world.regs.edx) 0xFF then poll_key s else write_character s
+
+-- 07h, 08h: a key into AL
+unfoldable pub read_key : CallState → CallResult
+read_key s = with_key s (λ key keys. served s (with_al key s.world) keys)
+
+-- 09h: the text at DS:DX up to `$`; after the 65536 bytes of a segment it stops
+unfoldable pub write_text : CallState → CallResult
+write_text s = printed s (text_from s.world.dos s.world.regs.ds (low_half s.world.regs.edx) SEGMENT_SIZE) s.world s.keys
+
+-- the keys before the first return, and those behind it, where there is one
+unfoldable pub line_of : List ℕ → Option (List ℕ × List ℕ)
+line_of [] = None
+line_of (key ∷ keys) =
+    if nat_eq key 0x0D then Some ([], keys) else
+    elim (line_of keys) [ None ↦ None | Some line ↦ Some (key ∷ line.0, line.1) ]
+
+-- the buffer at DS:DX with a line: its characters and a return from byte 2 on, and their number without it in byte 1
+abbrev pub with_line : World → List ℕ → World
+with_line w line = record w {
+  dos = with_bytes_at (with_bytes_at w.dos w.regs.ds (low_half w.regs.edx + 2) (line ++ 0x0D ∷ []))
+      w.regs.ds (low_half w.regs.edx + 1) (length line ∷ []);
+}
+
+-- the line that was typed, of which n characters less one are kept
+abbrev pub line_read : CallState → ℕ → Option (List ℕ × List ℕ) → CallResult
+line_read s n None = ended s exits.NoKeys
+line_read s n (Some line) =
+    printed s (take (n - 1) line.0 ++ 0x0D ∷ []) (with_line s.world (take (n - 1) line.0)) line.1
+
+-- 0Ah: a line into the buffer at DS:DX, whose first byte is its room; a room of 0 does nothing
+unfoldable pub read_line : CallState → CallResult
+read_line s =
+    let n = byte_at s.world.dos s.world.regs.ds (low_half s.world.regs.edx) in
+    if nat_eq n 0 then served s s.world s.keys else line_read s n (line_of s.keys)
+
+-- 0Bh: AL = FFh where a key is left, else 0
+unfoldable pub ask_key : CallState → CallResult
+ask_key s = served s (with_al (elim s.keys [ [] ↦ 0 | key ∷ keys ↦ 0xFF ]) s.world) s.keys
+
+-- ---- vectors, version, prefix
+
+-- 25h: vector AL of real mode becomes DS:DX
+unfoldable pub set_vector : CallState → CallResult
+set_vector s = served s (record s.world {
+  dos = with_bytes_at s.world.dos 0 (4 * low_byte s.world.regs.eax)
+      (word_bytes (low_half s.world.regs.edx) ++ word_bytes s.world.regs.ds);
+}) s.keys
+
+-- 30h: the version, 5.0
+unfoldable pub version : CallState → CallResult
+version s = served s (record s.world {
+  regs = record s.world.regs {
+    eax = with_low_half s.world.regs.eax 5;
+    ebx = with_low_half s.world.regs.ebx 0;
+    ecx = with_low_half s.world.regs.ecx 0;
+  };
+}) s.keys
+
+-- 35h: ES:BX becomes vector AL of real mode
+unfoldable pub get_vector : CallState → CallResult
+get_vector s =
+    let at = 4 * low_byte s.world.regs.eax in
+    served s (record s.world {
+      regs = record s.world.regs {
+        ebx = with_low_half s.world.regs.ebx (word_of s.world.dos at);
+        es = word_of s.world.dos (at + 2);
+      };
+    }) s.keys
+
+-- 62h: BX becomes the segment of the prefix
+unfoldable pub get_prefix : CallState → CallResult
+get_prefix s = served s (with_bx PSP_SEGMENT s.world) s.keys
+
+-- ---- files: 0 is the keys, 1 and 2 are the console
+
+abbrev pub bad_handle : ℕ
+bad_handle = 6
+
+-- 3Fh: the first CX keys, or all that are left, go to DS:DX, and AX is their number
+abbrev pub keys_read : CallState → List ℕ → CallResult
+keys_read s keys = served s (without_carry (with_ax (length keys) (record s.world {
+  dos = with_bytes_at s.world.dos s.world.regs.ds (low_half s.world.regs.edx) keys;
+}))) (drop (length keys) s.keys)
+
+unfoldable pub read_file : CallState → CallResult
+read_file s =
+    if nat_eq (low_half s.world.regs.ebx) 0 then keys_read s (take (low_half s.world.regs.ecx) s.keys) else
+    served s (with_error bad_handle s.world) s.keys
+
+-- 40h: CX bytes from DS:DX on go to the console, and AX is their number
+unfoldable pub write_file : CallState → CallResult
+write_file s =
+    if nat_eq (low_half s.world.regs.ebx) 1 || nat_eq (low_half s.world.regs.ebx) 2 then
+    printed s (bytes_from s.world.dos s.world.regs.ds (low_half s.world.regs.edx) (low_half s.world.regs.ecx))
+    (without_carry (with_ax (low_half s.world.regs.ecx) s.world)) s.keys
+    else served s (with_error bad_handle s.world) s.keys
+
+-- ---- memory
+
+abbrev pub no_memory : ℕ
+no_memory = 8
+
+abbrev pub wrong_block : ℕ
+wrong_block = 9
+
+-- 48h: BX paragraphs; AX is the segment, or BX the most that there are
+abbrev pub memory_given : Done ℕ → World
+memory_given d = elim d.answer [
+  | Ok segment ↦ without_carry (with_ax segment d.world)
+  | Err (NoMemory largest) ↦ with_error no_memory (with_bx largest d.world)
+  | Err WrongBlock ↦ with_error wrong_block d.world
+]
+
+unfoldable pub allocate : CallState → CallResult
+allocate s = served s (memory_given (allocated s.world false (low_half s.world.regs.ebx))) s.keys
+
+-- 49h and 4Ah: the block at ES
+abbrev pub memory_changed : Done (Unit {0}) → World
+memory_changed d = elim d.answer [
+  | Ok done ↦ without_carry d.world
+  | Err (NoMemory largest) ↦ with_error no_memory (with_bx largest d.world)
+  | Err WrongBlock ↦ with_error wrong_block d.world
+]
+
+unfoldable pub free : CallState → CallResult
+free s = served s (memory_changed (freed s.world false s.world.regs.es)) s.keys
+
+unfoldable pub resize : CallState → CallResult
+resize s = served s (memory_changed (resized s.world false s.world.regs.es (low_half s.world.regs.ebx))) s.keys
+
+-- ---- all of them
+
+-- 4Ch: the client ends itself with the code in AL
+unfoldable pub terminate : CallState → CallResult
+terminate s = ended s (exits.Exited (low_byte s.world.regs.eax))
+
+abbrev pub bad_function : ℕ
+bad_function = 1
+
+unfoldable pub unknown : CallState → CallResult
+unknown s = served s (with_error bad_function s.world) s.keys
+
+-- the call by AH
+unfoldable pub dos_call : CallState → CallResult
+dos_call s =
+    let ah = high_byte s.world.regs.eax in
+    if nat_eq ah 0x01 then read_echo s else
+    if nat_eq ah 0x02 then write_character s else
+    if nat_eq ah 0x06 then direct_console s else
+    if nat_eq ah 0x07 || nat_eq ah 0x08 then read_key s else
+    if nat_eq ah 0x09 then write_text s else
+    if nat_eq ah 0x0A then read_line s else
+    if nat_eq ah 0x0B then ask_key s else
+    if nat_eq ah 0x25 then set_vector s else
+    if nat_eq ah 0x30 then version s else
+    if nat_eq ah 0x35 then get_vector s else
+    if nat_eq ah 0x3F then read_file s else
+    if nat_eq ah 0x40 then write_file s else
+    if nat_eq ah 0x48 then allocate s else
+    if nat_eq ah 0x49 then free s else
+    if nat_eq ah 0x4A then resize s else
+    if nat_eq ah 0x4C then terminate s else
+    if nat_eq ah 0x62 then get_prefix s else
+    unknown s

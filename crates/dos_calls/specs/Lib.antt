@@ -1,0 +1,4 @@
+pub mod Answering
+pub mod Calls
+pub mod DosBytes
+pub mod Multiplex

@@ -1,0 +1,101 @@
+// Bytes of the DOS megabyte at a segment and an offset, which wraps in its segment.
+ghost use Rattle.std.specs.Prelude.{◌≡◌, ◌≤◌, ◌<◌, ◌+◌, length};
+ghost use Rattle.client_world.specs.declared.memory_map.TheConstants.{DOS_SIZE};
+ghost use Rattle.guest_ram.specs.Bytes.{word_of};
+ghost use Rattle.guest_space.specs.Dos.{with_dos_byte};
+ghost use Rattle.dos_calls.specs.DosBytes.{dos_address, byte_at, with_bytes_at, bytes_from, text_from};
+ghost use Rattle.dos_calls.specs.Answering.{has_room, added};
+
+use crate::console::Console;
+use client_world::memory_map::{DOS_SIZE, PARAGRAPH_SIZE, SEGMENT_SIZE};
+use guest_space::Machine;
+
+// Where the byte at segment:offset stands.
+fn dos_address(segment: u16, offset: u32) -> u32
+    ensures at { result ≡ dos_address segment offset }
+    ensures within { result < DOS_SIZE }
+{
+    (u32::from(segment) * PARAGRAPH_SIZE + offset % SEGMENT_SIZE) % DOS_SIZE
+}
+
+/// Where the low byte of the flags image stands that the interrupt pushed.
+pub(crate) fn stacked_flags(m: &Machine) -> u32
+    ensures at { result ≡ dos_address m.now.world.regs.ss (m.now.world.regs.esp + 4) }
+    ensures within { result < DOS_SIZE }
+{
+    let r = m.regs();
+    dos_address(r.ss, r.esp % SEGMENT_SIZE + 4)
+}
+
+/// The byte at segment:offset.
+pub(crate) fn byte_at(m: &Machine, segment: u16, offset: u32) -> u8
+    ensures { result ≡ byte_at m.now.world.dos segment offset }
+{
+    m.dos8(dos_address(segment, offset))
+}
+
+// Puts a byte at segment:offset.
+fn set_byte_at(m: &mut Machine, segment: u16, offset: u32, v: u8)
+    ensures { m.new.world ≡ record m.old.world { dos = with_dos_byte m.old.world.dos (dos_address segment offset) v } }
+{
+    m.set_dos8(dos_address(segment, offset), v);
+}
+
+/// Puts bytes at segment:offset; those of read-only memory stay.
+pub(crate) fn put_bytes(m: &mut Machine, segment: u16, offset: u32, bytes: &[u8])
+    requires { offset + length bytes.now ≤ 0xFFFF_FFFF }
+    ensures { m.new.world ≡ record m.old.world { dos = with_bytes_at m.old.world.dos segment offset bytes.now } }
+{
+    let mut at = offset;
+    for byte in bytes {
+        set_byte_at(m, segment, at, *byte);
+        at += 1;
+    }
+}
+
+/// The word at an address.
+pub(crate) fn word_of(m: &Machine, at: u32) -> u16
+    requires { at + 1 < DOS_SIZE }
+    ensures { result ≡ word_of m.now.world.dos at }
+{
+    u16::from(m.dos8(at)) + 0x100 * u16::from(m.dos8(at + 1))
+}
+
+/// Adds so many bytes from segment:offset on to the console, as many as fit, and tells whether all did.
+pub(crate) fn print_bytes(
+    m: &Machine,
+    console: &mut Console,
+    segment: u16,
+    offset: u16,
+    count: u16,
+) -> bool
+    ensures room { result ≡ has_room console.old (bytes_from m.now.world.dos segment offset count) }
+    ensures bytes { console.new ≡ added console.old (bytes_from m.now.world.dos segment offset count) }
+{
+    for n in 0..count as u32 {
+        if !console.add(byte_at(m, segment, offset as u32 + n)) {
+            return false;
+        }
+    }
+    console.limit();
+    true
+}
+
+/// Adds the text at segment:offset up to its `$` to the console, as many bytes as fit, and tells whether all did.
+pub(crate) fn print_text(m: &Machine, console: &mut Console, segment: u16, offset: u16) -> bool
+    ensures room { result ≡ has_room console.old (text_from m.now.world.dos segment offset SEGMENT_SIZE) }
+    ensures bytes { console.new ≡ added console.old (text_from m.now.world.dos segment offset SEGMENT_SIZE) }
+{
+    for n in 0..SEGMENT_SIZE {
+        let byte = byte_at(m, segment, offset as u32 + n);
+        if byte == b'$' {
+            console.limit();
+            return true;
+        }
+        if !console.add(byte) {
+            return false;
+        }
+    }
+    console.limit();
+    true
+}

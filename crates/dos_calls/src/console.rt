@@ -1,0 +1,73 @@
+// What the client wrote.
+ghost use Rattle.std.specs.Prelude.{◌≡◌, ◌≤◌, ℕ, List, [], ◌∷◌, ◌++◌, length, nat_lt, if◌then◌else◌, IfOk, vec_capacity};
+ghost use Rattle.client_world.specs.declared.limits.TheConstants.{CONSOLE_ROOM};
+ghost use Rattle.dos_calls.specs.Answering.{has_room, added};
+
+use client_world::limits::CONSOLE_ROOM;
+use std::alloc::{AllocError, Global};
+use std::marker::Model;
+
+/// The bytes that a client wrote, `CONSOLE_ROOM` at most. All of its memory is taken at its start.
+#[derive(Drop)]
+pub struct Console {
+    written: Vec<u8>,
+}
+
+impl Model for Console {
+    ghost Value = { List ℕ };
+
+    ghost view = { λ c. c.written.items };
+
+    ghost invariant = { λ c. (length c.written.items ≤ CONSOLE_ROOM) × (CONSOLE_ROOM ≤ vec_capacity c.written) };
+}
+
+impl Console {
+    /// An empty console.
+    pub fn new(alloc: Global) -> Result<Console, AllocError>
+        ensures { IfOk result (λ console. console ≡ []) }
+    {
+        let written = Vec::with_capacity(alloc, CONSOLE_ROOM as usize)?;
+        Ok(Console { written })
+    }
+
+    /// The bytes.
+    pub fn bytes(&self) -> &[u8]
+        ensures bytes { result.now ≡ self.now }
+        ensures most { length result.now ≤ CONSOLE_ROOM }
+    {
+        self.written.as_slice()
+    }
+
+    /// It never holds more than its room.
+    pub(crate) fn limit(&self)
+        ensures { length self.now ≤ CONSOLE_ROOM }
+    {
+        let _ = &self.written;
+    }
+
+    /// Adds a byte, and tells whether there was room for it.
+    pub(crate) fn add(&mut self, byte: u8) -> bool
+        ensures room { result ≡ nat_lt (length self.old) CONSOLE_ROOM }
+        ensures bytes { self.new ≡ (if result then self.old ++ byte ∷ [] else self.old) }
+    {
+        if self.written.len() >= CONSOLE_ROOM as usize {
+            return false;
+        }
+        let _ = self.written.push(byte);
+        true
+    }
+
+    /// Adds bytes, as many as fit, and tells whether all did.
+    pub(crate) fn print(&mut self, bytes: &[u8]) -> bool
+        ensures room { result ≡ has_room self.old bytes.now }
+        ensures bytes { self.new ≡ added self.old bytes.now }
+    {
+        for byte in bytes {
+            if !self.add(*byte) {
+                return false;
+            }
+        }
+        self.limit();
+        true
+    }
+}

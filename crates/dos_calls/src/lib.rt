@@ -1,0 +1,26 @@
+//! The DOS calls of INT 21h, and what is served of INT 2Fh, over the machine, the keys that are left, and the console.
+//! It promises that each call does what its definition says, that one that ends the client changes nothing of the machine, and that a sound
+//! world leads to a sound one.
+//! It stands on `dos_blocks` and `guest_space`.
+#![tactic(auto)]
+
+mod bytes;
+mod characters;
+mod console;
+mod dispatch;
+mod files;
+mod keys;
+mod laws;
+mod line;
+mod memory;
+mod multiplex;
+mod registers;
+#[cfg(test)]
+mod tests;
+mod vectors;
+
+pub use console::Console;
+pub use dispatch::int21;
+pub use keys::Keys;
+pub use laws::every_dos_call_is_sound;
+pub use multiplex::int2f;

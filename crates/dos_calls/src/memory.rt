@@ -1,0 +1,64 @@
+// The calls on blocks of DOS memory.
+ghost use Rattle.dos_calls.specs.Calls.{allocate, free, resize};
+ghost use Rattle.dos_calls.specs.Answering.{Serves};
+
+use crate::registers::{low_half, refuse, set_ax, set_bx, set_carry};
+use client_world::DosRefusal;
+use dos_blocks::{dos_alloc, dos_free, dos_resize};
+use guest_space::Machine;
+
+// What DOS answers where there is no room, and where no block starts at a segment.
+const NO_MEMORY: u16 = 8;
+
+const WRONG_BLOCK: u16 = 9;
+
+/// Function 48h: BX paragraphs; AX is the segment, or BX the most that there are.
+#[tactic(auto, unfolding(crate::specs::Calls::allocate))]
+pub(crate) fn allocate(m: &mut Machine)
+    ensures { Serves allocate m.old.world m.new.world }
+{
+    let paras = low_half(m.regs().ebx);
+    match dos_alloc(m, paras, false) {
+        Ok(segment) => {
+            set_ax(m, segment);
+            set_carry(m, false);
+        }
+        Err(DosRefusal::NoMemory { largest }) => {
+            set_bx(m, largest);
+            refuse(m, NO_MEMORY);
+        }
+        Err(DosRefusal::WrongBlock) => refuse(m, WRONG_BLOCK),
+    }
+}
+
+/// Function 49h: the block at ES becomes free.
+#[tactic(auto, unfolding(crate::specs::Calls::free))]
+pub(crate) fn free(m: &mut Machine)
+    ensures { Serves free m.old.world m.new.world }
+{
+    let segment = m.regs().es;
+    match dos_free(m, segment, false) {
+        Ok(()) => set_carry(m, false),
+        Err(DosRefusal::NoMemory { largest }) => {
+            set_bx(m, largest);
+            refuse(m, NO_MEMORY);
+        }
+        Err(DosRefusal::WrongBlock) => refuse(m, WRONG_BLOCK),
+    }
+}
+
+/// Function 4Ah: the block at ES gets BX paragraphs, or BX becomes the most that it can have.
+#[tactic(auto, unfolding(crate::specs::Calls::resize))]
+pub(crate) fn resize(m: &mut Machine)
+    ensures { Serves resize m.old.world m.new.world }
+{
+    let r = m.regs();
+    match dos_resize(m, r.es, low_half(r.ebx), false) {
+        Ok(()) => set_carry(m, false),
+        Err(DosRefusal::NoMemory { largest }) => {
+            set_bx(m, largest);
+            refuse(m, NO_MEMORY);
+        }
+        Err(DosRefusal::WrongBlock) => refuse(m, WRONG_BLOCK),
+    }
+}

@@ -1,0 +1,109 @@
+// The parts of registers that DOS calls read and answer in, and the flags that they answer.
+ghost use Rattle.std.specs.Prelude.{◌≡◌};
+ghost use Rattle.client_world.specs.declared.registers.TheConstants.{CARRY_BIT, ZERO_BIT};
+ghost use Rattle.client_world.specs.Registers.{low_byte, high_byte, low_half, with_low_byte, with_low_half};
+ghost use Rattle.dos_calls.specs.Calls.{with_al, with_ax, with_bx, with_error};
+ghost use Rattle.dos_calls.specs.DosBytes.{with_bit, with_stacked};
+
+use crate::bytes::stacked_flags;
+use guest_space::Machine;
+
+/// The low byte of a register.
+pub(crate) fn low_byte(x: u32) -> u8
+    ensures { result ≡ low_byte x }
+{
+    (x % 0x100) as u8
+}
+
+/// Its second byte.
+pub(crate) fn high_byte(x: u32) -> u8
+    ensures { result ≡ high_byte x }
+{
+    (x / 0x100 % 0x100) as u8
+}
+
+/// Its low half.
+pub(crate) fn low_half(x: u32) -> u16
+    ensures { result ≡ low_half x }
+{
+    (x % 0x1_0000) as u16
+}
+
+/// A register with another low byte.
+pub(crate) fn with_low_byte(x: u32, v: u8) -> u32
+    ensures { result ≡ with_low_byte x v }
+{
+    x / 0x100 * 0x100 + u32::from(v)
+}
+
+/// A register with another low half.
+pub(crate) fn with_low_half(x: u32, v: u16) -> u32
+    ensures { result ≡ with_low_half x v }
+{
+    x / 0x1_0000 * 0x1_0000 + u32::from(v)
+}
+
+/// Answers in AL.
+pub(crate) fn set_al(m: &mut Machine, v: u8)
+    ensures { m.new.world ≡ with_al v m.old.world }
+{
+    let mut r = m.regs();
+    r.eax = with_low_byte(r.eax, v);
+    m.set_regs(r);
+}
+
+/// Answers in AX.
+pub(crate) fn set_ax(m: &mut Machine, v: u16)
+    ensures { m.new.world ≡ with_ax v m.old.world }
+{
+    let mut r = m.regs();
+    r.eax = with_low_half(r.eax, v);
+    m.set_regs(r);
+}
+
+/// Answers in BX.
+pub(crate) fn set_bx(m: &mut Machine, v: u16)
+    ensures { m.new.world ≡ with_bx v m.old.world }
+{
+    let mut r = m.regs();
+    r.ebx = with_low_half(r.ebx, v);
+    m.set_regs(r);
+}
+
+// The low byte of a flags image with another carry flag.
+fn with_carry(flags: u8, on: bool) -> u8
+    ensures { result ≡ with_bit flags CARRY_BIT on }
+{
+    flags / 2 * 2 + u8::from(on)
+}
+
+// The low byte of a flags image with another zero flag.
+fn with_zero(flags: u8, on: bool) -> u8
+    ensures { result ≡ with_bit flags ZERO_BIT on }
+{
+    flags / 0x80 * 0x80 + 0x40 * u8::from(on) + flags % 0x40
+}
+
+/// Answers in the carry flag, which the return from the interrupt pops.
+pub(crate) fn set_carry(m: &mut Machine, on: bool)
+    ensures { m.new.world ≡ with_stacked CARRY_BIT on m.old.world }
+{
+    let at = stacked_flags(m);
+    m.set_dos8(at, with_carry(m.dos8(at), on));
+}
+
+/// Answers in the zero flag, which the return from the interrupt pops.
+pub(crate) fn set_zero(m: &mut Machine, on: bool)
+    ensures { m.new.world ≡ with_stacked ZERO_BIT on m.old.world }
+{
+    let at = stacked_flags(m);
+    m.set_dos8(at, with_zero(m.dos8(at), on));
+}
+
+/// Answers an error.
+pub(crate) fn refuse(m: &mut Machine, code: u16)
+    ensures { m.new.world ≡ with_error code m.old.world }
+{
+    set_ax(m, code);
+    set_carry(m, true);
+}
