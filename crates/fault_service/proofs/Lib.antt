@@ -1,0 +1,4 @@
+pub mod Frames
+pub mod ReturnPlans
+pub mod Alone
+pub mod SoundAnswers

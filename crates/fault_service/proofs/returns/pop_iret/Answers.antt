@@ -1,0 +1,13 @@
+use Rattle.std.proofs.Common.{rules}
+use Rattle.client_world.specs.declared.outcome.Exit.TheVariants.{BadFrame}
+use Rattle.fault_service.specs.Delivery.{iret_popped}
+use Rattle.fault_service.proofs.Alone.{popped_ok, popped_err}
+use Rattle.fault_service.proofs.returns.pop_iret.Goals as goal
+
+pub returns-in-Ok-clause-world : goal.returns-in-Ok-clause-world
+unfolding iret_popped
+returns-in-Ok-clause-world c = popped_ok c.args.m.now c.carry_out.new.m (search rules)
+
+pub returns-in-Err-clause-world : goal.returns-in-Err-clause-world
+unfolding iret_popped
+returns-in-Err-clause-world c = popped_err c.args.m.now BadFrame (search rules)

@@ -1,0 +1,28 @@
+// What holds of every answer. Each is a function with nothing to do: its contract is the law.
+ghost use Rattle.std.specs.Prelude.{◌≡◌, ℕ, Ok};
+ghost use Rattle.client_world.specs.declared.faults.Fault.{Fault};
+ghost use Rattle.client_world.specs.Soundness.{IsSound};
+ghost use Rattle.client_world.specs.World.{World};
+ghost use Rattle.cpu_step.specs.Step.{client_step};
+ghost use Rattle.host_memory.specs.View.{MachineView};
+ghost use Rattle.fault_service.specs.Delivery.{iret_popped, real_delivery, software_interrupt};
+ghost use Rattle.fault_service.specs.Worlds.{its_world, world_delivery, world_interrupt, world_popped, world_step};
+
+/// What a step, an interrupt, an exception and a return make of the world depends on the world alone, and not on the bytes that hold it.
+pub fn every_answer_depends_on_the_world_alone()
+    ensures step { (v : MachineView) → its_world (client_step v) ≡ world_step v.world }
+    ensures interrupt { (v : MachineView) (n len : ℕ) → its_world (software_interrupt v n len) ≡ world_interrupt v.world n len }
+    ensures delivery { (v : MachineView) (f : Fault) → its_world (real_delivery v f) ≡ world_delivery v.world f }
+    ensures popped { (v : MachineView) → its_world (iret_popped v) ≡ world_popped v.world }
+{}
+
+/// An interrupt, an exception and a return lead from a sound world to a sound one, and so does a step.
+pub fn every_answer_is_sound()
+    ensures interrupt { (v u : MachineView) (n len : ℕ) → IsSound v.world → software_interrupt v n len ≡ Ok u → IsSound u.world }
+    ensures delivery { (v u : MachineView) (f : Fault) → IsSound v.world → real_delivery v f ≡ Ok u → IsSound u.world }
+    ensures popped { (v u : MachineView) → IsSound v.world → iret_popped v ≡ Ok u → IsSound u.world }
+    ensures world_step { (w u : World) → IsSound w → world_step w ≡ Ok u → IsSound u }
+    ensures world_interrupt { (w u : World) (n len : ℕ) → IsSound w → world_interrupt w n len ≡ Ok u → IsSound u }
+    ensures world_delivery { (w u : World) (f : Fault) → IsSound w → world_delivery w f ≡ Ok u → IsSound u }
+    ensures world_popped { (w u : World) → IsSound w → world_popped w ≡ Ok u → IsSound u }
+{}

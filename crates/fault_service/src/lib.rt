@@ -1,0 +1,16 @@
+//! Software interrupts, exceptions of real mode, and the return from an interrupt at a trap.
+//! It promises that each leaves the machine that its definition names, or gives its fault or exit and changes nothing; that its answer
+//! depends on the world alone; and that a sound world leads to a sound one. It stands on plans of instructions and on the executing crates.
+#![tactic(auto)]
+
+mod exceptions;
+mod interrupts;
+mod laws;
+mod returns;
+#[cfg(test)]
+mod tests;
+
+pub use exceptions::deliver;
+pub use interrupts::soft_int;
+pub use laws::{every_answer_depends_on_the_world_alone, every_answer_is_sound};
+pub use returns::{can_pop_iret, pop_iret};
