@@ -1,11 +1,6 @@
-mod Clients
-mod Fetches
-pub mod Front
-mod LoadedBytes
-mod MegabyteBytes
+mod Counted
+mod Frames
 mod Runs
 pub mod Sound
-mod SoundBlank
-mod SoundBytes
-mod SoundStart
 mod SoundTurns
+mod Touches

@@ -1,100 +1,97 @@
--- What crates above may cite of a run: from a sound world each turn leads to a sound one, and touches what the client holds.
-use Rattle.std.proofs.Common.{arith, ◌≡◌, ◌≤◌, ◌<◌, ◌+◌, ◌*◌, ℕ, zero, suc, List, [], get_or, None, Some, sym, subst}
-use Rattle.std.specs.Prelude.{All, slice_index, if◌then◌else◌}
-use Rattle.std.proofs.lemmas.Bool.{cond_both}
-use Rattle.std.proofs.lemmas.List.{get_or-drop}
-use Rattle.std.proofs.lemmas.List.Elements.{All-nil}
+-- What crates above may cite of a run: from a sound world with keys that are bytes each turn leads to such a one.
+use Rattle.std.proofs.Common.{arith, ◌≡◌, ◌≤◌, ◌+◌, ◌*◌, ℕ, zero, suc, List, None, Some}
 use Rattle.std.specs.declared.option.Option.{Option}
 use Rattle.client_world.specs.declared.outcome.Exit.{Exit}
 use Rattle.client_world.specs.declared.outcome.Exit.TheVariants.{Bound}
-use Rattle.client_world.specs.Access.{IsHeld}
 use Rattle.client_world.specs.Soundness.{IsSound, IsSoundHost}
 use Rattle.client_world.specs.World.{HostWorld}
-use Rattle.host_run.specs.Start.{blank, refusal, started, code_of}
-use Rattle.host_run.specs.Touched.{step_places, touched}
-use Rattle.host_run.specs.Turn.{is_at_dos_call, work, settled, turn}
-use Rattle.host_run.specs.Run.{turns, run, bounded}
-use Rattle.host_run.proofs.Runs.{bounded_machine}
-use Rattle.host_run.proofs.Fetches.{step_held}
-use Rattle.host_run.proofs.SoundTurns.{work_sound, settled_sound, settled_lines}
-use Rattle.host_run.proofs.Clients.{few_code}
-use Rattle.host_run.proofs.SoundStart.{first_sound, code_sound}
+use Rattle.dos_calls.specs.DosBytes.{AreBytes}
+use Rattle.host_memory.proofs.BlankSound.{blank_is_sound}
+use Rattle.mz_loader.specs.Refusal.{refusal}
+use Rattle.mz_loader.proofs.SoundStart.{sound_start}
+use Rattle.host_run.specs.Keys.{HasKeys}
+use Rattle.host_run.specs.Start.{blank, started}
+use Rattle.host_run.specs.Run.{turns, run}
+use Rattle.host_run.specs.Turn.{work, settled, turn}
+use Rattle.host_run.proofs.SoundTurns.{work_sound}
+
+-- a sound host with keys that are bytes
+pub record IsReached (w : HostWorld) : Type 0 where
+  pub machine : IsSound w.machine
+  pub keys : HasKeys w
 
 -- the trace has two lines for each turn at most
-abbrev HasFewLines : HostWorld → Type 0
+abbrev pub HasFewLines : HostWorld → Type 0
 HasFewLines w = w.lines ≤ 2 * w.steps
 
--- each byte that the client instruction of a turn fetches, reads or writes is the client's
-pub touch_held : (w : HostWorld) → IsSound w.machine → All (IsHeld w.machine) (touched w)
-touch_held w s =
-    let machine = w.machine in
-    elim (w.exit) as (λ o. All (IsHeld machine) (elim o [ Some _ ↦ [] | None ↦ if is_at_dos_call machine then [] else step_places machine ])) [
-      | Some _ ↦ All-nil (IsHeld machine)
-      | None ↦
-          cond_both (is_at_dos_call machine) [] (step_places machine) (All (IsHeld machine))
-          (λ _. All-nil (IsHeld machine)) (λ _. step_held machine s)
-    ]
+turned : (w : HostWorld) (o : Option Exit) → IsReached w → IsReached (elim o [ Some _ ↦ w | None ↦ settled w (work w) ])
+turned w (Some _) s = s
+turned w None s =
+    let after = work_sound w.lines w (record { machine = s.machine; keys = s.keys; lines = omega arith }) in
+    record { machine = after.machine; keys = after.keys }
 
--- a turn keeps a world sound
-pub turn_sound : (w : HostWorld) → IsSound w.machine → IsSound (turn w).machine
+pub turn_sound : (w : HostWorld) → IsReached w → IsReached (turn w)
 unfolding turn
-turn_sound w s =
-    elim (w.exit) as (λ o. IsSound (HostWorld.machine (elim o [ Some _ ↦ w | None ↦ settled w (work w) ]))) [
-      | Some _ ↦ s
-      | None ↦ settled_sound w (work w) s (work_sound w s)
-    ]
+turn_sound w s = turned w w.exit s
 
--- and its host
-turn_lines : (w : HostWorld) → IsSoundHost w → (turn w).lines ≤ 2 * (turn w).steps
+lines_turned : (w : HostWorld) (o : Option Exit) → IsReached w → HasFewLines w →
+    HasFewLines (elim o [ Some _ ↦ w | None ↦ settled w (work w) ])
+lines_turned w (Some _) s few = few
+lines_turned w None s few =
+    let after = work_sound w.lines w (record { machine = s.machine; keys = s.keys; lines = omega arith }) in
+    let more : (work w).host.lines ≤ w.lines + 1 = after.lines in
+    omega arith
+
+pub turn_lines : (w : HostWorld) → IsReached w → HasFewLines w → HasFewLines (turn w)
 unfolding turn
-turn_lines w s =
-    elim (w.exit) as (λ o. HasFewLines (elim o [ Some _ ↦ w | None ↦ settled w (work w) ])) [
-      | Some _ ↦ s.lines
-      | None ↦ settled_lines w (work w) (work_sound w s.machine) s.lines
-    ]
-
-pub host_turn_sound : (w : HostWorld) → IsSoundHost w → IsSoundHost (turn w)
-host_turn_sound w s = record { machine = turn_sound w s.machine; lines = turn_lines w s }
+turn_lines w s few = lines_turned w w.exit s few
 
 -- so does any number of turns
-pub run_sound : (w : HostWorld) → IsSound w.machine → (n : ℕ) → IsSound (turns w n).machine
+pub turns_sound : (w : HostWorld) (n : ℕ) → IsReached w → IsReached (turns w n)
 unfolding turns
-run_sound w s zero = s
-run_sound w s (suc n) = turn_sound (turns w n) (run_sound w s n)
+turns_sound w zero s = s
+turns_sound w (suc n) s = turn_sound (turns w n) (turns_sound w n s)
 
-pub host_run_sound : (w : HostWorld) → IsSoundHost w → (n : ℕ) → IsSoundHost (turns w n)
+pub turns_lines : (w : HostWorld) (n : ℕ) → IsReached w → HasFewLines w → HasFewLines (turns w n)
 unfolding turns
-host_run_sound w s zero = s
-host_run_sound w s (suc n) = host_turn_sound (turns w n) (host_run_sound w s n)
+turns_lines w zero s few = few
+turns_lines w (suc n) s few = turn_lines (turns w n) (turns_sound w n s) (turns_lines w n s few)
 
 -- so does a run
-pub end_sound : (w : HostWorld) → IsSound w.machine → (n : ℕ) → IsSound (run w n).machine
-end_sound w s n = subst IsSound (sym (bounded_machine (turns w n))) (run_sound w s n)
+bound_sound : (w : HostWorld) (o : Option Exit) → IsReached w → IsReached (elim o [ Some _ ↦ w | None ↦ record w { exit = Some Bound } ])
+bound_sound w (Some _) s = s
+bound_sound w None s = record { machine = s.machine; keys = s.keys }
 
-bounded_lines : (w : HostWorld) → HasFewLines w → HasFewLines (bounded w)
-bounded_lines w few =
-    elim (w.exit) as (λ (o : Option Exit). HasFewLines (elim o [ Some _ ↦ w | None ↦ record w { exit = Some Bound } ])) [
-      | Some _ ↦ few
-      | None ↦ few
-    ]
+bound_lines : (w : HostWorld) (o : Option Exit) → HasFewLines w → HasFewLines (elim o [ Some _ ↦ w | None ↦ record w { exit = Some Bound } ])
+bound_lines w (Some _) few = few
+bound_lines w None few = few
 
-pub host_end_sound : (w : HostWorld) → IsSoundHost w → (n : ℕ) → IsSoundHost (run w n)
-host_end_sound w s n =
-    record { machine = end_sound w s.machine n; lines = bounded_lines (turns w n) (host_run_sound w s n).lines }
+pub run_sound : (w : HostWorld) (n : ℕ) → IsReached w → IsReached (run w n)
+run_sound w n s = bound_sound (turns w n) (turns w n).exit (turns_sound w n s)
 
--- and each of its turns touches the client's bytes alone
-pub run_touch_held : (w : HostWorld) → IsSound w.machine → (n : ℕ) →
-    All (IsHeld (turns w n).machine) (touched (turns w n))
-run_touch_held w s n = touch_held (turns w n) (run_sound w s n)
+pub run_lines : (w : HostWorld) (n : ℕ) → IsReached w → HasFewLines w → HasFewLines (run w n)
+run_lines w n s few = bound_lines (turns w n) (turns w n).exit (turns_lines w n s few)
+
+-- of hosts
+abbrev reached : (w : HostWorld) → IsSoundHost w → HasKeys w → IsReached w
+reached w s keys = record { machine = s.machine; keys = keys }
+
+pub host_turn_sound : (w : HostWorld) → IsSoundHost w → HasKeys w → IsSoundHost (turn w)
+host_turn_sound w s keys =
+    record { machine = (turn_sound w (reached w s keys)).machine; lines = turn_lines w (reached w s keys) s.lines }
+
+pub host_turns_sound : (w : HostWorld) → IsSoundHost w → HasKeys w → (n : ℕ) → IsSoundHost (turns w n)
+host_turns_sound w s keys n =
+    record { machine = (turns_sound w n (reached w s keys)).machine; lines = turns_lines w n (reached w s keys) s.lines }
+
+pub host_run_sound : (w : HostWorld) → IsSoundHost w → HasKeys w → (n : ℕ) → IsSoundHost (run w n)
+host_run_sound w s keys n =
+    record { machine = (run_sound w n (reached w s keys)).machine; lines = run_lines w n (reached w s keys) s.lines }
 
 -- the first world of a host is sound
-pub blank_sound : (pages keep : ℕ) → IsSoundHost (blank pages keep)
-blank_sound pages keep = record { machine = first_sound pages; lines = omega arith }
+pub blank_sound : (pages keep : ℕ) (keys : List ℕ) → IsSoundHost (blank pages keys keep)
+blank_sound pages keep keys = record { machine = blank_is_sound pages; lines = omega arith }
 
 -- so is the world that a file starts, if the file is one of bytes and is taken
-pub start_sound : (pages keep : ℕ) (file : List ℕ) → ((at : ℕ) → slice_index file at < 0x100) → refusal file ≡ None →
-    IsSoundHost (started pages keep file)
-start_sound pages keep file small none =
-    let code_small : (at : ℕ) →
-    get_or (code_of file) at 0 < 0x100 = λ at. rw (get_or-drop 32 file at 0) (small (32 + at)) in
-    record { machine = code_sound pages (code_of file) code_small (few_code file none); lines = omega arith }
+pub started_sound : (pages keep : ℕ) (keys file : List ℕ) → AreBytes file → refusal file ≡ None → IsSoundHost (started pages keys keep file)
+started_sound pages keep keys file small none = record { machine = sound_start file pages small none; lines = omega arith }

@@ -1,160 +1,139 @@
--- Each turn leads from a sound world to a sound world.
-use Rattle.std.proofs.Common.{arith, ◌≡◌, ◌≤◌, ◌<◌, refl, Bool, false, ◌+◌, ◌*◌, ◌/◌, ◌%◌, ◌++◌, ◌∷◌, ℕ, [], List, IsTrue, None, Some, Ok, Err, length}
-use Rattle.std.specs.Prelude.{IfOk, nat_lt, nat_eq, if◌then◌else◌}
-use Rattle.std.specs.declared.option.Option.{Option}
+-- Each turn leads from a sound world to a sound world, and leaves keys that are bytes.
+use Rattle.std.proofs.Common.{arith, ◌≡◌, ◌≤◌, ◌+◌, ℕ, Bool, true, false, nat_eq, refl, Ok, Err}
+use Rattle.std.specs.Prelude.{IfOk, if◌then◌else◌}
 use Rattle.std.specs.declared.result.Result.{Result}
-use Rattle.std.proofs.lemmas.Bool.{cond_both}
-use Rattle.std.proofs.lemmas.Bool.Decides.{nat_tests}
-use Rattle.client_world.specs.declared.registers.Regs.{Regs}
-use Rattle.client_world.specs.declared.registers.Width.{Width}
-use Rattle.client_world.specs.declared.limits.TheConstants.{CONSOLE_ROOM}
+use Rattle.client_world.specs.declared.faults.Event.{Event}
+use Rattle.client_world.specs.declared.faults.Event.TheVariants as events
+use Rattle.client_world.specs.declared.faults.Fault.{Fault}
 use Rattle.client_world.specs.declared.outcome.Exit.{Exit}
-use Rattle.client_world.specs.declared.outcome.Exit.TheVariants.{Exited, ConsoleFull, Unbuilt}
-use Rattle.client_world.specs.Soundness.{IsSound, HasSegments, SoundMegabyte, SoundWidth}
+use Rattle.client_world.specs.declared.outcome.Exit.TheVariants as exits
+use Rattle.client_world.specs.declared.registers.Mode.{Mode}
+use Rattle.client_world.specs.declared.registers.Mode.TheVariants.{Real, Protected}
+use Rattle.client_world.specs.declared.services.DosDone.{DosDone}
+use Rattle.client_world.specs.declared.services.DosDone.TheVariants.{Served, Ended}
+use Rattle.client_world.specs.declared.trace.TraceLine.{TraceLine}
+use Rattle.client_world.specs.declared.trace.TraceLine.TheVariants as lines
+use Rattle.client_world.specs.Registers.{high_byte, low_half}
+use Rattle.client_world.specs.Soundness.{IsSound}
 use Rattle.client_world.specs.World.{World, HostWorld}
-use Rattle.client_world.specs.Memory.{word_at}
-use Rattle.client_world.specs.Registers.{flags_image}
-use Rattle.host_run.specs.declared.instruction.Instruction.{Instruction}
-use Rattle.host_run.specs.declared.instruction.Instruction.TheVariants.{MoveByte, MoveWord, Interrupt}
-use Rattle.host_run.specs.Frame.{can_pop, popped, can_push, pushed, entered, sp_up, stack_word}
-use Rattle.host_run.specs.Instruction.{with_byte_register, with_word_register, advanced, instruction_at, performed, client_step}
-use Rattle.host_run.specs.Turn.{is_at_dos_call, character_written, dos_call, with_machine, work, settled}
-use Rattle.host_run.proofs.SoundBytes.{word_below, word_whole, flags_below}
-use Rattle.host_run.proofs.Fetches.{pushable}
+use Rattle.dos_calls.specs.Calls.{CallResult, dos_call}
+use Rattle.dos_calls.specs.DosBytes.{AreBytes}
+use Rattle.dos_calls.proofs.SoundCalls.{IsGood, call_keeps, multiplex_keeps}
+use Rattle.fault_service.specs.Worlds.{world_step, world_interrupt, world_delivery, world_popped}
+use Rattle.fault_service.proofs.SoundAnswers.{sound_world_delivery, sound_world_interrupt, sound_world_popped, sound_world_step}
+use Rattle.host_run.specs.declared.traps.Trap.{Trap}
+use Rattle.host_run.specs.declared.traps.Trap.TheVariants.{Vector, Later, NoTrap}
+use Rattle.host_run.specs.Traps.{real_trap}
+use Rattle.host_run.specs.Turn.{Outcome, ends, with_machine, noted, popped, seen, dos_served, multiplex_served, ends_client, vector_served, delivered, interrupted, after_step, stepped, trapped, work}
 
--- what the width decides doesn't speak of the registers, the virtual interrupt flag and the megabyte
-width_kept : (o : Option Width) (w : World) (regs : Regs) (vif : Bool) (dos : List ℕ) → SoundWidth o w →
-    SoundWidth o (record w { regs = regs; vif = vif; dos = dos })
-width_kept None w regs vif dos s = record {
-  mode = s.mode;
-  descriptors = s.descriptors;
-  blocks = s.blocks;
-  callbacks = s.callbacks;
-  calls = s.calls;
-}
-width_kept (Some width) w regs vif dos s = s
+-- a host in a turn: its machine is sound, its keys are bytes, and its trace has so many lines at most
+pub record IsSoundIn (most : ℕ) (h : HostWorld) : Type 0 where
+  pub machine : IsSound h.machine
+  pub keys : AreBytes h.keys
+  pub lines : h.lines ≤ most
 
--- a sound world with another megabyte that is sound, and other registers whose segments are words
-pub sound_with : (w : World) (regs : Regs) (vif : Bool) (dos : List ℕ) → IsSound w → HasSegments regs →
-    SoundMegabyte dos → IsSound (record w { regs = regs; vif = vif; dos = dos })
-sound_with w regs vif dos s r d = record {
-  segments = r;
-  megabyte = d;
-  arena = s.arena;
-  blocks = s.blocks;
-  pageable = s.pageable;
-  descriptors = s.descriptors;
-  runs = s.runs;
-  interrupt_vectors = s.interrupt_vectors;
-  exception_vectors = s.exception_vectors;
-  callbacks = s.callbacks;
-  depth = s.depth;
-  width = width_kept w.width w regs vif dos s.width;
-}
+-- and what it comes to
+abbrev pub Leaves : ℕ → Outcome → Type 0
+Leaves most o = IsSoundIn most o.host
 
--- EIP is no segment
-same_segments : (r : Regs) (eip : ℕ) → HasSegments r → HasSegments (record r { eip = eip })
-same_segments r eip s = record { es = s.es; cs = s.cs; ss = s.ss; ds = s.ds; fs = s.fs; gs = s.gs }
+-- one line more
+later : (most : ℕ) (h : HostWorld) → IsSoundIn most h → IsSoundIn (most + 1) h
+later most h s = record { machine = s.machine; keys = s.keys; lines = let few = s.lines in omega arith }
 
--- nor is a byte register
-byte_register : (r : Regs) (number v : ℕ) → HasSegments r → HasSegments (with_byte_register r number v)
-byte_register r number v s = grind (arith, nat_tests)
+noted_sound : (most : ℕ) (line : TraceLine) (h : HostWorld) → IsSoundIn most h → IsSoundIn (most + 1) (noted line h)
+noted_sound most line h s = record { machine = s.machine; keys = s.keys; lines = let few = s.lines in omega arith }
 
--- nor is a word register
-word_register : (r : Regs) (number v : ℕ) → HasSegments r → HasSegments (with_word_register r number v)
-word_register r number v s = grind (arith, nat_tests)
+machine_sound : (most : ℕ) (h : HostWorld) (r : Result World Exit) → IsSoundIn most h → IfOk r IsSound → Leaves most (with_machine h r)
+machine_sound most h (Ok w) s ok = record { machine = ok; keys = s.keys; lines = s.lines }
+machine_sound most h (Err exit) s ok = s
 
--- IRET reads a code segment that is a word
-popped_sound : (w : World) → IsSound w → IsSound (popped w)
-popped_sound w s =
-    let cs : stack_word w 2 < 0x10000 = word_below w.dos w.regs.ss (sp_up w.regs 2) s.megabyte in
-    sound_with w (popped w).regs (popped w).vif w.dos s
-    (let r = s.segments in record { es = r.es; cs = cs; ss = r.ss; ds = r.ds; fs = r.fs; gs = r.gs }) s.megabyte
+-- the world of an answer, by what it is
+answer_sound : (E : Type 0) (r : Result World E) → ((u : World) → r ≡ Ok u → IsSound u) → IfOk r IsSound
+answer_sound E (Ok u) sound = sound u refl
+answer_sound E (Err e) sound = tt
 
--- the frame of an interrupt leaves the megabyte whole
-pushed_whole : (w : World) (ip : ℕ) → IsSound w → IsTrue (can_push w.regs) → ip < 0x10000 →
-    SoundMegabyte (pushed w ip)
-pushed_whole w ip s can word =
-    let p = pushable w.regs can in
-    word_whole _ _ _ ip
-    (word_whole _ _ _ w.regs.cs
-    (word_whole w.dos _ _ (flags_image w.regs.flags w.vif) s.megabyte p.0 (flags_below w.regs.flags w.vif)) p.1 s.segments.cs) p.2 word
+frame_sound : (most : ℕ) (h : HostWorld) → IsSoundIn most h → Leaves most (popped h)
+frame_sound most h s =
+    machine_sound most h (world_popped h.machine) s
+    (answer_sound Exit (world_popped h.machine) (λ u. sound_world_popped h.machine u s.machine))
 
--- its handler's code segment is a word, too
-entered_sound : (w : World) (number : ℕ) (dos : List ℕ) → IsSound w → SoundMegabyte dos →
-    IsSound (entered w number dos)
-entered_sound w number dos s d =
-    let cs : word_at dos 0 (4 * number + 2) < 0x10000 = word_below dos 0 (4 * number + 2) d in
-    sound_with w (entered w number dos).regs false dos s
-    (let r = s.segments in record { es = r.es; cs = cs; ss = r.ss; ds = r.ds; fs = r.fs; gs = r.gs }) d
+either_sound : (most : ℕ) (b : Bool) (x y : Outcome) → Leaves most x → Leaves most y → Leaves most (if b then x else y)
+either_sound most true x y p q = p
+either_sound most false x y p q = q
 
--- what an instruction does
-performed_sound : (w : World) (i : Instruction) → IsSound w → IfOk (performed w i) IsSound
-performed_sound w (MoveByte number v) s =
-    let from : HasSegments (advanced w.regs (MoveByte number v)) = same_segments w.regs (w.regs.eip + 2) s.segments in
-    sound_with w (with_byte_register (advanced w.regs (MoveByte number v)) number v) w.vif w.dos s
-    (byte_register (advanced w.regs (MoveByte number v)) number v from) s.megabyte
-performed_sound w (MoveWord number v) s =
-    let from : HasSegments (advanced w.regs (MoveWord number v)) = same_segments w.regs (w.regs.eip + 3) s.segments in
-    sound_with w (with_word_register (advanced w.regs (MoveWord number v)) number v) w.vif w.dos s
-    (word_register (advanced w.regs (MoveWord number v)) number v from) s.megabyte
-performed_sound w (Interrupt number) s =
-    let ip = (w.regs.eip + 2) % 0x10000 in
-    cond_both (can_push w.regs) (Ok (entered w number (pushed w ip))) (Err Unbuilt) (λ r. IfOk r IsSound)
-    (λ can. entered_sound w number (pushed w ip) s (pushed_whole w ip s can (omega arith))) (λ _. tt)
+-- ---- the default vectors
 
--- one client instruction
-step_sound : (w : World) → IsSound w → IfOk (client_step w) IsSound
-step_sound w s =
-    elim (instruction_at w) as (λ o. IfOk (elim o [ None ↦ Err Unbuilt | Some i ↦ performed w i ]) IsSound) [
-      | None ↦ tt
-      | Some i ↦ performed_sound w i s
-    ]
+by_done : (most : ℕ) (h : HostWorld) (r : CallResult) (d : DosDone) → IsSoundIn most h → IsGood h.console r →
+    Leaves most (elim d [
+      | Served ↦ popped (record h { machine = r.world; keys = r.keys; console = r.console })
+      | Ended exit ↦ ends (record h { keys = r.keys; console = r.console }) exit
+    ])
+by_done most h r Served s call =
+    frame_sound most (record h { machine = r.world; keys = r.keys; console = r.console })
+    (record { machine = call.world; keys = call.keys; lines = s.lines })
+by_done most h r (Ended exit) s call = record { machine = s.machine; keys = call.keys; lines = s.lines }
 
--- the host after what a turn does: its machine is sound, and the trace has no line more
-pub record IsSoundWork (w after : HostWorld) : Type 0 where
-  pub machine : IsSound after.machine
-  pub lines : after.lines ≡ w.lines
+dos_sound : (most : ℕ) (h : HostWorld) → IsSoundIn most h → Leaves (most + 1) (dos_served h)
+dos_sound most h s =
+    let r = dos_call (seen h) in
+    by_done (most + 1) (noted (lines.Int21 (high_byte h.machine.regs.eax)) h) r r.done (noted_sound most _ h s)
+    (call_keeps (seen h) (record { world = s.machine; keys = s.keys }))
 
--- a character that is written
-character_sound : (w : HostWorld) → IsSound w.machine → IfOk (character_written w) (IsSoundWork w)
-character_sound w s =
-    cond_both (nat_lt (length w.console) CONSOLE_ROOM)
-    (Ok (record w { machine = popped w.machine; console = w.console ++ w.machine.regs.edx % 0x100 ∷ [] })) (Err ConsoleFull)
-    (λ r. IfOk r (IsSoundWork w)) (λ _. record { machine = popped_sound w.machine s; lines = refl }) (λ _. tt)
+multiplex_sound : (most : ℕ) (h : HostWorld) → IsSoundIn most h → Leaves (most + 1) (multiplex_served h)
+multiplex_sound most h s =
+    let n = noted_sound most (lines.Int2f (low_half h.machine.regs.eax)) h s in
+    frame_sound (most + 1) _ (record { machine = multiplex_keeps h.machine s.machine; keys = n.keys; lines = n.lines })
 
--- a DOS call
-call_sound : (w : HostWorld) → IsSound w.machine → IfOk (dos_call w) (IsSoundWork w)
-call_sound w s =
-    let P : Result HostWorld Exit → Type 0 = λ r. IfOk r (IsSoundWork w) in
-    let ah = w.machine.regs.eax / 0x100 % 0x100 in
-    let ends : Result HostWorld Exit = Err (Exited (w.machine.regs.eax % 0x100)) in
-    let others : Result HostWorld Exit = if nat_eq ah 0x4C then ends else Err Unbuilt in
-    cond_both (can_pop w.machine.regs) (if nat_eq ah 0x02 then character_written w else others) (Err Unbuilt) P
-    (λ _. cond_both (nat_eq ah 0x02) (character_written w) others P (λ _. character_sound w s)
-    (λ _. cond_both (nat_eq ah 0x4C) ends (Err Unbuilt) P (λ _. tt) (λ _. tt)))
-    (λ _. tt)
+vector_sound : (most : ℕ) (h : HostWorld) (n : ℕ) → IsSoundIn most h → Leaves (most + 1) (vector_served h n)
+unfolding vector_served
+vector_sound most h n s =
+    let same = later most h s in
+    either_sound (most + 1) (ends_client n) _ _ same
+    (either_sound (most + 1) (nat_eq n 0x20) _ _ (noted_sound most lines.Int20 h s)
+    (either_sound (most + 1) (nat_eq n 0x21) _ _ (dos_sound most h s)
+    (either_sound (most + 1) (nat_eq n 0x2F) _ _ (multiplex_sound most h s) (frame_sound (most + 1) h same))))
 
--- a host with a sound machine
-machine_sound : (w : HostWorld) (r : Result World Exit) → IfOk r IsSound →
-    IfOk (with_machine w r) (IsSoundWork w)
-machine_sound w (Ok machine) s = record { machine = s; lines = refl }
-machine_sound w (Err exit) s = tt
+reached_by : (most : ℕ) (h : HostWorld) (n : ℕ) (r : Result World Exit) → IsSoundIn most h →
+    Leaves (most + 1) (elim r [ Ok w ↦ vector_served h n | Err exit ↦ ends h exit ])
+reached_by most h n (Ok w) s = vector_sound most h n s
+reached_by most h n (Err exit) s = later most h s
 
--- what a turn does in a world without an exit
-pub work_sound : (w : HostWorld) → IsSound w.machine → IfOk (work w) (IsSoundWork w)
-work_sound w s =
-    cond_both (is_at_dos_call w.machine) (dos_call w) (with_machine w (client_step w.machine)) (λ r. IfOk r (IsSoundWork w))
-    (λ _. call_sound w s) (λ _. machine_sound w (client_step w.machine) (step_sound w.machine s))
+-- ---- client instructions
 
--- the turn is counted, and changes nothing of the machine besides
-pub settled_sound : (w : HostWorld) (r : Result HostWorld Exit) → IsSound w.machine → IfOk r (IsSoundWork w) →
-    IsSound (settled w r).machine
-settled_sound w (Ok after) s ok = ok.machine
-settled_sound w (Err exit) s ok = s
+delivered_sound : (most : ℕ) (h : HostWorld) (f : Fault) → IsSoundIn most h → Leaves most (delivered h f)
+delivered_sound most h f s =
+    machine_sound most h (world_delivery h.machine f) s
+    (answer_sound Exit (world_delivery h.machine f) (λ u. sound_world_delivery h.machine u f s.machine))
 
--- nor does it note a line of the trace
-pub settled_lines : (w : HostWorld) (r : Result HostWorld Exit) → IfOk r (IsSoundWork w) → w.lines ≤ 2 * w.steps →
-    (settled w r).lines ≤ 2 * (settled w r).steps
-settled_lines w (Ok after) ok few = let same : after.lines ≡ w.lines = ok.lines in omega arith
-settled_lines w (Err exit) ok few = omega arith
+interrupted_sound : (most : ℕ) (h : HostWorld) (r : Result World Fault) → IsSoundIn most h → IfOk r IsSound → Leaves most (interrupted h r)
+interrupted_sound most h (Ok w) s ok = record { machine = ok; keys = s.keys; lines = s.lines }
+interrupted_sound most h (Err f) s ok = delivered_sound most h f s
+
+after_sound : (most : ℕ) (h : HostWorld) (r : Result World Event) → IsSoundIn most h → IfOk r IsSound → Leaves most (after_step h r)
+after_sound most h (Ok w) s ok = record { machine = ok; keys = s.keys; lines = s.lines }
+after_sound most h (Err (events.Fault f)) s ok = delivered_sound most h f s
+after_sound most h (Err (events.Soft number len)) s ok =
+    let r = world_interrupt h.machine number len in
+    interrupted_sound most h r s (answer_sound Fault r (λ u. sound_world_interrupt h.machine u number len s.machine))
+
+stepped_sound : (most : ℕ) (h : HostWorld) → IsSoundIn most h → Leaves most (stepped h)
+unfolding stepped
+stepped_sound most h s =
+    after_sound most h (world_step h.machine) s
+    (answer_sound Event (world_step h.machine) (λ u. sound_world_step h.machine u s.machine))
+
+-- ---- turns
+
+trapped_sound : (most : ℕ) (h : HostWorld) (t : Trap) → IsSoundIn most h → Leaves (most + 1) (trapped h t)
+trapped_sound most h (Vector n) s = reached_by most h n (world_popped h.machine) s
+trapped_sound most h Later s = later most h s
+trapped_sound most h NoTrap s = stepped_sound (most + 1) h (later most h s)
+
+by_mode : (most : ℕ) (h : HostWorld) (m : Mode) → IsSoundIn most h →
+    Leaves (most + 1) (elim m [ Real ↦ trapped h (real_trap h.machine) | Protected ↦ ends h exits.Unbuilt ])
+by_mode most h Real s = trapped_sound most h (real_trap h.machine) s
+by_mode most h Protected s = later most h s
+
+pub work_sound : (most : ℕ) (h : HostWorld) → IsSoundIn most h → Leaves (most + 1) (work h)
+unfolding work
+work_sound most h s = by_mode most h h.machine.mode s

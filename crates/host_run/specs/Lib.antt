@@ -1,7 +1,6 @@
-pub mod BlankParts
-pub mod Frame
-pub mod Instruction
-pub mod Turn
+pub mod Keys
 pub mod Run
 pub mod Start
 pub mod Touched
+pub mod Traps
+pub mod Turn

@@ -1,67 +1,78 @@
 // The host and its turns.
-ghost use Rattle.std.specs.Prelude.{◌≡◌, ◌≤◌, ◌<◌, ◌+◌, [], IfOk, OnOk, IfErr, Ok, Err, Some, None, length, vec_capacity};
-ghost use Rattle.client_world.specs.declared.limits.TheConstants.{CONSOLE_ROOM};
+ghost use Rattle.std.specs.Prelude.{◌≡◌, ◌≤◌, ◌<◌, ◌+◌, ◌*◌, IfOk, OnOk, IfErr, MatchResult, Ok, Err, Some, None, length, vec_capacity};
+ghost use Rattle.client_world.specs.declared.limits.TheConstants.{CONSOLE_ROOM, MAX_STEPS};
+ghost use Rattle.client_world.specs.declared.registers.Mode.TheVariants.{Real as real};
 ghost use Rattle.client_world.specs.Soundness.{IsSound};
 ghost use Rattle.client_world.specs.World.{HostWorld};
-ghost use Rattle.host_run.specs.Start.{blank, IsBlank, refusal, started};
-ghost use Rattle.host_run.specs.Turn.{is_at_dos_call, character_written, dos_call, work, turn};
+ghost use Rattle.fault_service.specs.Worlds.{world_interrupt};
+ghost use Rattle.mz_loader.specs.Refusal.{refusal};
 ghost use Rattle.host_run.specs.Run.{run};
+ghost use Rattle.host_run.specs.Start.{blank, IsBlank, started};
+ghost use Rattle.host_run.specs.Traps.{real_trap};
+ghost use Rattle.host_run.specs.Turn.{goes_on, ends, delivered, interrupted, stepped, trapped, work, turn};
 
-use crate::header::{HEADER_SIZE, check};
-use crate::machine::Machine;
-use client_world::limits::{CONSOLE_ROOM, MAX_KEYS, MAX_PAGES, MAX_STEPS, MAX_TRACE};
-use client_world::memory_map::PARAGRAPH_SIZE;
-use client_world::traps::DOS_CALL_TRAP;
-use client_world::{Exit, LoadFault};
+use crate::serving::step_machine;
+use crate::traps::{Trap, real_trap};
+use client_world::limits::{MAX_KEYS, MAX_PAGES, MAX_STEPS, MAX_TRACE};
+use client_world::{Event, Exit, Fault, LoadFault, Mode, TraceLine};
+use dos_calls::{Console, Keys};
+use fault_service::{deliver, soft_int};
+use guest_space::Machine;
 use std::alloc::{AllocError, Global};
 use std::marker::Model;
 
-/// A client's machine, what it wrote, how many turns were made, and how the run ended. This stage uses no keystrokes and
-/// notes no line of a trace: its world shows none of either.
+/// A client's machine, the keystrokes that are left, what it wrote, the trace, how many turns were made, and how the run ended. All of its
+/// memory is taken at its start.
 #[derive(Drop)]
 pub struct Host {
-    machine: Machine,
-    console: Vec<u8>,
-    keep: u32,
-    steps: u32,
-    exit: Option<Exit>,
+    pub(crate) machine: Machine,
+    pub(crate) keys: Keys,
+    pub(crate) console: Console,
+    pub(crate) keep: u32,
+    pub(crate) kept: Vec<TraceLine>,
+    pub(crate) lines: u32,
+    pub(crate) steps: u32,
+    pub(crate) exit: Option<Exit>,
 }
 
 impl Model for Host {
     ghost Value = { HostWorld };
 
     ghost view = { λ h. record {
-      machine = h.machine;
-      keys = [];
-      console = h.console.items;
+      machine = h.machine.world;
+      keys = h.keys;
+      console = h.console;
       keep = h.keep;
-      kept = [];
-      lines = 0;
+      kept = h.kept.items;
+      lines = h.lines;
       steps = h.steps;
       exit = h.exit;
     } };
 
-    ghost invariant = { λ h. (length h.console.items ≤ CONSOLE_ROOM) × (CONSOLE_ROOM ≤ vec_capacity h.console) };
+    ghost invariant = { λ h. (length h.kept.items ≤ h.keep) × (h.keep ≤ vec_capacity h.kept) × (h.lines ≤ 2 * h.steps) × (h.steps ≤ MAX_STEPS) };
 }
 
 impl Host {
-    /// A host that has run nothing, on blank memory. Its world has that page budget and that number of trace lines to
-    /// keep. They and the keystrokes are within their limits; this stage doesn't use any of them yet, and its world
-    /// shows no keystrokes.
+    /// A host that has run nothing, on blank memory: with that page budget, those keystrokes, and a trace that keeps so
+    /// many lines at most.
     pub fn new(alloc: Global, pages: u32, keys: &[u8], keep: u32) -> Result<Host, AllocError>
         requires some_pages { 0 < pages }
         requires pages { pages ≤ MAX_PAGES }
         requires keys { length keys.now ≤ MAX_KEYS }
         requires keep { keep ≤ MAX_TRACE }
-        ensures { IfOk result (λ host. host ≡ blank pages keep) }
+        ensures { IfOk result (λ host. host ≡ blank pages keys.now keep) }
     {
-        let _ = keys;
         let machine = Machine::new(alloc, pages)?;
-        let console = Vec::with_capacity(alloc, CONSOLE_ROOM as usize)?;
+        let keys = Keys::new(alloc, keys)?;
+        let console = Console::new(alloc)?;
+        let kept = Vec::with_capacity(alloc, keep as usize)?;
         Ok(Host {
             machine,
+            keys,
             console,
             keep,
+            kept,
+            lines: 0,
             steps: 0,
             exit: None,
         })
@@ -72,13 +83,13 @@ impl Host {
     pub fn load(&mut self, file: &[u8]) -> Result<(), LoadFault>
         requires { IsBlank self.old }
         ensures taken { OnOk result (refusal file.now ≡ None) }
-        ensures started { OnOk result (self.new ≡ started self.old.machine.budget self.old.keep file.now) }
+        ensures started { OnOk result (self.new ≡ started self.old.machine.budget self.old.keys self.old.keep file.now) }
         ensures sound { OnOk result (IsSound self.new.machine) }
         ensures refused { IfErr result (λ fault. refusal file.now ≡ Some fault) }
         ensures kept { IfErr result (λ _. self.new ≡ self.old) }
     {
-        check(file)?;
-        self.machine.start(&file[HEADER_SIZE..]);
+        mz_loader::load(&mut self.machine, file)?;
+        self.machine.soundness();
         Ok(())
     }
 
@@ -101,11 +112,18 @@ impl Host {
         ensures bytes { result.now ≡ self.now.console }
         ensures most { length result.now ≤ CONSOLE_ROOM }
     {
-        self.console.as_slice()
+        self.console.bytes()
     }
 
-    /// One turn: it serves a trap byte, or runs one client instruction. After an exit it answers that exit again
-    /// and changes nothing.
+    /// The client's machine.
+    pub fn machine(&self) -> &Machine
+        ensures { result.now.world ≡ self.now.machine }
+    {
+        &self.machine
+    }
+
+    /// One turn: it serves a trap byte, or runs one client instruction with its software interrupt, or delivers its
+    /// exception. After an exit it answers that exit again and changes nothing.
     #[tactic(auto, unfolding(crate::specs::Turn::turn))]
     pub fn turn(&mut self) -> Result<(), Exit>
         requires { self.old.exit ≡ None → self.old.steps < MAX_STEPS }
@@ -118,11 +136,12 @@ impl Host {
         if let Some(exit) = self.exit {
             return Err(exit);
         }
-        let steps = self.steps + 1;
-        let outcome = self.work();
-        self.steps = steps;
-        match outcome {
-            Ok(()) => Ok(()),
+        self.steps += 1;
+        match self.work() {
+            Ok(()) => {
+                self.exit = None;
+                Ok(())
+            }
             Err(exit) => {
                 self.exit = Some(exit);
                 Err(exit)
@@ -151,57 +170,63 @@ impl Host {
         }
     }
 
-    // What a turn does in a world without an exit.
+    // An exception is delivered.
+    fn delivered(&mut self, f: Fault) -> Result<(), Exit>
+        requires real { self.old.machine.mode ≡ real }
+        ensures { MatchResult result (λ _. delivered self.old f ≡ goes_on self.new) (λ exit. delivered self.old f ≡ ends self.new exit) }
+    {
+        deliver(&mut self.machine, f)
+    }
+
+    // A software interrupt, or the exception that it raises.
+    fn interrupted(&mut self, number: u8, len: u8) -> Result<(), Exit>
+        requires real { self.old.machine.mode ≡ real }
+        ensures { MatchResult result
+            (λ _. interrupted self.old (world_interrupt self.old.machine number len) ≡ goes_on self.new)
+            (λ exit. interrupted self.old (world_interrupt self.old.machine number len) ≡ ends self.new exit) }
+    {
+        match soft_int(&mut self.machine, number, len) {
+            Ok(()) => Ok(()),
+            Err(f) => self.delivered(f),
+        }
+    }
+
+    // The next instruction.
+    #[tactic(auto, unfolding(crate::specs::Turn::stepped))]
+    fn stepped(&mut self) -> Result<(), Exit>
+        requires real { self.old.machine.mode ≡ real }
+        ensures { MatchResult result (λ _. stepped self.old ≡ goes_on self.new) (λ exit. stepped self.old ≡ ends self.new exit) }
+    {
+        match step_machine(&mut self.machine) {
+            Ok(()) => Ok(()),
+            Err(Event::Fault(f)) => self.delivered(f),
+            Err(Event::Soft { number, len }) => self.interrupted(number, len),
+        }
+    }
+
+    // What a turn does in real mode.
+    fn trapped(&mut self) -> Result<(), Exit>
+        requires real { self.old.machine.mode ≡ real }
+        requires room { self.old.lines < 2 * self.old.steps }
+        ensures { MatchResult result (λ _. trapped self.old (real_trap self.old.machine) ≡ goes_on self.new)
+            (λ exit. trapped self.old (real_trap self.old.machine) ≡ ends self.new exit) }
+    {
+        match real_trap(&self.machine) {
+            Trap::Vector(n) => self.vector_reached(n),
+            Trap::Later => Err(Exit::Unbuilt),
+            Trap::NoTrap => self.stepped(),
+        }
+    }
+
+    // What a turn does. It is counted already, so that there is room for a line of the trace.
+    #[tactic(auto, unfolding(crate::specs::Turn::work))]
     fn work(&mut self) -> Result<(), Exit>
-        ensures ok { OnOk result (work self.old ≡ Ok self.new) }
-        ensures err { IfErr result (λ exit. (work self.old ≡ Err exit) × (self.new ≡ self.old)) }
-        ensures exit { self.new.exit ≡ self.old.exit }
+        requires room { self.old.lines < 2 * self.old.steps }
+        ensures { MatchResult result (λ _. work self.old ≡ goes_on self.new) (λ exit. work self.old ≡ ends self.new exit) }
     {
-        if self.is_at_dos_call() {
-            self.serve_dos_call()
-        } else {
-            self.machine.step()
+        match self.machine.mode() {
+            Mode::Real => self.trapped(),
+            Mode::Protected => Err(Exit::Unbuilt),
         }
-    }
-
-    // Whether the machine stands at the trap byte of DOS calls, and a fetch there is allowed.
-    fn is_at_dos_call(&self) -> bool
-        ensures { result ≡ is_at_dos_call self.now.machine }
-    {
-        let regs = &self.machine.regs;
-        self.machine.is_fetchable(0)
-            && u32::from(regs.cs) * PARAGRAPH_SIZE + regs.eip == DOS_CALL_TRAP
-    }
-
-    // INT 21h, by AH.
-    fn serve_dos_call(&mut self) -> Result<(), Exit>
-        ensures ok { OnOk result (dos_call self.old ≡ Ok self.new) }
-        ensures err { IfErr result (λ exit. (dos_call self.old ≡ Err exit) × (self.new ≡ self.old)) }
-        ensures exit { self.new.exit ≡ self.old.exit }
-    {
-        if !self.machine.can_pop_frame() {
-            return Err(Exit::Unbuilt);
-        }
-        let eax = self.machine.regs.eax;
-        match eax / 0x100 % 0x100 {
-            0x02 => self.write_character(),
-            0x4C => Err(Exit::Exited((eax % 0x100) as u8)),
-            _ => Err(Exit::Unbuilt),
-        }
-    }
-
-    // INT 21h function 02h: DL goes to the console, and the frame is popped.
-    fn write_character(&mut self) -> Result<(), Exit>
-        ensures ok { OnOk result (character_written self.old ≡ Ok self.new) }
-        ensures err { IfErr result (λ exit. (character_written self.old ≡ Err exit) × (self.new ≡ self.old)) }
-        ensures exit { self.new.exit ≡ self.old.exit }
-    {
-        if self.console.len() >= CONSOLE_ROOM as usize {
-            return Err(Exit::ConsoleFull);
-        }
-        let character = (self.machine.regs.edx % 0x100) as u8;
-        let _ = self.console.push(character);
-        self.machine.pop_frame();
-        Ok(())
     }
 }

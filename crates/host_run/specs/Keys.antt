@@ -1,0 +1,7 @@
+-- The keystrokes of a host. Source: own.
+use Rattle.client_world.specs.World.{HostWorld}
+use Rattle.dos_calls.specs.DosBytes.{AreBytes}
+
+-- those that are left are bytes
+abbrev pub HasKeys : HostWorld → Type 0
+HasKeys w = AreBytes w.keys

@@ -1,0 +1,88 @@
+// The default vectors of real mode.
+ghost use Rattle.std.specs.Prelude.{◌≡◌, ◌<◌, ◌*◌, MatchResult};
+ghost use Rattle.host_run.specs.Turn.{goes_on, ends, popped, dos_served, multiplex_served, ends_client, vector_served, vector_reached};
+
+use crate::host::Host;
+use crate::serving::can_pop;
+use client_world::faults::{COPROCESSOR_NOT_AVAILABLE, DIVIDE_ERROR, INVALID_OPCODE};
+use client_world::{DosDone, Exit, TraceLine};
+use dos_calls::{int2f, int21};
+use fault_service::pop_iret;
+
+impl Host {
+    // The interrupt's frame is popped.
+    fn popped(&mut self) -> Result<(), Exit>
+        ensures { MatchResult result (λ _. popped self.old ≡ goes_on self.new) (λ exit. popped self.old ≡ ends self.new exit) }
+    {
+        pop_iret(&mut self.machine)
+    }
+
+    // INT 21h: a DOS call.
+    fn dos_served(&mut self) -> Result<(), Exit>
+        requires room { self.old.lines < 2 * self.old.steps }
+        ensures { MatchResult result (λ _. dos_served self.old ≡ goes_on self.new) (λ exit. dos_served self.old ≡ ends self.new exit) }
+    {
+        let function = (self.machine.regs().eax / 0x100 % 0x100) as u8;
+        self.note(TraceLine::Int21(function));
+        match int21(&mut self.machine, &mut self.keys, &mut self.console) {
+            DosDone::Served => self.popped(),
+            DosDone::Ended(exit) => Err(exit),
+        }
+    }
+
+    // INT 2Fh.
+    fn multiplex_served(&mut self) -> Result<(), Exit>
+        requires room { self.old.lines < 2 * self.old.steps }
+        ensures { MatchResult result (λ _. multiplex_served self.old ≡ goes_on self.new)
+            (λ exit. multiplex_served self.old ≡ ends self.new exit) }
+    {
+        let function = (self.machine.regs().eax % 0x1_0000) as u16;
+        self.note(TraceLine::Int2f(function));
+        int2f(&mut self.machine);
+        self.popped()
+    }
+
+    // The default vector of a number.
+    #[tactic(auto, unfolding(crate::specs::Turn::vector_served))]
+    fn vector_served(&mut self, n: u8) -> Result<(), Exit>
+        requires room { self.old.lines < 2 * self.old.steps }
+        ensures { MatchResult result (λ _. vector_served self.old n ≡ goes_on self.new)
+            (λ exit. vector_served self.old n ≡ ends self.new exit) }
+    {
+        if ends_client(n) {
+            return Err(Exit::Fault(n, 0));
+        }
+        if n == 0x20 {
+            self.note(TraceLine::Int20);
+            return Err(Exit::Exited(0));
+        }
+        if n == 0x21 {
+            return self.dos_served();
+        }
+        if n == 0x2F {
+            return self.multiplex_served();
+        }
+        self.popped()
+    }
+
+    // The default vector of a number, where the frame can be popped.
+    #[tactic(auto, using(crate::proofs::Frames::reached_popped, crate::proofs::Frames::reached_bad))]
+    pub(crate) fn vector_reached(&mut self, n: u8) -> Result<(), Exit>
+        requires room { self.old.lines < 2 * self.old.steps }
+        ensures { MatchResult result (λ _. vector_reached self.old n ≡ goes_on self.new)
+            (λ exit. vector_reached self.old n ≡ ends self.new exit) }
+    {
+        if can_pop(&self.machine) {
+            self.vector_served(n)
+        } else {
+            Err(Exit::BadFrame)
+        }
+    }
+}
+
+// Whether the default vector of an exception ends the client.
+fn ends_client(n: u8) -> bool
+    ensures { result ≡ ends_client n }
+{
+    n == DIVIDE_ERROR || n == INVALID_OPCODE || n == COPROCESSOR_NOT_AVAILABLE
+}
