@@ -1,37 +1,70 @@
 -- A file, read as far as it decides, and its verdict.
-use Rattle.std.proofs.Common.{arith, ◌≡◌, ◌≤◌, ◌⊎◌, inl, inr, ℕ, List, [], ◌∷◌, length, take, refl, sym, ◌∙◌, ap, subst}
-use Rattle.std.specs.Prelude.{None, Some, IfSome, IsSomeAnd, Contains}
+use Rattle.std.proofs.Common.{arith, ◌≡◌, ◌≤◌, ◌<◌, ◌+◌, ◌⊎◌, inl, inr, ℕ, List, [], ◌∷◌, length, take, refl, sym, ◌∙◌, ap, subst}
+use Rattle.std.specs.Prelude.{nat_lt, if◌then◌else◌, None, Some, IfSome, IsSome, IsSomeAnd, Contains}
 use Rattle.std.specs.Option.{option_map}
-use Rattle.std.proofs.lemmas.List.{take_all}
-use Rattle.std.proofs.lemmas.Grind.{common_steps}
+use Rattle.std.proofs.lemmas.Bool.{lt-ltb, le-ltb}
+use Rattle.std.proofs.lemmas.Bool.Decides.{leb_tells}
+use Rattle.std.proofs.lemmas.List.{take_all, length-take-le}
 use Rattle.std.specs.declared.option.Option.{Option}
+use Rattle.client_world.specs.declared.limits.TheConstants.{MAX_FILE}
 use Rattle.client_world.specs.declared.outcome.LoadFault.{LoadFault}
 use Rattle.client_world.specs.World.{HostWorld}
-use Rattle.host_run.specs.Start.{refusal, started, blank}
-use Rattle.host_run.proofs.Front.{refusal_front, started_front}
+use Rattle.host_memory.specs.Blank.{blank_world}
+use Rattle.mz_loader.specs.Refusal.{refusal}
+use Rattle.host_run.specs.Start.{started, blank, IsBlank}
 use Rattle.dpmi_io.specs.Causes.{Rose}
 use Rattle.dpmi_io.specs.Content.{Files, Lacks, Starts as Opens}
-use Rattle.dpmi_cli.specs.declared.prepare.Reason.TheVariants.{Words, Load}
+use Rattle.dpmi_cli.specs.declared.prepare.Reason.TheVariants.{Words, FileTooLong, Load}
+use Rattle.dpmi_cli.specs.declared.prepare.TheConstants.{FRONT_SIZE}
 use Rattle.dpmi_cli.specs.Answer.{Verdict, Refuses, Starts, verdict, verdict_of, answer_to}
 use Rattle.dpmi_cli.specs.Load.{IsFront, HasFront, Comes}
 use Rattle.dpmi_cli.specs.Causes.{NamedFailed, IsAbsent, HasVerdict}
 use Rattle.dpmi_cli.specs.Words.{meaning, file_names}
 
--- a file whose first bytes are taken starts what they start
-verdict_starts : (file bytes : List ℕ) (w : HostWorld) → IsFront bytes file → refusal bytes ≡ None →
-    w ≡ started 1024 1000 bytes → verdict_of file ≡ Starts w
-verdict_starts file bytes w front taken is =
-    let same : refusal (take 1057 file) ≡ None = sym (ap refusal front) ∙ taken in
-    let none : refusal file ≡ None = sym (refusal_front file) ∙ same in
-    let world : started 1024 1000 file ≡ w = sym (started_front 1024 1000 file same) ∙ sym (ap (started 1024 1000) front) ∙ sym is in
-    rw (none, verdict_of) (ap Starts world)
+-- the verdict by the refusal, and the verdict on a file where the longest has m bytes
+abbrev by_refusal : List ℕ → Option LoadFault → Verdict
+by_refusal file refused = elim refused [ None ↦ Starts (started 1024 [] 1000 file) | Some fault ↦ Refuses (Load fault) ]
 
--- a file whose first bytes are refused is refused for that
-verdict_refuses : (file bytes : List ℕ) (fault : LoadFault) → IsFront bytes file →
-    refusal bytes ≡ Some fault → verdict_of file ≡ Refuses (Load fault)
-verdict_refuses file bytes fault front is =
-    let same : refusal file ≡ Some fault = sym (refusal_front file) ∙ sym (ap refusal front) ∙ is in
-    rw (same, verdict_of) refl
+abbrev verdict_by : ℕ → List ℕ → Verdict
+verdict_by m file = if nat_lt m (length file) then Refuses FileTooLong else by_refusal file (refusal file)
+
+verdict_long : (m : ℕ) (file : List ℕ) → m < length file → verdict_by m file ≡ Refuses FileTooLong
+verdict_long m file long =
+    ap (λ b. if b then Refuses FileTooLong else by_refusal file (refusal file)) (lt-ltb m (length file) long)
+
+verdict_short : (m : ℕ) (file : List ℕ) → length file ≤ m → verdict_by m file ≡ by_refusal file (refusal file)
+verdict_short m file short =
+    ap (λ b. if b then Refuses FileTooLong else by_refusal file (refusal file)) (le-ltb m (length file) short)
+
+-- the first bytes of a file, one more than the longest file has, have the file's verdict
+verdict_front : (m n : ℕ) (bytes file : List ℕ) → n ≡ m + 1 → bytes ≡ take n file →
+    verdict_by m bytes ≡ verdict_by m file
+verdict_front m n bytes file one_more front = elim (leb_tells (length file) m) [
+  | inl short ↦ ap (verdict_by m) (front ∙ take_all n file (omega (arith, short.1, one_more)))
+  | inr long ↦
+      let size : length bytes ≡ n = ap length front ∙ length-take-le n file (omega (arith, long.1, one_more)) in
+      verdict_long m bytes (omega (arith, size, one_more)) ∙ sym (verdict_long m file long.1)
+]
+
+blank_budget : (pages : ℕ) → (blank_world pages).budget ≡ pages
+unfolding blank_world
+blank_budget pages = refl
+
+-- a blank host is new
+pub is_blank : (pages : ℕ) (keys : List ℕ) (keep : ℕ) (w : HostWorld) → w ≡ blank pages keys keep → IsBlank w
+is_blank pages keys keep w is =
+    let at : IsBlank (blank pages keys keep) = ap (λ n. blank n keys keep) (sym (blank_budget pages)) in
+    subst (λ (v : HostWorld). IsBlank v) (sym is) at
+
+-- a file that is taken, in a host that is new
+pub front_starts : (bytes : List ℕ) (before w : HostWorld) → length bytes ≤ MAX_FILE → before ≡ blank 1024 [] 1000 →
+    refusal bytes ≡ None → w ≡ started before.machine.budget before.keys before.keep bytes →
+    verdict_of bytes ≡ Starts w
+front_starts bytes before w short new taken is =
+    let usual : w ≡ started 1024 [] 1000 bytes =
+    is ∙ ap (λ (v : HostWorld). started v.machine.budget v.keys v.keep bytes) new
+    ∙ ap (λ n. started n [] 1000 bytes) (blank_budget 1024) in
+    verdict_short MAX_FILE bytes short ∙ ap (by_refusal bytes) taken ∙ ap Starts (sym usual)
 
 of_file : (found : Option (List ℕ)) (P : List ℕ → Type 0) (v : Verdict) → IsSomeAnd found P →
     ((file : List ℕ) → P file → verdict_of file ≡ v) → option_map verdict_of found ≡ Some v
@@ -43,20 +76,11 @@ file_comes : (files : Option Files) (name bytes : List ℕ) (v : Verdict) → Ha
 file_comes None name bytes v (file, front) each = (file, each file front)
 file_comes (Some files) name bytes v has each = of_file (files name) (IsFront bytes) v has each
 
--- a file that is taken, in a host that is new
-pub file_starts : (files : Option Files) (name bytes : List ℕ) (before w : HostWorld) → HasFront files name bytes →
-    before ≡ blank 1024 1000 → refusal bytes ≡ None → w ≡ started before.machine.budget before.keep bytes →
-    Comes files name (Starts w)
-file_starts files name bytes before w has new taken is =
-    let usual : w ≡ started 1024 1000 bytes = is ∙ ap (λ (v : HostWorld). started v.machine.budget v.keep bytes) new in
-    file_comes files name bytes (Starts w) has (λ file front. verdict_starts file bytes w front taken usual)
-
--- a file that is refused
-pub file_refuses : (files : Option Files) (name bytes : List ℕ) (fault : LoadFault) →
-    HasFront files name bytes →
-    refusal bytes ≡ Some fault → Comes files name (Refuses (Load fault))
-file_refuses files name bytes fault has is =
-    file_comes files name bytes (Refuses (Load fault)) has (λ file front. verdict_refuses file bytes fault front is)
+-- the verdict on a file's first bytes is that on the file
+pub front_comes : (files : Option Files) (name bytes : List ℕ) (v : Verdict) → HasFront files name bytes →
+    verdict_of bytes ≡ v → Comes files name v
+front_comes files name bytes v has is =
+    file_comes files name bytes v has (λ file front. sym (verdict_front MAX_FILE FRONT_SIZE bytes file refl front) ∙ is)
 
 verdict_named : (words : List (List ℕ)) (name : List ℕ) (files : Files) → meaning words ≡ Some name →
     verdict words files ≡ option_map verdict_of (files name)
@@ -108,13 +132,23 @@ shelf_cause words name None before now blamed is (inr lacks) = absurd lacks
 shelf_cause words name (Some files) before now blamed is (inr lacks) =
     inr (ap (option_map answer_to) (verdict_named words name files is ∙ ap (option_map verdict_of) lacks))
 
+-- the bytes that were read, as many as a buffer holds
+short_take : (m n : ℕ) (buf : List ℕ) → n ≤ length buf → length buf ≡ m → length (take n buf) ≤ m
+short_take m n buf few size = omega (arith, length-take-le n buf few)
+
 -- the open file, read as far as a buffer holds
-pub front_by_read : (files : Option Files) (name : List ℕ) (left : Option (List ℕ)) (buf : List ℕ) (n : ℕ) →
+front_by_read : (m : ℕ) (name : List ℕ) (found left : Option (List ℕ)) (buf : List ℕ) (n : ℕ) →
+    left ≡ found → IsSome left → length buf ≡ m → IfSome left (λ l. take n buf ≡ take (length buf) l) →
+    IsSomeAnd found (λ file. take n buf ≡ take m file)
+front_by_read m name found None buf n is there size read = let never = there in cc
+front_by_read m name found (Some l) buf n is there size read =
+    subst (λ f. IsSomeAnd f (λ file. take n buf ≡ take m file)) is (read ∙ ap (λ k. take k l) size)
+
+pub front_of_read : (files : Option Files) (name : List ℕ) (left : Option (List ℕ)) (buf : List ℕ) (n : ℕ) →
     Opens files name left →
-    n ≤ length buf → length buf ≡ 1057 → IfSome left (λ l. take n buf ≡ take (length buf) l) → HasFront files name (take n buf)
-front_by_read None name left buf n opens few size read =
-    let short : length (take n buf) ≤ 1057 = grind (arith, common_steps) in
-    (take n buf, sym (take_all 1057 (take n buf) short))
-front_by_read (Some files) name None buf n opens few size read = let never = opens.1 in cc
-front_by_read (Some files) name (Some l) buf n opens few size read =
-    subst (λ found. IsSomeAnd found (IsFront (take n buf))) opens.0 (read ∙ ap (λ m. take m l) size)
+    n ≤ length buf → length buf ≡ FRONT_SIZE → IfSome left (λ l. take n buf ≡ take (length buf) l) →
+    HasFront files name (take n buf)
+front_of_read None name left buf n opens few size read =
+    (take n buf, sym (take_all FRONT_SIZE (take n buf) (short_take FRONT_SIZE n buf few size)))
+front_of_read (Some files) name left buf n opens few size read =
+    front_by_read FRONT_SIZE name (files name) left buf n opens.0 opens.1 size read

@@ -1,13 +1,13 @@
 -- The answer that a run gives, written whole or cut off.
 use Rattle.std.proofs.Common.{arith, ◌≡◌, ◌<◌, inl, inr, ℕ, List, length, sym, ◌∙◌, subst, refl, ap}
-use Rattle.std.specs.Prelude.{Some}
+use Rattle.std.specs.Prelude.{Some, All}
 use Rattle.std.proofs.lemmas.List.{take_all}
 use Rattle.client_world.specs.declared.outcome.Exit.{Exit}
 use Rattle.client_world.specs.declared.limits.TheConstants.{DEFAULT_BOUND}
 use Rattle.client_world.specs.World.{HostWorld}
-use Rattle.client_world.specs.Soundness.{IsSound}
-use Rattle.host_run.specs.Run.{run}
-use Rattle.host_run.proofs.Sound.{run_touch_held}
+use Rattle.client_world.specs.Access.{IsHeld}
+use Rattle.host_run.specs.Run.{run, turns}
+use Rattle.host_run.specs.Touched.{touched}
 use Rattle.dpmi_io.specs.Causes.{Rose}
 use Rattle.dpmi_io.specs.Content.{Told, Gains, GainsPart}
 use Rattle.dpmi_cli.specs.Answer.{Starts, run_status, exit_status}
@@ -25,12 +25,16 @@ status_is w e is = rw (is, run_status) refl
 not_four : (s : ℕ) → s < 2 → s ≡ 4 → ⊥
 not_four s small four = omega arith
 
+-- at each turn of a run, the places that it touches are the client's
+abbrev TouchesHold : Type 0
+TouchesHold = (w : HostWorld) (n : ℕ) → All (IsHeld (turns w n).machine) (touched (turns w n))
+
 -- the run ended so, and its text was written whole
-pub gives_run : (w after : HostWorld) (e : Exit) (before now : Told) (m n result : ℕ) → IsSound w.machine →
+pub gives_run : (w after : HostWorld) (e : Exit) (before now : Told) (m n result : ℕ) → TouchesHold →
     after ≡ run w DEFAULT_BOUND → after.exit ≡ Some e → Gains before now (text after) →
     result ≡ exit_status e →
     Answers (Starts w) before now m n result
-gives_run w after e before now m n result sound is ended whole status =
+gives_run w after e before now m n result held is ended whole status =
     let text_is : Gains before now (text (run w DEFAULT_BOUND)) = subst (λ (v : HostWorld). Gains before now (text v)) is whole in
     let status_of_run : result ≡ run_status (run w DEFAULT_BOUND) =
     status ∙ sym (status_is after e ended) ∙ ap run_status is in
@@ -40,18 +44,18 @@ gives_run w after e before now m n result sound is ended whole status =
       whole_text = λ _. text_is;
       whole_line = λ _. inl text_is;
       output_failure_has_cause = λ four. absurd (not_four (exit_status e) (exit_status-small e) (sym status ∙ four));
-      every_touch_is_held = run_touch_held w sound;
+      every_touch_is_held = held w;
     }
 
 -- the run ended, and the output failed in its text
-pub gives_cut : (w after : HostWorld) (before now : Told) (m n : ℕ) → IsSound w.machine →
+pub gives_cut : (w after : HostWorld) (before now : Told) (m n : ℕ) → TouchesHold →
     after ≡ run w DEFAULT_BOUND → GainsPart before now (text after) → Rose m n →
     Answers (Starts w) before now m n 4
-gives_cut w after before now m n sound is part rose = record {
+gives_cut w after before now m n held is part rose = record {
   writes_the_answer = subst (λ (v : HostWorld). GainsPart before now (text v)) is part;
   status_of_the_answer = inr (refl, run_status-small (run w DEFAULT_BOUND));
   whole_text = λ small. absurd (omega arith);
   whole_line = λ two. absurd (omega arith);
   output_failure_has_cause = λ _. rose;
-  every_touch_is_held = run_touch_held w sound;
+  every_touch_is_held = held w;
 }

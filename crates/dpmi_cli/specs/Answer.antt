@@ -1,18 +1,19 @@
 -- What the command answers, by its words and the files. Source: own.
-use Rattle.std.specs.Prelude.{ℕ, List, None, Some, All, ⊤}
+use Rattle.std.specs.Prelude.{ℕ, List, [], length, nat_lt, if◌then◌else◌, None, Some, All, ⊤}
 use Rattle.std.specs.Option.{option_map}
 use Rattle.std.specs.declared.option.Option.{Option}
-use Rattle.client_world.specs.declared.limits.TheConstants.{DEFAULT_BOUND, DEFAULT_PAGES, DEFAULT_TRACE}
+use Rattle.client_world.specs.declared.limits.TheConstants.{DEFAULT_BOUND, DEFAULT_PAGES, DEFAULT_TRACE, MAX_FILE}
 use Rattle.client_world.specs.declared.outcome.Exit.{Exit}
 use Rattle.client_world.specs.declared.outcome.Exit.TheVariants.{Exited, Fault, Bound, NoKeys, ConsoleFull, Deep, Stray, LostStructure, BadFrame, BadSwitch, Unbuilt}
 use Rattle.client_world.specs.World.{HostWorld}
 use Rattle.client_world.specs.Access.{IsHeld}
-use Rattle.host_run.specs.Start.{refusal, started}
+use Rattle.host_run.specs.Start.{started}
+use Rattle.mz_loader.specs.Refusal.{refusal}
 use Rattle.host_run.specs.Run.{run, turns}
 use Rattle.host_run.specs.Touched.{touched}
 use Rattle.dpmi_io.specs.Content.{Files}
 use Rattle.dpmi_cli.specs.declared.prepare.Reason.{Reason}
-use Rattle.dpmi_cli.specs.declared.prepare.Reason.TheVariants.{Words, Load}
+use Rattle.dpmi_cli.specs.declared.prepare.Reason.TheVariants.{Words, FileTooLong, Load}
 use Rattle.dpmi_cli.specs.declared.prepare.Prepared.{Prepared}
 use Rattle.dpmi_cli.specs.declared.prepare.Prepared.TheVariants.{Refused, Ready}
 use Rattle.dpmi_cli.specs.declared.status.TheConstants.{EXITED, ENDED_OTHERWISE, REFUSED}
@@ -24,12 +25,14 @@ pub data Verdict : Type 0 where
   Refuses : Reason → Verdict
   Starts : HostWorld → Verdict
 
--- the verdict on a file; the run that it starts has the page budget and the number of trace lines that are usual
+-- the verdict on a file; the run that it starts has no keystrokes, and the page budget and the number of trace lines that are usual
 abbrev pub verdict_of : List ℕ → Verdict
-verdict_of file = elim (refusal file) [
-  | None ↦ Starts (started DEFAULT_PAGES DEFAULT_TRACE file)
-  | Some fault ↦ Refuses (Load fault)
-]
+verdict_of file =
+    if nat_lt MAX_FILE (length file) then Refuses FileTooLong else
+    elim (refusal file) [
+      | None ↦ Starts (started DEFAULT_PAGES [] DEFAULT_TRACE file)
+      | Some fault ↦ Refuses (Load fault)
+    ]
 
 -- the verdict on the words; none where the file that they name isn't there
 abbrev pub verdict : List (List ℕ) → Files → Option Verdict

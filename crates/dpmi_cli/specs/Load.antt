@@ -2,16 +2,15 @@
 use Rattle.std.specs.Prelude.{ℕ, List, ◌≡◌, ◌⊎◌, take, None, Some, IsSomeAnd, ⊤}
 use Rattle.std.specs.Option.{option_map}
 use Rattle.std.specs.declared.option.Option.{Option}
-use Rattle.client_world.specs.declared.outcome.LoadFault.{LoadFault}
 use Rattle.client_world.specs.World.{HostWorld}
 use Rattle.client_world.specs.Soundness.{IsSound}
-use Rattle.host_run.specs.declared.header.TheConstants.{FRONT_SIZE}
+use Rattle.dpmi_cli.specs.declared.prepare.TheConstants.{FRONT_SIZE}
 use Rattle.dpmi_io.specs.Causes.{Rose}
 use Rattle.dpmi_io.specs.Content.{Files, Lacks}
-use Rattle.dpmi_cli.specs.declared.prepare.Reason.TheVariants.{Load}
+use Rattle.dpmi_cli.specs.declared.prepare.Reason.{Reason}
 use Rattle.dpmi_cli.specs.Answer.{Verdict, Refuses, Starts, verdict_of}
 
--- these bytes are the first of the file, as far as they decide
+-- these bytes are the first of the file, as many as are read: one more than the longest file has
 abbrev pub IsFront : List ℕ → List ℕ → Type 0
 IsFront bytes file = bytes ≡ take FRONT_SIZE file
 
@@ -30,9 +29,9 @@ abbrev pub FailsAt : Option Files → List ℕ → ℕ → ℕ → Option (List 
 FailsAt files name before now blamed = (Rose before now × (blamed ≡ Some name)) ⊎ Lacks files name
 
 -- what a load came to
-abbrev pub loaded : Option LoadFault → HostWorld → Verdict
+abbrev pub loaded : Option Reason → HostWorld → Verdict
 loaded None w = Starts w
-loaded (Some fault) w = Refuses (Load fault)
+loaded (Some reason) w = Refuses reason
 
 -- a run that starts has made no turn, and its machine is sound
 abbrev pub IsNew : Verdict → Type 0

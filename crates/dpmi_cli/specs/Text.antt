@@ -9,7 +9,7 @@ use Rattle.client_world.specs.declared.outcome.LoadFault.{LoadFault}
 use Rattle.client_world.specs.declared.outcome.LoadFault.TheVariants as fault
 use Rattle.client_world.specs.World.{HostWorld}
 use Rattle.dpmi_cli.specs.declared.prepare.Reason.{Reason}
-use Rattle.dpmi_cli.specs.declared.prepare.Reason.TheVariants.{Words, Load}
+use Rattle.dpmi_cli.specs.declared.prepare.Reason.TheVariants.{Words, FileTooLong, Load}
 
 -- the end of a line
 abbrev pub line_end : List ℕ
@@ -57,11 +57,17 @@ text w = elim w.exit [ None ↦ [] | Some exit ↦ text_at w exit ]
 abbrev pub fault_text : LoadFault → List ℕ
 fault_text fault.ShortHeader = codes "ShortHeader"
 fault_text fault.Signature = codes "Signature"
+fault_text fault.LastPage = codes "LastPage"
+fault_text fault.RelocTable = codes "RelocTable"
+fault_text fault.NoRoom = codes "NoRoom"
+fault_text fault.RelocTarget = codes "RelocTarget"
+fault_text fault.EntryOutside = codes "EntryOutside"
 fault_text fault.Unbuilt = codes "Unbuilt"
 
 -- how a reason is written
 abbrev pub reason_text : Reason → List ℕ
 reason_text Words = codes "words"
+reason_text FileTooLong = codes "FileTooLong"
 reason_text (Load fault) = fault_text fault
 
 -- the line of a refusal

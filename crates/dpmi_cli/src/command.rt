@@ -14,7 +14,7 @@ use crate::status::{ENDED_OTHERWISE, EXITED, FILE_FAILED, NO_MEMORY, OUTPUT_FAIL
 use client_world::Exit;
 use client_world::limits::DEFAULT_BOUND;
 use dpmi_io::{Shelf, Sink};
-use host_run::Host;
+use host_run::{Host, every_touch_of_a_run_is_held};
 use std::alloc::Global;
 
 // Refuses for a reason; a line that the output doesn't take changes no status.
@@ -43,6 +43,7 @@ fn run_client<O: Sink>(host: &mut Host, out: &mut O) -> u8
     ensures status { result ≤ OUTPUT_FAILED }
     ensures no_file_failed { result ≢ FILE_FAILED }
 {
+    every_touch_of_a_run_is_held();
     let exit = host.run(DEFAULT_BOUND);
     match write_all_of(host, out) {
         Ok(()) => status_of(exit),

@@ -1,7 +1,7 @@
 // What comes before the run: the words, the memory, the file and the load.
-ghost use Rattle.std.specs.Prelude.{◌≡◌, ◌≤◌, ◌⊎◌, map, string_bytes, None, Some, length, take, IfOk, OnErr, IsErrOf};
+ghost use Rattle.std.specs.Prelude.{◌≡◌, ◌≤◌, ◌⊎◌, [], map, string_bytes, None, Some, length, take, IfOk, OnErr, IsErrOf};
 ghost use Rattle.client_world.specs.declared.limits.TheConstants.{DEFAULT_PAGES, DEFAULT_TRACE};
-ghost use Rattle.dpmi_cli.specs.Answer.{verdict_in};
+ghost use Rattle.dpmi_cli.specs.Answer.{verdict_in, verdict_of};
 ghost use Rattle.dpmi_cli.specs.Load.{HasFront, Comes, FailsAt, loaded, IsNew};
 ghost use Rattle.host_run.specs.Start.{blank};
 ghost use Rattle.dpmi_cli.specs.Causes.{NamedFailed, IsAbsent, HasVerdict};
@@ -9,15 +9,19 @@ ghost use Rattle.dpmi_cli.specs.declared.prepare.Stop.TheVariants.{Memory};
 
 use crate::words::file_to_run;
 use client_world::LoadFault;
-use client_world::limits::{DEFAULT_PAGES, DEFAULT_TRACE};
+use client_world::limits::{DEFAULT_PAGES, DEFAULT_TRACE, MAX_FILE};
 use dpmi_io::{Shelf, ShelfFail, read_whole};
-use host_run::{FRONT_SIZE, Host};
+use host_run::Host;
 use std::alloc::{AllocError, Global};
+
+/// The bytes that are read of a file: one more than the longest file has.
+pub const FRONT_SIZE: usize = MAX_FILE as usize + 1;
 
 /// Why the words or the file are refused. Source: own.
 #[derive(Clone, Copy, Debug, PartialEq, Eq)]
 pub enum Reason {
     Words,
+    FileTooLong,
     Load(LoadFault),
 }
 
@@ -61,18 +65,33 @@ fn read_front<F: Shelf>(shelf: &mut F, name: String, buf: &mut [u8]) -> Result<u
     }
 }
 
-// Reads a file and loads it into a new host. None is answered where it is taken, else the fault.
+// Loads a file's first bytes into a new host. None is answered where it is taken, else the reason.
+fn load_front(front: &[u8], host: &mut Host) -> Option<Reason>
+    requires blank { host.old ≡ blank DEFAULT_PAGES [] DEFAULT_TRACE }
+    ensures told { verdict_of front.now ≡ loaded result host.new }
+    ensures new { IsNew (loaded result host.new) }
+{
+    if front.len() > MAX_FILE as usize {
+        return Some(Reason::FileTooLong);
+    }
+    match host.load(front) {
+        Ok(()) => None,
+        Err(fault) => Some(Reason::Load(fault)),
+    }
+}
+
+// Reads a file and loads it into a new host. None is answered where it is taken, else the reason.
 fn load_file<F: Shelf>(
     shelf: &mut F,
     name: String,
     buf: &mut [u8],
     host: &mut Host,
-) -> Result<Option<LoadFault>, ShelfFail>
+) -> Result<Option<Reason>, ShelfFail>
     requires room { length buf.old ≡ FRONT_SIZE }
-    requires blank { host.old ≡ blank DEFAULT_PAGES DEFAULT_TRACE }
-    ensures told { IfOk result (λ fault.
-        Comes (F.files shelf.old) (string_bytes name) (loaded fault host.new)) }
-    ensures new { IfOk result (λ fault. IsNew (loaded fault host.new)) }
+    requires blank { host.old ≡ blank DEFAULT_PAGES [] DEFAULT_TRACE }
+    ensures told { IfOk result (λ reason.
+        Comes (F.files shelf.old) (string_bytes name) (loaded reason host.new)) }
+    ensures new { IfOk result (λ reason. IsNew (loaded reason host.new)) }
     ensures failed { OnErr result
         (FailsAt (F.files shelf.old) (string_bytes name) (F.faults shelf.old) (F.faults shelf.new) (F.blamed shelf.new)) }
 {
@@ -80,10 +99,7 @@ fn load_file<F: Shelf>(
         Ok(n) => n,
         Err(fail) => return Err(fail),
     };
-    match host.load(&buf[..n]) {
-        Ok(()) => Ok(None),
-        Err(fault) => Ok(Some(fault)),
-    }
+    Ok(load_front(&buf[..n], host))
 }
 
 // Takes all the memory, reads the file of that name and loads it.
@@ -98,7 +114,7 @@ fn prepare_file<F: Shelf>(alloc: Global, name: &str, shelf: &mut F) -> Result<Pr
     let mut host = Host::new(alloc, DEFAULT_PAGES, &[], DEFAULT_TRACE)?;
     match load_file(shelf, name, &mut buf, &mut host) {
         Ok(None) => Ok(Prepared::Ready(host)),
-        Ok(Some(fault)) => Ok(Prepared::Refused(Reason::Load(fault))),
+        Ok(Some(reason)) => Ok(Prepared::Refused(reason)),
         Err(_) => Err(Stop::Shelf),
     }
 }

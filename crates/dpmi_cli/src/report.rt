@@ -13,12 +13,18 @@ use host_run::Host;
 // How a reason is written.
 fn reason_name(reason: Reason) -> &'static [u8]
     ensures name { result.now ≡ reason_text reason }
-    ensures short { length result.now ≤ 11 }
+    ensures short { length result.now ≤ 12 }
 {
     match reason {
         Reason::Words => b"words",
+        Reason::FileTooLong => b"FileTooLong",
         Reason::Load(LoadFault::ShortHeader) => b"ShortHeader",
         Reason::Load(LoadFault::Signature) => b"Signature",
+        Reason::Load(LoadFault::LastPage) => b"LastPage",
+        Reason::Load(LoadFault::RelocTable) => b"RelocTable",
+        Reason::Load(LoadFault::NoRoom) => b"NoRoom",
+        Reason::Load(LoadFault::RelocTarget) => b"RelocTarget",
+        Reason::Load(LoadFault::EntryOutside) => b"EntryOutside",
         Reason::Load(LoadFault::Unbuilt) => b"Unbuilt",
     }
 }
