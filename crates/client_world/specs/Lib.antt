@@ -3,7 +3,6 @@ pub mod Descriptor
 pub mod DosMemory
 pub mod FreeRuns
 pub mod Loading
-pub mod Memory
 pub mod Registers
 pub mod Segments
 pub mod Selector

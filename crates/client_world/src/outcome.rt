@@ -44,6 +44,4 @@ pub enum LoadFault {
     RelocTarget,
     /// The first instruction lies outside the program block.
     EntryOutside,
-    /// The file has another form than the one that this stage of the loader takes.
-    Unbuilt,
 }

@@ -23,8 +23,8 @@ use Rattle.insn_decode.specs.declared.decoding.Decoded.TheVariants.{Whole, More,
 use Rattle.insn_decode.specs.Decode.{decoded}
 use Rattle.insn_plan.specs.Act.{Act, End, Read, Input, Given, From, value_of}
 use Rattle.insn_plan.specs.Plan.{Plan, planned}
-use Rattle.cpu_step.specs.Step.{has_big_code, code, client_row}
-use Rattle.cpu_step.specs.Touched.{and_then, fetched, input_read, all_read, all_pushed, vector_places, vector_read, all_written, executed_touches, moved, decoded_touches, touched}
+use Rattle.cpu_step.specs.Step.{has_big_code, code, client_row, moved}
+use Rattle.cpu_step.specs.Touched.{and_then, fetched, input_read, read_places, write_places, vector_places, vector_read, places_behind, executed_touches, decoded_touches, touched}
 
 abbrev AreHeld : World → List Place → Type 0
 AreHeld w places = All (IsHeld w) places
@@ -86,18 +86,18 @@ value_held : (w : World) (r : Result ℕ Event) (more : ℕ → List Place) → 
 value_held w (Ok v) more rest = rest v
 value_held w (Err e) more rest = All-nil (IsHeld w)
 
-all_read_held : (w : World) (act : Act) → AreHeld w (all_read w act)
-unfolding all_read
-all_read_held w (End outcome) = All-nil (IsHeld w)
-all_read_held w (Read input rest) =
-    input_held w input (elim (value_of w input) [ Ok v ↦ all_read w (rest v) | Err e ↦ [] ])
-    (value_held w (value_of w input) (λ v. all_read w (rest v)) (λ v. all_read_held w (rest v)))
+read_places_held : (w : World) (act : Act) → AreHeld w (read_places w act)
+unfolding read_places
+read_places_held w (End outcome) = All-nil (IsHeld w)
+read_places_held w (Read input rest) =
+    input_held w input (elim (value_of w input) [ Ok v ↦ read_places w (rest v) | Err e ↦ [] ])
+    (value_held w (value_of w input) (λ v. read_places w (rest v)) (λ v. read_places_held w (rest v)))
 
-all_pushed_held : (w : World) (writes : List Write) → AreHeld w (all_pushed w writes)
-unfolding all_pushed
-all_pushed_held w [] = All-nil (IsHeld w)
-all_pushed_held w (x ∷ writes) =
-    then_held w (access w x.seg x.off (byte_count x.width) true) (all_pushed w writes) (access_held w x.seg x.off (byte_count x.width) true) (all_pushed_held w writes)
+write_places_held : (w : World) (writes : List Write) → AreHeld w (write_places w writes)
+unfolding write_places
+write_places_held w [] = All-nil (IsHeld w)
+write_places_held w (x ∷ writes) =
+    then_held w (access w x.seg x.off (byte_count x.width) true) (write_places w writes) (access_held w x.seg x.off (byte_count x.width) true) (write_places_held w writes)
 
 -- ---- a software interrupt
 
@@ -124,18 +124,18 @@ vector_read_held w n =
     let refused = first_refusal w (interrupt_pushed w).writes in
     by_mode_held w w.mode (elim refused [ None ↦ vector_places n | Some f ↦ [] ]) (where_pushed_held w refused n)
 
-all_written_held : (w : World) (r : Result Plan Event) → AreHeld w (all_written w r)
-all_written_held w (Ok p) = all_pushed_held w p.writes
-all_written_held w (Err (fault f)) = All-nil (IsHeld w)
-all_written_held w (Err (Soft n len)) =
-    All-append (IsHeld w) (all_pushed w (interrupt_pushed w).writes) (vector_read w n)
-    (all_pushed_held w (interrupt_pushed w).writes) (vector_read_held w n)
+places_behind_held : (w : World) (r : Result Plan Event) → AreHeld w (places_behind w r)
+places_behind_held w (Ok p) = write_places_held w p.writes
+places_behind_held w (Err (fault f)) = All-nil (IsHeld w)
+places_behind_held w (Err (Soft n len)) =
+    All-append (IsHeld w) (write_places w (interrupt_pushed w).writes) (vector_read w n)
+    (write_places_held w (interrupt_pushed w).writes) (vector_read_held w n)
 
 -- ---- the whole instruction: EIP has no part in what the client holds
 
 executed_held : (w : World) (act : Act) → AreHeld w (executed_touches w act)
 executed_held w act =
-    All-append (IsHeld w) (all_read w act) (all_written w (planned w [] act)) (all_read_held w act) (all_written_held w (planned w [] act))
+    All-append (IsHeld w) (read_places w act) (places_behind w (planned w [] act)) (read_places_held w act) (places_behind_held w (planned w [] act))
 
 back : (w : World) (len : ℕ) (p : Place) → IsHeld (moved len w) p → IsHeld w p
 back w len (Dos at) h = h

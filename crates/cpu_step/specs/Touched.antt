@@ -1,7 +1,7 @@
 -- The places that the client's next instruction touches, in the order of the accesses: the bytes that are fetched, what it reads, what it
 -- writes; and what its software interrupt pushes, and the vector that this reads. An access that faults names no place, and nothing is accessed
 -- behind it. Source: own.
-use Rattle.std.specs.Prelude.{ℕ, zero, suc, ◌+◌, ◌*◌, ◌%◌, ◌^◌, true, false, List, [], ◌∷◌, ◌++◌, Ok, Err, None, Some}
+use Rattle.std.specs.Prelude.{ℕ, zero, suc, ◌+◌, ◌*◌, true, false, List, [], ◌∷◌, ◌++◌, Ok, Err, None, Some}
 use Rattle.std.specs.declared.result.Result.{Result}
 use Rattle.client_world.specs.declared.faults.Event.{Event}
 use Rattle.client_world.specs.declared.faults.Event.TheVariants.{Fault as fault, Soft}
@@ -21,7 +21,7 @@ use Rattle.insn_decode.specs.declared.decoding.Decoded.TheVariants.{Whole, More,
 use Rattle.insn_decode.specs.Decode.{decoded}
 use Rattle.insn_plan.specs.Act.{Act, End, Read, Input, Given, From, value_of}
 use Rattle.insn_plan.specs.Plan.{Plan, planned}
-use Rattle.cpu_step.specs.Step.{has_big_code, code, client_row}
+use Rattle.cpu_step.specs.Step.{has_big_code, code, client_row, moved}
 
 -- the places of an access, and of what comes behind it where it doesn't fault
 abbrev pub and_then : Result (List Place) Fault → List Place → List Place
@@ -38,14 +38,14 @@ abbrev pub input_read : World → Input → List Place → List Place
 input_read w (Given v) more = more
 input_read w (From seg off n) more = and_then (access w seg off n false) more
 
-unfoldable pub all_read : World → Act → List Place
-all_read w (End outcome) = []
-all_read w (Read input rest) = input_read w input (elim (value_of w input) [ Ok v ↦ all_read w (rest v) | Err e ↦ [] ])
+unfoldable pub read_places : World → Act → List Place
+read_places w (End outcome) = []
+read_places w (Read input rest) = input_read w input (elim (value_of w input) [ Ok v ↦ read_places w (rest v) | Err e ↦ [] ])
 
--- writes
-unfoldable pub all_pushed : World → List Write → List Place
-all_pushed w [] = []
-all_pushed w (x ∷ xs) = and_then (access w x.seg x.off (byte_count x.width) true) (all_pushed w xs)
+-- the writes of an instruction
+unfoldable pub write_places : World → List Write → List Place
+write_places w [] = []
+write_places w (x ∷ xs) = and_then (access w x.seg x.off (byte_count x.width) true) (write_places w xs)
 
 -- the real-mode vector of an interrupt
 abbrev pub vector_places : ℕ → List Place
@@ -58,18 +58,15 @@ vector_read w n = elim w.mode [
   | Protected ↦ []
 ]
 
--- what follows the reads
-abbrev pub all_written : World → Result Plan Event → List Place
-all_written w (Ok p) = all_pushed w p.writes
-all_written w (Err (fault f)) = []
-all_written w (Err (Soft number len)) = all_pushed w (interrupt_pushed w).writes ++ vector_read w number
+-- what comes behind the reads
+abbrev pub places_behind : World → Result Plan Event → List Place
+places_behind w (Ok p) = write_places w p.writes
+places_behind w (Err (fault f)) = []
+places_behind w (Err (Soft number len)) = write_places w (interrupt_pushed w).writes ++ vector_read w number
 
 -- an instruction, with EIP behind it
 abbrev pub executed_touches : World → Act → List Place
-executed_touches w act = all_read w act ++ all_written w (planned w [] act)
-
-abbrev pub moved : ℕ → World → World
-moved len w = record w { regs = record w.regs { eip = (w.regs.eip + len) % 2 ^ 32 } }
+executed_touches w act = read_places w act ++ places_behind w (planned w [] act)
 
 abbrev pub decoded_touches : World → Decoded → List Place
 decoded_touches w (Whole insn len) = executed_touches (moved len w) (client_row (moved len w) insn len)

@@ -28,8 +28,8 @@ pub fn has_big_code(m: &Machine) -> bool
     }
 }
 
-// Moves EIP behind an instruction of so many bytes.
-fn move_behind(m: &mut Machine, len: u8)
+/// Moves EIP behind an instruction of so many bytes, modulo 2^32.
+pub fn move_behind(m: &mut Machine, len: u8)
     ensures { m.new ≡ behind len m.old }
 {
     let mut r = m.regs();
@@ -37,8 +37,8 @@ fn move_behind(m: &mut Machine, len: u8)
     m.set_regs(r);
 }
 
-// Sets the registers, and changes nothing else.
-fn put_back(m: &mut Machine, r: Regs)
+/// Gives back the registers from before an instruction that had an event, and changes nothing else.
+pub fn put_back(m: &mut Machine, r: Regs)
     ensures { m.new ≡ record m.old { world = record m.old.world { regs = r } } }
 {
     m.set_regs(r);

@@ -5,7 +5,8 @@ use Rattle.std.proofs.lemmas.Bool.{le-leb, lt-leb, leb-true}
 use borrow.Author.Tests.{ltb-true, ltb-false}
 use Rattle.std.proofs.lemmas.List.{take_all}
 use Rattle.client_world.specs.declared.limits.TheConstants.{CONSOLE_ROOM}
-use Rattle.dos_calls.specs.Answering.{has_room, added}
+use Rattle.dos_calls.specs.Answering.{added}
+use Rattle.dos_calls.specs.Calls.{has_room}
 
 -- what is left to add leads to the same end as all of it at the start
 pub record Adds (console bytes now rest : List ℕ) : Type 0 where

@@ -4,8 +4,8 @@ use Rattle.std.specs.Prelude.{if◌then◌else◌}
 use Rattle.client_world.specs.declared.outcome.Exit.TheVariants.{ConsoleFull}
 use Rattle.client_world.specs.declared.services.DosDone.TheVariants.{Served, Ended}
 use Rattle.client_world.specs.World.{World}
-use Rattle.dos_calls.specs.Answering.{has_room, added}
-use Rattle.dos_calls.specs.Calls.{CallState, CallResult, printed, with_line, line_of, line_read}
+use Rattle.dos_calls.specs.Answering.{added}
+use Rattle.dos_calls.specs.Calls.{CallState, CallResult, printed, with_line, line_of, line_read, has_room}
 
 abbrev pub printing : CallState → List ℕ → World → List ℕ → Bool → CallResult
 printing s bytes world keys all = record {

@@ -12,11 +12,11 @@ use Rattle.client_world.specs.World.{World}
 use Rattle.client_world.proofs.SoundWrites.{IsSound-dos}
 use Rattle.dos_blocks.specs.Blocks.{allocated, freed, resized}
 use Rattle.dos_blocks.proofs.SoundBlocks.{sound_allocated, sound_freed, sound_resized}
-use Rattle.guest_ram.specs.Bytes.{word_of}
+use Rattle.guest_ram.specs.Bytes.{AreBytes, word_of}
 use Rattle.host_memory.specs.Vectors.{word_bytes}
 use Rattle.dos_calls.specs.Calls as calls
 use Rattle.dos_calls.specs.Calls.{CallResult, CallState, served, ended, printed, with_al, with_ax, with_bx, with_error, without_carry, with_key, poll_key, with_line, line_read, line_of, keys_read, bad_handle, memory_given, memory_changed, no_memory, wrong_block, bad_function, dos_call}
-use Rattle.dos_calls.specs.DosBytes.{AreBytes, byte_at, dos_address, with_bytes_at}
+use Rattle.dos_calls.specs.DosBytes.{byte_at, address_at, with_bytes_at}
 use Rattle.dos_calls.specs.Multiplex.{with_entry, multiplex_call}
 use Rattle.dos_calls.proofs.ByteLists.{no_bytes, more_bytes, bytes_behind, bytes_append, bytes_take, bytes_drop, length-taken, bytes_word, bytes_read, bytes_text, LineOfBytes, bytes_line}
 use Rattle.dos_calls.proofs.SoundWorlds.{sound_bytes, sound_carry, sound_zero, sound_general, sound_es, sound_al, sound_ax, sound_bx, sound_error}
@@ -124,7 +124,7 @@ keeps_read_line s seen =
     let n = byte_at s.world.dos s.world.regs.ds (low_half s.world.regs.edx) in
     keeps_if s (nat_eq n 0) (served s s.world s.keys) (line_read s n (line_of s.keys))
     (keeps_served s s.world s.keys seen.world seen.keys)
-    (keeps_line s n (line_of s.keys) (seen.world.megabyte.bytes (dos_address s.world.regs.ds (low_half s.world.regs.edx))) seen
+    (keeps_line s n (line_of s.keys) (seen.world.megabyte.bytes (address_at s.world.regs.ds (low_half s.world.regs.edx))) seen
     (bytes_line s.keys seen.keys))
 
 keeps_ask_key : (s : CallState) → Seen s → Keeps s (calls.ask_key s)

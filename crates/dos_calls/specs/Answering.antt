@@ -5,11 +5,7 @@ use Rattle.client_world.specs.declared.limits.TheConstants.{CONSOLE_ROOM}
 use Rattle.client_world.specs.declared.services.DosDone.{DosDone}
 use Rattle.client_world.specs.declared.services.DosDone.TheVariants.{Served, Ended}
 use Rattle.client_world.specs.World.{World}
-use Rattle.dos_calls.specs.Calls.{CallResult, CallState}
-
--- the console has room for all of the bytes
-abbrev pub has_room : List ℕ → List ℕ → Bool
-has_room console bytes = nat_le (length console + length bytes) CONSOLE_ROOM
+use Rattle.dos_calls.specs.Calls.{CallResult, CallState, has_room}
 
 -- the console with the bytes behind it, or with as many as fit
 abbrev pub added : List ℕ → List ℕ → List ℕ

@@ -1,6 +1,6 @@
 -- The DOS calls of INT 21h, by AH, and what is served of INT 2Fh. A call sees the machine, the keys that are left, and the console.
 -- Source: MS-DOS functions 01h to 62h; which of them there are, and what a full console and missing keys do, is own.
-use Rattle.std.specs.Prelude.{ℕ, ◌+◌, ◌-◌, ◌*◌, true, false, ◌||◌, nat_eq, nat_le, if◌then◌else◌, List, [], ◌∷◌, ◌++◌, length, take, drop, Some, None, Ok, Err}
+use Rattle.std.specs.Prelude.{ℕ, Bool, ◌+◌, ◌-◌, ◌*◌, true, false, ◌||◌, nat_eq, nat_le, if◌then◌else◌, List, [], ◌∷◌, ◌++◌, length, take, drop, Some, None, Ok, Err}
 use Rattle.std.specs.declared.option.Option.{Option}
 use Rattle.client_world.specs.declared.dos_memory.DosRefusal.TheVariants.{NoMemory, WrongBlock}
 use Rattle.client_world.specs.declared.limits.TheConstants.{CONSOLE_ROOM}
@@ -38,10 +38,14 @@ served s world keys = record { done = Served; world = world; keys = keys; consol
 abbrev pub ended : CallState → Exit → CallResult
 ended s exit = record { done = Ended exit; world = s.world; keys = s.keys; console = s.console }
 
+-- the console has room for all of the bytes
+abbrev pub has_room : List ℕ → List ℕ → Bool
+has_room console bytes = nat_le (length console + length bytes) CONSOLE_ROOM
+
 -- bytes go to the console, and it is served; where the console has no room for all, as many as fit are written, and the client ends
 unfoldable pub printed : CallState → List ℕ → World → List ℕ → CallResult
 printed s bytes world keys =
-    if nat_le (length s.console + length bytes) CONSOLE_ROOM then
+    if has_room s.console bytes then
     record { done = Served; world = world; keys = keys; console = s.console ++ bytes }
     else record {
       done = Ended exits.ConsoleFull;

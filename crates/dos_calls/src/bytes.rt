@@ -1,18 +1,18 @@
 // Bytes of the DOS megabyte at a segment and an offset, which wraps in its segment.
 ghost use Rattle.std.specs.Prelude.{◌≡◌, ◌≤◌, ◌<◌, ◌+◌, length};
 ghost use Rattle.client_world.specs.declared.memory_map.TheConstants.{DOS_SIZE};
-ghost use Rattle.guest_ram.specs.Bytes.{word_of};
 ghost use Rattle.guest_space.specs.Dos.{with_dos_byte};
-ghost use Rattle.dos_calls.specs.DosBytes.{dos_address, byte_at, with_bytes_at, bytes_from, text_from};
-ghost use Rattle.dos_calls.specs.Answering.{has_room, added};
+ghost use Rattle.dos_calls.specs.DosBytes.{address_at, byte_at, with_bytes_at, bytes_from, text_from};
+ghost use Rattle.dos_calls.specs.Answering.{added};
+ghost use Rattle.dos_calls.specs.Calls.{has_room};
 
 use crate::console::Console;
 use client_world::memory_map::{DOS_SIZE, PARAGRAPH_SIZE, SEGMENT_SIZE};
 use guest_space::Machine;
 
 // Where the byte at segment:offset stands.
-fn dos_address(segment: u16, offset: u32) -> u32
-    ensures at { result ≡ dos_address segment offset }
+fn address_at(segment: u16, offset: u32) -> u32
+    ensures at { result ≡ address_at segment offset }
     ensures within { result < DOS_SIZE }
 {
     (u32::from(segment) * PARAGRAPH_SIZE + offset % SEGMENT_SIZE) % DOS_SIZE
@@ -20,25 +20,25 @@ fn dos_address(segment: u16, offset: u32) -> u32
 
 /// Where the low byte of the flags image stands that the interrupt pushed.
 pub(crate) fn stacked_flags(m: &Machine) -> u32
-    ensures at { result ≡ dos_address m.now.world.regs.ss (m.now.world.regs.esp + 4) }
+    ensures at { result ≡ address_at m.now.world.regs.ss (m.now.world.regs.esp + 4) }
     ensures within { result < DOS_SIZE }
 {
     let r = m.regs();
-    dos_address(r.ss, r.esp % SEGMENT_SIZE + 4)
+    address_at(r.ss, r.esp % SEGMENT_SIZE + 4)
 }
 
 /// The byte at segment:offset.
 pub(crate) fn byte_at(m: &Machine, segment: u16, offset: u32) -> u8
     ensures { result ≡ byte_at m.now.world.dos segment offset }
 {
-    m.dos8(dos_address(segment, offset))
+    m.dos8(address_at(segment, offset))
 }
 
 // Puts a byte at segment:offset.
 fn set_byte_at(m: &mut Machine, segment: u16, offset: u32, v: u8)
-    ensures { m.new.world ≡ record m.old.world { dos = with_dos_byte m.old.world.dos (dos_address segment offset) v } }
+    ensures { m.new.world ≡ record m.old.world { dos = with_dos_byte m.old.world.dos (address_at segment offset) v } }
 {
-    m.set_dos8(dos_address(segment, offset), v);
+    m.set_dos8(address_at(segment, offset), v);
 }
 
 /// Puts bytes at segment:offset; those of read-only memory stay.
@@ -51,14 +51,6 @@ pub(crate) fn put_bytes(m: &mut Machine, segment: u16, offset: u32, bytes: &[u8]
         set_byte_at(m, segment, at, *byte);
         at += 1;
     }
-}
-
-/// The word at an address.
-pub(crate) fn word_of(m: &Machine, at: u32) -> u16
-    requires { at + 1 < DOS_SIZE }
-    ensures { result ≡ word_of m.now.world.dos at }
-{
-    u16::from(m.dos8(at)) + 0x100 * u16::from(m.dos8(at + 1))
 }
 
 /// Adds so many bytes from segment:offset on to the console, as many as fit, and tells whether all did.

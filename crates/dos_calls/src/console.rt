@@ -1,7 +1,8 @@
 // What the client wrote.
 ghost use Rattle.std.specs.Prelude.{◌≡◌, ◌≤◌, ℕ, List, [], ◌∷◌, ◌++◌, length, nat_lt, if◌then◌else◌, IfOk, vec_capacity};
 ghost use Rattle.client_world.specs.declared.limits.TheConstants.{CONSOLE_ROOM};
-ghost use Rattle.dos_calls.specs.Answering.{has_room, added};
+ghost use Rattle.dos_calls.specs.Answering.{added};
+ghost use Rattle.dos_calls.specs.Calls.{has_room};
 
 use client_world::limits::CONSOLE_ROOM;
 use std::alloc::{AllocError, Global};

@@ -2,7 +2,7 @@
 ghost use Rattle.client_world.specs.Soundness.{IsSound};
 ghost use Rattle.client_world.specs.World.{World};
 ghost use Rattle.dos_calls.specs.Calls.{CallState, dos_call};
-ghost use Rattle.dos_calls.specs.DosBytes.{AreBytes};
+ghost use Rattle.guest_ram.specs.Bytes.{AreBytes};
 ghost use Rattle.dos_calls.specs.Multiplex.{multiplex_call};
 
 /// A call leads from a sound world to a sound one, where the keys are bytes. Those that are left are bytes, and a console of bytes stays one.

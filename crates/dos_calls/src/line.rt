@@ -1,7 +1,7 @@
 // The call that takes a line of keys.
 ghost use Rattle.std.specs.Prelude.{◌≡◌, ◌<◌, ◌+◌, ◌-◌, [], ◌∷◌, ◌++◌, Some, take, drop, length};
-ghost use Rattle.dos_calls.specs.Calls.{with_line, line_of, line_read, read_line};
-ghost use Rattle.dos_calls.specs.Answering.{has_room, added, IfEnded};
+ghost use Rattle.dos_calls.specs.Calls.{has_room, with_line, line_of, line_read, read_line};
+ghost use Rattle.dos_calls.specs.Answering.{added, IfEnded};
 
 use crate::bytes::{byte_at, put_bytes};
 use crate::console::Console;

@@ -6,20 +6,21 @@ ghost use Rattle.dos_calls.specs.Calls.{with_al, with_ax, with_bx, with_error};
 ghost use Rattle.dos_calls.specs.DosBytes.{with_bit, with_stacked};
 
 use crate::bytes::stacked_flags;
+use cpu_values::{part8, put8, put16};
 use guest_space::Machine;
 
 /// The low byte of a register.
 pub(crate) fn low_byte(x: u32) -> u8
     ensures { result ≡ low_byte x }
 {
-    (x % 0x100) as u8
+    part8(x, false)
 }
 
 /// Its second byte.
 pub(crate) fn high_byte(x: u32) -> u8
     ensures { result ≡ high_byte x }
 {
-    (x / 0x100 % 0x100) as u8
+    part8(x, true)
 }
 
 /// Its low half.
@@ -33,14 +34,14 @@ pub(crate) fn low_half(x: u32) -> u16
 pub(crate) fn with_low_byte(x: u32, v: u8) -> u32
     ensures { result ≡ with_low_byte x v }
 {
-    x / 0x100 * 0x100 + u32::from(v)
+    put8(x, false, v)
 }
 
 /// A register with another low half.
 pub(crate) fn with_low_half(x: u32, v: u16) -> u32
     ensures { result ≡ with_low_half x v }
 {
-    x / 0x1_0000 * 0x1_0000 + u32::from(v)
+    put16(x, v)
 }
 
 /// Answers in AL.

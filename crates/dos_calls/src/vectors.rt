@@ -3,7 +3,7 @@ ghost use Rattle.std.specs.Prelude.{◌≡◌, List, ℕ};
 ghost use Rattle.dos_calls.specs.Calls.{set_vector, version, get_vector, get_prefix, terminate, unknown};
 ghost use Rattle.dos_calls.specs.Answering.{Serves};
 
-use crate::bytes::{put_bytes, word_of};
+use crate::bytes::put_bytes;
 use crate::registers::{low_byte, low_half, refuse, set_bx, with_low_half};
 use client_world::memory_map::PSP_SEGMENT;
 use client_world::{DosDone, Exit};
@@ -47,8 +47,8 @@ pub(crate) fn get_vector(m: &mut Machine)
 {
     let mut r = m.regs();
     let at = 4 * u32::from(low_byte(r.eax));
-    r.ebx = with_low_half(r.ebx, word_of(m, at));
-    r.es = word_of(m, at + 2);
+    r.ebx = with_low_half(r.ebx, m.dos16(at));
+    r.es = m.dos16(at + 2);
     m.set_regs(r);
 }
 

@@ -62,7 +62,6 @@ fault_text fault.RelocTable = codes "RelocTable"
 fault_text fault.NoRoom = codes "NoRoom"
 fault_text fault.RelocTarget = codes "RelocTarget"
 fault_text fault.EntryOutside = codes "EntryOutside"
-fault_text fault.Unbuilt = codes "Unbuilt"
 
 -- how a reason is written
 abbrev pub reason_text : Reason → List ℕ

@@ -25,7 +25,6 @@ fn reason_name(reason: Reason) -> &'static [u8]
         Reason::Load(LoadFault::NoRoom) => b"NoRoom",
         Reason::Load(LoadFault::RelocTarget) => b"RelocTarget",
         Reason::Load(LoadFault::EntryOutside) => b"EntryOutside",
-        Reason::Load(LoadFault::Unbuilt) => b"Unbuilt",
     }
 }
 

@@ -20,9 +20,9 @@ ghost use Rattle.insn_plan.specs.Registers.{cut_address};
 
 use crate::arithmetic::difference_flags;
 use client_world::{Event, Flags, Regs, SegReg};
-use guest_space::Machine;
+use guest_space::{Machine, byte_count};
 use insn_forms::{Insn, Rep};
-use insn_plan::{Next, byte_count, counter, cut_address, register, set_register, with_address};
+use insn_plan::{Next, counter, cut_address, register, set_register, with_address};
 
 // Whether there is a repeat prefix.
 fn is_repeated(rep: Rep) -> bool

@@ -21,11 +21,11 @@ use crate::raising::exception;
 use crate::transfers::{at_operand_size, immediate};
 use client_world::faults::BOUNDS_CHECK;
 use client_world::{Event, Regs, SegReg};
-use guest_space::Machine;
+use guest_space::{Machine, byte_count};
 use insn_forms::Insn;
 use insn_plan::{
-    Next, byte_count, cut_address, has_big_stack, items_popped, register, set_register,
-    set_stack_pointer, stack_pointer,
+    Next, cut_address, has_big_stack, items_popped, register, set_register, set_stack_pointer,
+    stack_pointer,
 };
 
 // Where the frame pointer of a level was saved.

@@ -1,26 +1,17 @@
 // Software interrupts.
 ghost use Rattle.std.specs.Prelude.{◌≡◌, ◌+◌, ◌<◌, None, Some, Ok, Err, MatchResult};
 ghost use Rattle.client_world.specs.declared.registers.Mode.TheVariants.{Real};
-ghost use Rattle.client_world.specs.declared.memory_map.TheConstants.{DOS_SIZE, SEGMENT_SIZE};
-ghost use Rattle.cpu_step.specs.Step.{behind};
+ghost use Rattle.client_world.specs.declared.memory_map.TheConstants.{SEGMENT_SIZE};
 ghost use Rattle.exec_flow.specs.Interrupts.{interrupt_pushed};
-ghost use Rattle.guest_ram.specs.Bytes.{word_of};
 ghost use Rattle.guest_space.specs.Pending.{first_refusal};
 ghost use Rattle.fault_service.specs.Delivery.{frame_pushed, handler_entered, interrupted, real_vector, software_interrupt};
 ghost use Rattle.fault_service.specs.Worlds.{world_interrupt};
 
 use client_world::{Event, FarPtr, Fault, Regs};
+use cpu_step::{move_behind, put_back};
 use exec_flow::push_interrupt_frame;
 use guest_space::Machine;
 use insn_plan::Next;
-
-// The word at an address of the DOS megabyte.
-fn dos_word(m: &Machine, at: u32) -> u16
-    requires { at + 1 < DOS_SIZE }
-    ensures { result ≡ word_of m.now.world.dos at }
-{
-    u16::from(m.dos8(at)) + 0x100 * u16::from(m.dos8(at + 1))
-}
 
 // The vector of real mode.
 fn real_vector(m: &Machine, n: u8) -> FarPtr
@@ -29,8 +20,8 @@ fn real_vector(m: &Machine, n: u8) -> FarPtr
 {
     let at = 4 * u32::from(n);
     FarPtr {
-        sel: dos_word(m, at + 2),
-        off: u32::from(dos_word(m, at)),
+        sel: m.dos16(at + 2),
+        off: u32::from(m.dos16(at)),
     }
 }
 
@@ -76,22 +67,6 @@ fn interrupt(m: &mut Machine, n: u8) -> Result<(), Fault>
     let p = real_vector(m, n);
     enter(m, p);
     Ok(())
-}
-
-// Moves EIP behind an instruction of so many bytes.
-fn move_behind(m: &mut Machine, len: u8)
-    ensures { m.new ≡ behind len m.old }
-{
-    let mut r = m.regs();
-    r.eip = r.eip.wrapping_add(u32::from(len));
-    m.set_regs(r);
-}
-
-// Sets the registers, and changes nothing else.
-fn put_back(m: &mut Machine, r: Regs)
-    ensures { m.new ≡ record m.old { world = record m.old.world { regs = r } } }
-{
-    m.set_regs(r);
 }
 
 /// Makes the software interrupt of real mode with a number, whose instruction has so many bytes; or gives the fault of a push, which leaves the

@@ -1,6 +1,10 @@
 -- Words, doublewords and runs of bytes in a list of bytes, least byte first.
 -- Source: 80386 Programmer's Reference Manual, ch. 2, "Data Types".
-use Rattle.std.specs.Prelude.{ℕ, ◌+◌, ◌*◌, ◌/◌, ◌%◌, List, [], ◌∷◌, slice_index, slice_set, take, drop}
+use Rattle.std.specs.Prelude.{ℕ, ◌+◌, ◌*◌, ◌/◌, ◌%◌, ◌<◌, List, [], ◌∷◌, slice_index, slice_set, take, drop}
+
+-- the numbers are bytes
+abbrev pub AreBytes : List ℕ → Type 0
+AreBytes xs = (at : ℕ) → slice_index xs at < 0x100
 
 -- the word at an address
 abbrev pub word_of : List ℕ → ℕ → ℕ

@@ -1,13 +1,15 @@
 -- What the calls on descriptors answer, from what the table's rows say: a row that leaves the world sound fits, and a free run of the
 -- memory's rows is one of the world's.
-use Rattle.std.proofs.Common.{◌≡◌, ℕ, ◌<◌, ◌≤◌, ◌⊎◌, inl, inr, Bool, List, slice_set, subst, arith, Option, None, Some, IfSome, get_or-set_same, length-set}
+use Rattle.std.proofs.Common.{◌≡◌, ℕ, ◌<◌, ◌≤◌, ◌⊎◌, inl, inr, Bool, List, slice_set, subst, arith, sym, Option, None, Some, IfSome, get_or-set_same, length-set}
+use Rattle.std.proofs.lemmas.List.{get_or_past}
 use Rattle.client_world.specs.declared.host_frames.TheConstants.{DESCRIPTORS, FIRST_FREE_DESCRIPTOR}
 use Rattle.client_world.specs.declared.registers.Mode.{Mode}
 use Rattle.client_world.specs.declared.registers.Regs.{Regs}
 use Rattle.client_world.specs.declared.registers.Width.{Width}
 use Rattle.client_world.specs.FreeRuns.{IsFreeRunOf, IsFirstFreeRunOf}
-use Rattle.client_world.specs.Selector.{Row, FitsRow}
-use Rattle.client_world.specs.Soundness.{SoundDescriptors}
+use Rattle.client_world.specs.Selector.{Row, FitsRow, row_at_index}
+use Rattle.client_world.specs.Soundness.{IsSound, SoundDescriptors}
+use Rattle.client_world.specs.World.{World}
 use Rattle.desc_table.specs.Rows.{IsFreeRun, IsFirstFreeRun}
 use Rattle.host_memory.specs.Layout.{world_of}
 use Rattle.host_memory.proofs.RowWrites.{first_run_in_world, no_run_in_world, no_run_in_memory}
@@ -17,6 +19,10 @@ fits_of_sound rows index row sound small =
     let size = sound.indices in
     let same = length-set rows index row in
     subst FitsRow (get_or-set_same rows index row None (omega arith)) (sound.fits index)
+
+-- from the table's end on there is none
+pub none_beyond : (w : World) (index : ℕ) → IsSound w → DESCRIPTORS ≤ index → None ≡ row_at_index w.descriptors index
+none_beyond w index sound beyond = let size = sound.descriptors.indices in sym (get_or_past w.descriptors index None (omega arith))
 
 pub first_run : (b : List ℕ) (budget : ℕ) (mode : Mode) (regs : Regs) (vif : Bool) (width : Option Width) (n : ℕ) (answer : Option ℕ) →
     IfSome answer (λ first. IsFirstFreeRun b first n) →

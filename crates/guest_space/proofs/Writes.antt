@@ -23,43 +23,35 @@ pub write_refusal_is : (w : World) (x : Write) → refusal w x.seg x.off (byte_c
 unfolding write_refusal
 write_refusal_is w x = refl
 
--- a write that has no fault is made, whatever its answer looks like
-made : (v new after : MachineView) (o : Option Fault) (r : Result (Unit {0}) Fault) → o ≡ None → OnOk r ((o ≡ None) × (new ≡ after)) →
-    IfErr r (λ fault. (o ≡ Some fault) × (new ≡ v)) → new ≡ after
-made v new after o (Ok u) none done refused = done.1
-made v new after o (Err f) none done refused = absurd (let some = refused.0 in cc)
+-- a write's answer, and the machine after it
+abbrev pub Answered : MachineView → MachineView → Write → Result (Unit {0}) Fault → Type 0
+Answered v new x r = MatchResult r (λ _. (write_refusal v.world x ≡ None) × (new ≡ written v x)) (λ f. (write_refusal v.world x ≡ Some f) × (new ≡ v))
 
-pub made_8 : (v new : MachineView) (x : Write) (r : Result (Unit {0}) Fault) → x.width ≡ 8 → write_refusal v.world x ≡ None →
-    OnOk r ((refusal v.world x.seg x.off 1 true ≡ None) × (new ≡ stored v x.seg x.off 1 (x.value % 0x100 ∷ []))) →
-    IfErr r (λ fault. (refusal v.world x.seg x.off 1 true ≡ Some fault) × (new ≡ v)) → new ≡ written v x
+-- that of n bytes, where these are the bytes of the number
+pub answered : (v new : MachineView) (x : Write) (n : ℕ) (bytes : List ℕ) (r : Result (Unit {0}) Fault) → byte_count x.width ≡ n →
+    number_bytes x.width x.value ≡ bytes →
+    OnOk r ((refusal v.world x.seg x.off n true ≡ None) × (new ≡ stored v x.seg x.off n bytes)) →
+    IfErr r (λ fault. (refusal v.world x.seg x.off n true ≡ Some fault) × (new ≡ v)) → Answered v new x r
 unfolding write_refusal written
-made_8 v new x r e none done refused =
-    made v new (stored v x.seg x.off 1 (x.value % 0x100 ∷ [])) (refusal v.world x.seg x.off 1 true) r (rw e at none) done refused
-    ∙ sym (ap (λ (width : ℕ). stored v x.seg x.off (byte_count width) (number_bytes width x.value)) e)
-
-pub made_16 : (v new : MachineView) (x : Write) (bytes : List ℕ) (r : Result (Unit {0}) Fault) → x.width ≡ 16 → bytes ≡ number_bytes 16 x.value →
-    write_refusal v.world x ≡ None →
-    OnOk r ((refusal v.world x.seg x.off 2 true ≡ None) × (new ≡ stored v x.seg x.off 2 bytes)) →
-    IfErr r (λ fault. (refusal v.world x.seg x.off 2 true ≡ Some fault) × (new ≡ v)) → new ≡ written v x
-unfolding write_refusal written
-made_16 v new x bytes r e is none done refused =
-    made v new (stored v x.seg x.off 2 bytes) (refusal v.world x.seg x.off 2 true) r (rw e at none) done refused
-    ∙ ap (stored v x.seg x.off 2) is
-    ∙ sym (ap (λ (width : ℕ). stored v x.seg x.off (byte_count width) (number_bytes width x.value)) e)
+answered v new x n bytes (Ok u) count is done refused = (
+  ap (λ (k : ℕ). refusal v.world x.seg x.off k true) count ∙ done.0,
+  done.1 ∙ sym (ap (λ (k : ℕ). stored v x.seg x.off k (number_bytes x.width x.value)) count ∙ ap (stored v x.seg x.off n) is),
+)
+answered v new x n bytes (Err f) count is done refused = (ap (λ (k : ℕ). refusal v.world x.seg x.off k true) count ∙ refused.0, refused.1)
 
 other_width : (width n : ℕ) → width ≢ n → nat_eq width n ≡ false
 other_width width n ne = grind (arith, Rattle.std.proofs.lemmas.Bool.Decides.nat_tests)
 
-pub made_32 : (v new : MachineView) (x : Write) (bytes : List ℕ) (r : Result (Unit {0}) Fault) → x.width ≢ 8 → x.width ≢ 16 →
-    bytes ≡ number_bytes 32 x.value → write_refusal v.world x ≡ None →
-    OnOk r ((refusal v.world x.seg x.off 4 true ≡ None) × (new ≡ stored v x.seg x.off 4 bytes)) →
-    IfErr r (λ fault. (refusal v.world x.seg x.off 4 true ≡ Some fault) × (new ≡ v)) → new ≡ written v x
-unfolding write_refusal written
-made_32 v new x bytes r not8 not16 is none done refused =
-    let one = other_width x.width 8 not8 in
-    let two = other_width x.width 16 not16 in
-    rw (one, two) (made v new (stored v x.seg x.off 4 bytes) (refusal v.world x.seg x.off 4 true) r (rw (one, two) at none) done refused
-    ∙ ap (stored v x.seg x.off 4) is)
+pub other_count : (width : ℕ) → width ≢ 8 → width ≢ 16 → byte_count width ≡ 4
+other_count width not8 not16 = rw (other_width width 8 not8, other_width width 16 not16) refl
+
+pub other_bytes : (width value : ℕ) → width ≢ 8 → width ≢ 16 → number_bytes width value ≡ number_bytes 32 value
+other_bytes width value not8 not16 = rw (other_width width 8 not8, other_width width 16 not16) refl
+
+-- a write that has no fault is made, whatever its answer looks like
+pub made : (v new : MachineView) (x : Write) (r : Result (Unit {0}) Fault) → write_refusal v.world x ≡ None → Answered v new x r → new ≡ written v x
+made v new x (Ok u) none answer = answer.1
+made v new x (Err f) none answer = absurd (let some = sym none ∙ answer.0 in cc)
 
 -- the refusals of other writes are the same after it
 pub same_written : (v : MachineView) (x : Write) → SameAccess v.world (written v x).world
@@ -82,6 +74,30 @@ first_some w x xs f e = rw (e, first_refusal) refl
 pub first_later : (w : World) (x : Write) (xs : List Write) → write_refusal w x ≡ None → first_refusal w (x ∷ xs) ≡ first_refusal w xs
 unfolding first_refusal
 first_later w x xs e = rw (e, first_refusal) refl
+
+-- the first refusal of a single write
+single_by : (w : World) (x : Write) (o : Option Fault) → write_refusal w x ≡ o → first_refusal w (x ∷ []) ≡ write_refusal w x
+single_by w x None e = first_later w x [] e ∙ first_none w ∙ sym e
+single_by w x (Some f) e = first_some w x [] f e ∙ sym e
+
+pub single_refusal : (w : World) (x : Write) → first_refusal w (x ∷ []) ≡ write_refusal w x
+single_refusal w x = single_by w x (write_refusal w x) refl
+
+-- a list of one write
+pub one_made : (v new : MachineView) (xs : List Write) (d : Write) (r : Result (Unit {0}) Fault) → length xs ≡ 1 →
+    Answered v new (slice_index_or xs 0 d) r → OnOk r ((first_refusal v.world xs ≡ None) × (new ≡ all_written v xs))
+unfolding all_written
+one_made v new [] d r one answer = absurd (omega arith)
+one_made v new (x ∷ []) d (Ok u) one answer = (single_refusal v.world x ∙ answer.0, answer.1)
+one_made v new (x ∷ []) d (Err f) one answer = tt
+one_made v new (x ∷ y ∷ xs) d r one answer = absurd (omega arith)
+
+pub one_refused : (v new : MachineView) (xs : List Write) (d : Write) (r : Result (Unit {0}) Fault) → length xs ≡ 1 →
+    Answered v new (slice_index_or xs 0 d) r → IfErr r (λ fault. (first_refusal v.world xs ≡ Some fault) × (new ≡ v))
+one_refused v new [] d r one answer = absurd (omega arith)
+one_refused v new (x ∷ []) d (Ok u) one answer = tt
+one_refused v new (x ∷ []) d (Err f) one answer = (single_refusal v.world x ∙ answer.0, answer.1)
+one_refused v new (x ∷ y ∷ xs) d r one answer = absurd (omega arith)
 
 -- none is refused: neither is the first, nor one of the others
 pub record NoneRefused (w : World) (x : Write) (xs : List Write) : Type 0 where

@@ -1,5 +1,5 @@
 -- Writes that are asked for one after another: all of them are probed first, and then all are made. Source: own.
-use Rattle.std.specs.Prelude.{ℕ, ◌%◌, ◌^◌, true, List, [], ◌∷◌, None, Some, nat_eq, if◌then◌else◌}
+use Rattle.std.specs.Prelude.{◌≡◌, ◌⊎◌, ℕ, ◌%◌, ◌^◌, true, List, [], ◌∷◌, None, Some, nat_eq, if◌then◌else◌}
 use Rattle.std.specs.declared.option.Option.{Option}
 use Rattle.client_world.specs.declared.faults.Fault.{Fault}
 use Rattle.client_world.specs.World.{World}
@@ -19,6 +19,10 @@ number_bytes width value =
 -- the bytes of a width
 abbrev pub byte_count : ℕ → ℕ
 byte_count width = if nat_eq width 8 then 1 else if nat_eq width 16 then 2 else 4
+
+-- those of the widths 8, 16 and 32
+abbrev pub IsCountOfWidth : ℕ → Type 0
+IsCountOfWidth n = (n ≡ 1) ⊎ (n ≡ 2) ⊎ (n ≡ 4)
 
 -- the fault of a write, if it has one
 unfoldable pub write_refusal : World → Write → Option Fault

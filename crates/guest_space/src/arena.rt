@@ -11,7 +11,7 @@ ghost use Rattle.guest_space.specs.Arena.{spliced, NoneMade, with_entries, list_
 
 use crate::machine::Machine;
 use arrayvec::ArrayVec;
-use client_world::host_frames::{DOS_LIST, PAGE_SIZE};
+use client_world::host_frames::{DOS_LIST, DOS_LIST_FRAMES, PAGE_SIZE};
 use client_world::memory_map::PARAGRAPH_SIZE;
 use client_world::{DosEntry, DosState};
 use guest_ram::Ram;
@@ -24,7 +24,7 @@ const LIST_START: u32 = PAGE_SIZE * DOS_LIST;
 const ENTRY_SIZE: u32 = 8;
 
 // The entries for which there is room.
-const ENTRY_ROOM: u32 = PAGE_SIZE * 80 / ENTRY_SIZE;
+const ENTRY_ROOM: u32 = PAGE_SIZE * DOS_LIST_FRAMES / ENTRY_SIZE;
 
 // The state of a code in the list.
 fn state(code: u8) -> DosState

@@ -10,6 +10,7 @@ ghost use Rattle.guest_ram.specs.Bytes.{put};
 ghost use Rattle.desc_table.specs.Rows.{row_address, row_bytes};
 
 use crate::machine::Machine;
+use client_world::host_frames::DESCRIPTORS;
 use client_world::limits::GREATEST_DEPTH;
 use client_world::memory_map::{PROTECTED_STACK_SIZE, PROTECTED_STACKS, ROM_START};
 use client_world::selectors::{HOST_CODE, HOST_STACKS, index_of, is_local};
@@ -50,13 +51,27 @@ fn host_stacks(width: Width) -> Desc
 }
 
 impl Machine {
-    /// The descriptor at an index below 8192 and its origin, or `None` where there is none.
-    pub fn desc(&self, index: u16) -> Option<(Desc, Origin)>
+    // The descriptor at an index below 8192 and its origin.
+    fn row(&self, index: u16) -> Option<(Desc, Origin)>
         requires { index < DESCRIPTORS }
         ensures row { result ≡ row_at_index self.now.world.descriptors index }
         ensures limit { FitsRow result }
     {
         look(&self.ram, index)
+    }
+
+    /// The descriptor at an index and its origin, or `None` where there is none, as from index 8192 on.
+    #[tactic(auto, using(crate::proofs::RowCalls::none_beyond))]
+    pub fn desc(&self, index: u16) -> Option<(Desc, Origin)>
+        ensures row { result ≡ row_at_index self.now.world.descriptors index }
+        ensures limit { FitsRow result }
+    {
+        if u32::from(index) < DESCRIPTORS {
+            self.row(index)
+        } else {
+            self.soundness();
+            None
+        }
     }
 
     /// The descriptor that a selector names and its origin, or `None` where the selector isn't held.
@@ -65,7 +80,7 @@ impl Machine {
         ensures limit { FitsRow result }
     {
         if is_local(sel) {
-            self.desc(index_of(sel))
+            self.row(index_of(sel))
         } else {
             None
         }

@@ -1,6 +1,7 @@
 // Bytes of the DOS megabyte by their address.
-ghost use Rattle.std.specs.Prelude.{◌≡◌, ◌<◌, slice_index};
+ghost use Rattle.std.specs.Prelude.{◌≡◌, ◌+◌, ◌<◌, slice_index};
 ghost use Rattle.client_world.specs.declared.memory_map.TheConstants.{DOS_SIZE};
+ghost use Rattle.guest_ram.specs.Bytes.{word_of};
 ghost use Rattle.guest_space.specs.Dos.{with_dos_byte};
 
 use crate::machine::Machine;
@@ -13,6 +14,14 @@ impl Machine {
         ensures { result ≡ slice_index self.now.world.dos at }
     {
         self.ram.get8(at)
+    }
+
+    /// The word of the DOS megabyte at an address and the next one, both below 100000h.
+    pub fn dos16(&self, at: u32) -> u16
+        requires { at + 1 < DOS_SIZE }
+        ensures { result ≡ word_of self.now.world.dos at }
+    {
+        u16::from(self.dos8(at)) + 0x100 * u16::from(self.dos8(at + 1))
     }
 
     /// Puts a byte of the DOS megabyte at an address below 100000h; from F0000h on it is dropped.

@@ -22,4 +22,4 @@ pub use laws::{
     every_write_changes_only_its_places, what_was_written_is_read,
 };
 pub use machine::Machine;
-pub use pending::Write;
+pub use pending::{Write, byte_count};

@@ -1,6 +1,6 @@
 // Writes that are probed all together before the first is made.
-ghost use Rattle.std.specs.Prelude.{◌≡◌, OnOk, IfErr, None, Some};
-ghost use Rattle.guest_space.specs.Pending.{byte_count, number_bytes, write_refusal, written, first_refusal, all_written};
+ghost use Rattle.std.specs.Prelude.{◌≡◌, OnOk, IfErr, MatchResult, None, Some};
+ghost use Rattle.guest_space.specs.Pending.{IsCountOfWidth, byte_count, number_bytes, write_refusal, written, first_refusal, all_written};
 
 use crate::machine::Machine;
 use client_world::{Fault, SegReg};
@@ -14,9 +14,10 @@ pub struct Write {
     pub value: u32,
 }
 
-// The bytes of a number of so many bits.
-fn byte_count(width: u8) -> u32
-    ensures { result ≡ byte_count width }
+/// The bytes of a width of 8, 16 or 32 bits.
+pub fn byte_count(width: u8) -> u8
+    ensures value { result ≡ byte_count width }
+    ensures count { IsCountOfWidth result }
 {
     match width {
         8 => 1,
@@ -44,21 +45,31 @@ impl Machine {
     fn fault_of_write(&self, x: &Write) -> Option<Fault>
         ensures { result ≡ write_refusal self.now.world x.now }
     {
-        self.probe(x.seg, x.off, byte_count(x.width), true).err()
+        self.probe(x.seg, x.off, u32::from(byte_count(x.width)), true)
+            .err()
     }
 
-    // Makes a write that has no fault.
-    fn make(&mut self, x: &Write)
-        requires { write_refusal self.old.world x.now ≡ None }
-        ensures { self.new ≡ written self.old x.now }
+    // Makes a write, or gives its fault, which changes nothing.
+    fn make(&mut self, x: &Write) -> Result<(), Fault>
+        ensures { MatchResult result
+            (λ _. (write_refusal self.old.world x.now ≡ None) × (self.new ≡ written self.old x.now))
+            (λ fault. (write_refusal self.old.world x.now ≡ Some fault) × (self.new ≡ self.old)) }
     {
-        let _ = if x.width == 8 {
+        if x.width == 8 {
             self.write(x.seg, x.off, [(x.value % 0x100) as u8])
         } else if x.width == 16 {
             self.write(x.seg, x.off, word_bytes(x.value))
         } else {
             self.write(x.seg, x.off, dword_bytes(x.value))
-        };
+        }
+    }
+
+    // Makes a write that has no fault.
+    fn make_probed(&mut self, x: &Write)
+        requires { write_refusal self.old.world x.now ≡ None }
+        ensures { self.new ≡ written self.old x.now }
+    {
+        let _ = self.make(x);
     }
 
     /// The fault of the first of some writes that has one.
@@ -73,8 +84,8 @@ impl Machine {
         None
     }
 
-    /// Makes all of some writes in their order, or, where one of them has a fault, none of them: the first such fault is the answer.
-    pub fn write_all(&mut self, writes: &[Write]) -> Result<(), Fault>
+    // Makes some writes, all of which are probed first.
+    fn write_probed(&mut self, writes: &[Write]) -> Result<(), Fault>
         ensures done { OnOk result ((first_refusal self.old.world writes.now ≡ None)
             × (self.new ≡ all_written self.old writes.now)) }
         ensures refused { IfErr result (λ fault.
@@ -85,8 +96,21 @@ impl Machine {
         }
 
         for x in writes {
-            self.make(x);
+            self.make_probed(x);
         }
         Ok(())
+    }
+    /// Makes all of some writes in their order, or, where one of them has a fault, none of them: the first such fault is the answer.
+    pub fn write_all(&mut self, writes: &[Write]) -> Result<(), Fault>
+        ensures done { OnOk result ((first_refusal self.old.world writes.now ≡ None)
+            × (self.new ≡ all_written self.old writes.now)) }
+        ensures refused { IfErr result (λ fault.
+            (first_refusal self.old.world writes.now ≡ Some fault) × (self.new ≡ self.old)) }
+    {
+        if writes.len() == 1 {
+            self.make(&writes[0])
+        } else {
+            self.write_probed(writes)
+        }
     }
 }

@@ -27,4 +27,3 @@ pub mod VectorsClaim
 pub mod WalkAnswers
 pub mod WalkLaw
 pub mod WorldParts
-pub mod WriteRuns

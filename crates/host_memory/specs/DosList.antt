@@ -3,14 +3,14 @@ use Rattle.std.specs.Prelude.{◌≡◌, ℕ, zero, suc, ◌+◌, ◌*◌, ◌/�
 use Rattle.client_world.specs.declared.dos_memory.DosEntry.{DosEntry}
 use Rattle.client_world.specs.declared.dos_memory.DosState.{DosState}
 use Rattle.client_world.specs.declared.dos_memory.DosState.TheVariants.{Free, Used, Dpmi}
-use Rattle.client_world.specs.declared.host_frames.TheConstants.{PAGE_SIZE}
+use Rattle.client_world.specs.declared.host_frames.TheConstants.{PAGE_SIZE, DOS_LIST_FRAMES}
 use Rattle.guest_ram.specs.Bytes.{word_of}
 use Rattle.guest_ram.specs.Listed.{listed}
 use Rattle.host_memory.specs.Vectors.{word_bytes}
 
 -- the bytes of the frames, of an entry, and the entries for which there is room
 abbrev pub list_size : ℕ
-list_size = PAGE_SIZE * 80
+list_size = PAGE_SIZE * DOS_LIST_FRAMES
 
 abbrev pub entry_size : ℕ
 entry_size = 8

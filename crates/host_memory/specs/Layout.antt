@@ -7,7 +7,7 @@ use Rattle.client_world.specs.declared.registers.Regs.{Regs}
 use Rattle.client_world.specs.declared.registers.Width.{Width}
 use Rattle.client_world.specs.declared.place.Place.{Place}
 use Rattle.client_world.specs.declared.place.Place.TheVariants.{Dos, Block, Host, Nothing}
-use Rattle.client_world.specs.declared.host_frames.TheConstants.{PAGE_SIZE, PAGE_DIRECTORY, BLOCK_TABLES, DESCRIPTOR_ROWS, VECTORS, RECORDS, BLOCK_ROWS, LOCK_COUNTS, DOS_LIST, TAKEN_FRAMES, BUDGET_FRAMES}
+use Rattle.client_world.specs.declared.host_frames.TheConstants.{PAGE_SIZE, PAGE_DIRECTORY, BLOCK_TABLES, BLOCK_TABLE_FRAMES, DESCRIPTOR_ROWS, DESCRIPTOR_ROW_FRAMES, VECTORS, RECORDS, BLOCK_ROWS, BLOCK_ROW_FRAMES, LOCK_COUNTS, LOCK_COUNT_FRAMES, DOS_LIST, DOS_LIST_FRAMES, TAKEN_FRAMES, TAKEN_BYTE_FRAMES, BUDGET_FRAMES}
 use Rattle.client_world.specs.declared.limits.TheConstants.{MAX_BLOCKS}
 use Rattle.client_world.specs.declared.memory_map.TheConstants.{DOS_SIZE, BLOCK_REGION}
 use Rattle.client_world.specs.World.{World, MemoryBlock}
@@ -32,11 +32,11 @@ fixed_part b = frames_at b PAGE_DIRECTORY 3
 
 -- the page tables of the block region
 abbrev pub tables_part : List ℕ → List ℕ
-tables_part b = frames_at b BLOCK_TABLES 16
+tables_part b = frames_at b BLOCK_TABLES BLOCK_TABLE_FRAMES
 
 -- the rows of the client's descriptors
 abbrev pub rows_part : List ℕ → List ℕ
-rows_part b = frames_at b DESCRIPTOR_ROWS 32
+rows_part b = frames_at b DESCRIPTOR_ROWS DESCRIPTOR_ROW_FRAMES
 
 -- the protected-mode vectors, the callbacks and the pageable pages
 abbrev pub vectors_part : List ℕ → List ℕ
@@ -47,19 +47,19 @@ records_part b = frames_at b RECORDS 1
 
 -- the rows of the memory blocks, by their handles
 abbrev pub handles_part : List ℕ → List ℕ
-handles_part b = frames_at b BLOCK_ROWS 1
+handles_part b = frames_at b BLOCK_ROWS BLOCK_ROW_FRAMES
 
 -- the lock counts of the pages of the block region
 abbrev pub locks_part : List ℕ → List ℕ
-locks_part b = frames_at b LOCK_COUNTS 8
+locks_part b = frames_at b LOCK_COUNTS LOCK_COUNT_FRAMES
 
 -- the list of DOS memory
 abbrev pub arena_part : List ℕ → List ℕ
-arena_part b = frames_at b DOS_LIST 80
+arena_part b = frames_at b DOS_LIST DOS_LIST_FRAMES
 
 -- which budget frames are taken
 abbrev pub taken_part : List ℕ → List ℕ
-taken_part b = frames_at b TAKEN_FRAMES 1
+taken_part b = frames_at b TAKEN_FRAMES TAKEN_BYTE_FRAMES
 
 -- the budget frames themselves
 abbrev pub budget_part : List ℕ → ℕ → List ℕ

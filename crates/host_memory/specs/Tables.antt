@@ -1,6 +1,6 @@
 -- The page entries of the host, and what those of the block region must be. Source: own.
 use Rattle.std.specs.Prelude.{◌≡◌, ◌≢◌, ℕ, ◌+◌, ◌-◌, ◌*◌, ◌/◌, ◌<◌, ◌≤◌, true, false, nat_eq, nat_lt, nat_le, if◌then◌else◌, List, slice_index}
-use Rattle.client_world.specs.declared.host_frames.TheConstants.{PAGE_SIZE, DOS_FRAMES, PAGE_DIRECTORY, LOW_TABLE, WINDOW_TABLE, BLOCK_TABLES, BUDGET_FRAMES}
+use Rattle.client_world.specs.declared.host_frames.TheConstants.{PAGE_SIZE, DOS_FRAMES, PAGE_DIRECTORY, LOW_TABLE, WINDOW_TABLE, BLOCK_TABLES, BLOCK_TABLE_FRAMES, BUDGET_FRAMES}
 use Rattle.client_world.specs.declared.limits.TheConstants.{MAX_BLOCKS, MAX_PAGES}
 use Rattle.client_world.specs.declared.memory_map.TheConstants.{DOS_VIEW_PAGES, ROM_START, BLOCK_REGION_PAGES, HOST_WINDOW}
 use Rattle.guest_ram.specs.Bytes.{dword}
@@ -12,15 +12,11 @@ use Rattle.host_memory.specs.Layout.{entry_of, pages_of, first_page_of}
 abbrev pub supervisor_entry : ℕ → ℕ
 supervisor_entry frame = PAGE_SIZE * frame + SUPERVISOR_WRITABLE
 
--- the tables of the block region
-abbrev pub block_table_count : ℕ
-block_table_count = BLOCK_REGION_PAGES / TABLE_ENTRIES
-
 -- the directory: the table of the first 4 MB, those of the block region behind it, and that of the host's window
 abbrev pub directory_entry_at : ℕ → ℕ
 directory_entry_at index =
     if nat_eq index 0 then page_entry LOW_TABLE true else
-    if nat_le index block_table_count then page_entry (BLOCK_TABLES + (index - 1)) true else
+    if nat_le index BLOCK_TABLE_FRAMES then page_entry (BLOCK_TABLES + (index - 1)) true else
     if nat_eq index (HOST_WINDOW / TABLE_SPAN) then supervisor_entry WINDOW_TABLE else
     0
 

@@ -10,12 +10,12 @@ ghost use Rattle.host_memory.specs.Tables.{directory_entry_at, low_entry_at, win
 
 use crate::dos_list::{header, listed_entry};
 use client_world::host_frames::{
-    BLOCK_TABLES, BUDGET_FRAMES, DOS_FRAMES, DOS_LIST, LOW_TABLE, PAGE_DIRECTORY, PAGE_SIZE,
+    BLOCK_TABLE_FRAMES, BLOCK_TABLES, BUDGET_FRAMES, DOS_FRAMES, DOS_LIST, LOW_TABLE, PAGE_DIRECTORY, PAGE_SIZE,
     VECTORS, WINDOW_TABLE,
 };
 use client_world::limits::{EXCEPTION_VECTORS, INTERRUPT_VECTORS, MAX_PAGES};
 use client_world::memory_map::{
-    ARENA_END, ARENA_START, BLOCK_REGION_PAGES, DOS_SIZE, DOS_VIEW_PAGES, HOST_WINDOW,
+    ARENA_END, ARENA_START, DOS_SIZE, DOS_VIEW_PAGES, HOST_WINDOW,
     PARAGRAPH_SIZE, ROM_BYTE, ROM_SEGMENT, ROM_START, SEGMENT_SIZE,
 };
 use client_world::selectors::{HOST_CODE, selector_of};
@@ -26,9 +26,6 @@ use page_tables::{
     ENTRY_SIZE, SUPERVISOR_WRITABLE, TABLE_ENTRIES, TABLE_SPAN, USER_READ_ONLY, USER_WRITABLE,
 };
 use std::alloc::{AllocError, Global};
-
-// The page tables of the block region.
-const BLOCK_TABLE_COUNT: u32 = BLOCK_REGION_PAGES / TABLE_ENTRIES;
 
 // The doublewords of the protected vectors, two for each.
 const VECTOR_HALVES: u32 = 2 * (INTERRUPT_VECTORS + EXCEPTION_VECTORS);
@@ -50,7 +47,7 @@ fn directory_entry(index: u32) -> u32
 {
     if index == 0 {
         PAGE_SIZE * LOW_TABLE + USER_WRITABLE
-    } else if index <= BLOCK_TABLE_COUNT {
+    } else if index <= BLOCK_TABLE_FRAMES {
         PAGE_SIZE * (BLOCK_TABLES + (index - 1)) + USER_WRITABLE
     } else if index == HOST_WINDOW / TABLE_SPAN {
         PAGE_SIZE * WINDOW_TABLE + SUPERVISOR_WRITABLE

@@ -5,7 +5,7 @@ use Rattle.client_world.specs.declared.outcome.Exit.{Exit}
 use Rattle.client_world.specs.declared.outcome.Exit.TheVariants.{Bound}
 use Rattle.client_world.specs.Soundness.{IsSound, IsSoundHost}
 use Rattle.client_world.specs.World.{HostWorld}
-use Rattle.dos_calls.specs.DosBytes.{AreBytes}
+use Rattle.guest_ram.specs.Bytes.{AreBytes}
 use Rattle.host_memory.proofs.BlankSound.{blank_is_sound}
 use Rattle.mz_loader.specs.Refusal.{refusal}
 use Rattle.mz_loader.proofs.SoundStart.{sound_start}

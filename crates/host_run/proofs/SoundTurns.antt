@@ -17,7 +17,7 @@ use Rattle.client_world.specs.Registers.{high_byte, low_half}
 use Rattle.client_world.specs.Soundness.{IsSound}
 use Rattle.client_world.specs.World.{World, HostWorld}
 use Rattle.dos_calls.specs.Calls.{CallResult, dos_call}
-use Rattle.dos_calls.specs.DosBytes.{AreBytes}
+use Rattle.guest_ram.specs.Bytes.{AreBytes}
 use Rattle.dos_calls.proofs.SoundCalls.{IsGood, call_keeps, multiplex_keeps}
 use Rattle.fault_service.specs.Worlds.{world_step, world_interrupt, world_delivery, world_popped}
 use Rattle.fault_service.proofs.SoundAnswers.{sound_world_delivery, sound_world_interrupt, sound_world_popped, sound_world_step}

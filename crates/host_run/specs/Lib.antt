@@ -4,3 +4,4 @@ pub mod Start
 pub mod Touched
 pub mod Traps
 pub mod Turn
+pub mod View

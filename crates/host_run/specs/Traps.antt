@@ -2,8 +2,8 @@
 -- address of CS:EIP, where a fetch there is allowed. Source: own.
 use Rattle.std.specs.Prelude.{ℕ, ◌+◌, ◌-◌, ◌*◌, Bool, ◌&&◌, ◌||◌, nat_le, nat_lt, nat_eq, if◌then◌else◌, Ok, Err}
 use Rattle.client_world.specs.declared.limits.TheConstants.{CALLBACKS, INTERRUPT_VECTORS}
-use Rattle.client_world.specs.declared.memory_map.TheConstants.{PARAGRAPH_SIZE}
 use Rattle.client_world.specs.declared.traps.TheConstants.{REAL_VECTOR_TRAPS, ENTRY_TRAP, SWITCH_TO_PROTECTED_TRAP, REAL_STATE_TRAP, CALL_RETURN_TRAP, CALLBACK_TRAPS}
+use Rattle.client_world.specs.Access.{linear_address}
 use Rattle.client_world.specs.World.{World}
 use Rattle.guest_space.specs.Code.{code_byte}
 use Rattle.host_run.specs.declared.traps.Trap.{Trap}
@@ -29,6 +29,6 @@ trap_of at =
 -- the trap of CS:EIP
 unfoldable pub real_trap : World → Trap
 real_trap w = elim (code_byte w 0) [
-  | Ok byte ↦ trap_of (w.regs.cs * PARAGRAPH_SIZE + w.regs.eip)
+  | Ok byte ↦ trap_of (linear_address w.regs.cs w.regs.eip)
   | Err f ↦ NoTrap
 ]

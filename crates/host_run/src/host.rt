@@ -3,7 +3,6 @@ ghost use Rattle.std.specs.Prelude.{◌≡◌, ◌≤◌, ◌<◌, ◌+◌, ◌*
 ghost use Rattle.client_world.specs.declared.limits.TheConstants.{CONSOLE_ROOM, MAX_STEPS};
 ghost use Rattle.client_world.specs.declared.registers.Mode.TheVariants.{Real as real};
 ghost use Rattle.client_world.specs.Soundness.{IsSound};
-ghost use Rattle.client_world.specs.World.{HostWorld};
 ghost use Rattle.fault_service.specs.Worlds.{world_interrupt};
 ghost use Rattle.mz_loader.specs.Refusal.{refusal};
 ghost use Rattle.host_run.specs.Run.{run};
@@ -36,17 +35,25 @@ pub struct Host {
 }
 
 impl Model for Host {
-    ghost Value = { HostWorld };
+    ghost use Rattle.client_world.specs.World.{HostWorld};
+    ghost use Rattle.host_run.specs.View.{HostView};
+    ghost use Rattle.std.specs.Prelude.{◌≤◌, ◌*◌, length, vec_capacity};
+    ghost use Rattle.client_world.specs.declared.limits.TheConstants.{MAX_STEPS};
+
+    ghost Value = { HostView };
 
     ghost view = { λ h. record {
-      machine = h.machine.world;
-      keys = h.keys;
-      console = h.console;
-      keep = h.keep;
-      kept = h.kept.items;
-      lines = h.lines;
-      steps = h.steps;
-      exit = h.exit;
+      world = record {
+        machine = h.machine.world;
+        keys = h.keys;
+        console = h.console;
+        keep = h.keep;
+        kept = h.kept.items;
+        lines = h.lines;
+        steps = h.steps;
+        exit = h.exit;
+      };
+      bytes = h.machine.bytes;
     } };
 
     ghost invariant = { λ h. (length h.kept.items ≤ h.keep) × (h.keep ≤ vec_capacity h.kept) × (h.lines ≤ 2 * h.steps) × (h.steps ≤ MAX_STEPS) };
@@ -60,7 +67,7 @@ impl Host {
         requires pages { pages ≤ MAX_PAGES }
         requires keys { length keys.now ≤ MAX_KEYS }
         requires keep { keep ≤ MAX_TRACE }
-        ensures { IfOk result (λ host. host ≡ blank pages keys.now keep) }
+        ensures { IfOk result (λ host. host.world ≡ blank pages keys.now keep) }
     {
         let machine = Machine::new(alloc, pages)?;
         let keys = Keys::new(alloc, keys)?;
@@ -81,10 +88,11 @@ impl Host {
     /// Loads a client's file into a new host. It is refused for the first reason in the order of `LoadFault`,
     /// and nothing is changed then.
     pub fn load(&mut self, file: &[u8]) -> Result<(), LoadFault>
-        requires { IsBlank self.old }
+        requires { IsBlank self.old.world }
         ensures taken { OnOk result (refusal file.now ≡ None) }
-        ensures started { OnOk result (self.new ≡ started self.old.machine.budget self.old.keys self.old.keep file.now) }
-        ensures sound { OnOk result (IsSound self.new.machine) }
+        ensures started { OnOk result (self.new.world
+            ≡ started self.old.world.machine.budget self.old.world.keys self.old.world.keep file.now) }
+        ensures sound { OnOk result (IsSound self.new.world.machine) }
         ensures refused { IfErr result (λ fault. refusal file.now ≡ Some fault) }
         ensures kept { IfErr result (λ _. self.new ≡ self.old) }
     {
@@ -95,21 +103,21 @@ impl Host {
 
     /// The number of turns made.
     pub fn steps(&self) -> u32
-        ensures { result ≡ self.now.steps }
+        ensures { result ≡ self.now.world.steps }
     {
         self.steps
     }
 
     /// How the run ended, if it has.
     pub fn exit(&self) -> Option<Exit>
-        ensures { result ≡ self.now.exit }
+        ensures { result ≡ self.now.world.exit }
     {
         self.exit
     }
 
     /// The bytes that the client wrote.
     pub fn console(&self) -> &[u8]
-        ensures bytes { result.now ≡ self.now.console }
+        ensures bytes { result.now ≡ self.now.world.console }
         ensures most { length result.now ≤ CONSOLE_ROOM }
     {
         self.console.bytes()
@@ -117,7 +125,7 @@ impl Host {
 
     /// The client's machine.
     pub fn machine(&self) -> &Machine
-        ensures { result.now.world ≡ self.now.machine }
+        ensures { result.now ≡ record { world = self.now.world.machine; bytes = self.now.bytes } }
     {
         &self.machine
     }
@@ -126,12 +134,12 @@ impl Host {
     /// exception. After an exit it answers that exit again and changes nothing.
     #[tactic(auto, unfolding(crate::specs::Turn::turn))]
     pub fn turn(&mut self) -> Result<(), Exit>
-        requires { self.old.exit ≡ None → self.old.steps < MAX_STEPS }
-        ensures world { self.new ≡ turn self.old }
-        ensures goes_on { OnOk result (self.new.exit ≡ None) }
-        ensures ends { IfErr result (λ exit. self.new.exit ≡ Some exit) }
-        ensures steps { self.new.steps ≤ self.old.steps + 1 }
-        ensures was_on { self.new.exit ≡ None → self.old.exit ≡ None }
+        requires { self.old.world.exit ≡ None → self.old.world.steps < MAX_STEPS }
+        ensures world { self.new.world ≡ turn self.old.world }
+        ensures goes_on { OnOk result (self.new.world.exit ≡ None) }
+        ensures ends { IfErr result (λ exit. self.new.world.exit ≡ Some exit) }
+        ensures steps { self.new.world.steps ≤ self.old.world.steps + 1 }
+        ensures was_on { self.new.world.exit ≡ None → self.old.world.exit ≡ None }
     {
         if let Some(exit) = self.exit {
             return Err(exit);
@@ -152,9 +160,9 @@ impl Host {
     /// Turns up to an exit, or as many as the bound, with the exit `Bound` then. After an exit it answers that exit
     /// again and changes nothing.
     pub fn run(&mut self, bound: u32) -> Exit
-        requires { self.old.exit ≡ None → self.old.steps + bound ≤ MAX_STEPS }
-        ensures world { self.new ≡ run self.old bound }
-        ensures answer { self.new.exit ≡ Some result }
+        requires { self.old.world.exit ≡ None → self.old.world.steps + bound ≤ MAX_STEPS }
+        ensures world { self.new.world ≡ run self.old.world bound }
+        ensures answer { self.new.world.exit ≡ Some result }
     {
         for count in 0..bound {
             if let Err(exit) = self.turn() {
@@ -172,18 +180,18 @@ impl Host {
 
     // An exception is delivered.
     fn delivered(&mut self, f: Fault) -> Result<(), Exit>
-        requires real { self.old.machine.mode ≡ real }
-        ensures { MatchResult result (λ _. delivered self.old f ≡ goes_on self.new) (λ exit. delivered self.old f ≡ ends self.new exit) }
+        requires real { self.old.world.machine.mode ≡ real }
+        ensures { MatchResult result (λ _. delivered self.old.world f ≡ goes_on self.new.world) (λ exit. delivered self.old.world f ≡ ends self.new.world exit) }
     {
         deliver(&mut self.machine, f)
     }
 
     // A software interrupt, or the exception that it raises.
     fn interrupted(&mut self, number: u8, len: u8) -> Result<(), Exit>
-        requires real { self.old.machine.mode ≡ real }
+        requires real { self.old.world.machine.mode ≡ real }
         ensures { MatchResult result
-            (λ _. interrupted self.old (world_interrupt self.old.machine number len) ≡ goes_on self.new)
-            (λ exit. interrupted self.old (world_interrupt self.old.machine number len) ≡ ends self.new exit) }
+            (λ _. interrupted self.old.world (world_interrupt self.old.world.machine number len) ≡ goes_on self.new.world)
+            (λ exit. interrupted self.old.world (world_interrupt self.old.world.machine number len) ≡ ends self.new.world exit) }
     {
         match soft_int(&mut self.machine, number, len) {
             Ok(()) => Ok(()),
@@ -194,8 +202,8 @@ impl Host {
     // The next instruction.
     #[tactic(auto, unfolding(crate::specs::Turn::stepped))]
     fn stepped(&mut self) -> Result<(), Exit>
-        requires real { self.old.machine.mode ≡ real }
-        ensures { MatchResult result (λ _. stepped self.old ≡ goes_on self.new) (λ exit. stepped self.old ≡ ends self.new exit) }
+        requires real { self.old.world.machine.mode ≡ real }
+        ensures { MatchResult result (λ _. stepped self.old.world ≡ goes_on self.new.world) (λ exit. stepped self.old.world ≡ ends self.new.world exit) }
     {
         match step_machine(&mut self.machine) {
             Ok(()) => Ok(()),
@@ -206,10 +214,10 @@ impl Host {
 
     // What a turn does in real mode.
     fn trapped(&mut self) -> Result<(), Exit>
-        requires real { self.old.machine.mode ≡ real }
-        requires room { self.old.lines < 2 * self.old.steps }
-        ensures { MatchResult result (λ _. trapped self.old (real_trap self.old.machine) ≡ goes_on self.new)
-            (λ exit. trapped self.old (real_trap self.old.machine) ≡ ends self.new exit) }
+        requires real { self.old.world.machine.mode ≡ real }
+        requires room { self.old.world.lines < 2 * self.old.world.steps }
+        ensures { MatchResult result (λ _. trapped self.old.world (real_trap self.old.world.machine) ≡ goes_on self.new.world)
+            (λ exit. trapped self.old.world (real_trap self.old.world.machine) ≡ ends self.new.world exit) }
     {
         match real_trap(&self.machine) {
             Trap::Vector(n) => self.vector_reached(n),
@@ -221,8 +229,8 @@ impl Host {
     // What a turn does. It is counted already, so that there is room for a line of the trace.
     #[tactic(auto, unfolding(crate::specs::Turn::work))]
     fn work(&mut self) -> Result<(), Exit>
-        requires room { self.old.lines < 2 * self.old.steps }
-        ensures { MatchResult result (λ _. work self.old ≡ goes_on self.new) (λ exit. work self.old ≡ ends self.new exit) }
+        requires room { self.old.world.lines < 2 * self.old.world.steps }
+        ensures { MatchResult result (λ _. work self.old.world ≡ goes_on self.new.world) (λ exit. work self.old.world ≡ ends self.new.world exit) }
     {
         match self.machine.mode() {
             Mode::Real => self.trapped(),

@@ -3,7 +3,7 @@ ghost use Rattle.std.specs.Prelude.{◌≡◌, ◌≤◌, ℕ, List, All, None, 
 ghost use Rattle.client_world.specs.Access.{IsHeld};
 ghost use Rattle.client_world.specs.Soundness.{IsSound, IsSoundHost};
 ghost use Rattle.client_world.specs.World.{HostWorld};
-ghost use Rattle.dos_calls.specs.DosBytes.{AreBytes};
+ghost use Rattle.guest_ram.specs.Bytes.{AreBytes};
 ghost use Rattle.mz_loader.specs.Refusal.{refusal};
 ghost use Rattle.host_run.specs.Keys.{HasKeys};
 ghost use Rattle.host_run.specs.Run.{turns, run};

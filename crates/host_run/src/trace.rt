@@ -8,23 +8,23 @@ use client_world::TraceLine;
 impl Host {
     /// The line of the trace of that number, counted from 0; `None` where none of that number is kept.
     pub fn line(&self, i: u32) -> Option<TraceLine>
-        ensures { result ≡ slice_get self.now.kept i }
+        ensures { result ≡ slice_get self.now.world.kept i }
     {
         self.kept.get(i as usize).copied()
     }
 
     /// The number of lines of the trace, with those that aren't kept.
     pub fn lines(&self) -> u32
-        ensures lines { result ≡ self.now.lines }
-        ensures most { result ≤ 2 * self.now.steps }
+        ensures lines { result ≡ self.now.world.lines }
+        ensures most { result ≤ 2 * self.now.world.steps }
     {
         self.lines
     }
 
     // One more line: it is kept where there is room, and counted.
     pub(crate) fn note(&mut self, line: TraceLine)
-        requires room { self.old.lines < 2 * self.old.steps }
-        ensures { self.new ≡ noted line self.old }
+        requires room { self.old.world.lines < 2 * self.old.world.steps }
+        ensures { self.new ≡ record self.old { world = noted line self.old.world } }
     {
         if self.kept.len() < self.keep as usize {
             let _ = self.kept.push(line);

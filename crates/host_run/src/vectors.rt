@@ -6,23 +6,24 @@ use crate::host::Host;
 use crate::serving::can_pop;
 use client_world::faults::{COPROCESSOR_NOT_AVAILABLE, DIVIDE_ERROR, INVALID_OPCODE};
 use client_world::{DosDone, Exit, TraceLine};
+use cpu_values::part8;
 use dos_calls::{int2f, int21};
 use fault_service::pop_iret;
 
 impl Host {
     // The interrupt's frame is popped.
     fn popped(&mut self) -> Result<(), Exit>
-        ensures { MatchResult result (λ _. popped self.old ≡ goes_on self.new) (λ exit. popped self.old ≡ ends self.new exit) }
+        ensures { MatchResult result (λ _. popped self.old.world ≡ goes_on self.new.world) (λ exit. popped self.old.world ≡ ends self.new.world exit) }
     {
         pop_iret(&mut self.machine)
     }
 
     // INT 21h: a DOS call.
     fn dos_served(&mut self) -> Result<(), Exit>
-        requires room { self.old.lines < 2 * self.old.steps }
-        ensures { MatchResult result (λ _. dos_served self.old ≡ goes_on self.new) (λ exit. dos_served self.old ≡ ends self.new exit) }
+        requires room { self.old.world.lines < 2 * self.old.world.steps }
+        ensures { MatchResult result (λ _. dos_served self.old.world ≡ goes_on self.new.world) (λ exit. dos_served self.old.world ≡ ends self.new.world exit) }
     {
-        let function = (self.machine.regs().eax / 0x100 % 0x100) as u8;
+        let function = part8(self.machine.regs().eax, true);
         self.note(TraceLine::Int21(function));
         match int21(&mut self.machine, &mut self.keys, &mut self.console) {
             DosDone::Served => self.popped(),
@@ -32,9 +33,9 @@ impl Host {
 
     // INT 2Fh.
     fn multiplex_served(&mut self) -> Result<(), Exit>
-        requires room { self.old.lines < 2 * self.old.steps }
-        ensures { MatchResult result (λ _. multiplex_served self.old ≡ goes_on self.new)
-            (λ exit. multiplex_served self.old ≡ ends self.new exit) }
+        requires room { self.old.world.lines < 2 * self.old.world.steps }
+        ensures { MatchResult result (λ _. multiplex_served self.old.world ≡ goes_on self.new.world)
+            (λ exit. multiplex_served self.old.world ≡ ends self.new.world exit) }
     {
         let function = (self.machine.regs().eax % 0x1_0000) as u16;
         self.note(TraceLine::Int2f(function));
@@ -45,9 +46,9 @@ impl Host {
     // The default vector of a number.
     #[tactic(auto, unfolding(crate::specs::Turn::vector_served))]
     fn vector_served(&mut self, n: u8) -> Result<(), Exit>
-        requires room { self.old.lines < 2 * self.old.steps }
-        ensures { MatchResult result (λ _. vector_served self.old n ≡ goes_on self.new)
-            (λ exit. vector_served self.old n ≡ ends self.new exit) }
+        requires room { self.old.world.lines < 2 * self.old.world.steps }
+        ensures { MatchResult result (λ _. vector_served self.old.world n ≡ goes_on self.new.world)
+            (λ exit. vector_served self.old.world n ≡ ends self.new.world exit) }
     {
         if ends_client(n) {
             return Err(Exit::Fault(n, 0));
@@ -68,9 +69,9 @@ impl Host {
     // The default vector of a number, where the frame can be popped.
     #[tactic(auto, using(crate::proofs::Frames::reached_popped, crate::proofs::Frames::reached_bad))]
     pub(crate) fn vector_reached(&mut self, n: u8) -> Result<(), Exit>
-        requires room { self.old.lines < 2 * self.old.steps }
-        ensures { MatchResult result (λ _. vector_reached self.old n ≡ goes_on self.new)
-            (λ exit. vector_reached self.old n ≡ ends self.new exit) }
+        requires room { self.old.world.lines < 2 * self.old.world.steps }
+        ensures { MatchResult result (λ _. vector_reached self.old.world n ≡ goes_on self.new.world)
+            (λ exit. vector_reached self.old.world n ≡ ends self.new.world exit) }
     {
         if can_pop(&self.machine) {
             self.vector_served(n)

@@ -135,7 +135,7 @@ const GROUP_0FBA: Slot = Slot::Group(20);
 
 // The one-byte map.
 pub static ONE_BYTE_MAP: [Slot; 256] = [
-    // 00
+    // Opcodes 00 to 0F
     alone!(Op::Add, Eb Gb Empty),
     alone!(Op::Add, Ev Gv Empty),
     alone!(Op::Add, Gb Eb Empty),
@@ -152,7 +152,7 @@ pub static ONE_BYTE_MAP: [Slot; 256] = [
     alone!(Op::Or, Ax Iz Empty),
     alone!(Op::Push, SegCs Empty Empty),
     NONE,
-    // 10
+    // Opcodes 10 to 1F
     alone!(Op::Adc, Eb Gb Empty),
     alone!(Op::Adc, Ev Gv Empty),
     alone!(Op::Adc, Gb Eb Empty),
@@ -169,7 +169,7 @@ pub static ONE_BYTE_MAP: [Slot; 256] = [
     alone!(Op::Sbb, Ax Iz Empty),
     alone!(Op::Push, SegDs Empty Empty),
     alone!(Op::Pop, SegDs Empty Empty),
-    // 20
+    // Opcodes 20 to 2F
     alone!(Op::And, Eb Gb Empty),
     alone!(Op::And, Ev Gv Empty),
     alone!(Op::And, Gb Eb Empty),
@@ -186,7 +186,7 @@ pub static ONE_BYTE_MAP: [Slot; 256] = [
     alone!(Op::Sub, Ax Iz Empty),
     NONE,
     alone!(Op::Das, Empty Empty Empty),
-    // 30
+    // Opcodes 30 to 3F
     alone!(Op::Xor, Eb Gb Empty),
     alone!(Op::Xor, Ev Gv Empty),
     alone!(Op::Xor, Gb Eb Empty),
@@ -203,7 +203,7 @@ pub static ONE_BYTE_MAP: [Slot; 256] = [
     alone!(Op::Cmp, Ax Iz Empty),
     NONE,
     alone!(Op::Aas, Empty Empty Empty),
-    // 40
+    // Opcodes 40 to 4F
     alone!(Op::Inc, Zv Empty Empty),
     alone!(Op::Inc, Zv Empty Empty),
     alone!(Op::Inc, Zv Empty Empty),
@@ -220,7 +220,7 @@ pub static ONE_BYTE_MAP: [Slot; 256] = [
     alone!(Op::Dec, Zv Empty Empty),
     alone!(Op::Dec, Zv Empty Empty),
     alone!(Op::Dec, Zv Empty Empty),
-    // 50
+    // Opcodes 50 to 5F
     alone!(Op::Push, Zv Empty Empty),
     alone!(Op::Push, Zv Empty Empty),
     alone!(Op::Push, Zv Empty Empty),
@@ -237,7 +237,7 @@ pub static ONE_BYTE_MAP: [Slot; 256] = [
     alone!(Op::Pop, Zv Empty Empty),
     alone!(Op::Pop, Zv Empty Empty),
     alone!(Op::Pop, Zv Empty Empty),
-    // 60
+    // Opcodes 60 to 6F
     alone!(Op::Pusha, Empty Empty Empty),
     alone!(Op::Popa, Empty Empty Empty),
     alone!(Op::Bound, Gv M Empty),
@@ -254,7 +254,7 @@ pub static ONE_BYTE_MAP: [Slot; 256] = [
     alone!(Op::Ins, Xv Empty Empty),
     alone!(Op::Outs, Xb Empty Empty),
     alone!(Op::Outs, Xv Empty Empty),
-    // 70
+    // Opcodes 70 to 7F
     alone!(Op::Jcc(0), Jb Empty Empty),
     alone!(Op::Jcc(1), Jb Empty Empty),
     alone!(Op::Jcc(2), Jb Empty Empty),
@@ -271,7 +271,7 @@ pub static ONE_BYTE_MAP: [Slot; 256] = [
     alone!(Op::Jcc(13), Jb Empty Empty),
     alone!(Op::Jcc(14), Jb Empty Empty),
     alone!(Op::Jcc(15), Jb Empty Empty),
-    // 80
+    // Opcodes 80 to 8F
     GROUP_80,
     GROUP_81,
     GROUP_80,
@@ -288,7 +288,7 @@ pub static ONE_BYTE_MAP: [Slot; 256] = [
     alone!(Op::Lea, Gv M Empty),
     GROUP_8E,
     GROUP_8F,
-    // 90
+    // Opcodes 90 to 9F
     alone!(Op::Xchg, Ax Zv Empty),
     alone!(Op::Xchg, Ax Zv Empty),
     alone!(Op::Xchg, Ax Zv Empty),
@@ -305,7 +305,7 @@ pub static ONE_BYTE_MAP: [Slot; 256] = [
     alone!(Op::Popf, Empty Empty Empty),
     alone!(Op::Sahf, Empty Empty Empty),
     alone!(Op::Lahf, Empty Empty Empty),
-    // A0
+    // Opcodes A0 to AF
     alone!(Op::Mov, Al Ob Empty),
     alone!(Op::Mov, Ax Ov Empty),
     alone!(Op::Mov, Ob Al Empty),
@@ -322,7 +322,7 @@ pub static ONE_BYTE_MAP: [Slot; 256] = [
     alone!(Op::Lods, Xv Empty Empty),
     alone!(Op::Scas, Xb Empty Empty),
     alone!(Op::Scas, Xv Empty Empty),
-    // B0
+    // Opcodes B0 to BF
     alone!(Op::Mov, Zb Ib Empty),
     alone!(Op::Mov, Zb Ib Empty),
     alone!(Op::Mov, Zb Ib Empty),
@@ -339,7 +339,7 @@ pub static ONE_BYTE_MAP: [Slot; 256] = [
     alone!(Op::Mov, Zv Iz Empty),
     alone!(Op::Mov, Zv Iz Empty),
     alone!(Op::Mov, Zv Iz Empty),
-    // C0
+    // Opcodes C0 to CF
     GROUP_C0,
     GROUP_C1,
     alone!(Op::Ret, Iw Empty Empty),
@@ -356,7 +356,7 @@ pub static ONE_BYTE_MAP: [Slot; 256] = [
     alone!(Op::Int, Ib Empty Empty),
     alone!(Op::Into, Empty Empty Empty),
     alone!(Op::Iret, Empty Empty Empty),
-    // D0
+    // Opcodes D0 to DF
     GROUP_D0,
     GROUP_D1,
     GROUP_D2,
@@ -373,7 +373,7 @@ pub static ONE_BYTE_MAP: [Slot; 256] = [
     alone!(Op::Esc, Ev Empty Empty),
     alone!(Op::Esc, Ev Empty Empty),
     alone!(Op::Esc, Ev Empty Empty),
-    // E0
+    // Opcodes E0 to EF
     alone!(Op::Loopne, Jb Empty Empty),
     alone!(Op::Loope, Jb Empty Empty),
     alone!(Op::Loop, Jb Empty Empty),
@@ -390,7 +390,7 @@ pub static ONE_BYTE_MAP: [Slot; 256] = [
     alone!(Op::In, Ax Dx Empty),
     alone!(Op::Out, Dx Al Empty),
     alone!(Op::Out, Dx Ax Empty),
-    // F0
+    // Opcodes F0 to FF
     NONE,
     NONE,
     NONE,
@@ -411,7 +411,7 @@ pub static ONE_BYTE_MAP: [Slot; 256] = [
 
 // The second map, after 0F.
 pub static TWO_BYTE_MAP: [Slot; 256] = [
-    // 00
+    // Opcodes 00 to 0F
     GROUP_0F00,
     GROUP_0F01,
     alone!(Op::Lar, Gv Ew Empty),
@@ -428,7 +428,7 @@ pub static TWO_BYTE_MAP: [Slot; 256] = [
     NONE,
     NONE,
     NONE,
-    // 10
+    // Opcodes 10 to 1F
     NONE,
     NONE,
     NONE,
@@ -445,7 +445,7 @@ pub static TWO_BYTE_MAP: [Slot; 256] = [
     NONE,
     NONE,
     NONE,
-    // 20
+    // Opcodes 20 to 2F
     alone!(Op::MovControl, ModRm Empty Empty),
     alone!(Op::MovDebug, ModRm Empty Empty),
     alone!(Op::MovControl, ModRm Empty Empty),
@@ -462,7 +462,7 @@ pub static TWO_BYTE_MAP: [Slot; 256] = [
     NONE,
     NONE,
     NONE,
-    // 30
+    // Opcodes 30 to 3F
     NONE,
     NONE,
     NONE,
@@ -479,7 +479,7 @@ pub static TWO_BYTE_MAP: [Slot; 256] = [
     NONE,
     NONE,
     NONE,
-    // 40
+    // Opcodes 40 to 4F
     NONE,
     NONE,
     NONE,
@@ -496,7 +496,7 @@ pub static TWO_BYTE_MAP: [Slot; 256] = [
     NONE,
     NONE,
     NONE,
-    // 50
+    // Opcodes 50 to 5F
     NONE,
     NONE,
     NONE,
@@ -513,7 +513,7 @@ pub static TWO_BYTE_MAP: [Slot; 256] = [
     NONE,
     NONE,
     NONE,
-    // 60
+    // Opcodes 60 to 6F
     NONE,
     NONE,
     NONE,
@@ -530,7 +530,7 @@ pub static TWO_BYTE_MAP: [Slot; 256] = [
     NONE,
     NONE,
     NONE,
-    // 70
+    // Opcodes 70 to 7F
     NONE,
     NONE,
     NONE,
@@ -547,7 +547,7 @@ pub static TWO_BYTE_MAP: [Slot; 256] = [
     NONE,
     NONE,
     NONE,
-    // 80
+    // Opcodes 80 to 8F
     alone!(Op::Jcc(0), Jz Empty Empty),
     alone!(Op::Jcc(1), Jz Empty Empty),
     alone!(Op::Jcc(2), Jz Empty Empty),
@@ -564,7 +564,7 @@ pub static TWO_BYTE_MAP: [Slot; 256] = [
     alone!(Op::Jcc(13), Jz Empty Empty),
     alone!(Op::Jcc(14), Jz Empty Empty),
     alone!(Op::Jcc(15), Jz Empty Empty),
-    // 90
+    // Opcodes 90 to 9F
     alone!(Op::Setcc(0), Eb Empty Empty),
     alone!(Op::Setcc(1), Eb Empty Empty),
     alone!(Op::Setcc(2), Eb Empty Empty),
@@ -581,7 +581,7 @@ pub static TWO_BYTE_MAP: [Slot; 256] = [
     alone!(Op::Setcc(13), Eb Empty Empty),
     alone!(Op::Setcc(14), Eb Empty Empty),
     alone!(Op::Setcc(15), Eb Empty Empty),
-    // A0
+    // Opcodes A0 to AF
     alone!(Op::Push, SegFs Empty Empty),
     alone!(Op::Pop, SegFs Empty Empty),
     NONE,
@@ -598,7 +598,7 @@ pub static TWO_BYTE_MAP: [Slot; 256] = [
     alone!(Op::Shrd, Ev Gv Cl),
     NONE,
     alone!(Op::Imul, Gv Ev Empty),
-    // B0
+    // Opcodes B0 to BF
     NONE,
     NONE,
     alone!(Op::Lss, Gv M Empty),
@@ -615,7 +615,7 @@ pub static TWO_BYTE_MAP: [Slot; 256] = [
     alone!(Op::Bsr, Gv Ev Empty),
     alone!(Op::Movsx(8), Gv Eb Empty),
     alone!(Op::Movsx(16), Gv Ew Empty),
-    // C0
+    // Opcodes C0 to CF
     NONE,
     NONE,
     NONE,
@@ -632,7 +632,7 @@ pub static TWO_BYTE_MAP: [Slot; 256] = [
     NONE,
     NONE,
     NONE,
-    // D0
+    // Opcodes D0 to DF
     NONE,
     NONE,
     NONE,
@@ -649,7 +649,7 @@ pub static TWO_BYTE_MAP: [Slot; 256] = [
     NONE,
     NONE,
     NONE,
-    // E0
+    // Opcodes E0 to EF
     NONE,
     NONE,
     NONE,
@@ -666,7 +666,7 @@ pub static TWO_BYTE_MAP: [Slot; 256] = [
     NONE,
     NONE,
     NONE,
-    // F0
+    // Opcodes F0 to FF
     NONE,
     NONE,
     NONE,
@@ -687,13 +687,13 @@ pub static TWO_BYTE_MAP: [Slot; 256] = [
 
 // The groups, by the reg field.
 pub static GROUPS: [[Row; 8]; 21] = [
-    // 80
+    // Opcode 80
     arithmetic!(Eb Ib),
-    // 81
+    // Opcode 81
     arithmetic!(Ev Iz),
-    // 83
+    // Opcode 83
     arithmetic!(Ev Is),
-    // 8C
+    // Opcode 8C
     [
         row!(Op::Mov, RvMw Sw Empty),
         row!(Op::Mov, RvMw Sw Empty),
@@ -704,7 +704,7 @@ pub static GROUPS: [[Row; 8]; 21] = [
         none!(RvMw Sw),
         none!(RvMw Sw),
     ],
-    // 8E
+    // Opcode 8E
     [
         row!(Op::Mov, Sw Ew Empty),
         none!(Sw Ew),
@@ -715,29 +715,29 @@ pub static GROUPS: [[Row; 8]; 21] = [
         none!(Sw Ew),
         none!(Sw Ew),
     ],
-    // 8F
+    // Opcode 8F
     first!(Op::Pop, Ev Empty),
-    // C0
+    // Opcode C0
     shifts!(Eb Ib),
-    // C1
+    // Opcode C1
     shifts!(Ev Ib),
-    // C6
+    // Opcode C6
     first!(Op::Mov, Eb Ib),
-    // C7
+    // Opcode C7
     first!(Op::Mov, Ev Iz),
-    // D0
+    // Opcode D0
     shifts!(Eb Const1),
-    // D1
+    // Opcode D1
     shifts!(Ev Const1),
-    // D2
+    // Opcode D2
     shifts!(Eb Cl),
-    // D3
+    // Opcode D3
     shifts!(Ev Cl),
-    // F6
+    // Opcode F6
     unary!(Eb Ib),
-    // F7
+    // Opcode F7
     unary!(Ev Iz),
-    // FE
+    // Opcode FE
     [
         row!(Op::Inc, Eb Empty Empty),
         row!(Op::Dec, Eb Empty Empty),
@@ -748,7 +748,7 @@ pub static GROUPS: [[Row; 8]; 21] = [
         none!(Eb Empty),
         none!(Eb Empty),
     ],
-    // FF
+    // Opcode FF
     [
         row!(Op::Inc, Ev Empty Empty),
         row!(Op::Dec, Ev Empty Empty),
@@ -759,7 +759,7 @@ pub static GROUPS: [[Row; 8]; 21] = [
         row!(Op::Push, Ev Empty Empty),
         none!(Ev Empty),
     ],
-    // 0F00
+    // Opcode 0F00
     [
         row!(Op::Sldt, Ew Empty Empty),
         row!(Op::Str, Ew Empty Empty),
@@ -770,7 +770,7 @@ pub static GROUPS: [[Row; 8]; 21] = [
         none!(Ew Empty),
         none!(Ew Empty),
     ],
-    // 0F01
+    // Opcode 0F01
     [
         row!(Op::Sgdt, M Empty Empty),
         row!(Op::Sidt, M Empty Empty),
@@ -781,7 +781,7 @@ pub static GROUPS: [[Row; 8]; 21] = [
         row!(Op::Lmsw, Ew Empty Empty),
         none!(Ew Empty),
     ],
-    // 0FBA
+    // Opcode 0FBA
     [
         none!(Ev Ib),
         none!(Ev Ib),

@@ -70,10 +70,6 @@ number_of (byte ∷ bytes) = byte + 0x100 * number_of bytes
 abbrev pub IsCount : ℕ → Type 0
 IsCount n = (n ≡ 1) ⊎ (n ≡ 2) ⊎ (n ≡ 4) ⊎ (n ≡ 6) ⊎ (n ≡ 8)
 
--- those of the widths 8, 16 and 32
-abbrev pub IsCountOfWidth : ℕ → Type 0
-IsCountOfWidth n = (n ≡ 1) ⊎ (n ≡ 2) ⊎ (n ≡ 4)
-
 -- a read's answer
 abbrev pub number_read : Result (List ℕ) Fault → Result ℕ Event
 number_read (Ok bytes) = Ok (number_of bytes)

@@ -13,6 +13,5 @@ mod stack;
 pub use conditions::condition;
 pub use loop_counter::{counter, with_address};
 pub use next::{Access, MAX_READS, MAX_WRITES, Next, carry_out};
-pub use read::byte_count;
 pub use registers::{cut_address, offset_of, register, set_register};
 pub use stack::{has_big_stack, items_popped, set_stack_pointer, stack_pointer, stack_pointer_up};

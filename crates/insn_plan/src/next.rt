@@ -5,10 +5,10 @@ ghost use Rattle.insn_plan.specs.Act.{From, IsCount, value_of};
 ghost use Rattle.insn_plan.specs.Operands.{source, put, and_write};
 ghost use Rattle.insn_plan.specs.Plan.{access_of, pending_of, settled, carried_out, Follows};
 
-use crate::read::{byte_count, read_number, read_width};
+use crate::read::{read_number, read_width};
 use crate::registers::{offset_of, register, set_register};
 use client_world::{Event, Regs, SegReg};
-use guest_space::{Machine, Write};
+use guest_space::{Machine, Write, byte_count};
 use insn_forms::Operand;
 use std::marker::Model;
 
@@ -71,6 +71,7 @@ impl Model for Next {
 
 impl Next {
     /// Nothing is read, and nothing is changed.
+    #[inline(always)]
     pub fn new(m: &Machine) -> Next
         ensures { result ≡ record { reads = []; regs = m.now.world.regs; vif = m.now.world.vif; writes = [] } }
     {

@@ -1,22 +1,10 @@
 // Numbers read from memory.
 ghost use Rattle.std.specs.Prelude.{◌≡◌};
-ghost use Rattle.guest_space.specs.Pending.{byte_count};
-ghost use Rattle.insn_plan.specs.Act.{From, IsCount, IsCountOfWidth, value_of, number_of};
+ghost use Rattle.guest_space.specs.Pending.{IsCountOfWidth};
+ghost use Rattle.insn_plan.specs.Act.{From, IsCount, value_of, number_of};
 
 use client_world::{Event, SegReg};
 use guest_space::Machine;
-
-/// The bytes of a width of 8, 16 or 32 bits.
-pub fn byte_count(width: u8) -> u8
-    ensures value { result ≡ byte_count width }
-    ensures count { IsCountOfWidth result }
-{
-    match width {
-        8 => 1,
-        16 => 2,
-        _ => 4,
-    }
-}
 
 // The number of one byte.
 #[tactic(auto, using(crate::proofs::Numbers::number_of_one))]

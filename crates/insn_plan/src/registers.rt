@@ -11,6 +11,7 @@ ghost use Rattle.insn_plan.specs.Registers.{
 };
 
 use client_world::Regs;
+use cpu_values::{part8, put8, put16};
 use insn_forms::MemForm;
 
 // The general register of a number 0 to 7; greater numbers are EDI.
@@ -54,11 +55,8 @@ pub fn register(r: &Regs, width: u8, n: u8) -> u32
     ensures { result ≡ register r.now width n }
 {
     if width == 8 {
-        if n < 4 {
-            register32(r, n) % 0x100
-        } else {
-            register32(r, n - 4) / 0x100 % 0x100
-        }
+        let high = n >= 4;
+        u32::from(part8(register32(r, if high { n - 4 } else { n }), high))
     } else if width == 16 {
         register32(r, n) % 0x1_0000
     } else {
@@ -72,20 +70,13 @@ pub fn set_register(r: &mut Regs, width: u8, n: u8, v: u32)
     ensures { r.new ≡ with_register r.old width n v }
 {
     if width == 8 {
-        if n < 4 {
-            let old = register32(r, n);
-            set_register32(r, n, old / 0x100 * 0x100 + v % 0x100);
-        } else {
-            let old = register32(r, n - 4);
-            set_register32(
-                r,
-                n - 4,
-                old / 0x1_0000 * 0x1_0000 + v % 0x100 * 0x100 + old % 0x100,
-            );
-        }
+        let high = n >= 4;
+        let n = if high { n - 4 } else { n };
+        let old = register32(r, n);
+        set_register32(r, n, put8(old, high, (v % 0x100) as u8));
     } else if width == 16 {
         let old = register32(r, n);
-        set_register32(r, n, old / 0x1_0000 * 0x1_0000 + v % 0x1_0000);
+        set_register32(r, n, put16(old, (v % 0x1_0000) as u16));
     } else {
         set_register32(r, n, v);
     }

@@ -17,10 +17,9 @@ ghost use Rattle.insn_plan.specs.Stack.{
 ghost use Rattle.insn_plan.specs.declared.next.TheConstants.{MAX_READS, MAX_WRITES};
 
 use crate::next::Next;
-use crate::read::byte_count;
 use crate::registers::cut_address;
 use client_world::{Event, Mode, Regs, SegReg};
-use guest_space::Machine;
+use guest_space::{Machine, byte_count};
 
 /// Whether the stack pointer is ESP: the segment in SS has B = 1.
 /// Source: 80386 Programmer's Reference Manual, ch. 16, "Stack-Segment Default Size".

@@ -4,7 +4,7 @@ use Rattle.std.proofs.lemmas.Bool.{cases_lt, eqb-true, eqb-false, ltb-true, ltb-
 use Rattle.std.proofs.lemmas.List.{get_or_past}
 use Rattle.client_world.specs.declared.dos_memory.DosEntry.{DosEntry}
 use Rattle.client_world.specs.declared.dos_memory.DosState.TheVariants.{Free, Used}
-use Rattle.client_world.specs.declared.memory_map.TheConstants.{ARENA_START, ARENA_END, PARAGRAPH_SIZE, PSP_SEGMENT, ROM_START}
+use Rattle.client_world.specs.declared.memory_map.TheConstants.{ARENA_START, ARENA_END, PARAGRAPH_SIZE, PSP_SEGMENT, ROM_START, IMAGE_SEGMENT, IMAGE_START}
 use Rattle.client_world.specs.declared.outcome.LoadFault.{LoadFault}
 use Rattle.client_world.specs.DosMemory.{IsArena}
 use Rattle.client_world.specs.Soundness.{IsSound, SoundMegabyte}
@@ -17,9 +17,9 @@ use Rattle.guest_space.proofs.ArenaWrites.{IsSound-entries}
 use Rattle.host_memory.specs.Blank.{blank_arena, blank_world}
 use Rattle.host_memory.specs.Vectors.{word_bytes}
 use Rattle.host_memory.proofs.BlankSound.{blank_is_sound}
-use Rattle.mz_loader.specs.Header.{relocations, relocation_table, header_length, image_length, minimum, maximum, block_paras, most_paras, psp_paras, image_segment}
+use Rattle.mz_loader.specs.Header.{relocations, relocation_table, header_length, image_length, minimum, maximum, block_paras, most_paras, psp_paras}
 use Rattle.mz_loader.specs.Refusal.{is_short, lacks_signature, has_bad_pages, has_bad_table, has_no_room, has_bad_target, relocation_target, some_beyond, refusal}
-use Rattle.mz_loader.specs.Start.{start_blocks, environment_paras, environment, environment_segment, psp_front, psp_environment, psp_command, psp_address, with_psp, image, image_address, relocated, all_relocated, with_program, start_regs, started}
+use Rattle.mz_loader.specs.Start.{start_blocks, environment_paras, environment, environment_segment, psp_front, psp_environment, psp_command, psp_address, with_psp, image, relocated, all_relocated, with_program, start_regs, started}
 
 -- ---- bytes
 
@@ -126,15 +126,15 @@ sound_psp paras dos few s =
 
 -- ---- the program
 
-image_fits : (n m : ℕ) → nat_lt most_paras (psp_paras + (n + 15) / PARAGRAPH_SIZE + m) ≡ false → image_address + n ≤ ROM_START
+image_fits : (n m : ℕ) → nat_lt most_paras (psp_paras + (n + 15) / PARAGRAPH_SIZE + m) ≡ false → IMAGE_START + n ≤ ROM_START
 image_fits n m room = let within = ltb-false most_paras (psp_paras + (n + 15) / PARAGRAPH_SIZE + m) room in omega arith
 
 sound_relocated : (dos : List ℕ) (target paras : ℕ) → SoundMegabyte dos → paras ≤ most_paras → target + 2 ≤ PARAGRAPH_SIZE * (paras - psp_paras) →
     SoundMegabyte (relocated dos target)
 unfolding relocated
 sound_relocated dos target paras s few within =
-    let v = (word_of dos (image_address + target) + image_segment) % 0x10000 in
-    sound_put dos (image_address + target) (word_bytes v) s (omega arith) (bytes_word v (omega arith))
+    let v = (word_of dos (IMAGE_START + target) + IMAGE_SEGMENT) % 0x10000 in
+    sound_put dos (IMAGE_START + target) (word_bytes v) s (omega arith) (bytes_word v (omega arith))
 
 or_left : (a b : Bool) → (a || b) ≡ false → a ≡ false
 or_left true b h = h
@@ -165,8 +165,8 @@ sound_program : (file : List ℕ) (dos : List ℕ) → AreBytes file → has_no_
 unfolding with_program
 sound_program file dos bytes room targets s =
     let fits = image_fits (image_length file) (minimum file) room in
-    sound_all_relocated file (block_paras file) (relocation_table file) (relocations file) (put dos image_address (image file))
-    (sound_put dos image_address (image file) s (let long = length-image file in omega arith) (bytes_image file bytes))
+    sound_all_relocated file (block_paras file) (relocation_table file) (relocations file) (put dos IMAGE_START (image file))
+    (sound_put dos IMAGE_START (image file) s (let long = length-image file in omega arith) (bytes_image file bytes))
     (block_is_few file) targets
 
 -- ---- a file that is loaded

@@ -57,7 +57,3 @@ abbrev pub block_paras : List ℕ → ℕ
 block_paras file =
     if nat_eq (minimum file) 0 && nat_eq (maximum file) 0 then most_paras
     else min most_paras (psp_paras + image_paras file + max (minimum file) (maximum file))
-
--- the segment to which the image is loaded
-abbrev pub image_segment : ℕ
-image_segment = PSP_SEGMENT + psp_paras

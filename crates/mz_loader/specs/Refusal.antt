@@ -1,11 +1,11 @@
 -- Why a file isn't loaded: the first of these reasons. Source: own.
 use Rattle.std.specs.Prelude.{ℕ, zero, suc, ◌+◌, ◌-◌, ◌*◌, ◌%◌, Bool, false, not, ◌&&◌, ◌||◌, nat_eq, nat_lt, nat_le, if◌then◌else◌, List, length, slice_index, Some, None}
 use Rattle.std.specs.declared.option.Option.{Option}
-use Rattle.client_world.specs.declared.memory_map.TheConstants.{PARAGRAPH_SIZE, PSP_SEGMENT}
+use Rattle.client_world.specs.declared.memory_map.TheConstants.{PARAGRAPH_SIZE, PSP_SEGMENT, IMAGE_SEGMENT}
 use Rattle.client_world.specs.declared.outcome.LoadFault.{LoadFault}
 use Rattle.client_world.specs.declared.outcome.LoadFault.TheVariants.{ShortHeader, Signature, LastPage, RelocTable, NoRoom, RelocTarget, EntryOutside}
 use Rattle.guest_ram.specs.Bytes.{word_of}
-use Rattle.mz_loader.specs.Header.{last_page, pages, relocations, relocation_table, header_length, page_bytes, told_length, needed_paras, most_paras, block_paras, psp_paras, image_segment}
+use Rattle.mz_loader.specs.Header.{last_page, pages, relocations, relocation_table, header_length, page_bytes, told_length, needed_paras, most_paras, block_paras, psp_paras}
 
 -- the file is shorter than a header
 abbrev pub header_bytes : ℕ
@@ -49,7 +49,7 @@ has_bad_target file =
 
 -- where the first instruction stands: CS, and its linear address
 abbrev pub first_segment : List ℕ → ℕ
-first_segment file = (image_segment + word_of file 0x16) % 0x10000
+first_segment file = (IMAGE_SEGMENT + word_of file 0x16) % 0x10000
 
 abbrev pub entry_address : List ℕ → ℕ
 entry_address file = PARAGRAPH_SIZE * first_segment file + word_of file 0x14

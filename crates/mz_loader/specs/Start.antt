@@ -2,14 +2,14 @@
 use Rattle.std.specs.Prelude.{ℕ, zero, suc, ◌+◌, ◌-◌, ◌*◌, ◌%◌, nat_eq, if◌then◌else◌, List, [], ◌∷◌, slice_index}
 use Rattle.client_world.specs.declared.dos_memory.DosEntry.{DosEntry}
 use Rattle.client_world.specs.declared.dos_memory.DosState.TheVariants.{Free, Used}
-use Rattle.client_world.specs.declared.memory_map.TheConstants.{ARENA_START, ARENA_END, PARAGRAPH_SIZE, PSP_SEGMENT}
+use Rattle.client_world.specs.declared.memory_map.TheConstants.{ARENA_START, ARENA_END, PARAGRAPH_SIZE, PSP_SEGMENT, IMAGE_SEGMENT, IMAGE_START}
 use Rattle.client_world.specs.declared.registers.Regs.{Regs}
 use Rattle.client_world.specs.World.{World}
 use Rattle.guest_ram.specs.Bytes.{word_of, put}
 use Rattle.guest_ram.specs.Listed.{listed}
 use Rattle.guest_space.specs.Arena.{with_entries}
 use Rattle.host_memory.specs.Vectors.{word_bytes}
-use Rattle.mz_loader.specs.Header.{relocations, relocation_table, header_length, image_length, block_paras, most_paras, image_segment}
+use Rattle.mz_loader.specs.Header.{relocations, relocation_table, header_length, image_length, block_paras, most_paras}
 use Rattle.mz_loader.specs.Refusal.{relocation_target, first_segment}
 
 -- the paragraphs of the environment's block, and its segment
@@ -55,13 +55,10 @@ with_psp paras dos =
 unfoldable pub image : List ℕ → List ℕ
 image file = listed (image_length file) (λ at. slice_index file (header_length file + at))
 
-abbrev pub image_address : ℕ
-image_address = PARAGRAPH_SIZE * image_segment
-
 -- the megabyte with the image's segment added to the word at a place of the image, modulo 65536
 unfoldable pub relocated : List ℕ → ℕ → List ℕ
 relocated dos target =
-    put dos (image_address + target) (word_bytes ((word_of dos (image_address + target) + image_segment) % 0x10000))
+    put dos (IMAGE_START + target) (word_bytes ((word_of dos (IMAGE_START + target) + IMAGE_SEGMENT) % 0x10000))
 
 -- after n relocations, from that at an address of the file on, one after the other
 unfoldable pub all_relocated : List ℕ → ℕ → ℕ → List ℕ → List ℕ
@@ -71,14 +68,14 @@ all_relocated file at (suc n) dos = all_relocated file (at + 4) n (relocated dos
 -- the megabyte with the program
 unfoldable pub with_program : List ℕ → List ℕ → List ℕ
 with_program file dos =
-    all_relocated file (relocation_table file) (relocations file) (put dos image_address (image file))
+    all_relocated file (relocation_table file) (relocations file) (put dos IMAGE_START (image file))
 
 -- the first registers
 abbrev pub start_regs : List ℕ → Regs → Regs
 start_regs file r = record r {
   cs = first_segment file;
   eip = word_of file 0x14;
-  ss = (image_segment + word_of file 0x0E) % 0x10000;
+  ss = (IMAGE_SEGMENT + word_of file 0x0E) % 0x10000;
   esp = word_of file 0x10;
   ds = PSP_SEGMENT;
   es = PSP_SEGMENT;

@@ -18,7 +18,7 @@ fn relocate_word(m: &mut Machine, target: u32)
     ensures { m.new.world ≡ record m.old.world { dos = relocated m.old.world.dos target } }
 {
     let at = IMAGE_START + target;
-    let word = u16::from(m.dos8(at)) + 0x100 * u16::from(m.dos8(at + 1));
+    let word = m.dos16(at);
     let moved = word.wrapping_add(IMAGE_SEGMENT);
     m.set_dos8(at, (moved % 0x100) as u8);
     m.set_dos8(at + 1, (moved / 0x100) as u8);

@@ -1,22 +1,10 @@
-use Rattle.std.proofs.Common.{◌∙◌, ◌+◌, sym, ap, refl, drop}
-use Rattle.guest_space.specs.Pending.{first_refusal}
-use Rattle.guest_space.proofs.Writes.{left_from, none_refused, left_none, left_written, none_left}
+use Rattle.guest_space.proofs.Writes.{one_made, one_refused}
 use Rattle.guest_space.proofs.machine.Machine.write_all.Goals as goal
 
-pub loop-x-init : goal.loop-x-init
-loop-x-init c = record { none = sym c.first_fault.ensures ∙ c.in_default.is; left = refl }
+pub returns-then-writes-eq1-clause-done : goal.returns-then-writes-eq1-clause-done
+returns-then-writes-eq1-clause-done c =
+    one_made c.args.self.now c.make.new.self c.args.writes.now _ c.make.result c.if-writes-eq1.true c.make.ensures
 
-pub make-requires : goal.make-requires
-make-requires c =
-    (none_refused c.loop-x.self.world _ (drop (c.loop-x.x-index + 1) c.args.writes.now)
-    (sym (ap (first_refusal c.loop-x.self.world) (left_from c.args.writes.now c.loop-x.x-index _ c.loop-x-test.true)) ∙ c.loop-x.invariant.none)).first
-
-pub loop-x-preserved : goal.loop-x-preserved
-loop-x-preserved c = record {
-  none = left_none c.loop-x.self c.make.new.self c.args.writes.now c.loop-x.x-index _ c.loop-x-test.true c.make.ensures c.loop-x.invariant.none;
-  left = left_written c.loop-x.self c.make.new.self _ c.args.writes.now c.loop-x.x-index _ c.loop-x-test.true c.make.ensures c.loop-x.invariant.left;
-}
-
-pub returns-clause-done : goal.returns-clause-done
-returns-clause-done c =
-    (sym c.first_fault.ensures ∙ c.in_default.is, none_left c.loop-x.self _ c.args.writes.now c.loop-x.x-index c.loop-x-test.false c.loop-x.invariant.left)
+pub returns-then-writes-eq1-clause-refused : goal.returns-then-writes-eq1-clause-refused
+returns-then-writes-eq1-clause-refused c =
+    one_refused c.args.self.now c.make.new.self c.args.writes.now _ c.make.result c.if-writes-eq1.true c.make.ensures

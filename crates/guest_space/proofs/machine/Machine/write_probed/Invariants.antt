@@ -1,6 +1,6 @@
 use Rattle.std.proofs.Common.{◌≡◌, drop, None}
 use Rattle.guest_space.specs.Pending.{first_refusal, all_written}
-use Rattle.guest_space.proofs.machine.Machine.write_all.Given as goal
+use Rattle.guest_space.proofs.machine.Machine.write_probed.Given as goal
 
 abbrev pub invariant-loop-x : goal.invariant-loop-x
 invariant-loop-x l = record {

@@ -1,6 +1,6 @@
 use Rattle.std.proofs.Common.{◌∙◌}
 use Rattle.host_memory.proofs.RowWrites.{row_reads}
-use Rattle.guest_space.proofs.machine.Machine.desc.Goals as goal
+use Rattle.guest_space.proofs.machine.Machine.row.Goals as goal
 
 pub returns-clause-row : goal.returns-clause-row
 returns-clause-row c =
