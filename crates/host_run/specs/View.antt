@@ -1,7 +1,16 @@
--- A host as contracts see it: its world, and the bytes of its machine's memory, which hold the machine's part of it. Source: own.
-use Rattle.std.specs.Prelude.{ℕ, List}
+-- A host as contracts see it: its world, and the bytes of its machine's memory, which hold the machine's part of it; and how a turn's work
+-- ends. Source: own.
+use Rattle.std.specs.Prelude.{◌≡◌, ℕ, List, MatchResult}
+use Rattle.std.specs.declared.result.Result.{Result}
+use Rattle.client_world.specs.declared.outcome.Exit.{Exit}
 use Rattle.client_world.specs.World.{HostWorld}
+use Rattle.host_run.specs.Turn.{Outcome, goes_on, ends}
 
 pub record HostView : Type 0 where
   pub world : HostWorld
   pub bytes : List ℕ
+
+-- the answer of some work, and the host after it, are what was expected: the run goes on; or it ends, and the memory is as it was
+abbrev pub ComesTo : HostView → HostView → Result (Unit {0}) Exit → Outcome → Type 0
+ComesTo old new result expected =
+    MatchResult result (λ _. expected ≡ goes_on new.world) (λ exit. expected ≡ ends new.world exit)

@@ -1,5 +1,5 @@
 // The host and its turns.
-ghost use Rattle.std.specs.Prelude.{◌≡◌, ◌≤◌, ◌<◌, ◌+◌, ◌*◌, IfOk, OnOk, IfErr, MatchResult, Ok, Err, Some, None, length, vec_capacity};
+ghost use Rattle.std.specs.Prelude.{◌≡◌, ◌≤◌, ◌<◌, ◌+◌, ◌*◌, IfOk, OnOk, IfErr, Ok, Err, Some, None, length, vec_capacity};
 ghost use Rattle.client_world.specs.declared.limits.TheConstants.{CONSOLE_ROOM, MAX_STEPS};
 ghost use Rattle.client_world.specs.declared.registers.Mode.TheVariants.{Real as real};
 ghost use Rattle.client_world.specs.Soundness.{IsSound};
@@ -8,7 +8,8 @@ ghost use Rattle.mz_loader.specs.Refusal.{refusal};
 ghost use Rattle.host_run.specs.Run.{run};
 ghost use Rattle.host_run.specs.Start.{blank, IsBlank, started};
 ghost use Rattle.host_run.specs.Traps.{real_trap};
-ghost use Rattle.host_run.specs.Turn.{goes_on, ends, delivered, interrupted, stepped, trapped, work, turn};
+ghost use Rattle.host_run.specs.View.{ComesTo, HostView};
+ghost use Rattle.host_run.specs.Turn.{delivered, interrupted, stepped, trapped, work, turn};
 
 use crate::serving::step_machine;
 use crate::traps::{Trap, real_trap};
@@ -35,11 +36,6 @@ pub struct Host {
 }
 
 impl Model for Host {
-    ghost use Rattle.client_world.specs.World.{HostWorld};
-    ghost use Rattle.host_run.specs.View.{HostView};
-    ghost use Rattle.std.specs.Prelude.{◌≤◌, ◌*◌, length, vec_capacity};
-    ghost use Rattle.client_world.specs.declared.limits.TheConstants.{MAX_STEPS};
-
     ghost Value = { HostView };
 
     ghost view = { λ h. record {
@@ -181,7 +177,7 @@ impl Host {
     // An exception is delivered.
     fn delivered(&mut self, f: Fault) -> Result<(), Exit>
         requires real { self.old.world.machine.mode ≡ real }
-        ensures { MatchResult result (λ _. delivered self.old.world f ≡ goes_on self.new.world) (λ exit. delivered self.old.world f ≡ ends self.new.world exit) }
+        ensures { ComesTo self.old self.new result (delivered self.old.world f) }
     {
         deliver(&mut self.machine, f)
     }
@@ -189,9 +185,7 @@ impl Host {
     // A software interrupt, or the exception that it raises.
     fn interrupted(&mut self, number: u8, len: u8) -> Result<(), Exit>
         requires real { self.old.world.machine.mode ≡ real }
-        ensures { MatchResult result
-            (λ _. interrupted self.old.world (world_interrupt self.old.world.machine number len) ≡ goes_on self.new.world)
-            (λ exit. interrupted self.old.world (world_interrupt self.old.world.machine number len) ≡ ends self.new.world exit) }
+        ensures { ComesTo self.old self.new result (interrupted self.old.world (world_interrupt self.old.world.machine number len)) }
     {
         match soft_int(&mut self.machine, number, len) {
             Ok(()) => Ok(()),
@@ -203,7 +197,7 @@ impl Host {
     #[tactic(auto, unfolding(crate::specs::Turn::stepped))]
     fn stepped(&mut self) -> Result<(), Exit>
         requires real { self.old.world.machine.mode ≡ real }
-        ensures { MatchResult result (λ _. stepped self.old.world ≡ goes_on self.new.world) (λ exit. stepped self.old.world ≡ ends self.new.world exit) }
+        ensures { ComesTo self.old self.new result (stepped self.old.world) }
     {
         match step_machine(&mut self.machine) {
             Ok(()) => Ok(()),
@@ -216,8 +210,7 @@ impl Host {
     fn trapped(&mut self) -> Result<(), Exit>
         requires real { self.old.world.machine.mode ≡ real }
         requires room { self.old.world.lines < 2 * self.old.world.steps }
-        ensures { MatchResult result (λ _. trapped self.old.world (real_trap self.old.world.machine) ≡ goes_on self.new.world)
-            (λ exit. trapped self.old.world (real_trap self.old.world.machine) ≡ ends self.new.world exit) }
+        ensures { ComesTo self.old self.new result (trapped self.old.world (real_trap self.old.world.machine)) }
     {
         match real_trap(&self.machine) {
             Trap::Vector(n) => self.vector_reached(n),
@@ -230,7 +223,7 @@ impl Host {
     #[tactic(auto, unfolding(crate::specs::Turn::work))]
     fn work(&mut self) -> Result<(), Exit>
         requires room { self.old.world.lines < 2 * self.old.world.steps }
-        ensures { MatchResult result (λ _. work self.old.world ≡ goes_on self.new.world) (λ exit. work self.old.world ≡ ends self.new.world exit) }
+        ensures { ComesTo self.old self.new result (work self.old.world) }
     {
         match self.machine.mode() {
             Mode::Real => self.trapped(),

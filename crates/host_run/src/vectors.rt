@@ -1,6 +1,7 @@
 // The default vectors of real mode.
-ghost use Rattle.std.specs.Prelude.{◌≡◌, ◌<◌, ◌*◌, MatchResult};
-ghost use Rattle.host_run.specs.Turn.{goes_on, ends, popped, dos_served, multiplex_served, ends_client, vector_served, vector_reached};
+ghost use Rattle.std.specs.Prelude.{◌≡◌, ◌<◌, ◌*◌};
+ghost use Rattle.host_run.specs.View.{ComesTo};
+ghost use Rattle.host_run.specs.Turn.{popped, dos_served, multiplex_served, ends_client, vector_served, vector_reached};
 
 use crate::host::Host;
 use crate::serving::can_pop;
@@ -13,7 +14,7 @@ use fault_service::pop_iret;
 impl Host {
     // The interrupt's frame is popped.
     fn popped(&mut self) -> Result<(), Exit>
-        ensures { MatchResult result (λ _. popped self.old.world ≡ goes_on self.new.world) (λ exit. popped self.old.world ≡ ends self.new.world exit) }
+        ensures { ComesTo self.old self.new result (popped self.old.world) }
     {
         pop_iret(&mut self.machine)
     }
@@ -21,7 +22,7 @@ impl Host {
     // INT 21h: a DOS call.
     fn dos_served(&mut self) -> Result<(), Exit>
         requires room { self.old.world.lines < 2 * self.old.world.steps }
-        ensures { MatchResult result (λ _. dos_served self.old.world ≡ goes_on self.new.world) (λ exit. dos_served self.old.world ≡ ends self.new.world exit) }
+        ensures { ComesTo self.old self.new result (dos_served self.old.world) }
     {
         let function = part8(self.machine.regs().eax, true);
         self.note(TraceLine::Int21(function));
@@ -34,8 +35,7 @@ impl Host {
     // INT 2Fh.
     fn multiplex_served(&mut self) -> Result<(), Exit>
         requires room { self.old.world.lines < 2 * self.old.world.steps }
-        ensures { MatchResult result (λ _. multiplex_served self.old.world ≡ goes_on self.new.world)
-            (λ exit. multiplex_served self.old.world ≡ ends self.new.world exit) }
+        ensures { ComesTo self.old self.new result (multiplex_served self.old.world) }
     {
         let function = (self.machine.regs().eax % 0x1_0000) as u16;
         self.note(TraceLine::Int2f(function));
@@ -47,8 +47,7 @@ impl Host {
     #[tactic(auto, unfolding(crate::specs::Turn::vector_served))]
     fn vector_served(&mut self, n: u8) -> Result<(), Exit>
         requires room { self.old.world.lines < 2 * self.old.world.steps }
-        ensures { MatchResult result (λ _. vector_served self.old.world n ≡ goes_on self.new.world)
-            (λ exit. vector_served self.old.world n ≡ ends self.new.world exit) }
+        ensures { ComesTo self.old self.new result (vector_served self.old.world n) }
     {
         if ends_client(n) {
             return Err(Exit::Fault(n, 0));
@@ -70,8 +69,7 @@ impl Host {
     #[tactic(auto, using(crate::proofs::Frames::reached_popped, crate::proofs::Frames::reached_bad))]
     pub(crate) fn vector_reached(&mut self, n: u8) -> Result<(), Exit>
         requires room { self.old.world.lines < 2 * self.old.world.steps }
-        ensures { MatchResult result (λ _. vector_reached self.old.world n ≡ goes_on self.new.world)
-            (λ exit. vector_reached self.old.world n ≡ ends self.new.world exit) }
+        ensures { ComesTo self.old self.new result (vector_reached self.old.world n) }
     {
         if can_pop(&self.machine) {
             self.vector_served(n)

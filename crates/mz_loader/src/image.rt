@@ -1,10 +1,11 @@
 // The image.
 ghost use Rattle.std.specs.Prelude.{◌≡◌, ◌+◌, ◌≤◌, length, slice_index, false};
+ghost use Rattle.client_world.specs.declared.memory_map.TheConstants.{IMAGE_START};
 ghost use Rattle.guest_ram.specs.Bytes.{put};
 ghost use Rattle.guest_ram.specs.Listed.{listed};
 ghost use Rattle.mz_loader.specs.declared.header.TheConstants.{MOST_BYTES};
 ghost use Rattle.mz_loader.specs.Refusal.{header_bytes, has_no_room};
-ghost use Rattle.mz_loader.specs.Start.{image, image_address};
+ghost use Rattle.mz_loader.specs.Start.{image};
 
 use crate::header::{header_length, image_length};
 use client_world::memory_map::IMAGE_START;
@@ -22,7 +23,7 @@ fn byte_of(file: &[u8], at: usize) -> u8
 fn write_part(m: &mut Machine, file: &[u8], from: u32, n: u32)
     requires room { n ≤ MOST_BYTES }
     ensures { m.new.world ≡ record m.old.world {
-      dos = put m.old.world.dos image_address (listed n (λ at. slice_index file.now (from + at)));
+      dos = put m.old.world.dos IMAGE_START (listed n (λ at. slice_index file.now (from + at)));
     } }
 {
     for i in 0..n {
@@ -36,7 +37,7 @@ fn write_part(m: &mut Machine, file: &[u8], from: u32, n: u32)
 pub(crate) fn write_image(m: &mut Machine, file: &[u8])
     requires long { header_bytes ≤ length file.now }
     requires room { has_no_room file.now ≡ false }
-    ensures { m.new.world ≡ record m.old.world { dos = put m.old.world.dos image_address (image file.now) } }
+    ensures { m.new.world ≡ record m.old.world { dos = put m.old.world.dos IMAGE_START (image file.now) } }
 {
     write_part(m, file, header_length(file), image_length(file));
 }

@@ -13,14 +13,14 @@ turn-requires c none = let room = c.requires (c.loop-count.invariant.2 none) in 
 
 pub loop-count-preserved : goal.loop-count-preserved
 loop-count-preserved c = (
-  c.turn.ensures.world ∙ ap turn c.loop-count.invariant.0 ∙ sym (turns_more c.args.self.now c.loop-count.count),
+  c.turn.ensures.world ∙ ap turn c.loop-count.invariant.0 ∙ sym (turns_more c.args.self.now.world c.loop-count.count),
   omega arith,
   λ none. c.loop-count.invariant.2 (c.turn.ensures.was_on none),
 )
 
 pub returns-in-Err-clause-world : goal.returns-in-Err-clause-world
 returns-in-Err-clause-world c =
-    run_ended c.args.self.now c.turn.new.self c.args.bound c.loop-count.count c.in-Err.exit
-    (c.turn.ensures.world ∙ ap turn c.loop-count.invariant.0 ∙ sym (turns_more c.args.self.now c.loop-count.count))
+    run_ended c.args.self.now.world c.turn.new.self.world c.args.bound c.loop-count.count c.in-Err.exit
+    (c.turn.ensures.world ∙ ap turn c.loop-count.invariant.0 ∙ sym (turns_more c.args.self.now.world c.loop-count.count))
     c.loop-count-test.true
     (c.in-Err.ensures.ends)

@@ -4,4 +4,5 @@ use Rattle.host_run.proofs.host.Host.run.Given as goal
 
 abbrev pub invariant-loop-count : goal.invariant-loop-count
 invariant-loop-count l =
-    (l.self ≡ turns l.fn.self l.count) × (l.self.steps ≤ l.fn.self.steps + l.count) × (l.self.exit ≡ None → l.fn.self.exit ≡ None)
+    (l.self.world ≡ turns l.fn.self.world l.count) × (l.self.world.steps ≤ l.fn.self.world.steps + l.count)
+    × (l.self.world.exit ≡ None → l.fn.self.world.exit ≡ None)
