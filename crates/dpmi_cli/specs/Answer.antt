@@ -44,7 +44,7 @@ verdict words files = elim (meaning words) [
 -- the verdict that was prepared
 abbrev pub verdict_in : Prepared → Verdict
 verdict_in (Refused reason) = Refuses reason
-verdict_in (Ready w) = Starts w
+verdict_in (Ready host) = Starts host.world
 
 -- the status of an exit: 0 where the client ended itself, whatever its code
 abbrev pub exit_status : Exit → ℕ

@@ -38,8 +38,8 @@ fn status_of(exit: Exit) -> u8
 
 // Runs a client that is loaded, and writes its text.
 fn run_client<O: Sink>(host: &mut Host, out: &mut O) -> u8
-    requires { IsNew (Starts host.old) }
-    ensures answers { Answers (Starts host.old) (O.taken out.old) (O.taken out.new) (O.faults out.old) (O.faults out.new) result }
+    requires { IsNew (Starts host.old.world) }
+    ensures answers { Answers (Starts host.old.world) (O.taken out.old) (O.taken out.new) (O.faults out.old) (O.faults out.new) result }
     ensures status { result ≤ OUTPUT_FAILED }
     ensures no_file_failed { result ≢ FILE_FAILED }
 {

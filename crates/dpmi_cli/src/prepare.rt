@@ -67,9 +67,9 @@ fn read_front<F: Shelf>(shelf: &mut F, name: String, buf: &mut [u8]) -> Result<u
 
 // Loads a file's first bytes into a new host. None is answered where it is taken, else the reason.
 fn load_front(front: &[u8], host: &mut Host) -> Option<Reason>
-    requires blank { host.old ≡ blank DEFAULT_PAGES [] DEFAULT_TRACE }
-    ensures told { verdict_of front.now ≡ loaded result host.new }
-    ensures new { IsNew (loaded result host.new) }
+    requires blank { host.old.world ≡ blank DEFAULT_PAGES [] DEFAULT_TRACE }
+    ensures told { verdict_of front.now ≡ loaded result host.new.world }
+    ensures new { IsNew (loaded result host.new.world) }
 {
     if front.len() > MAX_FILE as usize {
         return Some(Reason::FileTooLong);
@@ -88,10 +88,10 @@ fn load_file<F: Shelf>(
     host: &mut Host,
 ) -> Result<Option<Reason>, ShelfFail>
     requires room { length buf.old ≡ FRONT_SIZE }
-    requires blank { host.old ≡ blank DEFAULT_PAGES [] DEFAULT_TRACE }
+    requires blank { host.old.world ≡ blank DEFAULT_PAGES [] DEFAULT_TRACE }
     ensures told { IfOk result (λ reason.
-        Comes (F.files shelf.old) (string_bytes name) (loaded reason host.new)) }
-    ensures new { IfOk result (λ reason. IsNew (loaded reason host.new)) }
+        Comes (F.files shelf.old) (string_bytes name) (loaded reason host.new.world)) }
+    ensures new { IfOk result (λ reason. IsNew (loaded reason host.new.world)) }
     ensures failed { OnErr result
         (FailsAt (F.files shelf.old) (string_bytes name) (F.faults shelf.old) (F.faults shelf.new) (F.blamed shelf.new)) }
 {

@@ -136,9 +136,9 @@ fn put_tail<O: Sink>(exit: Exit, steps: u32, out: &mut O) -> Result<(), SinkFail
 /// Writes the text of a run that has ended. It takes no memory.
 /// Where it fails a first part of the text was written, and the output's count of faults rose.
 pub fn write_all_of<O: Sink>(host: &Host, out: &mut O) -> Result<(), SinkFail>
-    requires { IsSome host.now.exit }
-    ensures whole { OnOk result (Gains (O.taken out.old) (O.taken out.new) (text host.now)) }
-    ensures part { OnErr result (GainsPart (O.taken out.old) (O.taken out.new) (text host.now)) }
+    requires { IsSome host.now.world.exit }
+    ensures whole { OnOk result (Gains (O.taken out.old) (O.taken out.new) (text host.now.world)) }
+    ensures part { OnErr result (GainsPart (O.taken out.old) (O.taken out.new) (text host.now.world)) }
     ensures failed { OnErr result (Rose (O.faults out.old) (O.faults out.new)) }
 {
     match host.exit() {
@@ -149,9 +149,9 @@ pub fn write_all_of<O: Sink>(host: &Host, out: &mut O) -> Result<(), SinkFail>
 
 // Writes the line before the console's bytes, those bytes, and the lines behind them.
 fn write_parts<O: Sink>(host: &Host, exit: Exit, out: &mut O) -> Result<(), SinkFail>
-    requires { host.now.exit ≡ Some exit }
-    ensures whole { OnOk result (Gains (O.taken out.old) (O.taken out.new) (text host.now)) }
-    ensures part { OnErr result (GainsPart (O.taken out.old) (O.taken out.new) (text host.now)) }
+    requires { host.now.world.exit ≡ Some exit }
+    ensures whole { OnOk result (Gains (O.taken out.old) (O.taken out.new) (text host.now.world)) }
+    ensures part { OnErr result (GainsPart (O.taken out.old) (O.taken out.new) (text host.now.world)) }
     ensures failed { OnErr result (Rose (O.faults out.old) (O.faults out.new)) }
 {
     let console = host.console();

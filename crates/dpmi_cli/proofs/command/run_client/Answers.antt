@@ -3,8 +3,8 @@ use Rattle.dpmi_cli.proofs.command.run_client.Goals as goal
 
 pub returns-in-Ok-clause-answers : goal.returns-in-Ok-clause-answers
 returns-in-Ok-clause-answers g c =
-    gives_run c.args.host.now c.run-exit.new.self c.run-exit.result _ _ _ _ _ c.every_touch_of_a_run_is_held.ensures c.run-exit.ensures.world c.run-exit.ensures.answer c.in-Ok.ensures.whole c.status_of.ensures
+    gives_run c.args.host.now.world c.run-exit.new.self.world c.run-exit.result _ _ _ _ _ c.every_touch_of_a_run_is_held.ensures c.run-exit.ensures.world c.run-exit.ensures.answer c.in-Ok.ensures.whole c.status_of.ensures
 
 pub returns-in-Err-clause-answers : goal.returns-in-Err-clause-answers
 returns-in-Err-clause-answers g c =
-    gives_cut c.args.host.now c.run-exit.new.self _ _ _ _ c.every_touch_of_a_run_is_held.ensures c.run-exit.ensures.world c.in-Err.ensures.part c.in-Err.ensures.failed
+    gives_cut c.args.host.now.world c.run-exit.new.self.world _ _ _ _ c.every_touch_of_a_run_is_held.ensures c.run-exit.ensures.world c.in-Err.ensures.part c.in-Err.ensures.failed
