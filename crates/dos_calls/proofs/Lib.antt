@@ -5,3 +5,4 @@ pub mod PrintLaws
 pub mod ByteLists
 pub mod SoundWorlds
 pub mod SoundCalls
+pub mod LeftCalls

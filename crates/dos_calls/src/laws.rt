@@ -1,9 +1,14 @@
 // What holds of every call. Each is a function with nothing to do: its contract is the law.
+ghost use Rattle.std.specs.Prelude.{◌≡◌, ◌≢◌};
+ghost use Rattle.client_world.specs.declared.outcome.Exit.{Exit as AnExit};
+ghost use Rattle.client_world.specs.declared.outcome.Exit.TheVariants.{ConsoleFull};
+ghost use Rattle.client_world.specs.declared.services.DosDone.TheVariants.{Ended};
 ghost use Rattle.client_world.specs.Soundness.{IsSound};
 ghost use Rattle.client_world.specs.World.{World};
 ghost use Rattle.dos_calls.specs.Calls.{CallState, dos_call};
 ghost use Rattle.guest_ram.specs.Bytes.{AreBytes};
 ghost use Rattle.dos_calls.specs.Multiplex.{multiplex_call};
+ghost use Rattle.dos_calls.specs.Stack.{HasSameStack};
 
 /// A call leads from a sound world to a sound one, where the keys are bytes. Those that are left are bytes, and a console of bytes stays one.
 pub fn every_dos_call_is_sound()
@@ -11,4 +16,17 @@ pub fn every_dos_call_is_sound()
     ensures keys { (s : CallState) → IsSound s.world → AreBytes s.keys → AreBytes (dos_call s).keys }
     ensures console { (s : CallState) → IsSound s.world → AreBytes s.keys → AreBytes s.console → AreBytes (dos_call s).console }
     ensures multiplex { (w : World) → IsSound w → IsSound (multiplex_call w) }
+{}
+
+/// A call leaves the mode and the place of the stack, so that the frame of its interrupt is where it was.
+pub fn every_dos_call_leaves_the_stack()
+    ensures calls { (s : CallState) → HasSameStack s.world (dos_call s).world }
+    ensures multiplex { (w : World) → HasSameStack w (multiplex_call w) }
+{}
+
+/// A call that ends the client leaves the machine, and but for a full console the keys and the console too.
+pub fn every_end_of_a_dos_call_leaves_the_machine()
+    ensures machine { (s : CallState) (exit : AnExit) → (dos_call s).done ≡ Ended exit → (dos_call s).world ≡ s.world }
+    ensures outside { (s : CallState) (exit : AnExit) → (dos_call s).done ≡ Ended exit → exit ≢ ConsoleFull →
+        ((dos_call s).keys ≡ s.keys) × ((dos_call s).console ≡ s.console) }
 {}

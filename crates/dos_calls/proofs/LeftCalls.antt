@@ -1,0 +1,233 @@
+-- What a call leaves: the mode and the place of the stack, and, where it ends the client, the machine, and but for a full console the keys and
+-- the console.
+use Rattle.std.proofs.Common.{◌≡◌, ◌≢◌, ◌∙◌, ℕ, ◌+◌, ◌||◌, List, [], ◌∷◌, length, take, refl, ap, nat_eq, nat_le, if◌then◌else◌, Bool, true, false, Option, None, Some, Result, Ok, Err}
+use Rattle.client_world.specs.declared.dos_memory.DosEntry.{DosEntry}
+use Rattle.client_world.specs.declared.dos_memory.DosRefusal.{DosRefusal}
+use Rattle.client_world.specs.declared.dos_memory.DosRefusal.TheVariants.{NoMemory, WrongBlock}
+use Rattle.client_world.specs.declared.limits.TheConstants.{CONSOLE_ROOM}
+use Rattle.client_world.specs.declared.outcome.Exit.{Exit}
+use Rattle.client_world.specs.declared.outcome.Exit.TheVariants.{NoKeys, ConsoleFull}
+use Rattle.client_world.specs.declared.registers.Mode.{Mode}
+use Rattle.client_world.specs.declared.services.DosDone.TheVariants.{Ended}
+use Rattle.client_world.specs.Registers.{low_byte, high_byte, low_half}
+use Rattle.client_world.specs.World.{World}
+use Rattle.guest_space.specs.Arena.{with_entries}
+use Rattle.dos_blocks.specs.Blocks.{Done, first_fit, block_place, possible, allocated_at, allocated, resized_at, resized, freed_at, freed}
+use Rattle.dos_calls.specs.Calls as calls
+use Rattle.dos_calls.specs.Calls.{CallResult, CallState, served, ended, printed, poll_key, line_read, line_of, keys_read, memory_given, memory_changed, dos_call}
+use Rattle.dos_calls.specs.DosBytes.{byte_at}
+use Rattle.dos_calls.specs.Multiplex.{multiplex_call}
+use Rattle.dos_calls.specs.Stack.{HasSameStack}
+
+-- what HasSameStack compares, as one value
+abbrev pub stack_of : World → Mode × ℕ × ℕ
+stack_of w = (w.mode, w.regs.ss, w.regs.esp)
+
+pub same_stack : (w u : World) → stack_of u ≡ stack_of w → HasSameStack w u
+same_stack w u e = record {
+  mode = ap (λ (p : Mode × ℕ × ℕ). p.0) e;
+  segment = ap (λ (p : Mode × ℕ × ℕ). p.1) e;
+  pointer = ap (λ (p : Mode × ℕ × ℕ). p.2) e;
+}
+
+pub record Leaves (s : CallState) (r : CallResult) : Type 0 where
+  pub stack : stack_of r.world ≡ stack_of s.world
+  pub machine : (exit : Exit) → r.done ≡ Ended exit → r.world ≡ s.world
+  pub outside : (exit : Exit) → r.done ≡ Ended exit → exit ≢ ConsoleFull → (r.keys ≡ s.keys) × (r.console ≡ s.console)
+
+leaves_if : (s : CallState) (c : Bool) (r q : CallResult) → Leaves s r → Leaves s q → Leaves s (if c then r else q)
+leaves_if s true r q one other = one
+leaves_if s false r q one other = other
+
+leaves_served : (s : CallState) (w : World) (keys : List ℕ) → stack_of w ≡ stack_of s.world → Leaves s (served s w keys)
+leaves_served s w keys e = record { stack = e; machine = λ exit other. cc; outside = λ exit other full. cc }
+
+leaves_ended : (s : CallState) (exit : Exit) → Leaves s (ended s exit)
+leaves_ended s exit = record { stack = refl; machine = λ same e. refl; outside = λ same e full. (refl, refl) }
+
+leaves_printed : (s : CallState) (xs : List ℕ) (w : World) (keys : List ℕ) → stack_of w ≡ stack_of s.world → Leaves s (printed s xs w keys)
+unfolding printed
+leaves_printed s xs w keys e =
+    leaves_if s (nat_le (length s.console + length xs) CONSOLE_ROOM) _ _
+    (record { stack = e; machine = λ exit other. cc; outside = λ exit other full. cc })
+    (record { stack = refl; machine = λ exit same. refl; outside = λ exit same full. absurd (full (cc)) })
+
+-- ---- characters
+
+by_key : (s : CallState) (rest : ℕ → List ℕ → CallResult) (keys : List ℕ) → ((key : ℕ) (left : List ℕ) → Leaves s (rest key left)) →
+    Leaves s (elim keys [ [] ↦ ended s NoKeys | key ∷ left ↦ rest key left ])
+by_key s rest [] leaves = leaves_ended s NoKeys
+by_key s rest (key ∷ keys) leaves = leaves key keys
+
+leaves_read_echo : (s : CallState) → Leaves s (calls.read_echo s)
+unfolding calls.read_echo
+leaves_read_echo s = by_key s _ s.keys (λ key keys. leaves_printed s _ _ keys refl)
+
+leaves_write_character : (s : CallState) → Leaves s (calls.write_character s)
+unfolding calls.write_character
+leaves_write_character s = leaves_printed s _ s.world s.keys refl
+
+leaves_poll : (w : World) (keys console : List ℕ) →
+    let s : CallState = record { world = w; keys = keys; console = console } in Leaves s (poll_key s)
+leaves_poll w [] console = leaves_served (record { world = w; keys = []; console = console }) _ [] refl
+leaves_poll w (key ∷ keys) console = leaves_served (record { world = w; keys = key ∷ keys; console = console }) _ keys refl
+
+leaves_direct_console : (s : CallState) → Leaves s (calls.direct_console s)
+unfolding calls.direct_console
+leaves_direct_console s =
+    leaves_if s (nat_eq (low_byte s.world.regs.edx) 0xFF) _ _ (leaves_poll s.world s.keys s.console) (leaves_write_character s)
+
+leaves_read_key : (s : CallState) → Leaves s (calls.read_key s)
+unfolding calls.read_key
+leaves_read_key s = by_key s _ s.keys (λ key keys. leaves_served s _ keys refl)
+
+leaves_write_text : (s : CallState) → Leaves s (calls.write_text s)
+unfolding calls.write_text
+leaves_write_text s = leaves_printed s _ s.world s.keys refl
+
+leaves_line : (s : CallState) (n : ℕ) (o : Option (List ℕ × List ℕ)) → Leaves s (line_read s n o)
+leaves_line s n None = leaves_ended s NoKeys
+leaves_line s n (Some line) = leaves_printed s _ _ line.1 refl
+
+leaves_read_line : (s : CallState) → Leaves s (calls.read_line s)
+unfolding calls.read_line
+leaves_read_line s =
+    let n = byte_at s.world.dos s.world.regs.ds (low_half s.world.regs.edx) in
+    leaves_if s (nat_eq n 0) _ _ (leaves_served s s.world s.keys refl) (leaves_line s n (line_of s.keys))
+
+leaves_ask_key : (s : CallState) → Leaves s (calls.ask_key s)
+unfolding calls.ask_key
+leaves_ask_key s = leaves_served s _ s.keys refl
+
+-- ---- vectors, version, prefix
+
+leaves_set_vector : (s : CallState) → Leaves s (calls.set_vector s)
+unfolding calls.set_vector
+leaves_set_vector s = leaves_served s _ s.keys refl
+
+leaves_version : (s : CallState) → Leaves s (calls.version s)
+unfolding calls.version
+leaves_version s = leaves_served s _ s.keys refl
+
+leaves_get_vector : (s : CallState) → Leaves s (calls.get_vector s)
+unfolding calls.get_vector
+leaves_get_vector s = leaves_served s _ s.keys refl
+
+leaves_get_prefix : (s : CallState) → Leaves s (calls.get_prefix s)
+unfolding calls.get_prefix
+leaves_get_prefix s = leaves_served s _ s.keys refl
+
+-- ---- files
+
+leaves_read_file : (s : CallState) → Leaves s (calls.read_file s)
+unfolding calls.read_file
+leaves_read_file s =
+    leaves_if s (nat_eq (low_half s.world.regs.ebx) 0) (keys_read s (take (low_half s.world.regs.ecx) s.keys)) _
+    (leaves_served s _ _ refl) (leaves_served s _ s.keys refl)
+
+leaves_write_file : (s : CallState) → Leaves s (calls.write_file s)
+unfolding calls.write_file
+leaves_write_file s =
+    leaves_if s (nat_eq (low_half s.world.regs.ebx) 1 || nat_eq (low_half s.world.regs.ebx) 2) _ _
+    (leaves_printed s _ _ s.keys refl) (leaves_served s _ s.keys refl)
+
+-- ---- memory
+
+-- a change of the blocks, and what is said of it in registers and flags
+
+stack_entries : (w : World) (place old : ℕ) (new : List DosEntry) → stack_of (with_entries w place old new) ≡ stack_of w
+unfolding with_entries
+stack_entries w place old new = refl
+
+stack_if : (w : World) (c : Bool) (one other : Done (Unit {0})) → stack_of one.world ≡ stack_of w → stack_of other.world ≡ stack_of w →
+    stack_of (if c then one else other).world ≡ stack_of w
+stack_if w true one other d e = d
+stack_if w false one other d e = e
+
+stack_allocated : (w : World) (n : ℕ) (o : Option ℕ) → stack_of (allocated_at w false n o).world ≡ stack_of w
+stack_allocated w n None = refl
+stack_allocated w n (Some place) = stack_entries w place 1 _
+
+stack_resized : (w : World) (n : ℕ) (o : Option ℕ) → stack_of (resized_at w false n o).world ≡ stack_of w
+stack_resized w n None = refl
+stack_resized w n (Some place) = stack_if w (nat_le n (possible w.arena place)) _ _ (stack_entries w place _ _) refl
+
+stack_freed : (w : World) (o : Option ℕ) → stack_of (freed_at w o).world ≡ stack_of w
+stack_freed w None = refl
+stack_freed w (Some place) = stack_entries w _ _ _
+
+stack_given : (answer : Result ℕ DosRefusal) (w : World) → stack_of (memory_given (record { answer = answer; world = w })) ≡ stack_of w
+stack_given (Ok segment) w = refl
+stack_given (Err (NoMemory largest)) w = refl
+stack_given (Err WrongBlock) w = refl
+
+stack_changed : (answer : Result (Unit {0}) DosRefusal) (w : World) → stack_of (memory_changed (record { answer = answer; world = w })) ≡ stack_of w
+stack_changed (Ok done) w = refl
+stack_changed (Err (NoMemory largest)) w = refl
+stack_changed (Err WrongBlock) w = refl
+
+leaves_allocate : (s : CallState) → Leaves s (calls.allocate s)
+unfolding calls.allocate allocated
+leaves_allocate s =
+    let n = low_half s.world.regs.ebx in
+    let o = first_fit s.world.arena n 0 in
+    let d = allocated_at s.world false n o in
+    leaves_served s (memory_given d) s.keys (stack_given d.answer d.world ∙ stack_allocated s.world n o)
+
+leaves_free : (s : CallState) → Leaves s (calls.free s)
+unfolding calls.free freed
+leaves_free s =
+    let o = block_place false s.world.arena s.world.regs.es 0 in
+    let d = freed_at s.world o in
+    leaves_served s (memory_changed d) s.keys (stack_changed d.answer d.world ∙ stack_freed s.world o)
+
+leaves_resize : (s : CallState) → Leaves s (calls.resize s)
+unfolding calls.resize resized
+leaves_resize s =
+    let n = low_half s.world.regs.ebx in
+    let o = block_place false s.world.arena s.world.regs.es 0 in
+    let d = resized_at s.world false n o in
+    leaves_served s (memory_changed d) s.keys (stack_changed d.answer d.world ∙ stack_resized s.world n o)
+
+-- ---- all of them
+
+leaves_terminate : (s : CallState) → Leaves s (calls.terminate s)
+unfolding calls.terminate
+leaves_terminate s = leaves_ended s _
+
+leaves_unknown : (s : CallState) → Leaves s (calls.unknown s)
+unfolding calls.unknown
+leaves_unknown s = leaves_served s _ s.keys refl
+
+pub call_leaves : (s : CallState) → Leaves s (dos_call s)
+unfolding dos_call
+call_leaves s =
+    let ah = high_byte s.world.regs.eax in
+    leaves_if s (nat_eq ah 0x01) _ _ (leaves_read_echo s)
+    (leaves_if s (nat_eq ah 0x02) _ _ (leaves_write_character s)
+    (leaves_if s (nat_eq ah 0x06) _ _ (leaves_direct_console s)
+    (leaves_if s (nat_eq ah 0x07 || nat_eq ah 0x08) _ _ (leaves_read_key s)
+    (leaves_if s (nat_eq ah 0x09) _ _ (leaves_write_text s)
+    (leaves_if s (nat_eq ah 0x0A) _ _ (leaves_read_line s)
+    (leaves_if s (nat_eq ah 0x0B) _ _ (leaves_ask_key s)
+    (leaves_if s (nat_eq ah 0x25) _ _ (leaves_set_vector s)
+    (leaves_if s (nat_eq ah 0x30) _ _ (leaves_version s)
+    (leaves_if s (nat_eq ah 0x35) _ _ (leaves_get_vector s)
+    (leaves_if s (nat_eq ah 0x3F) _ _ (leaves_read_file s)
+    (leaves_if s (nat_eq ah 0x40) _ _ (leaves_write_file s)
+    (leaves_if s (nat_eq ah 0x48) _ _ (leaves_allocate s)
+    (leaves_if s (nat_eq ah 0x49) _ _ (leaves_free s)
+    (leaves_if s (nat_eq ah 0x4A) _ _ (leaves_resize s)
+    (leaves_if s (nat_eq ah 0x4C) _ _ (leaves_terminate s)
+    (leaves_if s (nat_eq ah 0x62) _ _ (leaves_get_prefix s)
+    (leaves_unknown s)))))))))))))))))
+
+-- ---- INT 2Fh
+
+stack_of_if : (w : World) (c : Bool) (one : World) → stack_of one ≡ stack_of w → stack_of (if c then one else w) ≡ stack_of w
+stack_of_if w true one e = e
+stack_of_if w false one e = refl
+
+pub multiplex_leaves : (w : World) → HasSameStack w (multiplex_call w)
+unfolding multiplex_call
+multiplex_leaves w = same_stack w _ (stack_of_if w (nat_eq (low_half w.regs.eax) 0x1687) _ refl)
