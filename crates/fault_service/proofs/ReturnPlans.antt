@@ -49,16 +49,16 @@ unfolding flags_popped
 popped_none w image p none = none
 
 -- what the frame's items lead to
-abbrev left : World → ℕ → ℕ → Pending
+abbrev pub left : World → ℕ → ℕ → Pending
 left w bits image = flags_popped w image (with_regs (items_popped w bits 3 w.regs) (unchanged w))
 
-abbrev with_image : World → ℕ → ℕ → ℕ → ℕ → Act
+abbrev pub with_image : World → ℕ → ℕ → ℕ → ℕ → Act
 with_image w bits ip cs image = far_transfer w (low_half cs) ip true (left w bits image)
 
-abbrev with_cs : World → ℕ → ℕ → ℕ → Act
+abbrev pub with_cs : World → ℕ → ℕ → ℕ → Act
 with_cs w bits ip cs = Read (stack_item w bits 2) (with_image w bits ip cs)
 
-abbrev with_ip : World → ℕ → ℕ → Act
+abbrev pub with_ip : World → ℕ → ℕ → Act
 with_ip w bits ip = Read (stack_item w bits 1) (with_cs w bits ip)
 
 quiet_image : (w : World) (bits ip cs image : ℕ) → IsQuiet w (with_image w bits ip cs image)

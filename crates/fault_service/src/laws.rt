@@ -1,11 +1,13 @@
 // What holds of every answer. Each is a function with nothing to do: its contract is the law.
-ghost use Rattle.std.specs.Prelude.{◌≡◌, ℕ, Ok};
+ghost use Rattle.std.specs.Prelude.{◌≡◌, ℕ, Ok, is_ok};
 ghost use Rattle.client_world.specs.declared.faults.Fault.{Fault};
+ghost use Rattle.client_world.specs.declared.registers.Mode.TheVariants.{Real};
 ghost use Rattle.client_world.specs.Soundness.{IsSound};
 ghost use Rattle.client_world.specs.World.{World};
 ghost use Rattle.cpu_step.specs.Step.{client_step};
 ghost use Rattle.host_memory.specs.View.{MachineView};
 ghost use Rattle.fault_service.specs.Delivery.{iret_popped, real_delivery, software_interrupt};
+ghost use Rattle.fault_service.specs.RealFrames.{frame_fits};
 ghost use Rattle.fault_service.specs.Worlds.{its_world, world_delivery, world_interrupt, world_popped, world_step};
 
 /// What a step, an interrupt, an exception and a return make of the world depends on the world alone, and not on the bytes that hold it.
@@ -25,4 +27,9 @@ pub fn every_answer_is_sound()
     ensures world_interrupt { (w u : World) (n len : ℕ) → IsSound w → world_interrupt w n len ≡ Ok u → IsSound u }
     ensures world_delivery { (w u : World) (f : Fault) → IsSound w → world_delivery w f ≡ Ok u → IsSound u }
     ensures world_popped { (w u : World) → IsSound w → world_popped w ≡ Ok u → IsSound u }
+{}
+
+/// In real mode a frame can be popped exactly where its three words lie inside the stack segment.
+pub fn a_real_frame_is_popped_where_it_fits()
+    ensures { (w : World) → IsSound w → w.mode ≡ Real → is_ok (world_popped w) ≡ frame_fits w.regs.esp }
 {}
