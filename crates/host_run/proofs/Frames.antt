@@ -5,8 +5,12 @@ use Rattle.std.specs.declared.result.Result.{Result}
 use Rattle.client_world.specs.declared.faults.Event.{Event}
 use Rattle.client_world.specs.declared.outcome.Exit.{Exit}
 use Rattle.client_world.specs.declared.outcome.Exit.TheVariants.{BadFrame}
+use Rattle.client_world.specs.declared.registers.Mode.TheVariants.{Real}
+use Rattle.client_world.specs.Soundness.{IsSound}
 use Rattle.client_world.specs.World.{World, HostWorld}
+use Rattle.dos_calls.specs.Stack.{HasSameStack}
 use Rattle.fault_service.specs.Delivery.{iret_popped, popped_or_bad}
+use Rattle.fault_service.specs.RealFrames.{frame_fits}
 use Rattle.fault_service.specs.Worlds.{its_world, world_popped}
 use Rattle.host_memory.specs.View.{MachineView}
 use Rattle.host_run.specs.Turn.{Outcome, ends, vector_served, vector_reached}
@@ -36,3 +40,9 @@ reached_popped h n can = (by_frame h n _).0 can
 pub reached_bad : (h : HostWorld) (n : ℕ) → is_ok (world_popped h.machine) ≡ false → vector_reached h n ≡ ends h BadFrame
 unfolding world_popped iret_popped
 reached_bad h n fails = (by_frame h n _).1 fails
+
+-- a service that leaves the mode and the place of the stack leaves a frame that can be popped one
+pub still_popped : ((w : World) → IsSound w → w.mode ≡ Real → is_ok (world_popped w) ≡ frame_fits w.regs.esp) →
+    (w u : World) → IsSound w → IsSound u → w.mode ≡ Real → HasSameStack w u → is_ok (world_popped w) ≡ true → is_ok (world_popped u) ≡ true
+still_popped fits w u before after real same can =
+    fits u after (same.mode ∙ real) ∙ ap frame_fits same.pointer ∙ sym (fits w before real) ∙ can

@@ -1,11 +1,12 @@
 -- Turns after an exit change nothing.
 use Rattle.std.proofs.Common.{arith, ◌≡◌, ◌≤◌, ◌<◌, ◌+◌, ◌-◌, ℕ, None, Some, zero, suc, refl, sym, ◌∙◌, ap, subst, add-zero, add-suc, add-one}
-use Rattle.std.specs.Prelude.{IsSome}
+use Rattle.std.specs.Prelude.{IsSome, IfSome, List}
 use Rattle.std.specs.declared.option.Option.{Option}
 use Rattle.client_world.specs.declared.outcome.Exit.{Exit}
 use Rattle.client_world.specs.declared.outcome.Exit.TheVariants.{Bound}
 use Rattle.client_world.specs.World.{World, HostWorld}
 use Rattle.host_run.specs.Turn.{turn}
+use Rattle.host_run.specs.View.{HostView}
 use Rattle.host_run.specs.Run.{turns, run, bounded}
 
 turn_stops : (w : HostWorld) (e : Exit) → w.exit ≡ Some e → turn w ≡ w
@@ -60,3 +61,31 @@ bounded_machine w =
       | Some _ ↦ refl
       | None ↦ refl
     ]
+
+-- ---- the whole host: what a turn keeps once there is an exit
+
+-- where there was an exit at first, nothing has changed
+abbrev pub IsKept : HostView → HostView → Type 0
+IsKept old now = IfSome old.world.exit (λ _. now ≡ old)
+
+pub kept_first : (old : HostView) → IsKept old old
+kept_first old = elim (old.world.exit) as (λ (o : Option Exit). IfSome o (λ _. old ≡ old)) [ None ↦ tt | Some e ↦ refl ]
+
+pub kept_none : (old now : HostView) → old.world.exit ≡ None → IsKept old now
+kept_none old now none = subst (λ (o : Option Exit). IfSome o (λ _. now ≡ old)) (sym none) tt
+
+same_view : (a b : HostView) → a.world ≡ b.world → a.bytes ≡ b.bytes → a ≡ b
+same_view a b world bytes =
+    ap (λ (w : HostWorld). let v : HostView = record { world = w; bytes = a.bytes } in v) world
+    ∙ ap (λ (x : List ℕ). let v : HostView = record { world = b.world; bytes = x } in v) bytes
+
+kept_by : (old now after : HostView) (o : Option Exit) → old.world.exit ≡ o → IfSome o (λ _. now ≡ old) → after.world ≡ turn now.world →
+    after.bytes ≡ now.bytes → IfSome o (λ _. after ≡ old)
+kept_by old now after None e same world bytes = tt
+kept_by old now after (Some exit) e same world bytes =
+    same_view after old (world ∙ ap (λ (v : HostView). turn v.world) same ∙ turn_stops old.world exit e)
+    (bytes ∙ ap (λ (v : HostView). v.bytes) same)
+
+-- a turn that ends keeps it so
+pub kept_next : (old now after : HostView) → IsKept old now → after.world ≡ turn now.world → after.bytes ≡ now.bytes → IsKept old after
+kept_next old now after same world bytes = kept_by old now after (old.world.exit) refl same world bytes

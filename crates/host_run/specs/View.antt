@@ -13,4 +13,4 @@ pub record HostView : Type 0 where
 -- the answer of some work, and the host after it, are what was expected: the run goes on; or it ends, and the memory is as it was
 abbrev pub ComesTo : HostView → HostView → Result (Unit {0}) Exit → Outcome → Type 0
 ComesTo old new result expected =
-    MatchResult result (λ _. expected ≡ goes_on new.world) (λ exit. expected ≡ ends new.world exit)
+    MatchResult result (λ _. expected ≡ goes_on new.world) (λ exit. (expected ≡ ends new.world exit) × (new.bytes ≡ old.bytes))

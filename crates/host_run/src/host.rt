@@ -1,5 +1,5 @@
 // The host and its turns.
-ghost use Rattle.std.specs.Prelude.{◌≡◌, ◌≤◌, ◌<◌, ◌+◌, ◌*◌, IfOk, OnOk, IfErr, Ok, Err, Some, None, length, vec_capacity};
+ghost use Rattle.std.specs.Prelude.{◌≡◌, ◌≤◌, ◌<◌, ◌+◌, ◌*◌, IfOk, OnOk, IfErr, IfSome, Ok, Err, Some, None, length, vec_capacity};
 ghost use Rattle.client_world.specs.declared.limits.TheConstants.{CONSOLE_ROOM, MAX_STEPS};
 ghost use Rattle.client_world.specs.declared.registers.Mode.TheVariants.{Real as real};
 ghost use Rattle.client_world.specs.Soundness.{IsSound};
@@ -132,6 +132,7 @@ impl Host {
     pub fn turn(&mut self) -> Result<(), Exit>
         requires { self.old.world.exit ≡ None → self.old.world.steps < MAX_STEPS }
         ensures world { self.new.world ≡ turn self.old.world }
+        ensures kept { IfErr result (λ _. self.new.bytes ≡ self.old.bytes) }
         ensures goes_on { OnOk result (self.new.world.exit ≡ None) }
         ensures ends { IfErr result (λ exit. self.new.world.exit ≡ Some exit) }
         ensures steps { self.new.world.steps ≤ self.old.world.steps + 1 }
@@ -158,6 +159,7 @@ impl Host {
     pub fn run(&mut self, bound: u32) -> Exit
         requires { self.old.world.exit ≡ None → self.old.world.steps + bound ≤ MAX_STEPS }
         ensures world { self.new.world ≡ run self.old.world bound }
+        ensures kept { IfSome self.old.world.exit (λ _. self.new ≡ self.old) }
         ensures answer { self.new.world.exit ≡ Some result }
     {
         for count in 0..bound {

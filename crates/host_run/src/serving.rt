@@ -1,10 +1,17 @@
-// The services below, as turns see them: the world alone.
-ghost use Rattle.std.specs.Prelude.{◌≡◌, is_ok, Ok, Err, MatchResult};
+// The services below, as turns see them: the world alone, and frames that can still be popped after them.
+ghost use Rattle.std.specs.Prelude.{◌≡◌, true, is_ok, Ok, Err, MatchResult};
+ghost use Rattle.client_world.specs.declared.registers.Mode.TheVariants.{Real};
+ghost use Rattle.dos_calls.specs.Answering.{IfEnded};
+ghost use Rattle.dos_calls.specs.Calls.{dos_call};
+ghost use Rattle.dos_calls.specs.Multiplex.{multiplex_call};
 ghost use Rattle.fault_service.specs.Worlds.{world_step, world_popped};
 
-use client_world::Event;
+use client_world::{DosDone, Event};
 use cpu_step::step;
-use fault_service::{can_pop_iret, every_answer_depends_on_the_world_alone};
+use dos_calls::{Console, Keys, every_dos_call_leaves_the_stack, int2f, int21};
+use fault_service::{
+    a_real_frame_is_popped_where_it_fits, can_pop_iret, every_answer_depends_on_the_world_alone,
+};
 use guest_space::Machine;
 
 /// The client's next instruction, or its event, which leaves the machine.
@@ -23,4 +30,37 @@ pub(crate) fn can_pop(m: &Machine) -> bool
 {
     every_answer_depends_on_the_world_alone();
     can_pop_iret(m)
+}
+
+/// INT 21h, whose frame can be popped after it as before it. Where it ends the client, the machine is as it was.
+#[tactic(auto, using(crate::proofs::Frames::still_popped))]
+pub(crate) fn serve_dos(m: &mut Machine, keys: &mut Keys, console: &mut Console) -> DosDone
+    requires real { m.old.world.mode ≡ Real }
+    requires frame { is_ok (world_popped m.old.world) ≡ true }
+    ensures call { record { done = result; world = m.new.world; keys = keys.new; console = console.new }
+        ≡ dos_call (record { world = m.old.world; keys = keys.old; console = console.old }) }
+    ensures ended { IfEnded result (m.new ≡ m.old) }
+    ensures frame { is_ok (world_popped m.new.world) ≡ true }
+{
+    every_dos_call_leaves_the_stack();
+    a_real_frame_is_popped_where_it_fits();
+    m.soundness();
+    let done = int21(m, keys, console);
+    m.soundness();
+    done
+}
+
+/// INT 2Fh, whose frame can be popped after it as before it.
+#[tactic(auto, using(crate::proofs::Frames::still_popped))]
+pub(crate) fn serve_multiplex(m: &mut Machine)
+    requires real { m.old.world.mode ≡ Real }
+    requires frame { is_ok (world_popped m.old.world) ≡ true }
+    ensures world { m.new.world ≡ multiplex_call m.old.world }
+    ensures frame { is_ok (world_popped m.new.world) ≡ true }
+{
+    every_dos_call_leaves_the_stack();
+    a_real_frame_is_popped_where_it_fits();
+    m.soundness();
+    int2f(m);
+    m.soundness();
 }

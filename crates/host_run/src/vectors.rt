@@ -1,32 +1,36 @@
 // The default vectors of real mode.
-ghost use Rattle.std.specs.Prelude.{◌≡◌, ◌<◌, ◌*◌};
+ghost use Rattle.std.specs.Prelude.{◌≡◌, ◌<◌, ◌*◌, true, is_ok};
+ghost use Rattle.client_world.specs.declared.registers.Mode.TheVariants.{Real};
+ghost use Rattle.fault_service.specs.Worlds.{world_popped};
 ghost use Rattle.host_run.specs.View.{ComesTo};
 ghost use Rattle.host_run.specs.Turn.{popped, dos_served, multiplex_served, ends_client, vector_served, vector_reached};
 
 use crate::host::Host;
-use crate::serving::can_pop;
+use crate::serving::{can_pop, serve_dos, serve_multiplex};
 use client_world::faults::{COPROCESSOR_NOT_AVAILABLE, DIVIDE_ERROR, INVALID_OPCODE};
 use client_world::{DosDone, Exit, TraceLine};
 use cpu_values::part8;
-use dos_calls::{int2f, int21};
 use fault_service::pop_iret;
 
 impl Host {
     // The interrupt's frame is popped.
     fn popped(&mut self) -> Result<(), Exit>
-        ensures { ComesTo self.old self.new result (popped self.old.world) }
+        ensures host { ComesTo self.old self.new result (popped self.old.world) }
+        ensures done { is_ok (world_popped self.old.world.machine) ≡ true → is_ok result ≡ true }
     {
         pop_iret(&mut self.machine)
     }
 
     // INT 21h: a DOS call.
     fn dos_served(&mut self) -> Result<(), Exit>
+        requires real { self.old.world.machine.mode ≡ Real }
+        requires frame { is_ok (world_popped self.old.world.machine) ≡ true }
         requires room { self.old.world.lines < 2 * self.old.world.steps }
         ensures { ComesTo self.old self.new result (dos_served self.old.world) }
     {
         let function = part8(self.machine.regs().eax, true);
         self.note(TraceLine::Int21(function));
-        match int21(&mut self.machine, &mut self.keys, &mut self.console) {
+        match serve_dos(&mut self.machine, &mut self.keys, &mut self.console) {
             DosDone::Served => self.popped(),
             DosDone::Ended(exit) => Err(exit),
         }
@@ -34,18 +38,22 @@ impl Host {
 
     // INT 2Fh.
     fn multiplex_served(&mut self) -> Result<(), Exit>
+        requires real { self.old.world.machine.mode ≡ Real }
+        requires frame { is_ok (world_popped self.old.world.machine) ≡ true }
         requires room { self.old.world.lines < 2 * self.old.world.steps }
         ensures { ComesTo self.old self.new result (multiplex_served self.old.world) }
     {
         let function = (self.machine.regs().eax % 0x1_0000) as u16;
         self.note(TraceLine::Int2f(function));
-        int2f(&mut self.machine);
+        serve_multiplex(&mut self.machine);
         self.popped()
     }
 
     // The default vector of a number.
     #[tactic(auto, unfolding(crate::specs::Turn::vector_served))]
     fn vector_served(&mut self, n: u8) -> Result<(), Exit>
+        requires real { self.old.world.machine.mode ≡ Real }
+        requires frame { is_ok (world_popped self.old.world.machine) ≡ true }
         requires room { self.old.world.lines < 2 * self.old.world.steps }
         ensures { ComesTo self.old self.new result (vector_served self.old.world n) }
     {
@@ -68,6 +76,7 @@ impl Host {
     // The default vector of a number, where the frame can be popped.
     #[tactic(auto, using(crate::proofs::Frames::reached_popped, crate::proofs::Frames::reached_bad))]
     pub(crate) fn vector_reached(&mut self, n: u8) -> Result<(), Exit>
+        requires real { self.old.world.machine.mode ≡ Real }
         requires room { self.old.world.lines < 2 * self.old.world.steps }
         ensures { ComesTo self.old self.new result (vector_reached self.old.world n) }
     {

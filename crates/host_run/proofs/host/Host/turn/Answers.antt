@@ -23,10 +23,10 @@ returns-in-Ok-clause-steps c =
 pub returns-in-Err-clause-world : goal.returns-in-Err-clause-world
 returns-in-Err-clause-world c =
     turn_ends c.args.self.now.world (the_view c.self.inside).world c.work.new.self.world (the_view c.self-2.inside).world c.in-Err.exit
-    (same_world c.self.view_is) (same_world c.self-2.view_is) c.in_default.is c.in-Err.ensures
+    (same_world c.self.view_is) (same_world c.self-2.view_is) c.in_default.is c.in-Err.ensures.0
 
 pub returns-in-Err-clause-steps : goal.returns-in-Err-clause-steps
 returns-in-Err-clause-steps c =
     let is = steps_after c.args.self.now.world (the_view c.self.inside).world (the_view c.self-2.inside).world (ends c.work.new.self.world c.in-Err.exit)
-    (same_world c.self.view_is) (same_world c.self-2.view_is) c.in-Err.ensures in
+    (same_world c.self.view_is) (same_world c.self-2.view_is) c.in-Err.ensures.0 in
     omega (arith, is)
