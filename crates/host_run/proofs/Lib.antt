@@ -1,6 +1,7 @@
 mod Counted
 mod Frames
 mod Runs
-pub mod Sound
 mod SoundTurns
 mod Touches
+pub mod Exits
+pub mod Sound

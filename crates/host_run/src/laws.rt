@@ -1,5 +1,7 @@
 // The laws of the host's runs. Each is a function with nothing to do: its contract is the law.
-ghost use Rattle.std.specs.Prelude.{◌≡◌, ◌≤◌, ℕ, List, All, None, IsSome};
+ghost use Rattle.std.specs.Prelude.{◌≡◌, ◌≢◌, ◌≤◌, ℕ, List, All, None, Some, IsSome};
+ghost use Rattle.client_world.specs.declared.outcome.Exit.{Exit as AnExit};
+ghost use Rattle.client_world.specs.declared.outcome.Exit.TheVariants.{ConsoleFull};
 ghost use Rattle.client_world.specs.Access.{IsHeld};
 ghost use Rattle.client_world.specs.Soundness.{IsSound, IsSoundHost};
 ghost use Rattle.client_world.specs.World.{HostWorld};
@@ -49,6 +51,13 @@ pub fn every_touch_of_a_run_is_held()
 pub fn every_start_is_sound()
     ensures blank { (pages keep : ℕ) (keys : List ℕ) → IsSoundHost (blank pages keys keep) }
     ensures started { (pages keep : ℕ) (keys file : List ℕ) → AreBytes file → refusal file ≡ None → IsSoundHost (started pages keys keep file) }
+{}
+
+/// A turn that ends the run leaves the machine, and but for a full console the keystrokes and the console too.
+pub fn every_exit_leaves_the_machine()
+    ensures machine { (w : HostWorld) → IsSound w.machine → HasKeys w → IsSome (turn w).exit → (turn w).machine ≡ w.machine }
+    ensures outside { (w : HostWorld) (exit : AnExit) → IsSound w.machine → HasKeys w → (turn w).exit ≡ Some exit → exit ≢ ConsoleFull →
+        ((turn w).keys ≡ w.keys) × ((turn w).console ≡ w.console) }
 {}
 
 /// Once a run has ended, more turns change nothing.

@@ -16,6 +16,7 @@ mod vectors;
 
 pub use host::Host;
 pub use laws::{
-    a_run_past_an_exit_is_over, every_run_is_sound, every_start_is_sound, every_touch_is_held,
-    every_touch_of_a_run_is_held, every_turn_is_sound, once_ended_a_run_stays,
+    a_run_past_an_exit_is_over, every_exit_leaves_the_machine, every_run_is_sound,
+    every_start_is_sound, every_touch_is_held, every_touch_of_a_run_is_held, every_turn_is_sound,
+    once_ended_a_run_stays,
 };
