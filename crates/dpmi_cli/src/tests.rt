@@ -64,11 +64,14 @@ fn a_file_of_too_many_bytes_is_refused(rt: HostRuntime) -> Result<(), Fail> {
     Ok(())
 }
 
-// The client of other code, under that client's header: the bytes of the image that the file lacks are zeros.
-fn client(rt: &impl AllocGlobal, code: &[u8]) -> Result<Vec<u8>, Fail> {
-    let mut file = Vec::new(rt.alloc());
-    file.extend_from_slice(&ONE_LETTER[..32])?;
+// The client of other code: in that client's header the bytes of the last page and SS, the paragraph behind the code, are others.
+fn client(rt: &(impl Abort + AllocGlobal), code: &[u8]) -> Result<Vec<u8>, Fail> {
+    assert!(rt; code.len() <= 100);
+    let mut file = ONE_LETTER[..32].to_vec(rt.alloc())?;
     file.extend_from_slice(code)?;
+    assert!(rt; file.len() >= 32);
+    file[0x02] = (32 + code.len()) as u8;
+    file[0x0E] = code.len().div_ceil(16) as u8;
     Ok(file)
 }
 
@@ -198,9 +201,7 @@ fn hostile_clients_end_with_a_name(rt: HostRuntime) -> Result<(), Fail> {
             "console 0\n\nexit exited 5\nsteps 7\n",
         ),
     ] {
-        let mut file = client(&rt, code)?;
-        assert!(rt; file.len() > 2);
-        file[2] = (file.len() % 0x100) as u8;
+        let file = client(&rt, code)?;
         expect(&rt, &["run", "A.EXE"], &file, status, text)?;
     }
     Ok(())
