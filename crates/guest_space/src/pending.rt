@@ -9,8 +9,8 @@ use client_world::{Fault, SegReg};
 #[derive(Clone, Copy, Debug, PartialEq, Eq)]
 pub struct Write {
     pub seg: SegReg,
-    pub off: u32,
     pub width: u8,
+    pub off: u32,
     pub value: u32,
 }
 
@@ -100,6 +100,7 @@ impl Machine {
         }
         Ok(())
     }
+
     /// Makes all of some writes in their order, or, where one of them has a fault, none of them: the first such fault is the answer.
     pub fn write_all(&mut self, writes: &[Write]) -> Result<(), Fault>
         ensures done { OnOk result ((first_refusal self.old.world writes.now ≡ None)

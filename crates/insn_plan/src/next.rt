@@ -22,21 +22,21 @@ pub const MAX_WRITES: usize = 33;
 #[derive(Clone, Copy, Debug, PartialEq, Eq)]
 pub struct Access {
     pub seg: SegReg,
-    pub off: u32,
     pub count: u8,
+    pub off: u32,
 }
 
 // What stands in the places that are not used yet.
 const NO_READ: Access = Access {
     seg: SegReg::Es,
-    off: 0,
     count: 0,
+    off: 0,
 };
 
 const NO_WRITE: Write = Write {
     seg: SegReg::Es,
-    off: 0,
     width: 0,
+    off: 0,
     value: 0,
 };
 
@@ -45,10 +45,10 @@ const NO_WRITE: Write = Write {
 pub struct Next {
     reads: [Access; MAX_READS],
     read_count: usize,
-    regs: Regs,
-    vif: bool,
     writes: [Write; MAX_WRITES],
     write_count: usize,
+    regs: Regs,
+    vif: bool,
 }
 
 impl Model for Next {
@@ -78,10 +78,10 @@ impl Next {
         Next {
             reads: [NO_READ; MAX_READS],
             read_count: 0,
-            regs: m.regs(),
-            vif: m.vif(),
             writes: [NO_WRITE; MAX_WRITES],
             write_count: 0,
+            regs: m.regs(),
+            vif: m.vif(),
         }
     }
 
@@ -125,7 +125,7 @@ impl Next {
         ensures noted { self.new ≡ record self.old { reads = self.old.reads ++ access_of (From seg off count) } }
         ensures room { length self.new.reads ≤ length self.old.reads + 1 }
     {
-        self.note(Access { seg, off, count });
+        self.note(Access { seg, count, off });
         read_number(m, seg, off, count)
     }
 
@@ -140,7 +140,7 @@ impl Next {
         ensures room { length self.new.reads ≤ length self.old.reads + 1 }
     {
         let count = byte_count(width);
-        self.note(Access { seg, off, count });
+        self.note(Access { seg, count, off });
         read_width(m, seg, off, count)
     }
 
@@ -179,8 +179,8 @@ impl Next {
     {
         self.writes[self.write_count] = Write {
             seg,
-            off,
             width,
+            off,
             value,
         };
         self.write_count += 1;
@@ -200,6 +200,7 @@ impl Next {
             Operand::Imm(_) | Operand::Seg(_) | Operand::Empty | Operand::Far(_) => {}
         }
     }
+
     /// Carries the plan out: all its writes, and then the registers and the virtual interrupt flag; or, where one of its writes has a
     /// fault, nothing at all.
     #[tactic(auto, unfolding(crate::specs::Plan::settled))]
