@@ -3,4 +3,3 @@ mod FlagBits
 pub mod PlaceLaws
 pub mod SoundRows
 pub mod SoundWrites
-pub mod WriteSteps

@@ -1,13 +1,13 @@
 -- Where linear addresses lie, what a write leaves as it was, and which places the client holds.
 use Rattle.std.proofs.Common.{◌≡◌, ℕ, zero, suc, ◌+◌, ◌-◌, ◌<◌, ◌≤◌, Bool, true, false, ◌&&◌, List, [], ◌∷◌, length, get_or, set, None, Some, refl, ap, ◌∙◌, sym, subst, arith, zero-add, add-zero, add-one}
-use Rattle.std.specs.Prelude.{nat_lt, nat_le, if◌then◌else◌, slice_index_or, slice_set}
+use Rattle.std.specs.Prelude.{nat_lt, nat_le, if◌then◌else◌, slice_index_or}
 use Rattle.std.specs.declared.option.Option.{Option}
 use Rattle.std.proofs.lemmas.List.{length-set}
 use Rattle.std.proofs.lemmas.Bool.Decides.{nat_tests}
 use Rattle.client_world.specs.declared.place.Place.{Place}
 use Rattle.client_world.specs.declared.place.Place.TheVariants.{Dos, Block, Host, Nothing}
 use Rattle.client_world.specs.declared.memory_map.TheConstants.{DOS_VIEW_END, BLOCK_REGION, BLOCK_REGION_END, HOST_WINDOW, HOST_WINDOW_END}
-use Rattle.client_world.specs.Access.{dos_address, covers, block_place, place_in, HasByte, IsHeld, may_touch, with_block_byte, with_byte_of, with_bytes_of, linear, places_from, first_forbidden}
+use Rattle.client_world.specs.Access.{dos_address, covers, block_place, place_in, HasByte, IsHeld, may_touch, with_block_byte, with_byte_of, linear, places_from, first_forbidden}
 use Rattle.client_world.specs.World.{World, MemoryBlock, block_at}
 
 -- what the tests of an address come to
@@ -77,19 +77,6 @@ unfolding places_from
 places_from-same a b same at zero = refl
 places_from-same a b same at (suc n) = rw (same (linear at), places_from-same a b same (at + 1) n) refl
 
--- a block that stands where another one stood, as long as it, moves nothing
-pub block_place-same_extent : (blocks : List (Option MemoryBlock)) (place : ℕ) (old new : MemoryBlock) (handle l : ℕ) → slice_index_or blocks place None ≡ Some old → new.base ≡ old.base → length new.bytes ≡ length old.bytes → block_place (slice_set blocks place (Some new)) handle l ≡ block_place blocks handle l
-block_place-same_extent [] place old new handle l there base size = refl
-block_place-same_extent (o ∷ blocks) zero old new handle l there base size = rw (there, base, size) refl
-block_place-same_extent (None ∷ blocks) (suc place) old new handle l there base size =
-    block_place-same_extent blocks place old new (handle + 1) l there base size
-block_place-same_extent (Some block ∷ blocks) (suc place) old new handle l there base size =
-    rw (block_place-same_extent blocks place old new (handle + 1) l there base size) refl
-
-pub place_in-same_extent : (blocks : List (Option MemoryBlock)) (place : ℕ) (old new : MemoryBlock) (l : ℕ) → slice_index_or blocks place None ≡ Some old → new.base ≡ old.base → length new.bytes ≡ length old.bytes → place_in (slice_set blocks place (Some new)) l ≡ place_in blocks l
-place_in-same_extent blocks place old new l there base size =
-    place_in-same (slice_set blocks place (Some new)) blocks l (block_place-same_extent blocks place old new 1 l there base size)
-
 -- a write keeps the length of its block, so it moves nothing
 block_place-with_byte : (blocks : List (Option MemoryBlock)) (place at v handle l : ℕ) → block_place (set blocks place (with_block_byte (get_or blocks place None) at v)) handle l ≡ block_place blocks handle l
 block_place-with_byte [] place at v handle l = refl
@@ -105,19 +92,6 @@ place_in-with_byte_of w (Block (suc place) at) v l =
     place_in-same (with_byte_of w (Block (suc place) at) v).blocks w.blocks l (block_place-with_byte w.blocks place at v 1 l)
 place_in-with_byte_of w Host v l = refl
 place_in-with_byte_of w Nothing v l = refl
-
-pub place_in-with_bytes_of : (w : World) (ps : List Place) (bytes : List ℕ) (l : ℕ) → place_in (with_bytes_of w ps bytes).blocks l ≡ place_in w.blocks l
-place_in-with_bytes_of w [] bytes l = refl
-place_in-with_bytes_of w (p ∷ ps) [] l = refl
-place_in-with_bytes_of w (p ∷ ps) (v ∷ bytes) l = place_in-with_bytes_of (with_byte_of w p v) ps bytes l ∙ place_in-with_byte_of w p v l
-
-pub places_from-with_byte_of : (w : World) (p : Place) (v at n : ℕ) → places_from (with_byte_of w p v).blocks at n ≡ places_from w.blocks at n
-places_from-with_byte_of w p v at n =
-    places_from-same (with_byte_of w p v).blocks w.blocks (place_in-with_byte_of w p v) at n
-
-pub places_from-with_bytes_of : (w : World) (ps : List Place) (bytes : List ℕ) (at n : ℕ) → places_from (with_bytes_of w ps bytes).blocks at n ≡ places_from w.blocks at n
-places_from-with_bytes_of w ps bytes at n =
-    places_from-same (with_bytes_of w ps bytes).blocks w.blocks (place_in-with_bytes_of w ps bytes) at n
 
 -- a covered address lies below the end of its block
 covers-below : (block : MemoryBlock) (l : ℕ) → covers block l ≡ true → l - block.base < length block.bytes

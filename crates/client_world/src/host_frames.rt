@@ -15,14 +15,16 @@ pub const LOW_TABLE: u32 = 257;
 /// The frame of the page table of the window in which the host's frames stand.
 pub const WINDOW_TABLE: u32 = 258;
 
-/// The first frame of the page tables of the block region, and how many there are.
+/// The first frame of the page tables of the block region.
 pub const BLOCK_TABLES: u32 = 259;
 
+/// The frames of the page tables of the block region: one for each 4 MB.
 pub const BLOCK_TABLE_FRAMES: u32 = 16;
 
-/// The first frame of the descriptor rows, and how many there are: 8192 rows of 16 bytes.
+/// The first frame of the descriptor rows.
 pub const DESCRIPTOR_ROWS: u32 = 275;
 
+/// The frames of the descriptor rows: 8192 rows of 16 bytes.
 pub const DESCRIPTOR_ROW_FRAMES: u32 = 32;
 
 /// The frame of the protected-mode vectors, the exception vectors, the callbacks and the pageable pages.
@@ -31,24 +33,28 @@ pub const VECTORS: u32 = 307;
 /// The frame of the records of calls.
 pub const RECORDS: u32 = 308;
 
-/// The first frame of the block rows, and how many there are: 256 rows of 16 bytes.
+/// The first frame of the block rows.
 pub const BLOCK_ROWS: u32 = 309;
 
+/// The frames of the block rows: 256 rows of 16 bytes.
 pub const BLOCK_ROW_FRAMES: u32 = 1;
 
-/// The first frame of the lock counts, and how many there are: a word for each page of the block region.
+/// The first frame of the lock counts.
 pub const LOCK_COUNTS: u32 = 310;
 
+/// The frames of the lock counts: a word for each page of the block region.
 pub const LOCK_COUNT_FRAMES: u32 = 8;
 
-/// The first frame of the list of DOS memory, and how many there are.
+/// The first frame of the list of DOS memory.
 pub const DOS_LIST: u32 = 318;
 
+/// The frames of the list of DOS memory: eight bytes for each entry.
 pub const DOS_LIST_FRAMES: u32 = 80;
 
-/// The first frame of the taken bytes, and how many there are: a byte for each budget frame.
+/// The first frame of the taken bytes.
 pub const TAKEN_FRAMES: u32 = 398;
 
+/// The frames of the taken bytes: a byte for each budget frame.
 pub const TAKEN_BYTE_FRAMES: u32 = 1;
 
 /// The first budget frame, behind the host's 143.

@@ -20,23 +20,33 @@ pub enum Width {
     ThirtyTwo,
 }
 
-/// The bits of the flags image. Source: 80386 Programmer's Reference Manual, ch. 2, EFLAGS.
+// The bits of the flags image. Source: 80386 Programmer's Reference Manual, ch. 2, EFLAGS.
+
+/// The bit that is always set.
 pub const FIXED_BIT: u16 = 0x0002;
 
+/// The bit of the carry flag, CF.
 pub const CARRY_BIT: u16 = 0x0001;
 
+/// The bit of the parity flag, PF.
 pub const PARITY_BIT: u16 = 0x0004;
 
+/// The bit of the adjust flag, AF.
 pub const ADJUST_BIT: u16 = 0x0010;
 
+/// The bit of the zero flag, ZF.
 pub const ZERO_BIT: u16 = 0x0040;
 
+/// The bit of the sign flag, SF.
 pub const SIGN_BIT: u16 = 0x0080;
 
+/// The bit of the interrupt flag, IF.
 pub const INTERRUPT_BIT: u16 = 0x0200;
 
+/// The bit of the direction flag, DF.
 pub const DIRECTION_BIT: u16 = 0x0400;
 
+/// The bit of the overflow flag, OF.
 pub const OVERFLOW_BIT: u16 = 0x0800;
 
 /// The flags that instructions see. The virtual interrupt flag is kept apart; TF and NT always read 0.
