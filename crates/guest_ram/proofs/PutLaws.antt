@@ -123,13 +123,7 @@ dword_put_other b p q v h = same_dword (put b p (dword_bytes v)) b q q (λ i l. 
   | inr high ↦ put_below b p (dword_bytes v) (q + i) (omega arith)
 ])
 
--- a doubleword beside what is written is as it was
-pub dword_put_away : (b : List ℕ) (p q : ℕ) (xs : List ℕ) → (p + length xs ≤ q) ⊎ (q + 4 ≤ p) → dword (put b p xs) q ≡ dword b q
-dword_put_away b p q xs h = same_dword (put b p xs) b q q (λ i l. elim h [
-  | inl low ↦ put_above b p xs (q + i) (omega arith)
-  | inr high ↦ put_below b p xs (q + i) (omega arith)
-])
-
+-- what is beside the bytes that are put is as it was
 pub region-put_away : (b : List ℕ) (at : ℕ) (xs : List ℕ) (lo n : ℕ) → (at + length xs ≤ lo) ⊎ (lo + n ≤ at) → lo + n ≤ length b → region (put b at xs) lo n ≡ region b lo n
 region-put_away b at xs lo n h room = elim h [
   | inl below ↦ region-put_below b at xs lo n below room

@@ -1,9 +1,8 @@
 -- A walk goes on within its page: two addresses of one page meet the same entries.
-use Rattle.std.proofs.Common.{◌≡◌, ℕ, ◌+◌, ◌*◌, ◌/◌, ◌%◌, ◌<◌, ◌≤◌, ◌^◌, inl, inr, Bool, ◌&&◌, ◌||◌, not, List, Ok, Err, refl, ap, ◌∙◌, sym, arith}
+use Rattle.std.proofs.Common.{◌≡◌, ℕ, ◌+◌, ◌*◌, ◌/◌, ◌%◌, ◌<◌, ◌≤◌, ◌^◌, inl, inr, Bool, ◌&&◌, ◌||◌, not, List, Ok, refl, ap, ◌∙◌, sym, arith}
 use Rattle.std.proofs.lemmas.Bool.{cases_Bool}
 use Rattle.client_world.specs.Access.{linear}
 use Rattle.client_world.specs.Registers.{has_bit}
-use Rattle.client_world.specs.declared.faults.PageFault.{PageFault}
 use Rattle.client_world.specs.declared.host_frames.TheConstants.{PAGE_SIZE}
 use Rattle.guest_ram.specs.Bytes.{dword}
 use Rattle.page_tables.specs.Entry.{allows}
@@ -46,17 +45,6 @@ ended_beside directory table lin other p write e = elim (cases_Bool (not (has_bi
   ]
 ]
 
-ended_alike : (directory table lin other : ℕ) (write : Bool) (f : PageFault) → ended directory table lin write ≡ Err f →
-    ended directory table other write ≡ Err f
-unfolding ended
-ended_alike directory table lin other write f e = elim (cases_Bool (not (has_bit directory PRESENT) || not (has_bit table PRESENT))) [
-  | inl absent ↦ rw absent (rw absent at e)
-  | inr present ↦ elim (cases_Bool (allows directory write && allows table write)) [
-    | inl allowed ↦ (let ends = rw (present, allowed) at e in absurd cc)
-    | inr barred ↦ rw (present, barred) (rw (present, barred) at e)
-  ]
-]
-
 pub same_page : (b : List ℕ) (root lin other p : ℕ) (write : Bool) → page_of other ≡ page_of lin → walked b root lin write ≡ Ok p →
     EndsBeside b root lin other p write
 same_page b root lin other p write e ends =
@@ -67,12 +55,6 @@ same_page b root lin other p write e ends =
       here = beside.here;
       there = same_entries b root lin other write e ∙ beside.there;
     }
-
-pub same_page_fails : (b : List ℕ) (root lin other : ℕ) (write : Bool) (f : PageFault) → page_of other ≡ page_of lin →
-    walked b root lin write ≡ Err f → walked b root other write ≡ Err f
-same_page_fails b root lin other write f e fails =
-    same_entries b root lin other write e
-    ∙ ended_alike (directory_entry b root lin) (table_entry b root lin) lin other write f (sym (same_entries b root lin lin write refl) ∙ fails)
 
 -- a run of bytes that does not leave its page
 pub run_page : (lin i n : ℕ) → lin % PAGE_SIZE + n ≤ PAGE_SIZE → i < n → page_of (lin + i) ≡ page_of lin
@@ -85,30 +67,6 @@ same_run b root lin i n p write room within ends =
     let beside = same_page b root lin (lin + i) p write (run_page lin i n room within) ends in
     let here = beside.here in
     beside.there ∙ ap (λ (q : ℕ). Ok q) (let e : PAGE_SIZE * beside.frame + (lin + i) % PAGE_SIZE ≡ p + i = omega arith in e)
-
--- and fails for each of them, where it fails
-pub same_run_fails : (b : List ℕ) (root lin i n : ℕ) (write : Bool) (f : PageFault) → lin % PAGE_SIZE + n ≤ PAGE_SIZE → i < n →
-    walked b root lin write ≡ Err f → walked b root (lin + i) write ≡ Err f
-same_run_fails b root lin i n write f room within = same_page_fails b root lin (lin + i) write f (run_page lin i n room within)
-
--- a walk keeps the offset in the page
-pub walk_offset : (b : List ℕ) (root lin p : ℕ) (write : Bool) → walked b root lin write ≡ Ok p → p % PAGE_SIZE ≡ lin % PAGE_SIZE
-walk_offset b root lin p write ends =
-    let beside = same_page b root lin lin p write refl ends in
-    let here = beside.here in
-    omega arith
-
-pub whole_page : (b : List ℕ) (root lin p : ℕ) (write : Bool) → walked b root lin write ≡ Ok p →
-    p ≡ PAGE_SIZE * frame_of p + lin % PAGE_SIZE
-whole_page b root lin p write ends = let offset = walk_offset b root lin p write ends in omega arith
-
--- so what one walk tells of a page is known of the whole page
-pub page_ends : (b : List ℕ) (root lin other p : ℕ) (write : Bool) → page_of other ≡ page_of lin → walked b root lin write ≡ Ok p →
-    walked b root other write ≡ Ok (PAGE_SIZE * frame_of p + other % PAGE_SIZE)
-page_ends b root lin other p write e ends =
-    let beside = same_page b root lin other p write e ends in
-    let here = beside.here in
-    beside.there ∙ ap (λ (frame : ℕ). Ok (PAGE_SIZE * frame + other % PAGE_SIZE)) (let f : beside.frame ≡ frame_of p = omega arith in f)
 
 -- a run of bytes in one page does not turn over at the end of the linear addresses
 pub run_linear : (lin i n : ℕ) → lin < 2 ^ 32 → lin % PAGE_SIZE + n ≤ PAGE_SIZE → i < n → linear (lin + i) ≡ lin + i
