@@ -1,13 +1,12 @@
 -- The rows of the memory blocks and the blocks of the world that they give; what stands at a linear address of the block region.
-use Rattle.std.proofs.Common.{◌≡◌, ◌≢◌, ℕ, zero, suc, ◌+◌, ◌-◌, ◌*◌, ◌%◌, ◌<◌, ◌≤◌, ◌⊎◌, inl, inr, Bool, true, false, nat_lt, nat_le, ◌&&◌, List, length, slice_index, None, Some, refl, ap, ◌∙◌, sym, arith}
+use Rattle.std.proofs.Common.{◌≡◌, ◌≢◌, ℕ, zero, suc, ◌+◌, ◌-◌, ◌*◌, ◌%◌, ◌<◌, ◌≤◌, ◌⊎◌, inl, inr, true, nat_lt, nat_le, List, length, slice_index, None, Some, refl, ap, ◌∙◌, sym, arith}
 use Rattle.std.proofs.lemmas.List.{get_or_past}
-use Rattle.std.proofs.lemmas.Bool.{lt-ltb, le-ltb, le-leb, lt-leb, eq-eqb, ne_eqb, cases_lt, cases_eq, cases_Bool, ltb-true, leb-true, and_parts, and_from, false≢true}
+use Rattle.std.proofs.lemmas.Bool.{lt-ltb, le-ltb, le-leb, eq-eqb, ne_eqb, cases_lt, cases_eq, ltb-true, leb-true, and_parts, and_from, false≢true}
 use Rattle.std.specs.declared.option.Option.{Option}
-use Rattle.client_world.specs.declared.place.Place.{Place}
-use Rattle.client_world.specs.declared.place.Place.TheVariants.{Dos, Block, Host, Nothing}
+use Rattle.client_world.specs.declared.place.Place.TheVariants.{Block, Nothing}
 use Rattle.client_world.specs.declared.host_frames.TheConstants.{PAGE_SIZE}
 use Rattle.client_world.specs.declared.limits.TheConstants.{MAX_BLOCKS}
-use Rattle.client_world.specs.declared.memory_map.TheConstants.{BLOCK_REGION, BLOCK_REGION_END, DOS_VIEW_END, HOST_WINDOW, HOST_WINDOW_END}
+use Rattle.client_world.specs.declared.memory_map.TheConstants.{BLOCK_REGION, BLOCK_REGION_END, DOS_VIEW_END}
 use Rattle.client_world.specs.Access.{place_in, block_place, covers}
 use Rattle.client_world.specs.Soundness.{SoundBlocks}
 use Rattle.client_world.specs.World.{MemoryBlock, block_at}
@@ -230,87 +229,4 @@ over_tells handles tables locks budget lin from to = elim (search_tells (blocks_
     none = missed_rows handles tables locks budget lin missed;
     answer = place_in_region (blocks_in handles tables locks budget) lin from to ∙ missed.answer;
   })
-]
-
--- what a place that is a byte of a block says
-pub record TouchesBlock (handles : List ℕ) (number at lin : ℕ) : Type 0 where
-  pub place : ℕ
-  pub named : number ≡ suc place
-  pub within : place < MAX_BLOCKS
-  pub some : pages_of handles place ≢ 0
-  pub offset : lin ≡ base_of handles place + at
-  pub inside : at < PAGE_SIZE * pages_of handles place
-  pub from : BLOCK_REGION ≤ lin
-  pub to : lin < BLOCK_REGION_END
-
-number_of : Place → ℕ
-number_of (Dos at) = 0
-number_of (Block number at) = number
-number_of Host = 0
-number_of Nothing = 0
-
-offset_of : Place → ℕ
-offset_of (Dos at) = 0
-offset_of (Block number at) = at
-offset_of Host = 0
-offset_of Nothing = 0
-
-is_of_block : Place → Bool
-is_of_block (Dos at) = false
-is_of_block (Block number at) = true
-is_of_block Host = false
-is_of_block Nothing = false
-
--- only in the block region a block stands
-outside_region : (blocks : List (Option MemoryBlock)) (lin : ℕ) → (lin < BLOCK_REGION) ⊎ (BLOCK_REGION_END ≤ lin) →
-    is_of_block (place_in blocks lin) ≡ false
-unfolding place_in is_of_block
-outside_region blocks lin (inl below) = elim (cases_Bool (nat_lt lin DOS_VIEW_END)) [
-  | inl shown ↦ rw shown refl
-  | inr not_shown ↦ elim (cases_Bool (nat_le HOST_WINDOW lin && nat_lt lin HOST_WINDOW_END)) [
-    | inl host ↦ rw (not_shown, lt-leb BLOCK_REGION lin below, host) refl
-    | inr not_host ↦ rw (not_shown, lt-leb BLOCK_REGION lin below, not_host) refl
-  ]
-]
-outside_region blocks lin (inr above) =
-    let shown : DOS_VIEW_END ≤ lin = omega arith in
-    let region : BLOCK_REGION ≤ lin = omega arith in
-    elim (cases_Bool (nat_le HOST_WINDOW lin && nat_lt lin HOST_WINDOW_END)) [
-      | inl host ↦ rw (le-ltb lin DOS_VIEW_END shown, le-leb BLOCK_REGION lin region, le-ltb lin BLOCK_REGION_END above, host) refl
-      | inr not_host ↦ rw (le-ltb lin DOS_VIEW_END shown, le-leb BLOCK_REGION lin region, le-ltb lin BLOCK_REGION_END above, not_host) refl
-    ]
-
-touch_by : (handles tables locks budget : List ℕ) (number at lin : ℕ) → BLOCK_REGION ≤ lin → lin < BLOCK_REGION_END →
-    place_in (blocks_in handles tables locks budget) lin ≡ Block number at →
-    InBlock handles tables locks budget lin ⊎ InNoBlock handles tables locks budget lin → TouchesBlock handles number at lin
-unfolding number_of offset_of is_of_block
-touch_by handles tables locks budget number at lin from to e (inl found) =
-    let same : Block (suc found.place) found.at ≡ Block number at = sym found.answer ∙ e in
-    let named : suc found.place ≡ number = ap number_of same in
-    let offset : found.at ≡ at = ap offset_of same in
-    let where_it_is = found.offset in
-    let inside = found.inside in
-    record {
-      place = found.place;
-      named = sym named;
-      within = found.within;
-      some = found.some;
-      offset = omega arith;
-      inside = omega arith;
-      from = from;
-      to = to;
-    }
-touch_by handles tables locks budget number at lin from to e (inr missed) =
-    let same : Nothing ≡ Block number at = sym missed.answer ∙ e in absurd (false≢true (ap is_of_block same))
-
--- a place that is a byte of a block is that of a row
-pub block_touch : (handles tables locks budget : List ℕ) (number at lin : ℕ) →
-    place_in (blocks_in handles tables locks budget) lin ≡ Block number at → TouchesBlock handles number at lin
-unfolding is_of_block
-block_touch handles tables locks budget number at lin e = elim (cases_lt lin BLOCK_REGION) [
-  | inl below ↦ absurd (false≢true (sym (outside_region (blocks_in handles tables locks budget) lin (inl below)) ∙ ap is_of_block e))
-  | inr from ↦ elim (cases_lt lin BLOCK_REGION_END) [
-    | inl to ↦ touch_by handles tables locks budget number at lin from to e (over_tells handles tables locks budget lin from to)
-    | inr above ↦ absurd (false≢true (sym (outside_region (blocks_in handles tables locks budget) lin (inr above)) ∙ ap is_of_block e))
-  ]
 ]

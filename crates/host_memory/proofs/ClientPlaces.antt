@@ -7,15 +7,15 @@ use Rattle.client_world.specs.declared.registers.Width.{Width}
 use Rattle.client_world.specs.declared.place.Place.{Place}
 use Rattle.client_world.specs.declared.place.Place.TheVariants.{Dos, Block, Host, Nothing}
 use Rattle.client_world.specs.declared.host_frames.TheConstants.{PAGE_SIZE, BUDGET_FRAMES}
-use Rattle.client_world.specs.declared.memory_map.TheConstants.{DOS_SIZE, ROM_START}
+use Rattle.client_world.specs.declared.memory_map.TheConstants.{ROM_START}
 use Rattle.client_world.specs.Access.{may_touch, HasByte, IsHeld}
 use Rattle.client_world.specs.Soundness.{SoundBlocks}
 use Rattle.client_world.specs.World.{World, MemoryBlock, block_at}
-use Rattle.host_memory.specs.Layout.{world_of, address_of, handles_part, tables_part, locks_part, budget_part, taken_part, blocks_in}
+use Rattle.host_memory.specs.Layout.{world_of, address_of, handles_part, tables_part, locks_part, budget_part, blocks_in}
 use Rattle.host_memory.specs.Holds.{Holds}
 use Rattle.host_memory.proofs.WorldParts.{blocks_is}
 use Rattle.host_memory.proofs.BlockRows.{HasRanges, ranges, held_row}
-use Rattle.host_memory.proofs.BlockBytes.{IsBlockByte, spot_small}
+use Rattle.host_memory.proofs.BlockBytes.{IsBlockByte}
 use Rattle.host_memory.proofs.ByteLaw.{block_spot}
 
 -- the place is a byte of the megabyte, below its read-only part or below a bound
@@ -101,15 +101,3 @@ address_outside b budget holds bound p at = elim at [
   | inl dos ↦ inl (let low = dos.low in let e = ap (address_of b) dos.is ∙ address_dos b dos.at in omega arith)
   | inr block ↦ inr (let e = ap (address_of b) block.is ∙ block_spot b budget block.place block.at holds block.byte.within block.byte.inside in omega arith)
 ]
-
--- and in the memory
-pub address_inside : (b : List ℕ) (budget : ℕ) → Holds b budget → (p : Place) → StandsBelow (handles_part b) DOS_SIZE p → address_of b p < length b
-address_inside b budget holds p at =
-    let size = holds.size in
-    elim at [
-      | inl dos ↦ (let low = dos.low in let e = ap (address_of b) dos.is ∙ address_dos b dos.at in omega arith)
-      | inr block ↦ (
-          let e = ap (address_of b) block.is ∙ block_spot b budget block.place block.at holds block.byte.within block.byte.inside in
-          let small = spot_small (handles_part b) (tables_part b) (taken_part b) budget holds.blocks block.place block.at block.byte in
-          omega arith)
-    ]

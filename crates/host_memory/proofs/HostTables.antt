@@ -2,7 +2,7 @@
 use Rattle.std.proofs.Common.{◌≡◌, ℕ, ◌+◌, ◌-◌, List, true, ap, ◌∙◌, arith}
 use Rattle.client_world.specs.declared.host_frames.TheConstants.{PAGE_DIRECTORY, BLOCK_TABLES}
 use Rattle.page_tables.specs.Entry.{page_entry}
-use Rattle.page_tables.specs.Walk.{IsFrame, TablesInside}
+use Rattle.page_tables.specs.Walk.{TablesInside}
 use Rattle.page_tables.specs.Mapping.{HasTables}
 use Rattle.page_tables.proofs.HostDirectory.{HasHostDirectory, HasTables-host_directory}
 use Rattle.host_memory.specs.Holds.{Holds}
@@ -27,8 +27,5 @@ has_tables b budget holds =
     HasTables-host_directory b (host_directory b holds.fixed) (omega arith)
 
 -- and as the walk wants them
-pub has_directory : (b : List ℕ) (budget : ℕ) → Holds b budget → IsFrame b PAGE_DIRECTORY
-has_directory b budget holds = (has_tables b budget holds).directory
-
 pub tables_inside : (b : List ℕ) (budget : ℕ) → Holds b budget → TablesInside b PAGE_DIRECTORY
 tables_inside b budget holds = (has_tables b budget holds).inside

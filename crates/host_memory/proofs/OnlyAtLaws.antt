@@ -1,15 +1,12 @@
 -- Bytes that are written one after the other, each at its place: only these places change.
-use Rattle.std.proofs.Common.{◌≡◌, ◌≢◌, ℕ, ◌+◌, ◌*◌, ◌<◌, ◌≤◌, List, [], ◌++◌, length, get_or, slice_index, slice_index_or, slice_set, refl, ap, ◌∙◌, sym, arith, length-set, get_or-set_other}
+use Rattle.std.proofs.Common.{◌≡◌, ◌≢◌, ℕ, ◌+◌, ◌*◌, ◌<◌, ◌≤◌, List, ◌++◌, length, get_or, slice_index, slice_index_or, slice_set, refl, ap, ◌∙◌, sym, arith, length-set, get_or-set_other}
 use Rattle.std.proofs.lemmas.List.{length-append, get_or-append-add, get_or_append_left}
 use Rattle.client_world.specs.declared.place.Place.{Place}
 use Rattle.client_world.specs.declared.place.Place.TheVariants.{Nothing}
 use Rattle.client_world.specs.declared.host_frames.TheConstants.{PAGE_SIZE, BUDGET_FRAMES}
 use Rattle.client_world.specs.declared.memory_map.TheConstants.{DOS_SIZE}
-use Rattle.host_memory.specs.Layout.{address_of, handles_part}
-use Rattle.host_memory.specs.Holds.{Holds}
+use Rattle.host_memory.specs.Layout.{address_of}
 use Rattle.host_memory.specs.View.{OnlyAt}
-use Rattle.host_memory.proofs.ClientPlaces.{IsWritable}
-use Rattle.host_memory.proofs.ClientWrites.{store_addresses, store_host}
 
 -- nothing is written yet
 pub only_start : (places : List Place) (b : List ℕ) → OnlyAt places b b
@@ -28,13 +25,6 @@ only_step places old b c p i v only e inside is addresses host = record {
   host = λ k from to. host k from to ∙ only.host k from to;
 }
 
--- one more byte, at one of the places, where the client may write
-pub only_store : (places : List Place) (old b : List ℕ) (budget : ℕ) → Holds b budget → (p : Place) (i v : ℕ) → OnlyAt places old b →
-    i < length places → slice_index_or places i Nothing ≡ p → IsWritable (handles_part b) p → OnlyAt places old (slice_set b (address_of b p) v)
-only_store places old b budget holds p i v only inside is at =
-    only_step places old b (slice_set b (address_of b p) v) p i v only refl inside is (store_addresses b budget holds p v at)
-    (λ k from to. store_host b budget holds p v at k (omega arith) to)
-
 -- two runs of writes are one
 pub only_then : (first second : List Place) (b c d : List ℕ) → OnlyAt first b c → OnlyAt second c d → OnlyAt (first ++ second) b d
 only_then first second b c d before after = record {
@@ -44,13 +34,4 @@ only_then first second b c d before after = record {
       (ap (address_of b) (get_or-append-add first second i Nothing) ∙ sym (before.addresses (get_or second i Nothing)) ∙ e))
       ∙ before.others k (λ i inside e. h i (omega (arith, length-append first second)) (ap (address_of b) (get_or_append_left first second Nothing i inside) ∙ e));
   host = λ k from to. after.host k from to ∙ before.host k from to;
-}
-
--- fewer places are some of more
-pub only_of_none : (places : List Place) (b c : List ℕ) → OnlyAt [] b c → OnlyAt places b c
-only_of_none places b c only = record {
-  size = only.size;
-  addresses = only.addresses;
-  others = λ k h. only.others k (λ i inside. absurd (omega arith));
-  host = only.host;
 }

@@ -181,48 +181,6 @@ holds_with_rows parts budget rows keeps h = record {
   arena = h.arena;
 }
 
-pub holds_with_vectors : (parts : MemoryParts) (budget : ℕ) (vectors : List ℕ) → KeepsVectors vectors → HoldsParts parts budget →
-    HoldsParts (record parts { vectors = vectors }) budget
-holds_with_vectors parts budget vectors keeps h = record {
-  fixed = h.fixed;
-  rows = h.rows;
-  vectors = keeps;
-  records = h.records;
-  handles = h.handles;
-  blocks = h.blocks;
-  count = h.count;
-  locks = h.locks;
-  arena = h.arena;
-}
-
-pub holds_with_records : (parts : MemoryParts) (budget : ℕ) (records : List ℕ) → KeepsRecords records → HoldsParts parts budget →
-    HoldsParts (record parts { records = records }) budget
-holds_with_records parts budget records keeps h = record {
-  fixed = h.fixed;
-  rows = h.rows;
-  vectors = h.vectors;
-  records = keeps;
-  handles = h.handles;
-  blocks = h.blocks;
-  count = h.count;
-  locks = h.locks;
-  arena = h.arena;
-}
-
-pub holds_with_locks : (parts : MemoryParts) (budget : ℕ) (locks : List ℕ) → KeepsLocks parts.handles locks → HoldsParts parts budget →
-    HoldsParts (record parts { locks = locks }) budget
-holds_with_locks parts budget locks keeps h = record {
-  fixed = h.fixed;
-  rows = h.rows;
-  vectors = h.vectors;
-  records = h.records;
-  handles = h.handles;
-  blocks = h.blocks;
-  count = h.count;
-  locks = keeps;
-  arena = h.arena;
-}
-
 pub holds_with_arena : (parts : MemoryParts) (budget : ℕ) (arena : List ℕ) → KeepsArena arena → HoldsParts parts budget →
     HoldsParts (record parts { arena = arena }) budget
 holds_with_arena parts budget arena keeps h = record {

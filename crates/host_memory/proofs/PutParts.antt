@@ -1,4 +1,4 @@
--- A run of bytes that is put into one part of the memory leaves all the others: one equation of the parts for each of them.
+-- A run of bytes that is put into one part of the memory leaves all the others: one equation of the parts for each part that is written.
 use Rattle.std.proofs.Common.{◌≡◌, ℕ, ◌+◌, ◌*◌, ◌≤◌, ◌⊎◌, inl, inr, List, length, refl, ◌∙◌, arith}
 use Rattle.client_world.specs.declared.host_frames.TheConstants.{PAGE_SIZE, PAGE_DIRECTORY, BLOCK_TABLES, DESCRIPTOR_ROWS, VECTORS, RECORDS, BLOCK_ROWS, LOCK_COUNTS, DOS_LIST, TAKEN_FRAMES, BUDGET_FRAMES}
 use Rattle.client_world.specs.declared.memory_map.TheConstants.{DOS_SIZE}
@@ -64,44 +64,6 @@ put_dos b budget address at xs size e room =
       beside.frames (inl (omega (arith, e))),
     ) refl
 
--- into the page directory and the two tables behind it
-pub put_fixed : (b : List ℕ) (budget address at : ℕ) (xs : List ℕ) → HasSize b budget → address ≡ PAGE_SIZE * PAGE_DIRECTORY + at → at + length xs ≤ PAGE_SIZE * 3 →
-    parts_of (put b address xs) budget ≡ record (parts_of b budget) { fixed = put (fixed_part b) at xs }
-put_fixed b budget address at xs size e room =
-    let beside = put_beside b budget address xs size in
-    rw (
-      beside.dos (inr (omega (arith, e))),
-      region-put b address xs (PAGE_SIZE * PAGE_DIRECTORY) (PAGE_SIZE * 3) at (omega (arith, e)) room,
-      beside.tables (inl (omega (arith, e))),
-      beside.rows (inl (omega (arith, e))),
-      beside.vectors (inl (omega (arith, e))),
-      beside.records (inl (omega (arith, e))),
-      beside.handles (inl (omega (arith, e))),
-      beside.locks (inl (omega (arith, e))),
-      beside.arena (inl (omega (arith, e))),
-      beside.taken (inl (omega (arith, e))),
-      beside.frames (inl (omega (arith, e))),
-    ) refl
-
--- into the page tables of the block region
-pub put_tables : (b : List ℕ) (budget address at : ℕ) (xs : List ℕ) → HasSize b budget → address ≡ PAGE_SIZE * BLOCK_TABLES + at → at + length xs ≤ PAGE_SIZE * 16 →
-    parts_of (put b address xs) budget ≡ record (parts_of b budget) { tables = put (tables_part b) at xs }
-put_tables b budget address at xs size e room =
-    let beside = put_beside b budget address xs size in
-    rw (
-      beside.dos (inr (omega (arith, e))),
-      beside.fixed (inr (omega (arith, e))),
-      region-put b address xs (PAGE_SIZE * BLOCK_TABLES) (PAGE_SIZE * 16) at (omega (arith, e)) room,
-      beside.rows (inl (omega (arith, e))),
-      beside.vectors (inl (omega (arith, e))),
-      beside.records (inl (omega (arith, e))),
-      beside.handles (inl (omega (arith, e))),
-      beside.locks (inl (omega (arith, e))),
-      beside.arena (inl (omega (arith, e))),
-      beside.taken (inl (omega (arith, e))),
-      beside.frames (inl (omega (arith, e))),
-    ) refl
-
 -- into the rows of the descriptors
 pub put_rows : (b : List ℕ) (budget address at : ℕ) (xs : List ℕ) → HasSize b budget → address ≡ PAGE_SIZE * DESCRIPTOR_ROWS + at → at + length xs ≤ PAGE_SIZE * 32 →
     parts_of (put b address xs) budget ≡ record (parts_of b budget) { rows = put (rows_part b) at xs }
@@ -116,82 +78,6 @@ put_rows b budget address at xs size e room =
       beside.records (inl (omega (arith, e))),
       beside.handles (inl (omega (arith, e))),
       beside.locks (inl (omega (arith, e))),
-      beside.arena (inl (omega (arith, e))),
-      beside.taken (inl (omega (arith, e))),
-      beside.frames (inl (omega (arith, e))),
-    ) refl
-
--- into the frame of the vectors
-pub put_vectors : (b : List ℕ) (budget address at : ℕ) (xs : List ℕ) → HasSize b budget → address ≡ PAGE_SIZE * VECTORS + at → at + length xs ≤ PAGE_SIZE * 1 →
-    parts_of (put b address xs) budget ≡ record (parts_of b budget) { vectors = put (vectors_part b) at xs }
-put_vectors b budget address at xs size e room =
-    let beside = put_beside b budget address xs size in
-    rw (
-      beside.dos (inr (omega (arith, e))),
-      beside.fixed (inr (omega (arith, e))),
-      beside.tables (inr (omega (arith, e))),
-      beside.rows (inr (omega (arith, e))),
-      region-put b address xs (PAGE_SIZE * VECTORS) (PAGE_SIZE * 1) at (omega (arith, e)) room,
-      beside.records (inl (omega (arith, e))),
-      beside.handles (inl (omega (arith, e))),
-      beside.locks (inl (omega (arith, e))),
-      beside.arena (inl (omega (arith, e))),
-      beside.taken (inl (omega (arith, e))),
-      beside.frames (inl (omega (arith, e))),
-    ) refl
-
--- into the frame of the records
-pub put_records : (b : List ℕ) (budget address at : ℕ) (xs : List ℕ) → HasSize b budget → address ≡ PAGE_SIZE * RECORDS + at → at + length xs ≤ PAGE_SIZE * 1 →
-    parts_of (put b address xs) budget ≡ record (parts_of b budget) { records = put (records_part b) at xs }
-put_records b budget address at xs size e room =
-    let beside = put_beside b budget address xs size in
-    rw (
-      beside.dos (inr (omega (arith, e))),
-      beside.fixed (inr (omega (arith, e))),
-      beside.tables (inr (omega (arith, e))),
-      beside.rows (inr (omega (arith, e))),
-      beside.vectors (inr (omega (arith, e))),
-      region-put b address xs (PAGE_SIZE * RECORDS) (PAGE_SIZE * 1) at (omega (arith, e)) room,
-      beside.handles (inl (omega (arith, e))),
-      beside.locks (inl (omega (arith, e))),
-      beside.arena (inl (omega (arith, e))),
-      beside.taken (inl (omega (arith, e))),
-      beside.frames (inl (omega (arith, e))),
-    ) refl
-
--- into the rows of the memory blocks
-pub put_handles : (b : List ℕ) (budget address at : ℕ) (xs : List ℕ) → HasSize b budget → address ≡ PAGE_SIZE * BLOCK_ROWS + at → at + length xs ≤ PAGE_SIZE * 1 →
-    parts_of (put b address xs) budget ≡ record (parts_of b budget) { handles = put (handles_part b) at xs }
-put_handles b budget address at xs size e room =
-    let beside = put_beside b budget address xs size in
-    rw (
-      beside.dos (inr (omega (arith, e))),
-      beside.fixed (inr (omega (arith, e))),
-      beside.tables (inr (omega (arith, e))),
-      beside.rows (inr (omega (arith, e))),
-      beside.vectors (inr (omega (arith, e))),
-      beside.records (inr (omega (arith, e))),
-      region-put b address xs (PAGE_SIZE * BLOCK_ROWS) (PAGE_SIZE * 1) at (omega (arith, e)) room,
-      beside.locks (inl (omega (arith, e))),
-      beside.arena (inl (omega (arith, e))),
-      beside.taken (inl (omega (arith, e))),
-      beside.frames (inl (omega (arith, e))),
-    ) refl
-
--- into the lock counts
-pub put_locks : (b : List ℕ) (budget address at : ℕ) (xs : List ℕ) → HasSize b budget → address ≡ PAGE_SIZE * LOCK_COUNTS + at → at + length xs ≤ PAGE_SIZE * 8 →
-    parts_of (put b address xs) budget ≡ record (parts_of b budget) { locks = put (locks_part b) at xs }
-put_locks b budget address at xs size e room =
-    let beside = put_beside b budget address xs size in
-    rw (
-      beside.dos (inr (omega (arith, e))),
-      beside.fixed (inr (omega (arith, e))),
-      beside.tables (inr (omega (arith, e))),
-      beside.rows (inr (omega (arith, e))),
-      beside.vectors (inr (omega (arith, e))),
-      beside.records (inr (omega (arith, e))),
-      beside.handles (inr (omega (arith, e))),
-      region-put b address xs (PAGE_SIZE * LOCK_COUNTS) (PAGE_SIZE * 8) at (omega (arith, e)) room,
       beside.arena (inl (omega (arith, e))),
       beside.taken (inl (omega (arith, e))),
       beside.frames (inl (omega (arith, e))),
@@ -213,25 +99,6 @@ put_arena b budget address at xs size e room =
       beside.locks (inr (omega (arith, e))),
       region-put b address xs (PAGE_SIZE * DOS_LIST) (PAGE_SIZE * 80) at (omega (arith, e)) room,
       beside.taken (inl (omega (arith, e))),
-      beside.frames (inl (omega (arith, e))),
-    ) refl
-
--- into the taken bytes
-pub put_taken : (b : List ℕ) (budget address at : ℕ) (xs : List ℕ) → HasSize b budget → address ≡ PAGE_SIZE * TAKEN_FRAMES + at → at + length xs ≤ PAGE_SIZE * 1 →
-    parts_of (put b address xs) budget ≡ record (parts_of b budget) { taken = put (taken_part b) at xs }
-put_taken b budget address at xs size e room =
-    let beside = put_beside b budget address xs size in
-    rw (
-      beside.dos (inr (omega (arith, e))),
-      beside.fixed (inr (omega (arith, e))),
-      beside.tables (inr (omega (arith, e))),
-      beside.rows (inr (omega (arith, e))),
-      beside.vectors (inr (omega (arith, e))),
-      beside.records (inr (omega (arith, e))),
-      beside.handles (inr (omega (arith, e))),
-      beside.locks (inr (omega (arith, e))),
-      beside.arena (inr (omega (arith, e))),
-      region-put b address xs (PAGE_SIZE * TAKEN_FRAMES) (PAGE_SIZE * 1) at (omega (arith, e)) room,
       beside.frames (inl (omega (arith, e))),
     ) refl
 

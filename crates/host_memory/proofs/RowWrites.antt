@@ -4,26 +4,21 @@ use Rattle.std.proofs.lemmas.Bool.{cases_order}
 use Rattle.client_world.specs.declared.registers.Mode.{Mode}
 use Rattle.client_world.specs.declared.registers.Regs.{Regs}
 use Rattle.client_world.specs.declared.registers.Width.{Width}
-use Rattle.client_world.specs.declared.place.Place.{Place}
 use Rattle.client_world.specs.declared.host_frames.TheConstants.{PAGE_SIZE, DESCRIPTOR_ROWS, DESCRIPTORS, DESCRIPTOR_ROW_SIZE, FIRST_FREE_DESCRIPTOR}
 use Rattle.client_world.specs.FreeRuns.{IsFreeRunOf, IsFirstFreeRunOf}
 use Rattle.client_world.specs.Selector.{Row, FitsRow, row_at_index}
 use Rattle.guest_ram.specs.Bytes.{put}
 use Rattle.guest_ram.proofs.PutLaws.{put_within, put_away, length-region}
-use Rattle.desc_table.specs.Rows.{row_at, row_bytes, rows_from, rows_start, row_address, HasRows, IsFreeRun, IsFirstFreeRun}
+use Rattle.desc_table.specs.Rows.{row_at, row_bytes, rows_from, rows_start, row_address, IsFreeRun, IsFirstFreeRun}
 use Rattle.desc_table.proofs.RowLaws.{length-row_bytes, row_at-put, row_at-put_away, rows_from-put, rows_from-region, at_rows_from}
-use Rattle.host_memory.specs.Layout.{world_of, address_of, rows_part}
+use Rattle.host_memory.specs.Layout.{world_of, rows_part}
 use Rattle.host_memory.specs.Holds.{Holds, KeepsRows}
-use Rattle.host_memory.proofs.Parts.{MemoryParts, parts_of, world_by, holds_by, holds_parts, holds_with_rows, addresses_by}
+use Rattle.host_memory.proofs.Parts.{parts_of, world_by, holds_by, holds_parts, holds_with_rows}
 use Rattle.host_memory.proofs.PutParts.{put_rows, size_put}
 use Rattle.host_memory.proofs.WorldParts.{descriptors_is}
 
 length-rows_part : (b : List ℕ) (budget : ℕ) → Holds b budget → length (rows_part b) ≡ DESCRIPTOR_ROW_SIZE * DESCRIPTORS
 length-rows_part b budget holds = length-region b (PAGE_SIZE * DESCRIPTOR_ROWS) (PAGE_SIZE * 32) (omega (arith, holds.size))
-
--- the memory has all rows
-pub has_rows : (b : List ℕ) (budget : ℕ) → Holds b budget → HasRows b
-has_rows b budget holds = omega (arith, holds.size)
 
 -- a row in the part of the rows
 abbrev with_row : List ℕ → ℕ → Row → List ℕ
@@ -90,12 +85,6 @@ row_holds b budget holds index row small fits =
     (row_parts b budget holds index row small) (size_put b budget (row_address index) (row_bytes row) holds.size) holds.most
     (holds_with_rows (parts_of b budget) budget (with_row (rows_part b) index row)
     (keeps_rows (rows_part b) index row (length-rows_part b budget holds) small fits holds.rows) (holds_parts b budget holds))
-
-pub row_addresses : (b : List ℕ) (budget : ℕ) → Holds b budget → (index : ℕ) (row : Row) → index < DESCRIPTORS → (place : Place) →
-    address_of (put b (row_address index) (row_bytes row)) place ≡ address_of b place
-row_addresses b budget holds index row small =
-    let e = row_parts b budget holds index row small in
-    addresses_by b (put b (row_address index) (row_bytes row)) (ap (λ (p : MemoryParts). p.handles) e) (ap (λ (p : MemoryParts). p.tables) e)
 
 -- the rows of the memory are the world's
 pub rows_are : (b : List ℕ) (budget : ℕ) (mode : Mode) (regs : Regs) (vif : Bool) (width : Option Width) →

@@ -10,13 +10,13 @@ ghost use Rattle.host_memory.specs.Tables.{directory_entry_at, low_entry_at, win
 
 use crate::dos_list::{header, listed_entry};
 use client_world::host_frames::{
-    BLOCK_TABLE_FRAMES, BLOCK_TABLES, BUDGET_FRAMES, DOS_FRAMES, DOS_LIST, LOW_TABLE, PAGE_DIRECTORY, PAGE_SIZE,
-    VECTORS, WINDOW_TABLE,
+    BLOCK_TABLE_FRAMES, BLOCK_TABLES, BUDGET_FRAMES, DOS_FRAMES, DOS_LIST, LOW_TABLE,
+    PAGE_DIRECTORY, PAGE_SIZE, VECTORS, WINDOW_TABLE,
 };
 use client_world::limits::{EXCEPTION_VECTORS, INTERRUPT_VECTORS, MAX_PAGES};
 use client_world::memory_map::{
-    ARENA_END, ARENA_START, DOS_SIZE, DOS_VIEW_PAGES, HOST_WINDOW,
-    PARAGRAPH_SIZE, ROM_BYTE, ROM_SEGMENT, ROM_START, SEGMENT_SIZE,
+    ARENA_END, ARENA_START, DOS_SIZE, DOS_VIEW_PAGES, HOST_WINDOW, PARAGRAPH_SIZE, ROM_BYTE,
+    ROM_SEGMENT, ROM_START, SEGMENT_SIZE,
 };
 use client_world::selectors::{HOST_CODE, selector_of};
 use client_world::traps::PROTECTED_VECTOR_TRAPS;
