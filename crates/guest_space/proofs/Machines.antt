@@ -1,9 +1,7 @@
 -- A view whose bytes hold its world, as every machine's do, and one byte that is written where the client may write.
-use Rattle.std.proofs.Common.{◌≡◌, ℕ, suc, ◌*◌, ◌<◌, ◌≤◌, Bool, true, List, [], ◌∷◌, length, slice_index, slice_index_or, slice_set, refl, ap, ◌∙◌, sym, subst, arith}
+use Rattle.std.proofs.Common.{◌≡◌, ℕ, suc, ◌<◌, Bool, true, List, [], ◌∷◌, length, slice_index, slice_index_or, slice_set, refl, ap, ◌∙◌, sym, subst, arith}
 use Rattle.client_world.specs.declared.place.Place.{Place}
 use Rattle.client_world.specs.declared.place.Place.TheVariants.{Nothing}
-use Rattle.client_world.specs.declared.host_frames.TheConstants.{PAGE_SIZE, BUDGET_FRAMES}
-use Rattle.client_world.specs.declared.memory_map.TheConstants.{ROM_START}
 use Rattle.client_world.specs.Access.{place_in, may_touch, with_byte_of, with_bytes_of, IsHeld}
 use Rattle.client_world.specs.Soundness.{IsSound, SoundBlocks}
 use Rattle.client_world.specs.World.{World}
@@ -14,7 +12,7 @@ use Rattle.host_memory.specs.Law.{StandsAt}
 use Rattle.host_memory.specs.Layout.{address_of}
 use Rattle.host_memory.specs.View.{MachineView}
 use Rattle.host_memory.proofs.ByteLaw.{byte_agrees}
-use Rattle.host_memory.proofs.ClientWrites.{write_world, write_holds, write_addresses, write_host}
+use Rattle.host_memory.proofs.ClientWrites.{write_world, write_holds, write_addresses}
 use Rattle.host_memory.proofs.WorldParts.{budget_is}
 use Rattle.guest_space.specs.Machines.{Processor, held_world, IsMachine, HoldsItsWorld}
 use Rattle.guest_space.specs.Transfer.{with_bytes_at, with_places}
@@ -72,13 +70,6 @@ pub written_addresses : (k : Processor) (v : MachineView) (p : Place) (x : ℕ) 
 written_addresses k v p x m can =
     let held : IsHeld (held_world k v.bytes) p = subst (λ (w : World). IsHeld w p) m.is (held_there v.world p can) in
     write_addresses v.bytes k.budget m.holds k.mode k.regs k.vif k.width p x can.may held
-
--- the host's frames keep their bytes
-pub written_host : (k : Processor) (v : MachineView) (p : Place) (x : ℕ) → IsMachine k v → CanWrite v.world p → (at : ℕ) →
-    ROM_START ≤ at → at < PAGE_SIZE * BUDGET_FRAMES → slice_index (with_place v p x).bytes at ≡ slice_index v.bytes at
-written_host k v p x m can =
-    let held : IsHeld (held_world k v.bytes) p = subst (λ (w : World). IsHeld w p) m.is (held_there v.world p can) in
-    write_host v.bytes k.budget m.holds k.mode k.regs k.vif k.width p x can.may held
 
 -- the byte of a place that may be touched stands at its address
 pub stands_there : (k : Processor) (v : MachineView) (lin : ℕ) (write : Bool) → IsMachine k v →

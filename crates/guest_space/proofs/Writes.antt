@@ -48,11 +48,6 @@ other_count width not8 not16 = rw (other_width width 8 not8, other_width width 1
 pub other_bytes : (width value : ℕ) → width ≢ 8 → width ≢ 16 → number_bytes width value ≡ number_bytes 32 value
 other_bytes width value not8 not16 = rw (other_width width 8 not8, other_width width 16 not16) refl
 
--- a write that has no fault is made, whatever its answer looks like
-pub made : (v new : MachineView) (x : Write) (r : Result (Unit {0}) Fault) → write_refusal v.world x ≡ None → Answered v new x r → new ≡ written v x
-made v new x (Ok u) none answer = answer.1
-made v new x (Err f) none answer = absurd (let some = sym none ∙ answer.0 in cc)
-
 -- the refusals of other writes are the same after it
 pub same_written : (v : MachineView) (x : Write) → SameAccess v.world (written v x).world
 unfolding written

@@ -1,4 +1,4 @@
-use Rattle.std.proofs.Common.{◌∙◌, ap, sym, refl}
+use Rattle.std.proofs.Common.{◌∙◌, ap, sym}
 use Rattle.guest_space.specs.Pending.{byte_count, number_bytes}
 use Rattle.guest_space.proofs.Writes.{answered, other_bytes, other_count}
 use Rattle.guest_space.proofs.machine.Machine.make.Goals as goal
