@@ -133,7 +133,7 @@ const GROUP_0F01: Slot = Slot::Group(19);
 
 const GROUP_0FBA: Slot = Slot::Group(20);
 
-// The one-byte map.
+/// The one-byte map.
 pub static ONE_BYTE_MAP: [Slot; 256] = [
     // Opcodes 00 to 0F
     alone!(Op::Add, Eb Gb Empty),
@@ -409,7 +409,7 @@ pub static ONE_BYTE_MAP: [Slot; 256] = [
     GROUP_FF,
 ];
 
-// The second map, after 0F.
+/// The second map, after 0F.
 pub static TWO_BYTE_MAP: [Slot; 256] = [
     // Opcodes 00 to 0F
     GROUP_0F00,
@@ -685,7 +685,7 @@ pub static TWO_BYTE_MAP: [Slot; 256] = [
     NONE,
 ];
 
-// The groups, by the reg field.
+/// The groups, by the reg field.
 pub static GROUPS: [[Row; 8]; 21] = [
     // Opcode 80
     arithmetic!(Eb Ib),
