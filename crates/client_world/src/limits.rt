@@ -3,7 +3,7 @@
 /// The most turns that a host makes.
 pub const MAX_STEPS: u32 = 1_000_000_000;
 
-/// The most turns of a run, where the words give no bound.
+/// The most turns of a run, where no other bound is given.
 pub const DEFAULT_BOUND: u32 = 10_000_000;
 
 /// The most bytes that a console holds.
@@ -12,7 +12,7 @@ pub const CONSOLE_ROOM: u32 = 0x10_0000;
 /// The most pages, of 4096 bytes, that a client's memory blocks may take together.
 pub const MAX_PAGES: u32 = 4096;
 
-/// The pages of a budget, where the words give none.
+/// The pages of a budget, where no other number is given.
 pub const DEFAULT_PAGES: u32 = 1024;
 
 /// The most keystrokes, in bytes, that a client is given.
@@ -21,7 +21,7 @@ pub const MAX_KEYS: u32 = 65_536;
 /// The most lines of the trace that are kept.
 pub const MAX_TRACE: u32 = 10_000;
 
-/// The lines of the trace that are kept, where the words give no number.
+/// The lines of the trace that are kept, where no other number is given.
 pub const DEFAULT_TRACE: u32 = 1_000;
 
 /// The most bytes of a client's file.

@@ -23,7 +23,7 @@ pub enum Exit {
     BadFrame,
     /// A mode switch names what can't be loaded.
     BadSwitch,
-    /// The turn needs what this stage of the host doesn't serve yet.
+    /// The turn needs what isn't served yet.
     Unbuilt,
 }
 

@@ -1,5 +1,5 @@
 -- Bits of an operand: BT, BTS, BTR, BTC, BSF, BSR, and SETcc.
--- Source: 80386 Programmer's Reference Manual, ch. 17, each under its name,; that BTS, BTR and BTC write a bit back that
+-- Source: 80386 Programmer's Reference Manual, ch. 17, each under its name; that BTS, BTR and BTC write a bit back that
 -- doesn't change is own.
 use Rattle.std.specs.Prelude.{ℕ, zero, suc, ◌+◌, ◌-◌, ◌*◌, ◌/◌, ◌%◌, ◌^◌, Bool, true, false, not, ◌||◌, cond, nat_eq, nat_lt, if◌then◌else◌}
 use Rattle.client_world.specs.declared.registers.Flags.{Flags}

@@ -1,4 +1,4 @@
--- The header paragraphs of DOS memory. Source: MS-DOS memory control blocks, this project's profile.
+-- The header paragraphs of DOS memory. Source: MS-DOS memory control blocks; which bytes of them are used is own.
 use Rattle.std.specs.Prelude.{ℕ, ◌*◌, List, [], ◌∷◌, ◌++◌}
 use Rattle.client_world.specs.declared.dos_memory.DosEntry.{DosEntry}
 use Rattle.client_world.specs.declared.dos_memory.DosState.{DosState}

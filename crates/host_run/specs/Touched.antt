@@ -14,7 +14,7 @@ unless_trapped w (Vector n) = []
 unless_trapped w Later = []
 unless_trapped w NoTrap = step_touches w
 
--- none where the run has ended
+-- none where the run has ended, or the mode isn't served yet
 abbrev pub touched : HostWorld → List Place
 touched w = elim w.exit [
   | Some _ ↦ []

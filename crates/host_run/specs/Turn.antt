@@ -108,13 +108,13 @@ stepped h = after_step h (world_step h.machine)
 
 -- ---- turns
 
--- what a turn does in real mode; traps of a later stage end the run
+-- what a turn does in real mode; a trap that isn't served yet ends the run
 abbrev pub trapped : HostWorld → Trap → Outcome
 trapped h (Vector n) = vector_reached h n
 trapped h Later = ends h exits.Unbuilt
 trapped h NoTrap = stepped h
 
--- and by the mode: this stage has no protected mode
+-- and by the mode: protected mode isn't served yet
 unfoldable pub work : HostWorld → Outcome
 work h = elim h.machine.mode [ Real ↦ trapped h (real_trap h.machine) | Protected ↦ ends h exits.Unbuilt ]
 

@@ -10,7 +10,7 @@ use client_world::traps::{
 };
 use guest_space::Machine;
 
-/// What the machine stands at: a default vector, a trap that this stage doesn't serve yet, or none. Source: own.
+/// What the machine stands at: a default vector, a trap that isn't served yet, or none. Source: own.
 #[derive(Clone, Copy, Debug, PartialEq, Eq)]
 pub enum Trap {
     Vector(u8),
@@ -25,7 +25,7 @@ fn is_among(from: u32, n: u32, at: u64) -> bool
     u64::from(from) <= at && at < u64::from(from) + u64::from(n)
 }
 
-// Whether it is a trap that this stage doesn't serve yet.
+// Whether it is a trap that isn't served yet.
 fn is_later(at: u64) -> bool
     ensures { result ≡ is_later at }
 {

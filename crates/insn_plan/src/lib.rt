@@ -1,5 +1,5 @@
 //! Instructions as plans: what an instruction reads, one after another, and what it leaves, before anything is written.
-//! It promises that a plan is carried out whole or not at all, and that each helper of the executing crates is the word of its name.
+//! It promises that a plan is carried out whole or not at all, and that each call that the executing crates share is the word of its name.
 //! It stands on the machine, and on the instruction's types.
 #![tactic(auto)]
 

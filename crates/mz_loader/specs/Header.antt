@@ -1,5 +1,5 @@
 -- The header of an MZ file, and what it says of the program.
--- Source: MS-DOS executable files, this project's profile; that a file without minimum and maximum gets all memory is MS-DOS's "load high", own here.
+-- Source: MS-DOS executable files; that a file without minimum and maximum gets all memory is MS-DOS's "load high", own here.
 use Rattle.std.specs.Prelude.{ℕ, ◌+◌, ◌-◌, ◌*◌, ◌/◌, ◌||◌, ◌&&◌, nat_eq, min, max, if◌then◌else◌, List}
 use Rattle.client_world.specs.declared.memory_map.TheConstants.{PARAGRAPH_SIZE, PSP_SEGMENT, ARENA_END}
 use Rattle.guest_ram.specs.Bytes.{word_of}

@@ -7,10 +7,11 @@ use Rattle.client_world.specs.declared.outcome.LoadFault.TheVariants.{ShortHeade
 use Rattle.guest_ram.specs.Bytes.{word_of}
 use Rattle.mz_loader.specs.Header.{last_page, pages, relocations, relocation_table, header_length, page_bytes, told_length, needed_paras, most_paras, block_paras, psp_paras}
 
--- the file is shorter than a header
+-- the bytes of a header
 abbrev pub header_bytes : ℕ
 header_bytes = 28
 
+-- the file is shorter than a header
 abbrev pub is_short : List ℕ → Bool
 is_short file = nat_lt (length file) header_bytes
 

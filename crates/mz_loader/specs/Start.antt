@@ -1,4 +1,4 @@
--- The world in which a client starts. Source: MS-DOS program segment prefix and environment, this project's profile.
+-- The world in which a client starts. Source: MS-DOS program segment prefix and environment; what they hold is own.
 use Rattle.std.specs.Prelude.{ℕ, zero, suc, ◌+◌, ◌-◌, ◌*◌, ◌%◌, nat_eq, if◌then◌else◌, List, [], ◌∷◌, slice_index}
 use Rattle.client_world.specs.declared.dos_memory.DosEntry.{DosEntry}
 use Rattle.client_world.specs.declared.dos_memory.DosState.TheVariants.{Free, Used}
