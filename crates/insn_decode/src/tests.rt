@@ -1,5 +1,5 @@
 // Bytes and what they begin with, by the manual and an independent disassembler.
-use crate::{Decoded, a_spelling_is_of_one_instruction, decode, reading_is_the_grammar};
+use crate::{Decoded, decode};
 use arrayvec::ArrayVec;
 use client_world::FarPtr;
 use client_world::SegReg::{self, Ds, Es, Fs, Gs, Ss};
@@ -112,8 +112,6 @@ fn the_table_of_bytes(rt: HostRuntime) {
     assert_eq!(rt; decoded(&[0x8d, 0xc0], false), Decoded::Invalid);
     assert_eq!(rt; decoded(&[0xf6, 0x08], false), Decoded::Invalid);
     assert_eq!(rt; decoded(&[0x67, 0x8b, 0x04, 0x25], false), Decoded::More);
-    a_spelling_is_of_one_instruction();
-    reading_is_the_grammar();
 }
 
 #[test]
