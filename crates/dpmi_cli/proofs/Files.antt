@@ -111,27 +111,6 @@ pub no_words_come : (words : List (List ℕ)) (files : Option Files) (v : Verdic
 no_words_come words None v each = (λ _. None, some_and (verdict words (λ _. None)) v (each (λ _. None)))
 no_words_come words (Some files) v each = some_and (verdict words files) v (each files)
 
--- the word that names the file, taken over
-pub named_word : (words : List (List ℕ)) (word name : List ℕ) → Some word ≡ meaning words → name ≡ word →
-    meaning words ≡ Some name
-named_word words word name is same = sym is ∙ ap Some (sym same)
-
-named : (words : List (List ℕ)) (name : List ℕ) → meaning words ≡ Some name →
-    Contains (file_names words) name
-named words name is =
-    let names : file_names words ≡ name ∷ [] = rw (is, file_names) refl in
-    subst (λ l. Contains l name) (sym names) (0, omega arith, refl)
-
--- a file that can't be read
-pub shelf_cause : (words : List (List ℕ)) (name : List ℕ) (files : Option Files) (before now : ℕ) (blamed : Option (List ℕ)) →
-    meaning words ≡ Some name → (Rose before now × (blamed ≡ Some name)) ⊎ Lacks files name →
-    NamedFailed words before now blamed ⊎ IsAbsent words files
-shelf_cause words name files before now blamed is (inl (rose, blame)) =
-    inl (rose, subst (λ b. IsSomeAnd b (λ n. Contains (file_names words) n)) (sym blame) (named words name is))
-shelf_cause words name None before now blamed is (inr lacks) = absurd lacks
-shelf_cause words name (Some files) before now blamed is (inr lacks) =
-    inr (ap (option_map answer_to) (verdict_named words name files is ∙ ap (option_map verdict_of) lacks))
-
 -- the bytes that were read, as many as a buffer holds
 short_take : (m n : ℕ) (buf : List ℕ) → n ≤ length buf → length buf ≡ m → length (take n buf) ≤ m
 short_take m n buf few size = omega (arith, length-take-le n buf few)

@@ -54,14 +54,6 @@ run_stays w m n le is =
     let ended = exit_of ((turns w m).exit) is in
     ap bounded (turns_stay w m n le is) ∙ bounded_ended (turns w m) ended.0 ended.1
 
--- the bound of a run changes nothing of the machine
-pub bounded_machine : (w : HostWorld) → (bounded w).machine ≡ w.machine
-bounded_machine w =
-    elim (w.exit) as (λ (o : Option Exit). ◌≡◌ {A = World} (HostWorld.machine (elim o [ Some _ ↦ w | None ↦ record w { exit = Some Bound } ])) w.machine) [
-      | Some _ ↦ refl
-      | None ↦ refl
-    ]
-
 -- ---- the whole host: what a turn keeps once there is an exit
 
 -- where there was an exit at first, nothing has changed
