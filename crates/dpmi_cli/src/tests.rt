@@ -162,45 +162,47 @@ fn each_header_word_of_ffff_has_its_answer(rt: HostRuntime) -> Result<(), Fail> 
 
 // Clients that mean harm: one fills all memory from 00000h on, itself too; one jumps into read-only memory; stacks at 1, at 0 and in
 // read-only memory; vectors that lead to trap bytes, of the entry and of DOS calls.
+const HOSTILE: [(&[u8], u8, &str); 7] = [
+    (
+        b"\x31\xC0\x8E\xC0\x31\xFF\xB9\xFF\xFF\xF3\xAA",
+        1,
+        "console 0\n\nexit fault 0d code=00000000\nsteps 34633\n",
+    ),
+    (
+        b"\xEA\x00\x04\x00\xF0",
+        1,
+        "console 0\n\nexit fault 0d code=00000000\nsteps 2\n",
+    ),
+    (
+        b"\xBC\x01\x00\xCD\x21",
+        1,
+        "console 0\n\nexit fault 0c code=00000000\nsteps 2\n",
+    ),
+    (
+        b"\xBC\x00\x00\xB8\x00\x4C\xCD\x21",
+        0,
+        "console 0\n\nexit exited 0\nsteps 4\n",
+    ),
+    (
+        b"\xB8\x00\xF0\x8E\xD0\xCD\x21",
+        1,
+        "console 0\n\nexit fault 0e code=00000007\nsteps 3\n",
+    ),
+    (
+        b"\x31\xC0\x8E\xD8\xC7\x06\x80\x01\x00\x01\xC7\x06\x82\x01\x00\xF0\xCD\x60",
+        1,
+        "console 0\n\nexit unbuilt\nsteps 6\n",
+    ),
+    (
+        b"\x31\xC0\x8E\xD8\xC7\x06\x80\x01\x21\x00\xC7\x06\x82\x01\x00\xF0\xB8\x05\x4C\xCD\x60",
+        0,
+        "console 0\n\nexit exited 5\nsteps 7\n",
+    ),
+];
+
 #[test]
 fn hostile_clients_end_with_a_name(rt: HostRuntime) -> Result<(), Fail> {
-    for (code, status, text) in [
-        (
-            b"\x31\xC0\x8E\xC0\x31\xFF\xB9\xFF\xFF\xF3\xAA".as_slice(),
-            1,
-            "console 0\n\nexit fault 0d code=00000000\nsteps 34633\n",
-        ),
-        (
-            b"\xEA\x00\x04\x00\xF0".as_slice(),
-            1,
-            "console 0\n\nexit fault 0d code=00000000\nsteps 2\n",
-        ),
-        (
-            b"\xBC\x01\x00\xCD\x21".as_slice(),
-            1,
-            "console 0\n\nexit fault 0c code=00000000\nsteps 2\n",
-        ),
-        (
-            b"\xBC\x00\x00\xB8\x00\x4C\xCD\x21".as_slice(),
-            0,
-            "console 0\n\nexit exited 0\nsteps 4\n",
-        ),
-        (
-            b"\xB8\x00\xF0\x8E\xD0\xCD\x21".as_slice(),
-            1,
-            "console 0\n\nexit fault 0e code=00000007\nsteps 3\n",
-        ),
-        (
-            b"\x31\xC0\x8E\xD8\xC7\x06\x80\x01\x00\x01\xC7\x06\x82\x01\x00\xF0\xCD\x60".as_slice(),
-            1,
-            "console 0\n\nexit unbuilt\nsteps 6\n",
-        ),
-        (
-            b"\x31\xC0\x8E\xD8\xC7\x06\x80\x01\x21\x00\xC7\x06\x82\x01\x00\xF0\xB8\x05\x4C\xCD\x60".as_slice(),
-            0,
-            "console 0\n\nexit exited 5\nsteps 7\n",
-        ),
-    ] {
+    for (code, status, text) in HOSTILE {
         let file = client(&rt, code)?;
         expect(&rt, &["run", "A.EXE"], &file, status, text)?;
     }

@@ -12,55 +12,55 @@ fn word(ram: &Ram, at: u32) -> Option<u32> {
     }
 }
 
+// Doublewords of a new memory, by their addresses.
+const DOUBLEWORDS: [(u32, u32); 31] = [
+    // Real vectors 21h and FFh, and what stands behind them.
+    (0x84, 0xF000_0021),
+    (0x3FC, 0xF000_00FF),
+    (0x400, 0),
+    // The header of DOS memory.
+    (0x600, 0x9F00_005A),
+    (0x604, 0x9F),
+    // Read-only memory.
+    (0xE_FFFC, 0),
+    (0xF_0000, 0xF4F4_F4F4),
+    (0xF_FFFC, 0xF4F4_F4F4),
+    // Directory entries 0, 1, 16, 17 and 768.
+    (0x10_0000, 0x10_1067),
+    (0x10_0004, 0x10_3067),
+    (0x10_0040, 0x11_2067),
+    (0x10_0044, 0),
+    (0x10_0C00, 0x10_2063),
+    // Pages EFh, F0h, 100h, 10Fh and 110h of the first 4 MB.
+    (0x10_13BC, 0xE_F067),
+    (0x10_13C0, 0xF_0065),
+    (0x10_1400, 0x67),
+    (0x10_143C, 0xF067),
+    (0x10_1440, 0),
+    // Pages 0, 142 and 143 of the window.
+    (0x10_2000, 0x10_0063),
+    (0x10_2238, 0x18_E063),
+    (0x10_223C, 0),
+    // The first and the last page of the block region.
+    (0x10_3000, 0),
+    (0x11_2FFC, 0),
+    // The protected vector 31h, the exception vector 0, and what stands behind exception vector 31.
+    (0x13_3188, 0x231),
+    (0x13_318C, 0x87),
+    (0x13_3800, 0x300),
+    (0x13_3804, 0x87),
+    (0x13_3900, 0),
+    // The list of DOS memory.
+    (0x13_E000, 0x9F9F_0060),
+    (0x13_E004, 1),
+    (0x13_E008, 0),
+];
+
 #[test]
 fn a_new_memory_has_these_bytes(rt: HostRuntime) -> Result<(), Fail> {
     let ram = blank_memory(rt.alloc(), 1)?;
     assert_eq!(rt; ram.len(), 1_638_400);
-
-    // Doublewords by their addresses.
-    let rows = [
-        // Real vectors 21h and FFh, and what stands behind them.
-        (0x84, 0xF000_0021),
-        (0x3FC, 0xF000_00FF),
-        (0x400, 0),
-        // The header of DOS memory.
-        (0x600, 0x9F00_005A),
-        (0x604, 0x9F),
-        // Read-only memory.
-        (0xE_FFFC, 0),
-        (0xF_0000, 0xF4F4_F4F4),
-        (0xF_FFFC, 0xF4F4_F4F4),
-        // Directory entries 0, 1, 16, 17 and 768.
-        (0x10_0000, 0x10_1067),
-        (0x10_0004, 0x10_3067),
-        (0x10_0040, 0x11_2067),
-        (0x10_0044, 0),
-        (0x10_0C00, 0x10_2063),
-        // Pages EFh, F0h, 100h, 10Fh and 110h of the first 4 MB.
-        (0x10_13BC, 0xE_F067),
-        (0x10_13C0, 0xF_0065),
-        (0x10_1400, 0x67),
-        (0x10_143C, 0xF067),
-        (0x10_1440, 0),
-        // Pages 0, 142 and 143 of the window.
-        (0x10_2000, 0x10_0063),
-        (0x10_2238, 0x18_E063),
-        (0x10_223C, 0),
-        // The first and the last page of the block region.
-        (0x10_3000, 0),
-        (0x11_2FFC, 0),
-        // The protected vector 31h, the exception vector 0, and what stands behind exception vector 31.
-        (0x13_3188, 0x231),
-        (0x13_318C, 0x87),
-        (0x13_3800, 0x300),
-        (0x13_3804, 0x87),
-        (0x13_3900, 0),
-        // The list of DOS memory.
-        (0x13_E000, 0x9F9F_0060),
-        (0x13_E004, 1),
-        (0x13_E008, 0),
-    ];
-    for (at, want) in rows {
+    for (at, want) in DOUBLEWORDS {
         assert_eq!(rt; word(&ram, at), Some(want));
     }
     Ok(())

@@ -335,8 +335,7 @@ fn immediates_and_distances(rt: HostRuntime) {
         third: imm(0xffff),
         ..insn(Op::Imul, 16, reg(16, 1), reg(16, 2))
     };
-    let place = mem(Ds, BX, NO, 0);
-    let extended = insn(Op::Movsx(8), 16, reg(16, 0), place);
+    let extended = insn(Op::Movsx(8), 16, reg(16, 0), mem(Ds, BX, NO, 0));
     let rows = [
         ([0x6a, 0xf0, 0, 0], 2, one(Op::Push, 16, imm(0xfff0))),
         (
