@@ -14,7 +14,7 @@ use Rattle.client_world.specs.World.{World}
 use Rattle.guest_space.specs.Arena.{with_entries}
 use Rattle.dos_blocks.specs.Blocks.{Done, first_fit, block_place, possible, allocated_at, allocated, resized_at, resized, freed_at, freed}
 use Rattle.dos_calls.specs.Calls as calls
-use Rattle.dos_calls.specs.Calls.{CallResult, CallState, served, ended, printed, poll_key, line_read, line_of, keys_read, memory_given, memory_changed, dos_call}
+use Rattle.dos_calls.specs.Calls.{CallResult, CallState, served, ended, printed, poll_key, line_read, line_of, keys_read, memory_refused, memory_given, memory_changed, dos_call}
 use Rattle.dos_calls.specs.DosBytes.{byte_at}
 use Rattle.dos_calls.specs.Multiplex.{multiplex_call}
 use Rattle.dos_calls.specs.Stack.{HasSameStack}
@@ -156,15 +156,17 @@ stack_freed : (w : World) (o : Option ℕ) → stack_of (freed_at w o).world ≡
 stack_freed w None = refl
 stack_freed w (Some place) = stack_entries w _ _ _
 
+stack_refused : (refusal : DosRefusal) (w : World) → stack_of (memory_refused refusal w) ≡ stack_of w
+stack_refused (NoMemory largest) w = refl
+stack_refused WrongBlock w = refl
+
 stack_given : (answer : Result ℕ DosRefusal) (w : World) → stack_of (memory_given (record { answer = answer; world = w })) ≡ stack_of w
 stack_given (Ok segment) w = refl
-stack_given (Err (NoMemory largest)) w = refl
-stack_given (Err WrongBlock) w = refl
+stack_given (Err refusal) w = stack_refused refusal w
 
 stack_changed : (answer : Result (Unit {0}) DosRefusal) (w : World) → stack_of (memory_changed (record { answer = answer; world = w })) ≡ stack_of w
 stack_changed (Ok done) w = refl
-stack_changed (Err (NoMemory largest)) w = refl
-stack_changed (Err WrongBlock) w = refl
+stack_changed (Err refusal) w = stack_refused refusal w
 
 leaves_allocate : (s : CallState) → Leaves s (calls.allocate s)
 unfolding calls.allocate allocated

@@ -15,7 +15,7 @@ use Rattle.dos_blocks.proofs.SoundBlocks.{sound_allocated, sound_freed, sound_re
 use Rattle.guest_ram.specs.Bytes.{AreBytes, word_of}
 use Rattle.host_memory.specs.Vectors.{word_bytes}
 use Rattle.dos_calls.specs.Calls as calls
-use Rattle.dos_calls.specs.Calls.{CallResult, CallState, served, ended, printed, with_al, with_ax, with_bx, with_error, without_carry, with_key, poll_key, with_line, line_read, line_of, keys_read, bad_handle, memory_given, memory_changed, no_memory, wrong_block, bad_function, dos_call}
+use Rattle.dos_calls.specs.Calls.{CallResult, CallState, served, ended, printed, with_al, with_ax, with_bx, with_error, without_carry, with_key, poll_key, with_line, line_read, line_of, keys_read, bad_handle, memory_refused, memory_given, memory_changed, no_memory, wrong_block, bad_function, dos_call}
 use Rattle.dos_calls.specs.DosBytes.{byte_at, address_at, with_bytes_at}
 use Rattle.dos_calls.specs.Multiplex.{with_entry, multiplex_call}
 use Rattle.dos_calls.proofs.ByteLists.{no_bytes, more_bytes, bytes_behind, bytes_append, bytes_take, bytes_drop, length-taken, bytes_word, bytes_read, bytes_text, LineOfBytes, bytes_line}
@@ -198,15 +198,17 @@ keeps_write_file s seen =
 
 -- ---- memory
 
+sound_refused : (refusal : DosRefusal) (w : World) → IsSound w → IsSound (memory_refused refusal w)
+sound_refused (NoMemory largest) w s = sound_error (with_bx largest w) no_memory (sound_bx w largest s)
+sound_refused WrongBlock w s = sound_error w wrong_block s
+
 sound_given : (answer : Result ℕ DosRefusal) (w : World) → IsSound w → IsSound (memory_given (record { answer = answer; world = w }))
 sound_given (Ok segment) w s = sound_carry (with_ax segment w) false (sound_ax w segment s)
-sound_given (Err (NoMemory largest)) w s = sound_error (with_bx largest w) no_memory (sound_bx w largest s)
-sound_given (Err WrongBlock) w s = sound_error w wrong_block s
+sound_given (Err refusal) w s = sound_refused refusal w s
 
 sound_changed : (answer : Result (Unit {0}) DosRefusal) (w : World) → IsSound w → IsSound (memory_changed (record { answer = answer; world = w }))
 sound_changed (Ok done) w s = sound_carry w false s
-sound_changed (Err (NoMemory largest)) w s = sound_error (with_bx largest w) no_memory (sound_bx w largest s)
-sound_changed (Err WrongBlock) w s = sound_error w wrong_block s
+sound_changed (Err refusal) w s = sound_refused refusal w s
 
 keeps_allocate : (s : CallState) → Seen s → Keeps s (calls.allocate s)
 unfolding calls.allocate

@@ -2,6 +2,7 @@
 -- Source: MS-DOS functions 01h to 62h; which of them there are, and what a full console and missing keys do, is own.
 use Rattle.std.specs.Prelude.{ℕ, Bool, ◌+◌, ◌-◌, ◌*◌, true, false, ◌||◌, nat_eq, nat_le, if◌then◌else◌, List, [], ◌∷◌, ◌++◌, length, take, drop, Some, None, Ok, Err}
 use Rattle.std.specs.declared.option.Option.{Option}
+use Rattle.client_world.specs.declared.dos_memory.DosRefusal.{DosRefusal}
 use Rattle.client_world.specs.declared.dos_memory.DosRefusal.TheVariants.{NoMemory, WrongBlock}
 use Rattle.client_world.specs.declared.limits.TheConstants.{CONSOLE_ROOM}
 use Rattle.client_world.specs.declared.memory_map.TheConstants.{PSP_SEGMENT, SEGMENT_SIZE}
@@ -200,24 +201,21 @@ no_memory = 8
 abbrev pub wrong_block : ℕ
 wrong_block = 9
 
--- 48h: BX paragraphs; AX is the segment, or BX the most that there are
+-- a refusal: where there is no room BX tells the most paragraphs that there could be
+abbrev pub memory_refused : DosRefusal → World → World
+memory_refused (NoMemory largest) w = with_error no_memory (with_bx largest w)
+memory_refused WrongBlock w = with_error wrong_block w
+
+-- 48h: BX paragraphs; AX is the segment
 abbrev pub memory_given : Done ℕ → World
-memory_given d = elim d.answer [
-  | Ok segment ↦ without_carry (with_ax segment d.world)
-  | Err (NoMemory largest) ↦ with_error no_memory (with_bx largest d.world)
-  | Err WrongBlock ↦ with_error wrong_block d.world
-]
+memory_given d = elim d.answer [ Ok segment ↦ without_carry (with_ax segment d.world) | Err r ↦ memory_refused r d.world ]
 
 unfoldable pub allocate : CallState → CallResult
 allocate s = served s (memory_given (allocated s.world false (low_half s.world.regs.ebx))) s.keys
 
 -- 49h and 4Ah: the block at ES
 abbrev pub memory_changed : Done (Unit {0}) → World
-memory_changed d = elim d.answer [
-  | Ok done ↦ without_carry d.world
-  | Err (NoMemory largest) ↦ with_error no_memory (with_bx largest d.world)
-  | Err WrongBlock ↦ with_error wrong_block d.world
-]
+memory_changed d = elim d.answer [ Ok done ↦ without_carry d.world | Err r ↦ memory_refused r d.world ]
 
 unfoldable pub free : CallState → CallResult
 free s = served s (memory_changed (freed s.world false s.world.regs.es)) s.keys

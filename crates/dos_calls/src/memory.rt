@@ -1,5 +1,6 @@
 // The calls on blocks of DOS memory.
-ghost use Rattle.dos_calls.specs.Calls.{allocate, free, resize};
+ghost use Rattle.std.specs.Prelude.{◌≡◌};
+ghost use Rattle.dos_calls.specs.Calls.{allocate, free, memory_refused, resize};
 ghost use Rattle.dos_calls.specs.Answering.{Serves};
 
 use crate::registers::{low_half, refuse, set_ax, set_bx, set_carry};
@@ -12,6 +13,19 @@ const NO_MEMORY: u16 = 8;
 
 const WRONG_BLOCK: u16 = 9;
 
+// Answers a refusal: where there is no room BX tells the most paragraphs that there could be.
+fn refuse_memory(m: &mut Machine, refusal: DosRefusal)
+    ensures { m.new.world ≡ memory_refused refusal m.old.world }
+{
+    match refusal {
+        DosRefusal::NoMemory { largest } => {
+            set_bx(m, largest);
+            refuse(m, NO_MEMORY);
+        }
+        DosRefusal::WrongBlock => refuse(m, WRONG_BLOCK),
+    }
+}
+
 /// Function 48h: BX paragraphs; AX is the segment, or BX the most that there are.
 #[tactic(auto, unfolding(crate::specs::Calls::allocate))]
 pub(crate) fn allocate(m: &mut Machine)
@@ -23,11 +37,7 @@ pub(crate) fn allocate(m: &mut Machine)
             set_ax(m, segment);
             set_carry(m, false);
         }
-        Err(DosRefusal::NoMemory { largest }) => {
-            set_bx(m, largest);
-            refuse(m, NO_MEMORY);
-        }
-        Err(DosRefusal::WrongBlock) => refuse(m, WRONG_BLOCK),
+        Err(refusal) => refuse_memory(m, refusal),
     }
 }
 
@@ -39,11 +49,7 @@ pub(crate) fn free(m: &mut Machine)
     let segment = m.regs().es;
     match dos_free(m, segment, false) {
         Ok(()) => set_carry(m, false),
-        Err(DosRefusal::NoMemory { largest }) => {
-            set_bx(m, largest);
-            refuse(m, NO_MEMORY);
-        }
-        Err(DosRefusal::WrongBlock) => refuse(m, WRONG_BLOCK),
+        Err(refusal) => refuse_memory(m, refusal),
     }
 }
 
@@ -55,10 +61,6 @@ pub(crate) fn resize(m: &mut Machine)
     let r = m.regs();
     match dos_resize(m, r.es, low_half(r.ebx), false) {
         Ok(()) => set_carry(m, false),
-        Err(DosRefusal::NoMemory { largest }) => {
-            set_bx(m, largest);
-            refuse(m, NO_MEMORY);
-        }
-        Err(DosRefusal::WrongBlock) => refuse(m, WRONG_BLOCK),
+        Err(refusal) => refuse_memory(m, refusal),
     }
 }

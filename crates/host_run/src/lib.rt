@@ -1,7 +1,7 @@
 //! The host: it loads one client, and runs it turn by turn.
 //! It promises that a new host is the blank world, that a load leads from it to the file's first world or is refused
 //! for the first reason, that each turn is the model's turn, and that a run is the model's run; that every world so reached
-//! is sound, and that its turns touch what the client holds.
+//! is sound, that its turns touch what the client holds, and that an exit leaves the machine.
 //! It stands on `mz_loader`, `dos_calls` and `fault_service`, which stand on the machine; `dpmi_cli` stands on it.
 #![tactic(auto)]
 
