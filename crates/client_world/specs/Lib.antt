@@ -1,7 +1,9 @@
 pub mod Access
+pub mod CodeWords
 pub mod Descriptor
 pub mod DosMemory
 pub mod FreeRuns
+pub mod General
 pub mod Loading
 pub mod Registers
 pub mod Segments

@@ -5,9 +5,11 @@
 
 mod blocks;
 mod calls;
+mod code;
 mod descriptors;
 mod dos_memory;
 pub mod faults;
+pub mod general;
 pub mod host_frames;
 pub mod limits;
 pub mod memory_map;
@@ -22,6 +24,7 @@ pub mod traps;
 
 pub use blocks::BlockRow;
 pub use calls::{Call, Deep, Record, What};
+pub use code::CodeWords;
 pub use descriptors::{
     Desc, Kind, Origin, a_plain_descriptor_keeps_a_world_sound, a_run_inside_is_inside_at_each_byte,
 };

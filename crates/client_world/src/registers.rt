@@ -1,8 +1,10 @@
 // The mode, the flags and the registers of the processor.
 ghost use Rattle.std.specs.Prelude.{◌≡◌, ◌≤◌, ◌<◌, Bool, cond};
+ghost use Rattle.client_world.specs.General.{general, with_general};
 ghost use Rattle.client_world.specs.Registers.{flags_image, flags_of_image, has_bit};
 ghost use Rattle.client_world.specs.Segments.{selector, with_selector};
 
+use crate::general::{EAX, EBP, EBX, ECX, EDX, ESI, ESP};
 use crate::segments::SegReg;
 
 /// The processor's mode; `Real` is virtual-8086 mode.
@@ -170,7 +172,44 @@ impl Regs {
         gs: 0,
     };
 
+    /// What the general register of a number 0 to 7 holds; greater numbers are EDI.
+    #[inline(always)]
+    #[tactic(auto, unfolding(crate::specs::General::general))]
+    pub fn general(&self, n: u8) -> u32
+        ensures { result ≡ general self.now n }
+    {
+        match n {
+            EAX => self.eax,
+            ECX => self.ecx,
+            EDX => self.edx,
+            EBX => self.ebx,
+            ESP => self.esp,
+            EBP => self.ebp,
+            ESI => self.esi,
+            _ => self.edi,
+        }
+    }
+
+    /// Puts a number into that register.
+    #[inline(always)]
+    #[tactic(auto, unfolding(crate::specs::General::with_general))]
+    pub fn set_general(&mut self, n: u8, v: u32)
+        ensures { self.new ≡ with_general self.old n v }
+    {
+        match n {
+            EAX => self.eax = v,
+            ECX => self.ecx = v,
+            EDX => self.edx = v,
+            EBX => self.ebx = v,
+            ESP => self.esp = v,
+            EBP => self.ebp = v,
+            ESI => self.esi = v,
+            _ => self.edi = v,
+        }
+    }
+
     /// What a segment register holds: a selector, or in real mode a segment.
+    #[inline(always)]
     pub fn selector(&self, seg: SegReg) -> u16
         ensures { result ≡ selector self.now seg }
     {

@@ -19,6 +19,7 @@ macro_rules! bitwise {
 
 /// AND; CF and OF are clear, AF is kept. TEST is this with the result dropped. W is 8, 16 or 32.
 /// Source: 80386 Programmer's Reference Manual, ch. 17, AND and TEST; AF own.
+#[inline(always)]
 pub fn and<const W: u8>(a: Word<W>, b: Word<W>, f: Flags) -> (Word<W>, Flags)
     requires { IsWidth W }
     ensures { result ≡ and_of W a.entry b.entry f }
@@ -28,6 +29,7 @@ pub fn and<const W: u8>(a: Word<W>, b: Word<W>, f: Flags) -> (Word<W>, Flags)
 
 /// OR; CF and OF are clear, AF is kept. W is 8, 16 or 32.
 /// Source: 80386 Programmer's Reference Manual, ch. 17, OR; AF own.
+#[inline(always)]
 pub fn or<const W: u8>(a: Word<W>, b: Word<W>, f: Flags) -> (Word<W>, Flags)
     requires { IsWidth W }
     ensures { result ≡ or_of W a.entry b.entry f }
@@ -37,6 +39,7 @@ pub fn or<const W: u8>(a: Word<W>, b: Word<W>, f: Flags) -> (Word<W>, Flags)
 
 /// XOR; CF and OF are clear, AF is kept. W is 8, 16 or 32.
 /// Source: 80386 Programmer's Reference Manual, ch. 17, XOR; AF own.
+#[inline(always)]
 pub fn xor<const W: u8>(a: Word<W>, b: Word<W>, f: Flags) -> (Word<W>, Flags)
     requires { IsWidth W }
     ensures { result ≡ xor_of W a.entry b.entry f }
@@ -46,6 +49,7 @@ pub fn xor<const W: u8>(a: Word<W>, b: Word<W>, f: Flags) -> (Word<W>, Flags)
 
 /// NOT: each bit the other way; all flags are kept. W is 8, 16 or 32.
 /// Source: 80386 Programmer's Reference Manual, ch. 17, NOT.
+#[inline(always)]
 pub fn not<const W: u8>(a: Word<W>, f: Flags) -> (Word<W>, Flags)
     requires { IsWidth W }
     ensures { result ≡ not_of W a.entry f }

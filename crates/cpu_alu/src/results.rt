@@ -7,6 +7,7 @@ use client_world::Flags;
 use cpu_values::{Word, cut};
 
 // The number of words of W bits.
+#[inline(always)]
 pub(crate) fn modulus<const W: u8>() -> u64
     requires { IsWidth W }
     ensures { result ≡ 2 ^ W }
@@ -15,6 +16,7 @@ pub(crate) fn modulus<const W: u8>() -> u64
 }
 
 // The word of a number that fits.
+#[inline(always)]
 pub(crate) fn exact<const W: u8>(v: u64) -> Word<W>
     requires width { IsWidth W }
     requires fits { v < 2 ^ W }
@@ -23,6 +25,7 @@ pub(crate) fn exact<const W: u8>(v: u64) -> Word<W>
     cut::<W>(v)
 }
 
+#[inline(always)]
 pub(crate) fn is_negative<const W: u8>(r: Word<W>) -> bool
     requires { IsWidth W }
     ensures { result ≡ top_bit W r.entry }
@@ -30,6 +33,7 @@ pub(crate) fn is_negative<const W: u8>(r: Word<W>) -> bool
     u64::from(r.get()) >= 1u64 << (W - 1)
 }
 
+#[inline(always)]
 pub(crate) fn set_result<const W: u8>(r: Word<W>, f: Flags) -> Flags
     requires { IsWidth W }
     ensures { result ≡ result_flags W r.entry f }
@@ -43,6 +47,7 @@ pub(crate) fn set_result<const W: u8>(r: Word<W>, f: Flags) -> Flags
 }
 
 // W bits can mean the number.
+#[inline(always)]
 pub(crate) fn fits<const W: u8>(z: i64) -> bool
     requires { IsWidth W }
     ensures { result ≡ in_signed_range W z }

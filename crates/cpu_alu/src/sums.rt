@@ -11,6 +11,7 @@ use client_world::Flags;
 use cpu_values::{Word, cut};
 
 // a + b + carry, modulo 2^W.
+#[inline(always)]
 fn word_sum<const W: u8>(a: Word<W>, b: Word<W>, carry: u64) -> Word<W>
     requires width { IsWidth W }
     requires carry { carry < 2 }
@@ -20,6 +21,7 @@ fn word_sum<const W: u8>(a: Word<W>, b: Word<W>, carry: u64) -> Word<W>
 }
 
 // The signed sum is out of range: both signs are alike, and the result's is the other.
+#[inline(always)]
 fn sum_overflows<const W: u8>(a: Word<W>, b: Word<W>, carry: u64) -> bool
     requires width { IsWidth W }
     requires carry { carry < 2 }
@@ -30,6 +32,7 @@ fn sum_overflows<const W: u8>(a: Word<W>, b: Word<W>, carry: u64) -> bool
 }
 
 // a + b + carry.
+#[inline(always)]
 fn add_carry<const W: u8>(a: Word<W>, b: Word<W>, carry: bool, f: Flags) -> (Word<W>, Flags)
     requires { IsWidth W }
     ensures { result ≡ sum_with_flags W a.entry b.entry (bit_of carry) f }
@@ -46,6 +49,7 @@ fn add_carry<const W: u8>(a: Word<W>, b: Word<W>, carry: bool, f: Flags) -> (Wor
 }
 
 // a − b − borrow, modulo 2^W.
+#[inline(always)]
 fn word_difference<const W: u8>(a: Word<W>, b: Word<W>, borrow: bool) -> Word<W>
     requires { IsWidth W }
     ensures { result ≡ word_difference W a.entry b.entry (bit_of borrow) }
@@ -54,6 +58,7 @@ fn word_difference<const W: u8>(a: Word<W>, b: Word<W>, borrow: bool) -> Word<W>
 }
 
 // The signed difference is out of range: the signs differ, and the result's is not that of a.
+#[inline(always)]
 fn difference_overflows<const W: u8>(a: Word<W>, b: Word<W>, borrow: bool) -> bool
     requires { IsWidth W }
     ensures { result ≡ difference_overflows W a.entry b.entry (bit_of borrow) }
@@ -63,6 +68,7 @@ fn difference_overflows<const W: u8>(a: Word<W>, b: Word<W>, borrow: bool) -> bo
 }
 
 // More is taken off than there is.
+#[inline(always)]
 fn borrows(x: u64, y: u64, borrow: bool) -> bool
     requires { y < 2 ^ 32 }
     ensures { result ≡ nat_lt x (y + bit_of borrow) }
@@ -71,6 +77,7 @@ fn borrows(x: u64, y: u64, borrow: bool) -> bool
 }
 
 // a − b − borrow.
+#[inline(always)]
 fn sub_borrow<const W: u8>(a: Word<W>, b: Word<W>, borrow: bool, f: Flags) -> (Word<W>, Flags)
     requires { IsWidth W }
     ensures { result ≡ difference_with_flags W a.entry b.entry (bit_of borrow) f }
@@ -88,6 +95,7 @@ fn sub_borrow<const W: u8>(a: Word<W>, b: Word<W>, borrow: bool, f: Flags) -> (W
 
 /// ADD: a + b, with all six status flags. W is 8, 16 or 32.
 /// Source: 80386 Programmer's Reference Manual, ch. 17, ADD.
+#[inline(always)]
 pub fn add<const W: u8>(a: Word<W>, b: Word<W>, f: Flags) -> (Word<W>, Flags)
     requires { IsWidth W }
     ensures { result ≡ add_of W a.entry b.entry f }
@@ -97,6 +105,7 @@ pub fn add<const W: u8>(a: Word<W>, b: Word<W>, f: Flags) -> (Word<W>, Flags)
 
 /// ADC: a + b + CF, with all six status flags. W is 8, 16 or 32.
 /// Source: 80386 Programmer's Reference Manual, ch. 17, ADC.
+#[inline(always)]
 pub fn adc<const W: u8>(a: Word<W>, b: Word<W>, f: Flags) -> (Word<W>, Flags)
     requires { IsWidth W }
     ensures { result ≡ adc_of W a.entry b.entry f }
@@ -106,6 +115,7 @@ pub fn adc<const W: u8>(a: Word<W>, b: Word<W>, f: Flags) -> (Word<W>, Flags)
 
 /// SUB: a − b, with all six status flags. CMP is this with the result dropped. W is 8, 16 or 32.
 /// Source: 80386 Programmer's Reference Manual, ch. 17, SUB and CMP.
+#[inline(always)]
 pub fn sub<const W: u8>(a: Word<W>, b: Word<W>, f: Flags) -> (Word<W>, Flags)
     requires { IsWidth W }
     ensures { result ≡ sub_of W a.entry b.entry f }
@@ -115,6 +125,7 @@ pub fn sub<const W: u8>(a: Word<W>, b: Word<W>, f: Flags) -> (Word<W>, Flags)
 
 /// SBB: a − b − CF, with all six status flags. W is 8, 16 or 32.
 /// Source: 80386 Programmer's Reference Manual, ch. 17, SBB.
+#[inline(always)]
 pub fn sbb<const W: u8>(a: Word<W>, b: Word<W>, f: Flags) -> (Word<W>, Flags)
     requires { IsWidth W }
     ensures { result ≡ sbb_of W a.entry b.entry f }
@@ -124,6 +135,7 @@ pub fn sbb<const W: u8>(a: Word<W>, b: Word<W>, f: Flags) -> (Word<W>, Flags)
 
 /// INC: a + 1; CF is kept. W is 8, 16 or 32.
 /// Source: 80386 Programmer's Reference Manual, ch. 17, INC.
+#[inline(always)]
 pub fn inc<const W: u8>(a: Word<W>, f: Flags) -> (Word<W>, Flags)
     requires { IsWidth W }
     ensures { result ≡ inc_of W a.entry f }
@@ -134,6 +146,7 @@ pub fn inc<const W: u8>(a: Word<W>, f: Flags) -> (Word<W>, Flags)
 
 /// DEC: a − 1; CF is kept. W is 8, 16 or 32.
 /// Source: 80386 Programmer's Reference Manual, ch. 17, DEC.
+#[inline(always)]
 pub fn dec<const W: u8>(a: Word<W>, f: Flags) -> (Word<W>, Flags)
     requires { IsWidth W }
     ensures { result ≡ dec_of W a.entry f }
@@ -144,6 +157,7 @@ pub fn dec<const W: u8>(a: Word<W>, f: Flags) -> (Word<W>, Flags)
 
 /// NEG: 0 − a, with all six status flags: CF says that a isn't 0. W is 8, 16 or 32.
 /// Source: 80386 Programmer's Reference Manual, ch. 17, NEG.
+#[inline(always)]
 pub fn neg<const W: u8>(a: Word<W>, f: Flags) -> (Word<W>, Flags)
     requires { IsWidth W }
     ensures { result ≡ neg_of W a.entry f }

@@ -6,7 +6,9 @@ pub mod ArenaReads
 pub mod ArenaRuns
 pub mod ArenaSplices
 pub mod ArenaWrites
+pub mod ChangedRegs
 pub mod Codes
+pub mod CodeRuns
 pub mod DistinctPlaces
 pub mod Entered
 pub mod FarLaws

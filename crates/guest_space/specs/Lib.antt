@@ -4,4 +4,5 @@ pub mod Dos
 pub mod Far
 pub mod Machines
 pub mod Pending
+pub mod Registers
 pub mod Transfer

@@ -2,12 +2,15 @@
 ghost use Rattle.std.specs.Prelude.{◌≡◌, ◌≢◌, ◌≤◌, ◌<◌, IfOk, None, Some};
 ghost use Rattle.client_world.specs.declared.limits.TheConstants.{MAX_PAGES};
 ghost use Rattle.client_world.specs.declared.registers.Mode.TheVariants.{Protected as protected};
+ghost use Rattle.client_world.specs.General.{with_general};
+ghost use Rattle.client_world.specs.Segments.{with_selector};
 ghost use Rattle.client_world.specs.Soundness.{HasSegments, IsSound};
 ghost use Rattle.host_memory.specs.Blank.{blank_world};
 ghost use Rattle.host_memory.specs.HoldsWorld.{HoldsWorld};
+ghost use Rattle.guest_space.specs.Registers.{with_registers};
 
 use client_world::limits::MAX_PAGES;
-use client_world::{Mode, Regs, Width};
+use client_world::{Flags, Mode, Regs, SegReg, Width};
 use guest_ram::Ram;
 use host_memory::blank_memory;
 use std::alloc::{AllocError, Global};
@@ -78,6 +81,51 @@ impl Machine {
         ensures { result ≡ self.now.world.regs }
     {
         self.regs
+    }
+
+    /// The registers, lent.
+    #[inline(always)]
+    #[tactic(auto, unfolding(host_memory::specs::Layout::world_of))]
+    pub fn registers(&self) -> &Regs
+        ensures { result.now ≡ self.now.world.regs }
+    {
+        &self.regs
+    }
+
+    /// Sets the instruction pointer.
+    #[inline(always)]
+    pub fn set_eip(&mut self, eip: u32)
+        ensures { self.new ≡ with_registers (record self.old.world.regs { eip = eip }) self.old }
+    {
+        self.regs.eip = eip;
+        segments_fit(self.regs);
+    }
+
+    /// Sets the flags.
+    #[inline(always)]
+    pub fn set_flags(&mut self, flags: Flags)
+        ensures { self.new ≡ with_registers (record self.old.world.regs { flags = flags }) self.old }
+    {
+        self.regs.flags = flags;
+        segments_fit(self.regs);
+    }
+
+    /// Sets the general register of a number 0 to 7; greater numbers are EDI.
+    #[inline(always)]
+    pub fn set_general(&mut self, n: u8, v: u32)
+        ensures { self.new ≡ with_registers (with_general self.old.world.regs n v) self.old }
+    {
+        self.regs.set_general(n, v);
+        segments_fit(self.regs);
+    }
+
+    /// Sets a segment register to a selector, or in real mode a segment, and asks nothing.
+    #[inline(always)]
+    pub fn set_selector(&mut self, seg: SegReg, sel: u16)
+        ensures { self.new ≡ with_registers (with_selector self.old.world.regs seg sel) self.old }
+    {
+        self.regs.set_selector(seg, sel);
+        segments_fit(self.regs);
     }
 
     /// Sets the registers.

@@ -27,7 +27,8 @@ fn are_bytes(bytes: &[u8])
 {}
 
 // Whether n bytes from a linear address on, at least one, lie in one page.
-fn is_in_page(lin: u32, n: u32) -> bool
+#[inline(always)]
+pub(crate) fn is_in_page(lin: u32, n: u32) -> bool
     requires { n ≤ PAGE_SIZE }
     ensures { result ≡ nat_le (lin % PAGE_SIZE + n) PAGE_SIZE }
 {
@@ -43,6 +44,7 @@ impl Machine {
     }
 
     /// Where the byte of a linear address stands in the memory, or the page fault of its access.
+    #[inline(always)]
     pub(crate) fn translate(&self, lin: u32, write: bool) -> Result<u32, Fault>
         ensures { result ≡ translated self.now lin write }
     {
@@ -53,6 +55,7 @@ impl Machine {
     }
 
     /// Whether each of n bytes from a linear address on may be touched, or the fault of the first that may not.
+    #[inline(always)]
     pub(crate) fn check(&self, lin: u32, n: u32, write: bool) -> Result<(), Fault>
         requires some { 0 < n }
         requires few { n ≤ PAGE_SIZE }
@@ -89,6 +92,7 @@ impl Machine {
     }
 
     /// The N bytes from a linear address on.
+    #[inline(always)]
     pub(crate) fn load<const N: usize>(&self, lin: u32) -> Result<[u8; N], Fault>
         requires some { 0 < N }
         requires few { N ≤ PAGE_SIZE }
@@ -109,8 +113,23 @@ impl Machine {
 
     /// The N bytes at an offset of a segment register, or the fault of the access, 1 to 4096 of them.
     /// Source: 80386 Programmer's Reference Manual, ch. 5 and 6.
+    #[inline(always)]
     #[tactic(auto, unfolding(crate::specs::Transfer::loaded, client_world::specs::Access::access))]
     pub fn read<const N: usize>(&self, seg: SegReg, off: u32) -> Result<[u8; N], Fault>
+        requires some { 0 < N }
+        requires few { N ≤ PAGE_SIZE }
+        ensures { result ≡ loaded self.now.world seg off N }
+    {
+        match self.quick_base(seg, off, N as u32) {
+            Some(base) => self.load(base.wrapping_add(off)),
+            None => self.read_checked(seg, off),
+        }
+    }
+
+    // The same, by the segment's rules in either mode.
+    #[inline(never)]
+    #[tactic(auto, unfolding(crate::specs::Transfer::loaded, client_world::specs::Access::access))]
+    fn read_checked<const N: usize>(&self, seg: SegReg, off: u32) -> Result<[u8; N], Fault>
         requires some { 0 < N }
         requires few { N ≤ PAGE_SIZE }
         ensures { result ≡ loaded self.now.world seg off N }
@@ -120,8 +139,23 @@ impl Machine {
     }
 
     /// Whether n bytes at an offset of a segment register may be read, or written, or the fault of the access, 1 to 4096 of them.
-    #[tactic(auto, unfolding(crate::specs::Transfer::refusal, client_world::specs::Access::access))]
+    #[inline(always)]
     pub fn probe(&self, seg: SegReg, off: u32, n: u32, write: bool) -> Result<(), Fault>
+        requires some { 0 < n }
+        requires few { n ≤ PAGE_SIZE }
+        ensures { MatchResult result (λ _. refusal self.now.world seg off n write ≡ None)
+            (λ fault. refusal self.now.world seg off n write ≡ Some fault) }
+    {
+        match self.quick_base(seg, off, n) {
+            Some(base) => self.check(base.wrapping_add(off), n, write),
+            None => self.probe_checked(seg, off, n, write),
+        }
+    }
+
+    // The same, by the segment's rules in either mode.
+    #[inline(never)]
+    #[tactic(auto, unfolding(crate::specs::Transfer::refusal, client_world::specs::Access::access))]
+    fn probe_checked(&self, seg: SegReg, off: u32, n: u32, write: bool) -> Result<(), Fault>
         requires some { 0 < n }
         requires few { n ≤ PAGE_SIZE }
         ensures { MatchResult result (λ _. refusal self.now.world seg off n write ≡ None)
@@ -158,6 +192,7 @@ impl Machine {
     }
 
     /// Puts N bytes from a linear address on; a fault changes nothing.
+    #[inline(always)]
     pub(crate) fn store<const N: usize>(&mut self, lin: u32, bytes: &[u8; N]) -> Result<(), Fault>
         requires some { 0 < N }
         requires few { N ≤ PAGE_SIZE }
@@ -180,7 +215,29 @@ impl Machine {
 
     /// Puts N bytes at an offset of a segment register, 1 to 4096 of them; a fault changes nothing.
     /// Source: 80386 Programmer's Reference Manual, ch. 5 and 6.
+    #[inline(always)]
     pub fn write<const N: usize>(&mut self, seg: SegReg, off: u32, v: [u8; N]) -> Result<(), Fault>
+        requires some { 0 < N }
+        requires few { N ≤ PAGE_SIZE }
+        ensures done { OnOk result ((refusal self.old.world seg off N true ≡ None)
+            × (self.new ≡ stored self.old seg off N v.entry)) }
+        ensures refused { IfErr result (λ fault.
+            (refusal self.old.world seg off N true ≡ Some fault) × (self.new ≡ self.old)) }
+    {
+        match self.quick_base(seg, off, N as u32) {
+            Some(base) => self.store(base.wrapping_add(off), &v),
+            None => self.write_checked(seg, off, v),
+        }
+    }
+
+    // The same, by the segment's rules in either mode.
+    #[inline(never)]
+    fn write_checked<const N: usize>(
+        &mut self,
+        seg: SegReg,
+        off: u32,
+        v: [u8; N],
+    ) -> Result<(), Fault>
         requires some { 0 < N }
         requires few { N ≤ PAGE_SIZE }
         ensures done { OnOk result ((refusal self.old.world seg off N true ≡ None)

@@ -15,6 +15,7 @@ pub struct Write {
 }
 
 /// The bytes of a width of 8, 16 or 32 bits.
+#[inline(always)]
 pub fn byte_count(width: u8) -> u8
     ensures value { result ≡ byte_count width }
     ensures count { IsCountOfWidth result }
@@ -27,6 +28,7 @@ pub fn byte_count(width: u8) -> u8
 }
 
 // The bytes of the low 16 bits of a number.
+#[inline(always)]
 fn word_bytes(v: u32) -> [u8; 2]
     ensures { result ≡ number_bytes 16 v }
 {
@@ -34,6 +36,7 @@ fn word_bytes(v: u32) -> [u8; 2]
 }
 
 // The bytes of a number of 32 bits.
+#[inline(always)]
 fn dword_bytes(v: u32) -> [u8; 4]
     ensures { result ≡ number_bytes 32 v }
 {
@@ -42,6 +45,7 @@ fn dword_bytes(v: u32) -> [u8; 4]
 
 impl Machine {
     // The fault of a write, if it has one.
+    #[inline(always)]
     fn fault_of_write(&self, x: &Write) -> Option<Fault>
         ensures { result ≡ write_refusal self.now.world x.now }
     {
@@ -49,8 +53,9 @@ impl Machine {
             .err()
     }
 
-    // Makes a write, or gives its fault, which changes nothing.
-    fn make(&mut self, x: &Write) -> Result<(), Fault>
+    /// Makes a write, or gives its fault, which changes nothing.
+    #[inline(always)]
+    pub fn write_one(&mut self, x: &Write) -> Result<(), Fault>
         ensures { MatchResult result
             (λ _. (write_refusal self.old.world x.now ≡ None) × (self.new ≡ written self.old x.now))
             (λ fault. (write_refusal self.old.world x.now ≡ Some fault) × (self.new ≡ self.old)) }
@@ -65,11 +70,12 @@ impl Machine {
     }
 
     // Makes a write that has no fault.
+    #[inline(always)]
     fn make_probed(&mut self, x: &Write)
         requires { write_refusal self.old.world x.now ≡ None }
         ensures { self.new ≡ written self.old x.now }
     {
-        let _ = self.make(x);
+        let _ = self.write_one(x);
     }
 
     /// The fault of the first of some writes that has one.
@@ -109,7 +115,7 @@ impl Machine {
             (first_refusal self.old.world writes.now ≡ Some fault) × (self.new ≡ self.old)) }
     {
         if writes.len() == 1 {
-            self.make(&writes[0])
+            self.write_one(&writes[0])
         } else {
             self.write_probed(writes)
         }

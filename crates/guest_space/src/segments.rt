@@ -1,5 +1,6 @@
 // Where an access through a segment begins, and how it is refused before any page is asked.
-ghost use Rattle.std.specs.Prelude.{◌≡◌, ◌≤◌, ◌<◌, ◌+◌, Bool, Ok, Err};
+ghost use Rattle.std.specs.Prelude.{◌≡◌, ◌+◌, Bool, nat_le, IfSome, Ok};
+ghost use Rattle.client_world.specs.declared.memory_map.TheConstants.{SEGMENT_SIZE};
 ghost use Rattle.client_world.specs.Access.{fault_with, stack_or, suits_register, base_in_row, protected_base, real_base, segment_base};
 ghost use Rattle.client_world.specs.Selector.{FitsRow};
 
@@ -17,6 +18,7 @@ pub(crate) fn fault_with(number: u8, code: u32) -> Fault
 }
 
 // Of an access through SS the stack's exception, else that one.
+#[inline(always)]
 fn stack_or(seg: SegReg, number: u8) -> u8
     ensures { result ≡ stack_or seg number }
 {
@@ -64,11 +66,19 @@ fn base_in_row(
     }
 }
 
-// An access through a segment in real mode, whose limit is FFFFh.
+// Whether n bytes at an offset are inside the limit of a segment in real mode, which is FFFFh.
+#[inline(always)]
+fn is_in_real_segment(off: u32, n: u32) -> bool
+    ensures { result ≡ nat_le (off + n) SEGMENT_SIZE }
+{
+    u64::from(off) + u64::from(n) <= u64::from(SEGMENT_SIZE)
+}
+
+// An access through a segment in real mode.
 fn real_base(seg: SegReg, segment: u16, off: u32, n: u32) -> Result<u32, Fault>
     ensures { result ≡ real_base seg segment off n }
 {
-    if u64::from(off) + u64::from(n) <= u64::from(SEGMENT_SIZE) {
+    if is_in_real_segment(off, n) {
         Ok(u32::from(segment) * PARAGRAPH_SIZE)
     } else {
         Err(fault_with(stack_or(seg, GENERAL_PROTECTION), 0))
@@ -76,6 +86,22 @@ fn real_base(seg: SegReg, segment: u16, off: u32, n: u32) -> Result<u32, Fault>
 }
 
 impl Machine {
+    /// The linear address of the segment's first byte, where a quick look shows that the segment allows the access, as a read and as a
+    /// write; `None` says nothing.
+    #[inline(always)]
+    #[tactic(auto, unfolding(client_world::specs::Access::segment_base, host_memory::specs::Layout::world_of))]
+    pub(crate) fn quick_base(&self, seg: SegReg, off: u32, n: u32) -> Option<u32>
+        ensures { IfSome result (λ base. (write : Bool) →
+            segment_base self.now.world.mode self.now.world.regs self.now.world.descriptors seg off n write ≡ Ok base) }
+    {
+        match self.mode {
+            Mode::Real if is_in_real_segment(off, n) => {
+                Some(u32::from(self.regs.selector(seg)) * PARAGRAPH_SIZE)
+            }
+            Mode::Real | Mode::Protected => None,
+        }
+    }
+
     /// An access through a selector by the rules of protected mode: the linear address of the segment's first byte, or the fault.
     pub(crate) fn protected_base(
         &self,
@@ -95,6 +121,7 @@ impl Machine {
     }
 
     /// An access to n bytes at an offset of a segment register: the linear address of the segment's first byte, or the fault.
+    #[inline(never)]
     #[tactic(auto, unfolding(client_world::specs::Access::segment_base, host_memory::specs::Layout::world_of))]
     pub(crate) fn segment_base(
         &self,

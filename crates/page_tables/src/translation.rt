@@ -10,6 +10,7 @@ use client_world::host_frames::PAGE_SIZE;
 use guest_ram::Ram;
 
 // Where an access ends that meets these two entries.
+#[inline(always)]
 #[tactic(auto, unfolding(crate::specs::Walk::ended))]
 fn end(directory: u32, table: u32, lin: u32, write: bool) -> Result<u32, PageFault>
     ensures { result ≡ ended directory table lin write }
@@ -24,6 +25,7 @@ fn end(directory: u32, table: u32, lin: u32, write: bool) -> Result<u32, PageFau
 }
 
 // The directory entry of a linear address.
+#[inline(always)]
 pub(crate) fn directory_of(ram: &Ram, root: u32, lin: u32) -> u32
     requires root { IsFrame ram.now root }
     ensures { result ≡ directory_entry ram.now root lin }
@@ -33,6 +35,7 @@ pub(crate) fn directory_of(ram: &Ram, root: u32, lin: u32) -> u32
 }
 
 // The address of the table entry of a linear address.
+#[inline(always)]
 pub(crate) fn place_of(ram: &Ram, root: u32, lin: u32) -> u32
     requires root { IsFrame ram.now root }
     requires tables { TablesInside ram.now root }
@@ -47,6 +50,7 @@ pub(crate) fn place_of(ram: &Ram, root: u32, lin: u32) -> u32
 /// Where in the memory a user's access to a linear address ends, by the page directory in frame `root`.
 /// A `PageFault` tells whether both entries were present. No entry's accessed or dirty bit changes.
 /// Source: 80386 Programmer's Reference Manual, ch. 5, "Page Translation", and ch. 6, "Page-Level Protection".
+#[inline(always)]
 #[tactic(auto, unfolding(crate::specs::Walk::walked))]
 pub fn walk(ram: &Ram, root: u32, lin: u32, write: bool) -> Result<u32, PageFault>
     requires root { IsFrame ram.now root }

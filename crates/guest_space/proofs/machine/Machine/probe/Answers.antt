@@ -1,8 +1,7 @@
-use Rattle.std.proofs.Common.{◌∙◌, sym}
 use Rattle.guest_space.proofs.Accesses.{refusal_linear}
 use Rattle.guest_space.proofs.machine.Machine.probe.Goals as goal
 
-pub returns : goal.returns
-returns c =
-    rw (refusal_linear c.args.self.now.world c.args.seg c.args.off c.args.n c.in_ok-base.base c.args.write (sym c.segment_base.ensures ∙ c.in_ok-base.was))
+pub returns-in-Some : goal.returns-in-Some
+returns-in-Some c =
+    rw (refusal_linear c.args.self.now.world c.args.seg c.args.off c.args.n c.in-Some.base c.args.write (c.in-Some.ensures c.args.write))
     c.check.ensures

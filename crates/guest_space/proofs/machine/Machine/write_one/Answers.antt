@@ -1,7 +1,7 @@
 use Rattle.std.proofs.Common.{◌∙◌, ap, sym}
 use Rattle.guest_space.specs.Pending.{byte_count, number_bytes}
 use Rattle.guest_space.proofs.Writes.{answered, other_bytes, other_count}
-use Rattle.guest_space.proofs.machine.Machine.make.Goals as goal
+use Rattle.guest_space.proofs.machine.Machine.write_one.Goals as goal
 
 pub returns-then-x-eq8 : goal.returns-then-x-eq8
 returns-then-x-eq8 c =
