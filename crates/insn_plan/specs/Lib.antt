@@ -5,3 +5,4 @@ pub mod Operands
 pub mod Plan
 pub mod Registers
 pub mod Stack
+pub mod Written

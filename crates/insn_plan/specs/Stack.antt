@@ -21,13 +21,21 @@ has_size_bit (Some row) = row.0.size
 unfoldable pub has_big_stack : World → Bool
 has_big_stack w = elim w.mode [ Real ↦ false | Protected ↦ has_size_bit (row_of_selector w.descriptors w.regs.ss) ]
 
+-- ESP with another stack pointer in it: where that is SP, the upper half is kept
+abbrev pub with_pointer : Bool → ℕ → ℕ → ℕ
+with_pointer big esp sp = if big then sp else with_low_half esp sp
+
+-- ESP with the stack pointer so many bytes further up
+abbrev pub esp_up : Bool → ℕ → ℕ → ℕ
+esp_up big n esp = with_pointer big esp (cut_address big (cut_address big esp + n))
+
 -- the stack pointer of some registers
 abbrev pub stack_pointer : World → Regs → ℕ
 stack_pointer w r = cut_address (has_big_stack w) r.esp
 
 -- the registers with another stack pointer
 abbrev pub with_stack_pointer : World → ℕ → Regs → Regs
-with_stack_pointer w sp r = record r { esp = if has_big_stack w then sp else with_low_half r.esp sp }
+with_stack_pointer w sp r = record r { esp = with_pointer (has_big_stack w) r.esp sp }
 
 -- a number of a width pushed: the stack pointer goes down by its bytes, and it stands there
 unfoldable pub pushed : World → ℕ → ℕ → Pending → Pending

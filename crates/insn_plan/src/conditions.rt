@@ -5,6 +5,7 @@ ghost use Rattle.insn_plan.specs.Conditions.{condition, even_condition};
 use client_world::Flags;
 
 // The condition of an even number, by half the number.
+#[inline(always)]
 fn even_condition(half: u8, f: Flags) -> bool
     ensures { result ≡ even_condition half f }
 {
@@ -21,6 +22,7 @@ fn even_condition(half: u8, f: Flags) -> bool
 }
 
 /// Whether a condition 0 to 15 holds. Source: 80386 Programmer's Reference Manual, appendix D.
+#[inline(always)]
 pub fn condition(n: u8, f: Flags) -> bool
     ensures { result ≡ condition n f }
 {

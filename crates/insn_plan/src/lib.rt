@@ -1,17 +1,20 @@
 //! Instructions as plans: what an instruction reads, one after another, and what it leaves, before anything is written.
-//! It promises that a plan is carried out whole or not at all, and that each call that the executing crates share is the word of its name.
+//! It promises that each call that the executing crates share is the word of its name, and that writes are made all together or not at all.
 //! It stands on the machine, and on the instruction's types.
 #![tactic(auto)]
 
 mod conditions;
 mod loop_counter;
 mod next;
+mod operands;
 mod read;
 mod registers;
 mod stack;
 
 pub use conditions::condition;
 pub use loop_counter::{counter, with_address};
-pub use next::{Access, MAX_READS, MAX_WRITES, Next, carry_out};
+pub use next::{MAX_WRITES, Next};
+pub use operands::{put_operand, put_register, put_with_flags, source, write_number};
+pub use read::{read_number, read_width};
 pub use registers::{cut_address, offset_of, register, set_register};
-pub use stack::{has_big_stack, items_popped, set_stack_pointer, stack_pointer, stack_pointer_up};
+pub use stack::{esp_up, has_big_stack, push_item, stack_item, stack_pointer, with_pointer};

@@ -49,8 +49,9 @@ fn quadword(bytes: [u8; 8]) -> u64
 }
 
 /// The number of 1, 2 or 4 bytes at an offset of a segment register, or the fault of the access.
+#[inline(always)]
 #[tactic(auto, unfolding(crate::specs::Act::value_of))]
-pub(crate) fn read_width(m: &Machine, seg: SegReg, off: u32, count: u8) -> Result<u32, Event>
+pub fn read_width(m: &Machine, seg: SegReg, off: u32, count: u8) -> Result<u32, Event>
     requires { IsCountOfWidth count }
     ensures { result ≡ value_of m.now.world (From seg off count) }
 {
@@ -63,7 +64,7 @@ pub(crate) fn read_width(m: &Machine, seg: SegReg, off: u32, count: u8) -> Resul
 
 /// The number of 1, 2, 4, 6 or 8 bytes at an offset of a segment register, or the fault of the access.
 #[tactic(auto, unfolding(crate::specs::Act::value_of))]
-pub(crate) fn read_number(m: &Machine, seg: SegReg, off: u32, count: u8) -> Result<u64, Event>
+pub fn read_number(m: &Machine, seg: SegReg, off: u32, count: u8) -> Result<u64, Event>
     requires { IsCount count }
     ensures { result ≡ value_of m.now.world (From seg off count) }
 {

@@ -1,8 +1,6 @@
 // General registers by their numbers, and effective addresses.
 ghost use Rattle.std.specs.Prelude.{◌≡◌, ◌+◌, ◌*◌, ◌<◌, ◌≤◌, ◌^◌};
 ghost use Rattle.insn_plan.specs.Registers.{
-  register32,
-  with_register32,
   register,
   with_register,
   cut_address,
@@ -14,57 +12,25 @@ use client_world::Regs;
 use cpu_values::{part8, put8, put16};
 use insn_forms::MemForm;
 
-// The general register of a number 0 to 7; greater numbers are EDI.
-#[tactic(auto, unfolding(crate::specs::Registers::register32))]
-fn register32(r: &Regs, n: u8) -> u32
-    ensures { result ≡ register32 r.now n }
-{
-    match n {
-        0 => r.eax,
-        1 => r.ecx,
-        2 => r.edx,
-        3 => r.ebx,
-        4 => r.esp,
-        5 => r.ebp,
-        6 => r.esi,
-        _ => r.edi,
-    }
-}
-
-// Puts a number there.
-#[tactic(auto, unfolding(crate::specs::Registers::with_register32))]
-fn set_register32(r: &mut Regs, n: u8, v: u32)
-    ensures { r.new ≡ with_register32 r.old n v }
-{
-    match n {
-        0 => r.eax = v,
-        1 => r.ecx = v,
-        2 => r.edx = v,
-        3 => r.ebx = v,
-        4 => r.esp = v,
-        5 => r.ebp = v,
-        6 => r.esi = v,
-        _ => r.edi = v,
-    }
-}
-
 /// The register of a number at a width of 8, 16 or 32 bits. At 8 bits 0 to 3 are AL CL DL BL, and 4 to 7 AH CH DH BH.
 /// Source: 80386 Programmer's Reference Manual, ch. 17, "reg".
+#[inline(always)]
 #[tactic(auto, unfolding(crate::specs::Registers::register))]
 pub fn register(r: &Regs, width: u8, n: u8) -> u32
     ensures { result ≡ register r.now width n }
 {
     if width == 8 {
         let high = n >= 4;
-        u32::from(part8(register32(r, if high { n - 4 } else { n }), high))
+        u32::from(part8(r.general(if high { n - 4 } else { n }), high))
     } else if width == 16 {
-        register32(r, n) % 0x1_0000
+        r.general(n) % 0x1_0000
     } else {
-        register32(r, n)
+        r.general(n)
     }
 }
 
 /// Puts a number there, cut to the width; the other bits of the register are kept.
+#[inline(always)]
 #[tactic(auto, unfolding(crate::specs::Registers::with_register))]
 pub fn set_register(r: &mut Regs, width: u8, n: u8, v: u32)
     ensures { r.new ≡ with_register r.old width n v }
@@ -72,17 +38,18 @@ pub fn set_register(r: &mut Regs, width: u8, n: u8, v: u32)
     if width == 8 {
         let high = n >= 4;
         let n = if high { n - 4 } else { n };
-        let old = register32(r, n);
-        set_register32(r, n, put8(old, high, (v % 0x100) as u8));
+        let old = r.general(n);
+        r.set_general(n, put8(old, high, (v % 0x100) as u8));
     } else if width == 16 {
-        let old = register32(r, n);
-        set_register32(r, n, put16(old, (v % 0x1_0000) as u16));
+        let old = r.general(n);
+        r.set_general(n, put16(old, (v % 0x1_0000) as u16));
     } else {
-        set_register32(r, n, v);
+        r.set_general(n, v);
     }
 }
 
 /// A number at an address size of 16 or 32 bits.
+#[inline(always)]
 pub fn cut_address(addr32: bool, a: u64) -> u32
     ensures { result ≡ cut_address addr32 a }
 {
@@ -94,17 +61,19 @@ pub fn cut_address(addr32: bool, a: u64) -> u32
 }
 
 // What a register adds to an address, where there is one.
+#[inline(always)]
 fn address_part(r: &Regs, n: Option<u8>) -> u32
     ensures { result ≡ address_part r.now n }
 {
     match n {
         None => 0,
-        Some(n) => register32(r, n),
+        Some(n) => r.general(n),
     }
 }
 
 /// The offset of a place in memory: base + index · scale + displacement, at the address size.
 /// Source: 80386 Programmer's Reference Manual, ch. 2, "Effective-Address Computation".
+#[inline(always)]
 #[tactic(auto, unfolding(crate::specs::Registers::offset_of))]
 pub fn offset_of(r: &Regs, addr32: bool, f: &MemForm) -> u32
     ensures { result ≡ offset_of r.now addr32 f.now }

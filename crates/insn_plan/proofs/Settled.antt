@@ -1,0 +1,57 @@
+-- What carrying a plan out comes to.
+use Rattle.std.proofs.Common.{◌≡◌, Ok, Err, None, Some, refl, sym, ◌∙◌}
+use Rattle.std.specs.declared.option.Option.{Option}
+use Rattle.std.specs.declared.result.Result.{Result}
+use Rattle.client_world.specs.declared.faults.Event.{Event}
+use Rattle.client_world.specs.declared.faults.Event.TheVariants.{Fault as fault}
+use Rattle.client_world.specs.declared.faults.Fault.{Fault}
+use Rattle.client_world.specs.declared.registers.Regs.{Regs}
+use Rattle.guest_space.specs.Pending.{first_refusal, all_written}
+use Rattle.guest_space.specs.Registers.{with_registers}
+use Rattle.host_memory.specs.View.{MachineView}
+use Rattle.insn_plan.specs.Act.{Pending, with_regs}
+use Rattle.insn_plan.specs.Plan.{carried_out, settled, with_state}
+
+-- it is what its plan leaves
+pub carried_by : (v : MachineView) (plan : Result Pending Event) (p : Pending) → plan ≡ Ok p → carried_out v plan ≡ settled v p
+unfolding carried_out
+carried_by v (Ok q) p e = cc
+carried_by v (Err event) p e = absurd cc
+
+pub carried_event : (v : MachineView) (plan : Result Pending Event) (event : Event) → plan ≡ Err event → carried_out v plan ≡ Err event
+unfolding carried_out
+carried_event v (Ok p) event e = absurd cc
+carried_event v (Err other) event e = cc
+
+-- the machine, unless there is a fault
+abbrev unless : Option Fault → MachineView → Result MachineView Event
+unless None u = Ok u
+unless (Some f) u = Err (fault f)
+
+settled_is : (o : Option Fault) (u : MachineView) → elim o as (λ _. Result MachineView Event) [ Some f ↦ Err (fault f) | None ↦ Ok u ] ≡ unless o u
+settled_is None u = refl
+settled_is (Some f) u = refl
+
+settled_unless : (v : MachineView) (p : Pending) →
+    settled v p ≡ unless (first_refusal v.world p.writes) (with_state p.regs p.vif (all_written v p.writes))
+unfolding settled
+settled_unless v p = settled_is (first_refusal v.world p.writes) (with_state p.regs p.vif (all_written v p.writes))
+
+settled_by : (o : Option Fault) (v : MachineView) (r : Regs) (p : Pending) (u : MachineView) →
+    unless o (with_state p.regs p.vif v) ≡ Ok u → unless o (with_state r p.vif v) ≡ Ok (with_registers r u)
+settled_by None v r p u e = cc
+settled_by (Some f) v r p u e = absurd cc
+
+-- and with other registers
+pub settled_with : (v : MachineView) (r : Regs) (p : Pending) (u : MachineView) → settled v p ≡ Ok u →
+    settled v (with_regs r p) ≡ Ok (with_registers r u)
+settled_with v r p u e =
+    settled_unless v (with_regs r p)
+    ∙ settled_by (first_refusal v.world p.writes) (all_written v p.writes) r p u (sym (settled_unless v p) ∙ e)
+
+refused_by : (o : Option Fault) (u w : MachineView) (event : Event) → unless o u ≡ Err event → unless o w ≡ Err event
+refused_by None u w event e = absurd cc
+refused_by (Some f) u w event e = cc
+
+pub refused_with : (v : MachineView) (r : Regs) (p : Pending) (event : Event) → settled v p ≡ Err event → settled v (with_regs r p) ≡ Err event
+refused_with v r p event e = settled_unless v (with_regs r p) ∙ refused_by (first_refusal v.world p.writes) _ _ event (sym (settled_unless v p) ∙ e)

@@ -1,0 +1,51 @@
+-- One write alone. It leaves the registers and the virtual interrupt flag.
+use Rattle.std.proofs.Common.{◌≡◌, ℕ, true, List, [], ◌∷◌, None, Some, refl, ap, ◌∙◌}
+use Rattle.client_world.specs.declared.faults.Event.TheVariants.{Fault as fault}
+use Rattle.client_world.specs.declared.faults.Fault.{Fault}
+use Rattle.client_world.specs.declared.place.Place.{Place}
+use Rattle.client_world.specs.declared.place.Place.TheVariants.{Dos, Block, Host, Nothing}
+use Rattle.client_world.specs.Access.{access, with_byte_of, with_bytes_of}
+use Rattle.client_world.specs.World.{World}
+use Rattle.guest_space.specs.declared.pending.Write.{Write}
+use Rattle.guest_space.specs.Pending.{write_refusal, written, first_refusal, all_written, byte_count, number_bytes}
+use Rattle.guest_space.specs.Transfer.{stored, with_places, places_of_access}
+use Rattle.host_memory.specs.View.{MachineView}
+use Rattle.insn_plan.specs.Written.{IsRefused, IsWritten}
+
+-- the same registers and flag
+pub record SameState (v w : World) : Type 0 where
+  pub regs : w.regs ≡ v.regs
+  pub vif : w.vif ≡ v.vif
+
+byte_state : (w : World) (p : Place) (x : ℕ) → SameState w (with_byte_of w p x)
+byte_state w (Dos at) x = record { regs = refl; vif = refl }
+byte_state w (Block number at) x = record { regs = refl; vif = refl }
+byte_state w Host x = record { regs = refl; vif = refl }
+byte_state w Nothing x = record { regs = refl; vif = refl }
+
+bytes_state : (w : World) (places : List Place) (bytes : List ℕ) → SameState w (with_bytes_of w places bytes)
+bytes_state w [] bytes = record { regs = refl; vif = refl }
+bytes_state w (p ∷ places) [] = record { regs = refl; vif = refl }
+bytes_state w (p ∷ places) (x ∷ bytes) =
+    let first = byte_state w p x in
+    let rest = bytes_state (with_byte_of w p x) places bytes in
+    record { regs = rest.regs ∙ first.regs; vif = rest.vif ∙ first.vif }
+
+written_state : (v : MachineView) (x : Write) → SameState v.world (all_written v (x ∷ [])).world
+unfolding all_written written stored with_places
+written_state v x = bytes_state v.world (places_of_access (access v.world x.seg x.off (byte_count x.width) true)) (number_bytes x.width x.value)
+
+pub made : (old new : MachineView) (x : Write) → write_refusal old.world x ≡ None → new ≡ written old x → IsWritten x old new
+unfolding first_refusal all_written
+made old new x allowed is =
+    let state = written_state old x in
+    record {
+      allowed = rw (first_refusal, allowed) refl;
+      is = is;
+      regs = ap (λ (v : MachineView). v.world.regs) is ∙ state.regs;
+      vif = ap (λ (v : MachineView). v.world.vif) is ∙ state.vif;
+    }
+
+pub refused : (old new : MachineView) (x : Write) (f : Fault) → write_refusal old.world x ≡ Some f → new ≡ old → IsRefused x old new (fault f)
+unfolding first_refusal
+refused old new x f found kept = record { cause = f; found = rw (first_refusal, found) refl; event = refl; kept = kept }

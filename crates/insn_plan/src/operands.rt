@@ -1,0 +1,157 @@
+// Operands, read and written at once.
+ghost use Rattle.std.specs.Prelude.{◌≡◌, OnOk, IfErr};
+ghost use Rattle.guest_space.specs.Pending.{byte_count};
+ghost use Rattle.guest_space.specs.Registers.{with_registers};
+ghost use Rattle.insn_plan.specs.Act.{From, unchanged, value_of, with_flags};
+ghost use Rattle.insn_plan.specs.Operands.{and_write, put, source};
+ghost use Rattle.insn_plan.specs.Plan.{Follows, settled};
+ghost use Rattle.insn_plan.specs.Registers.{offset_of, with_register};
+ghost use Rattle.insn_plan.specs.Written.{IsRefused, IsWritten};
+
+use crate::read::read_width;
+use crate::registers::{offset_of, register};
+use client_world::{Event, Flags, SegReg};
+use cpu_values::{put8, put16};
+use guest_space::{Machine, Write, byte_count};
+use insn_forms::{MemForm, Operand};
+
+// Reads an operand in memory.
+#[inline(never)]
+fn memory_source(m: &Machine, addr32: bool, width: u8, f: &MemForm) -> Result<u32, Event>
+    ensures { result ≡ value_of m.now.world (From f.now.seg (offset_of m.now.world.regs addr32 f.now) (byte_count width)) }
+{
+    read_width(
+        m,
+        f.seg,
+        offset_of(m.registers(), addr32, f),
+        byte_count(width),
+    )
+}
+
+/// Reads an operand, in memory at that width, or gives the fault of the access.
+#[inline(always)]
+#[tactic(auto, unfolding(crate::specs::Operands::source, crate::specs::Act::value_of))]
+pub fn source(m: &Machine, addr32: bool, width: u8, operand: &Operand) -> Result<u32, Event>
+    ensures { result ≡ value_of m.now.world (source m.now.world.regs addr32 width operand.now) }
+{
+    match operand {
+        Operand::Reg { width, number } => Ok(register(m.registers(), *width, *number)),
+        Operand::Mem(f) => memory_source(m, addr32, width, f),
+        Operand::Imm(v) => Ok(*v),
+        Operand::Seg(seg) => Ok(u32::from(m.registers().selector(*seg))),
+        Operand::Empty | Operand::Far(_) => Ok(0),
+    }
+}
+
+/// Puts a number into a register of the machine at a width of 8, 16 or 32 bits; the other bits of the register are kept.
+#[inline(always)]
+#[tactic(auto, unfolding(crate::specs::Registers::with_register))]
+pub fn put_register(m: &mut Machine, width: u8, n: u8, v: u32)
+    ensures { m.new ≡ with_registers (with_register m.old.world.regs width n v) m.old }
+{
+    if width == 8 {
+        let high = n >= 4;
+        let n = if high { n - 4 } else { n };
+        let old = m.registers().general(n);
+        m.set_general(n, put8(old, high, (v % 0x100) as u8));
+    } else if width == 16 {
+        let old = m.registers().general(n);
+        m.set_general(n, put16(old, (v % 0x1_0000) as u16));
+    } else {
+        m.set_general(n, v);
+    }
+}
+
+/// Writes a number of a width at an offset of a segment register, or gives the fault of the write, which changes nothing. The registers and
+/// the virtual interrupt flag stay.
+#[inline(always)]
+#[tactic(auto, using(crate::proofs::WrittenState::made, crate::proofs::WrittenState::refused))]
+pub fn write_number(
+    m: &mut Machine,
+    seg: SegReg,
+    off: u32,
+    width: u8,
+    value: u32,
+) -> Result<(), Event>
+    ensures done { OnOk result (IsWritten (record { seg = seg; off = off; width = width; value = value }) m.old m.new) }
+    ensures refused { IfErr result (λ e. IsRefused (record { seg = seg; off = off; width = width; value = value }) m.old m.new e) }
+{
+    m.write_one(&Write {
+        seg,
+        width,
+        off,
+        value,
+    })?;
+    Ok(())
+}
+
+// Puts a number into memory, and sets the flags.
+#[inline(never)]
+#[tactic(auto, unfolding(crate::specs::Plan::settled))]
+fn put_in_memory(
+    m: &mut Machine,
+    flags: Flags,
+    addr32: bool,
+    width: u8,
+    f: &MemForm,
+    v: u32,
+) -> Result<(), Event>
+    ensures { Follows m.old m.new result (settled m.old
+        (and_write f.now.seg (offset_of m.old.world.regs addr32 f.now) width v (with_flags flags m.old.world))) }
+{
+    let off = offset_of(m.registers(), addr32, f);
+    write_number(m, f.seg, off, width, v)?;
+    m.set_flags(flags);
+    Ok(())
+}
+
+/// Puts a number where an operand names and sets the flags, or gives the fault of the write, which changes nothing.
+#[inline(always)]
+#[tactic(auto, unfolding(crate::specs::Operands::put, crate::specs::Plan::settled, guest_space::specs::Pending::first_refusal, guest_space::specs::Pending::all_written))]
+pub fn put_with_flags(
+    m: &mut Machine,
+    flags: Flags,
+    addr32: bool,
+    width: u8,
+    operand: &Operand,
+    v: u32,
+) -> Result<(), Event>
+    ensures { Follows m.old m.new result
+        (settled m.old (put m.old.world.regs addr32 width operand.now v (with_flags flags m.old.world))) }
+{
+    match operand {
+        Operand::Reg { width, number } => {
+            m.set_flags(flags);
+            put_register(m, *width, *number, v);
+            Ok(())
+        }
+        Operand::Mem(f) => put_in_memory(m, flags, addr32, width, f, v),
+        Operand::Imm(_) | Operand::Seg(_) | Operand::Empty | Operand::Far(_) => {
+            m.set_flags(flags);
+            Ok(())
+        }
+    }
+}
+
+/// Puts a number where an operand names, or gives the fault of the write, which changes nothing.
+#[inline(always)]
+#[tactic(auto, unfolding(crate::specs::Operands::put, crate::specs::Plan::settled, guest_space::specs::Pending::first_refusal, guest_space::specs::Pending::all_written))]
+pub fn put_operand(
+    m: &mut Machine,
+    addr32: bool,
+    width: u8,
+    operand: &Operand,
+    v: u32,
+) -> Result<(), Event>
+    ensures { Follows m.old m.new result
+        (settled m.old (put m.old.world.regs addr32 width operand.now v (unchanged m.old.world))) }
+{
+    match operand {
+        Operand::Reg { width, number } => {
+            put_register(m, *width, *number, v);
+            Ok(())
+        }
+        Operand::Mem(f) => put_in_memory(m, m.registers().flags, addr32, width, f, v),
+        Operand::Imm(_) | Operand::Seg(_) | Operand::Empty | Operand::Far(_) => Ok(()),
+    }
+}
