@@ -4,11 +4,7 @@ use Rattle.std.specs.Prelude.{ℕ}
 use Rattle.client_world.specs.declared.registers.Flags.{Flags}
 use Rattle.client_world.specs.World.{World}
 use Rattle.cpu_values.specs.Word.{cut}
-use Rattle.cpu_alu.specs.Sums.{add_of, adc_of, sub_of, sbb_of, inc_of, dec_of, neg_of}
-use Rattle.cpu_alu.specs.Logic.{and_of, or_of, xor_of, not_of}
 use Rattle.insn_forms.specs.declared.insn.Insn.{Insn}
-use Rattle.insn_forms.specs.declared.insn.Op.{Op}
-use Rattle.insn_forms.specs.declared.insn.Op.TheVariants as ops
 use Rattle.insn_plan.specs.Act.{Act, ◌>>=◌, done, with_flags}
 use Rattle.insn_plan.specs.Operands.{source, put}
 
@@ -28,17 +24,6 @@ binary formula w i = do
   let result = formula i.width (cut i.width a) (cut i.width b) w.regs.flags
   done (put w.regs i.addr32 i.width i.first result.0 (with_flags result.1 w))
 
--- the formulas of these operations, and of CMP and TEST; the last line is that of AND and TEST
-unfoldable pub binary_formula : Op → Formula
-binary_formula ops.Add = add_of
-binary_formula ops.Or = or_of
-binary_formula ops.Adc = adc_of
-binary_formula ops.Sbb = sbb_of
-binary_formula ops.Sub = sub_of
-binary_formula ops.Xor = xor_of
-binary_formula ops.Cmp = sub_of
-binary_formula _ = and_of
-
 -- CMP and TEST: the flags alone
 unfoldable pub compare : Formula → World → Insn → Act
 compare formula w i = do
@@ -46,13 +31,6 @@ compare formula w i = do
   b ← source w.regs i.addr32 i.width i.second
   let result = formula i.width (cut i.width a) (cut i.width b) w.regs.flags
   done (with_flags result.1 w)
-
--- the formulas of INC, DEC, NEG, NOT; the last line is that of NOT
-unfoldable pub unary_formula : Op → SingleFormula
-unary_formula ops.Inc = inc_of
-unary_formula ops.Dec = dec_of
-unary_formula ops.Neg = neg_of
-unary_formula _ = not_of
 
 -- INC, DEC, NEG, NOT: the operand becomes its own result
 unfoldable pub unary : SingleFormula → World → Insn → Act

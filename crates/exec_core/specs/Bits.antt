@@ -1,13 +1,11 @@
 -- Bits of an operand: BT, BTS, BTR, BTC, BSF, BSR, and SETcc.
 -- Source: 80386 Programmer's Reference Manual, ch. 17, each under its name; that BTS, BTR and BTC write a bit back that
 -- doesn't change is own.
-use Rattle.std.specs.Prelude.{ℕ, zero, suc, ◌+◌, ◌-◌, ◌*◌, ◌/◌, ◌%◌, ◌^◌, Bool, true, false, not, ◌||◌, cond, nat_eq, nat_lt, if◌then◌else◌}
+use Rattle.std.specs.Prelude.{ℕ, zero, suc, ◌+◌, ◌-◌, ◌*◌, ◌/◌, ◌%◌, ◌^◌, Bool, true, false, cond, nat_eq, nat_lt, if◌then◌else◌}
 use Rattle.client_world.specs.declared.registers.Flags.{Flags}
 use Rattle.client_world.specs.World.{World}
 use Rattle.cpu_values.specs.Word.{cut}
 use Rattle.insn_forms.specs.declared.insn.Insn.{Insn}
-use Rattle.insn_forms.specs.declared.insn.Op.{Op}
-use Rattle.insn_forms.specs.declared.insn.Op.TheVariants as ops
 use Rattle.insn_forms.specs.declared.insn.MemForm.{MemForm}
 use Rattle.insn_forms.specs.declared.insn.Operand.{Operand}
 use Rattle.insn_forms.specs.declared.insn.Operand.TheVariants.{Empty, Reg, Seg, Mem, Imm, Far}
@@ -66,12 +64,6 @@ bit_reset v n = if bit_at v n then v - 2 ^ n else v
 abbrev pub bit_complement : ℕ → ℕ → ℕ
 bit_complement v n = if bit_at v n then v - 2 ^ n else v + 2 ^ n
 
--- what BTS, BTR and BTC make of a number; the last line is that of BTC
-unfoldable pub bit_formula : Op → ℕ → ℕ → ℕ
-bit_formula ops.Bts = bit_set
-bit_formula ops.Btr = bit_reset
-bit_formula _ = bit_complement
-
 -- BTS, BTR, BTC: the same, and the operand gets the bit changed
 unfoldable pub bit_change : (ℕ → ℕ → ℕ) → World → Insn → Act
 bit_change change w i = do
@@ -89,11 +81,6 @@ lowest_bit v (suc n) = if nat_eq (v % 2) 1 then 0 else 1 + lowest_bit (v / 2) n
 unfoldable pub highest_bit : ℕ → ℕ → ℕ
 highest_bit v zero = 0
 highest_bit v (suc n) = if nat_lt v 2 then 0 else 1 + highest_bit (v / 2) n
-
--- which bit BSF and BSR look for
-unfoldable pub scan_formula : Op → ℕ → ℕ → ℕ
-scan_formula ops.Bsf = lowest_bit
-scan_formula _ = highest_bit
 
 -- BSF and BSR: the place of a bit of the second operand; where that is 0, ZF alone is set
 unfoldable pub bit_scan : (ℕ → ℕ → ℕ) → World → Insn → Act

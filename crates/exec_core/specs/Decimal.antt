@@ -7,11 +7,9 @@ use Rattle.client_world.specs.declared.registers.Regs.{Regs}
 use Rattle.client_world.specs.Access.{fault_with}
 use Rattle.client_world.specs.Registers.{low_half}
 use Rattle.client_world.specs.World.{World}
-use Rattle.cpu_alu.specs.Decimal.{daa_of, das_of, aaa_of, aas_of, aad_of, aam_of}
+use Rattle.cpu_alu.specs.Decimal.{aad_of, aam_of}
 use Rattle.cpu_values.specs.Word.{cut}
 use Rattle.insn_forms.specs.declared.insn.Insn.{Insn}
-use Rattle.insn_forms.specs.declared.insn.Op.{Op}
-use Rattle.insn_forms.specs.declared.insn.Op.TheVariants as ops
 use Rattle.insn_plan.specs.Act.{Act, ◌>>=◌, Pending, done, raise, unchanged, with_regs}
 use Rattle.insn_plan.specs.Operands.{source}
 use Rattle.insn_plan.specs.Registers.{with_register}
@@ -26,13 +24,6 @@ with_ax w result = with_regs (with_ax_in w.regs result) (unchanged w)
 -- DAA, DAS, AAA, AAS
 unfoldable pub adjust : (ℕ → Flags → ℕ × Flags) → World → Act
 adjust formula w = done (with_ax w (formula (low_half w.regs.eax) w.regs.flags))
-
--- their formulas; the last line is that of AAS
-unfoldable pub adjust_formula : Op → ℕ → Flags → ℕ × Flags
-adjust_formula ops.Daa = daa_of
-adjust_formula ops.Das = das_of
-adjust_formula ops.Aaa = aaa_of
-adjust_formula _ = aas_of
 
 -- AAD: the operand is the base
 unfoldable pub aad : World → Insn → Act

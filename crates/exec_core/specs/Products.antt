@@ -6,12 +6,9 @@ use Rattle.client_world.specs.declared.registers.Flags.{Flags}
 use Rattle.client_world.specs.declared.registers.Regs.{Regs}
 use Rattle.client_world.specs.Access.{fault_with}
 use Rattle.client_world.specs.World.{World}
-use Rattle.cpu_alu.specs.Products.{mul_of, imul_of}
-use Rattle.cpu_alu.specs.Quotients.{div_of, idiv_of}
+use Rattle.cpu_alu.specs.Products.{imul_of}
 use Rattle.cpu_values.specs.Word.{cut}
 use Rattle.insn_forms.specs.declared.insn.Insn.{Insn}
-use Rattle.insn_forms.specs.declared.insn.Op.{Op}
-use Rattle.insn_forms.specs.declared.insn.Op.TheVariants as ops
 use Rattle.insn_forms.specs.declared.insn.Operand.{Operand}
 use Rattle.insn_forms.specs.declared.insn.Operand.TheVariants.{Empty, Reg, Seg, Mem, Imm, Far}
 use Rattle.insn_plan.specs.Act.{Act, ◌>>=◌, done, raise, unchanged, with_regs, with_flags}
@@ -29,11 +26,6 @@ with_double width low high r = with_register (with_register r width 0 low) width
 -- a product of two numbers at a width: its low half, its high half, and the flags
 abbrev pub Product : Type 0
 Product = ℕ → ℕ → ℕ → Flags → ℕ × ℕ × Flags
-
--- the products of MUL and of IMUL
-unfoldable pub product_formula : Op → Product
-product_formula ops.Mul = mul_of
-product_formula _ = imul_of
 
 -- MUL, and IMUL of one operand: the accumulator times the operand, as a double word
 unfoldable pub multiply : Product → World → Insn → Act
@@ -77,10 +69,6 @@ imul w i =
 -- the quotients of DIV and of IDIV: of a double word, its low half first, by a number
 abbrev pub Quotient : Type 0
 Quotient = ℕ → ℕ → ℕ → ℕ → Option (ℕ × ℕ)
-
-unfoldable pub quotient_formula : Op → Quotient
-quotient_formula ops.Div = div_of
-quotient_formula _ = idiv_of
 
 -- DIV and IDIV: the double word by the operand. The quotient goes into its low half's register, the remainder into its high half's;
 -- exception 0 where there is none

@@ -1,58 +1,110 @@
 // Arithmetic and logic of two operands and of one.
-ghost use Rattle.std.specs.Prelude.{◌≡◌, [], IsTrue};
+ghost use Rattle.std.specs.Prelude.{◌≡◌, IsTrue};
 ghost use Rattle.cpu_alu.specs.Sums.{sub_of};
-ghost use Rattle.cpu_values.specs.Word.{cut};
+ghost use Rattle.cpu_values.specs.Word.{IsWidth, cut};
+ghost use Rattle.exec_core.specs.Arithmetic.{binary, compare, unary};
+ghost use Rattle.guest_space.specs.Registers.{with_registers};
 ghost use Rattle.insn_forms.specs.Kinds.{is_width};
-ghost use Rattle.insn_plan.specs.Plan.{fresh, planned, Plans};
-ghost use Rattle.exec_core.specs.Arithmetic.{binary, binary_formula, compare, unary, unary_formula};
+ghost use Rattle.insn_plan.specs.Act.{with_flags};
+ghost use Rattle.insn_plan.specs.Operands.{and_write};
+ghost use Rattle.insn_plan.specs.Plan.{CarriesOut, Follows, settled};
+ghost use Rattle.insn_plan.specs.Registers.{offset_of};
 
-use client_world::{Event, Flags, Regs};
-use cpu_alu::{adc, add, and, dec, inc, neg, not, or, sbb, sub, xor};
+use crate::operations::{Binary, BinaryAt, Unary, UnaryAt};
+use client_world::{Event, Flags};
+use cpu_alu::sub;
 use cpu_values::cut;
 use guest_space::Machine;
-use insn_forms::{Insn, Op};
-use insn_plan::Next;
+use insn_forms::{Insn, MemForm, Operand};
+use insn_plan::{offset_of, put_register, source, write_number};
 
-// A formula at a width of some numbers, which are cut to it, and of what comes after them: a number and flags.
+// A function of an operation, at a width of 8, 16 or 32 bits.
 macro_rules! at_width {
-    ($formula:ident, $width:expr, [$($number:expr),+], $($other:expr),+) => {
+    ($width:expr, $function:ident, $operation:ident, $($argument:expr),+) => {
         match $width {
-            8 => {
-                let (v, f) = $formula::<8>($(cut::<8>(u64::from($number))),+, $($other),+);
-                (v.get(), f)
-            }
-            16 => {
-                let (v, f) = $formula::<16>($(cut::<16>(u64::from($number))),+, $($other),+);
-                (v.get(), f)
-            }
-            _ => {
-                let (v, f) = $formula::<32>($(cut::<32>(u64::from($number))),+, $($other),+);
-                (v.get(), f)
-            }
+            8 => $function::<8, $operation>($($argument),+),
+            16 => $function::<16, $operation>($($argument),+),
+            _ => $function::<32, $operation>($($argument),+),
         }
     };
 }
 
 pub(crate) use at_width;
 
-// The result of an operation of two operands.
-#[tactic(auto, unfolding(crate::specs::Arithmetic::binary_formula))]
-fn binary_result(op: Op, width: u8, a: u32, b: u32, f: Flags) -> (u32, Flags)
-    requires { IsTrue (is_width width) }
-    ensures { result ≡ binary_formula op width (cut width a) (cut width b) f }
+// Sets the flags of an operation of two numbers, and gives its result.
+#[inline(always)]
+fn set_binary_flags<const W: u8, O: BinaryAt<W>>(m: &mut Machine, a: u32, b: u32) -> u32
+    requires { IsWidth W }
+    ensures value { result ≡ (O.formula W (cut W a) (cut W b) m.old.world.regs.flags).0 }
+    ensures flags { m.new ≡ with_registers (record m.old.world.regs {
+      flags = (O.formula W (cut W a) (cut W b) m.old.world.regs.flags).1;
+    }) m.old }
 {
-    match op {
-        Op::Add => at_width!(add, width, [a, b], f),
-        Op::Or => at_width!(or, width, [a, b], f),
-        Op::Adc => at_width!(adc, width, [a, b], f),
-        Op::Sbb => at_width!(sbb, width, [a, b], f),
-        Op::Sub | Op::Cmp => at_width!(sub, width, [a, b], f),
-        Op::Xor => at_width!(xor, width, [a, b], f),
-        _ => at_width!(and, width, [a, b], f),
+    let f = m.registers().flags;
+    let (v, f) = O::apply(cut::<W>(u64::from(a)), cut::<W>(u64::from(b)), f);
+    m.set_flags(f);
+    v.get()
+}
+
+// Writes the result of an operation of two numbers to memory and sets the flags, or gives the fault of the write, which changes nothing.
+#[inline(never)]
+#[tactic(auto, unfolding(insn_plan::specs::Plan::settled))]
+fn write_binary<const W: u8, O: BinaryAt<W>>(
+    m: &mut Machine,
+    addr32: bool,
+    place: &MemForm,
+    a: u32,
+    b: u32,
+) -> Result<(), Event>
+    requires { IsWidth W }
+    ensures { let value = O.formula W (cut W a) (cut W b) m.old.world.regs.flags in
+        Follows m.old m.new result (settled m.old (and_write place.now.seg (offset_of m.old.world.regs addr32 place.now) W value.0
+        (with_flags value.1 m.old.world))) }
+{
+    let f = m.registers().flags;
+    let (v, flags) = O::apply(cut::<W>(u64::from(a)), cut::<W>(u64::from(b)), f);
+    let off = offset_of(m.registers(), addr32, place);
+    write_number(m, place.seg, off, W, v.get())?;
+    m.set_flags(flags);
+    Ok(())
+}
+
+/// ADD, OR, ADC, SBB, AND, SUB, XOR. Source: 80386 Programmer's Reference Manual, ch. 17.
+#[inline(never)]
+#[tactic(auto, unfolding(crate::specs::Arithmetic::binary, insn_plan::specs::Operands::put, insn_plan::specs::Plan::carried_out, insn_plan::specs::Plan::settled, guest_space::specs::Pending::first_refusal, guest_space::specs::Pending::all_written))]
+pub(crate) fn binary<O: Binary>(m: &mut Machine, i: &Insn) -> Result<(), Event>
+    requires { IsTrue (is_width i.now.width) }
+    ensures { CarriesOut m.old m.new result (binary O.formula m.old.world i.now) }
+{
+    let a = source(m, i.addr32, i.width, &i.first)?;
+    let b = source(m, i.addr32, i.width, &i.second)?;
+    match &i.first {
+        Operand::Mem(place) => at_width!(i.width, write_binary, O, m, i.addr32, place, a, b),
+        first => {
+            let v = at_width!(i.width, set_binary_flags, O, m, a, b);
+            if let Operand::Reg { width, number } = first {
+                put_register(m, *width, *number, v);
+            }
+            Ok(())
+        }
     }
 }
 
+/// CMP and TEST. Source: as above.
+#[inline(never)]
+#[tactic(auto, unfolding(crate::specs::Arithmetic::compare, insn_plan::specs::Plan::carried_out, insn_plan::specs::Plan::settled, guest_space::specs::Pending::first_refusal, guest_space::specs::Pending::all_written))]
+pub(crate) fn compare<O: Binary>(m: &mut Machine, i: &Insn) -> Result<(), Event>
+    requires { IsTrue (is_width i.now.width) }
+    ensures { CarriesOut m.old m.new result (compare O.formula m.old.world i.now) }
+{
+    let a = source(m, i.addr32, i.width, &i.first)?;
+    let b = source(m, i.addr32, i.width, &i.second)?;
+    let _ = at_width!(i.width, set_binary_flags, O, m, a, b);
+    Ok(())
+}
+
 /// The flags of a comparison of two numbers at a width.
+#[inline(always)]
 pub(crate) fn difference_flags(width: u8, a: u32, b: u32, f: Flags) -> Flags
     requires { IsTrue (is_width width) }
     ensures { result ≡ (sub_of width (cut width a) (cut width b) f).1 }
@@ -64,62 +116,57 @@ pub(crate) fn difference_flags(width: u8, a: u32, b: u32, f: Flags) -> Flags
     }
 }
 
-/// ADD, OR, ADC, SBB, AND, SUB, XOR. Source: 80386 Programmer's Reference Manual, ch. 17.
-#[tactic(auto, unfolding(crate::specs::Arithmetic::binary))]
-pub(crate) fn binary(m: &Machine, i: &Insn, next: &mut Next) -> Result<(), Event>
-    requires width { IsTrue (is_width i.now.width) }
-    requires fresh { next.old ≡ fresh m.now.world }
-    ensures { Plans next.new result (planned m.now.world [] (binary (binary_formula i.now.op) m.now.world i.now)) }
+// Sets the flags of an operation of one number, and gives its result.
+#[inline(always)]
+fn set_unary_flags<const W: u8, O: UnaryAt<W>>(m: &mut Machine, a: u32) -> u32
+    requires { IsWidth W }
+    ensures value { result ≡ (O.formula W (cut W a) m.old.world.regs.flags).0 }
+    ensures flags { m.new ≡ with_registers (record m.old.world.regs {
+      flags = (O.formula W (cut W a) m.old.world.regs.flags).1;
+    }) m.old }
 {
-    let a = next.source(m, i.addr32, i.width, &i.first)?;
-    let b = next.source(m, i.addr32, i.width, &i.second)?;
-    let r = m.regs();
-    let (v, flags) = binary_result(i.op, i.width, a, b, r.flags);
-    next.set_regs(Regs { flags, ..r });
-    next.put(&r, i.addr32, i.width, &i.first, v);
+    let (v, f) = O::apply(cut::<W>(u64::from(a)), m.registers().flags);
+    m.set_flags(f);
+    v.get()
+}
+
+// Writes the result of an operation of one number to memory and sets the flags, or gives the fault of the write, which changes nothing.
+#[inline(never)]
+#[tactic(auto, unfolding(insn_plan::specs::Plan::settled))]
+fn write_unary<const W: u8, O: UnaryAt<W>>(
+    m: &mut Machine,
+    addr32: bool,
+    place: &MemForm,
+    a: u32,
+) -> Result<(), Event>
+    requires { IsWidth W }
+    ensures { let value = O.formula W (cut W a) m.old.world.regs.flags in
+        Follows m.old m.new result (settled m.old (and_write place.now.seg (offset_of m.old.world.regs addr32 place.now) W value.0
+        (with_flags value.1 m.old.world))) }
+{
+    let (v, flags) = O::apply(cut::<W>(u64::from(a)), m.registers().flags);
+    let off = offset_of(m.registers(), addr32, place);
+    write_number(m, place.seg, off, W, v.get())?;
+    m.set_flags(flags);
     Ok(())
 }
 
-/// CMP and TEST. Source: as above.
-#[tactic(auto, unfolding(crate::specs::Arithmetic::compare))]
-pub(crate) fn compare(m: &Machine, i: &Insn, next: &mut Next) -> Result<(), Event>
-    requires width { IsTrue (is_width i.now.width) }
-    requires fresh { next.old ≡ fresh m.now.world }
-    ensures { Plans next.new result (planned m.now.world [] (compare (binary_formula i.now.op) m.now.world i.now)) }
+/// INC, DEC, NEG, NOT. Source: as above.
+#[inline(never)]
+#[tactic(auto, unfolding(crate::specs::Arithmetic::unary, insn_plan::specs::Operands::put, insn_plan::specs::Plan::carried_out, insn_plan::specs::Plan::settled, guest_space::specs::Pending::first_refusal, guest_space::specs::Pending::all_written))]
+pub(crate) fn unary<O: Unary>(m: &mut Machine, i: &Insn) -> Result<(), Event>
+    requires { IsTrue (is_width i.now.width) }
+    ensures { CarriesOut m.old m.new result (unary O.formula m.old.world i.now) }
 {
-    let a = next.source(m, i.addr32, i.width, &i.first)?;
-    let b = next.source(m, i.addr32, i.width, &i.second)?;
-    let r = m.regs();
-    let (_, flags) = binary_result(i.op, i.width, a, b, r.flags);
-    next.set_regs(Regs { flags, ..r });
-    Ok(())
-}
-
-// The result of an operation of one operand.
-#[tactic(auto, unfolding(crate::specs::Arithmetic::unary_formula))]
-fn unary_result(op: Op, width: u8, a: u32, f: Flags) -> (u32, Flags)
-    requires { IsTrue (is_width width) }
-    ensures { result ≡ unary_formula op width (cut width a) f }
-{
-    match op {
-        Op::Inc => at_width!(inc, width, [a], f),
-        Op::Dec => at_width!(dec, width, [a], f),
-        Op::Neg => at_width!(neg, width, [a], f),
-        _ => at_width!(not, width, [a], f),
+    let a = source(m, i.addr32, i.width, &i.first)?;
+    match &i.first {
+        Operand::Mem(place) => at_width!(i.width, write_unary, O, m, i.addr32, place, a),
+        first => {
+            let v = at_width!(i.width, set_unary_flags, O, m, a);
+            if let Operand::Reg { width, number } = first {
+                put_register(m, *width, *number, v);
+            }
+            Ok(())
+        }
     }
-}
-
-/// INC, DEC, NEG, NOT. Source: 80386 Programmer's Reference Manual, ch. 17.
-#[tactic(auto, unfolding(crate::specs::Arithmetic::unary))]
-pub(crate) fn unary(m: &Machine, i: &Insn, next: &mut Next) -> Result<(), Event>
-    requires width { IsTrue (is_width i.now.width) }
-    requires fresh { next.old ≡ fresh m.now.world }
-    ensures { Plans next.new result (planned m.now.world [] (unary (unary_formula i.now.op) m.now.world i.now)) }
-{
-    let a = next.source(m, i.addr32, i.width, &i.first)?;
-    let r = m.regs();
-    let (changed, flags) = unary_result(i.op, i.width, a, r.flags);
-    next.set_regs(Regs { flags, ..r });
-    next.put(&r, i.addr32, i.width, &i.first, changed);
-    Ok(())
 }

@@ -1,37 +1,36 @@
 // Bits of an operand, and SETcc.
-ghost use Rattle.std.specs.Prelude.{◌≡◌, ◌+◌, ◌%◌, ◌<◌, ◌^◌, [], IsTrue};
+ghost use Rattle.std.specs.Prelude.{◌≡◌, ℕ, ◌+◌, ◌%◌, ◌<◌, ◌^◌, IsTrue};
 ghost use Rattle.exec_core.specs.Bits.{
   setcc,
   bit_distance,
   bit_operand,
   bit_at,
+  bit_set,
+  bit_reset,
+  bit_complement,
   bit_test,
   bit_change,
-  bit_formula,
   bit_scan,
-  scan_formula,
   lowest_bit,
   highest_bit,
 };
 ghost use Rattle.insn_forms.specs.Kinds.{is_width};
-ghost use Rattle.insn_plan.specs.Plan.{fresh, planned, Plans};
+ghost use Rattle.insn_plan.specs.Plan.{CarriesOut};
 
 use crate::moves::cut;
-use client_world::{Event, Flags, Regs};
+use client_world::{Event, Flags};
 use guest_space::Machine;
-use insn_forms::{Insn, MemForm, Op, Operand};
-use insn_plan::{Next, condition};
+use insn_forms::{Insn, MemForm, Operand};
+use insn_plan::{condition, put_operand, put_with_flags, source};
 
 /// SETcc. Source: 80386 Programmer's Reference Manual, ch. 17.
-#[tactic(auto, unfolding(crate::specs::Bits::setcc))]
-pub(crate) fn setcc(m: &Machine, i: &Insn, n: u8, next: &mut Next) -> Result<(), Event>
-    requires fresh { next.old ≡ fresh m.now.world }
-    ensures { Plans next.new result (planned m.now.world [] (setcc m.now.world i.now n)) }
+#[inline(never)]
+#[tactic(auto, unfolding(crate::specs::Bits::setcc, insn_plan::specs::Plan::carried_out))]
+pub(crate) fn setcc(m: &mut Machine, i: &Insn, n: u8) -> Result<(), Event>
+    ensures { CarriesOut m.old m.new result (setcc m.old.world i.now n) }
 {
-    let r = m.regs();
-    let v = u32::from(condition(n, r.flags));
-    next.put(&r, i.addr32, 8, &i.first, v);
-    Ok(())
+    let v = u32::from(condition(n, m.registers().flags));
+    put_operand(m, i.addr32, 8, &i.first, v)
 }
 
 // How far a bit's offset moves an operand in memory, in bytes, modulo 2^32.
@@ -83,61 +82,88 @@ fn bit_at(v: u32, n: u8) -> bool
     v / (1u32 << n) % 2 == 1
 }
 
-// The registers with a bit in CF.
-fn with_carry(r: Regs, bit: bool) -> Regs
-    ensures { result ≡ record r { flags = record r.flags { cf = bit } } }
-{
-    let flags = Flags { cf: bit, ..r.flags };
-    Regs { flags, ..r }
-}
-
 /// BT. Source: as above.
-#[tactic(auto, unfolding(crate::specs::Bits::bit_test))]
-pub(crate) fn bit_test(m: &Machine, i: &Insn, next: &mut Next) -> Result<(), Event>
-    requires width { IsTrue (is_width i.now.width) }
-    requires fresh { next.old ≡ fresh m.now.world }
-    ensures { Plans next.new result (planned m.now.world [] (bit_test m.now.world i.now)) }
+#[inline(never)]
+#[tactic(auto, unfolding(crate::specs::Bits::bit_test, insn_plan::specs::Plan::carried_out, insn_plan::specs::Plan::settled, guest_space::specs::Pending::first_refusal, guest_space::specs::Pending::all_written))]
+pub(crate) fn bit_test(m: &mut Machine, i: &Insn) -> Result<(), Event>
+    requires { IsTrue (is_width i.now.width) }
+    ensures { CarriesOut m.old m.new result (bit_test m.old.world i.now) }
 {
-    let offset = cut(i.width, next.source(m, i.addr32, i.width, &i.second)?);
-    let a = next.source(m, i.addr32, i.width, &bit_operand(i, offset))?;
+    let offset = cut(i.width, source(m, i.addr32, i.width, &i.second)?);
+    let a = source(m, i.addr32, i.width, &bit_operand(i, offset))?;
     let bit = bit_at(a, (offset % u32::from(i.width)) as u8);
-    next.set_regs(with_carry(m.regs(), bit));
+    m.set_flags(Flags {
+        cf: bit,
+        ..m.registers().flags
+    });
     Ok(())
 }
 
-// What BTS, BTR or BTC makes of a number.
-#[tactic(auto, unfolding(crate::specs::Bits::bit_formula))]
-fn changed(op: Op, v: u32, n: u8) -> u32
-    requires { n < 32 }
-    ensures { result ≡ bit_formula op v n }
-{
-    let weight = 1u32 << n;
-    let bit = bit_at(v, n);
-    match op {
-        Op::Bts if bit => v,
-        Op::Bts => v + weight,
-        Op::Btr if bit => v - weight,
-        Op::Btr => v,
-        _ if bit => v - weight,
-        _ => v + weight,
+/// What is made of a bit of a number.
+pub(crate) trait BitChange {
+    ghost formula: { ℕ → ℕ → ℕ };
+
+    /// The number with that bit changed.
+    fn changed(v: u32, n: u8) -> u32
+        requires { n < 32 }
+        ensures { result ≡ formula v n };
+}
+
+/// BTS: the bit is set.
+pub(crate) struct Set;
+
+impl BitChange for Set {
+    ghost formula = { bit_set };
+
+    #[tactic(auto, using(crate::proofs::BitLaws::room_for_bit, crate::proofs::BitLaws::weight_fits))]
+    fn changed(v: u32, n: u8) -> u32 {
+        if bit_at(v, n) { v } else { v + (1u32 << n) }
+    }
+}
+
+/// BTR: the bit is cleared.
+pub(crate) struct Reset;
+
+impl BitChange for Reset {
+    ghost formula = { bit_reset };
+
+    fn changed(v: u32, n: u8) -> u32 {
+        if bit_at(v, n) { v - (1u32 << n) } else { v }
+    }
+}
+
+/// BTC: the bit becomes the other one.
+pub(crate) struct Toggle;
+
+impl BitChange for Toggle {
+    ghost formula = { bit_complement };
+
+    #[tactic(auto, using(crate::proofs::BitLaws::room_for_bit, crate::proofs::BitLaws::weight_fits))]
+    fn changed(v: u32, n: u8) -> u32 {
+        if bit_at(v, n) {
+            v - (1u32 << n)
+        } else {
+            v + (1u32 << n)
+        }
     }
 }
 
 /// BTS, BTR, BTC. Source: as above.
-#[tactic(auto, unfolding(crate::specs::Bits::bit_change))]
-pub(crate) fn bit_change(m: &Machine, i: &Insn, next: &mut Next) -> Result<(), Event>
-    requires width { IsTrue (is_width i.now.width) }
-    requires fresh { next.old ≡ fresh m.now.world }
-    ensures { Plans next.new result (planned m.now.world [] (bit_change (bit_formula i.now.op) m.now.world i.now)) }
+#[inline(never)]
+#[tactic(auto, unfolding(crate::specs::Bits::bit_change, insn_plan::specs::Plan::carried_out))]
+pub(crate) fn bit_change<C: BitChange>(m: &mut Machine, i: &Insn) -> Result<(), Event>
+    requires { IsTrue (is_width i.now.width) }
+    ensures { CarriesOut m.old m.new result (bit_change C.formula m.old.world i.now) }
 {
-    let offset = cut(i.width, next.source(m, i.addr32, i.width, &i.second)?);
+    let offset = cut(i.width, source(m, i.addr32, i.width, &i.second)?);
     let operand = bit_operand(i, offset);
-    let a = next.source(m, i.addr32, i.width, &operand)?;
+    let a = source(m, i.addr32, i.width, &operand)?;
     let n = (offset % u32::from(i.width)) as u8;
-    let r = m.regs();
-    next.set_regs(with_carry(r, bit_at(a, n)));
-    next.put(&r, i.addr32, i.width, &operand, changed(i.op, a, n));
-    Ok(())
+    let flags = Flags {
+        cf: bit_at(a, n),
+        ..m.registers().flags
+    };
+    put_with_flags(m, flags, i.addr32, i.width, &operand, C::changed(a, n))
 }
 
 // The place of the lowest bit that is set, among so many bits; their number where none is.
@@ -166,34 +192,42 @@ fn highest_bit(mut v: u32, width: u8) -> u32
     u32::from(width)
 }
 
-// The place of the bit that BSF or BSR looks for, in a number that isn't 0.
-#[tactic(auto, unfolding(crate::specs::Bits::scan_formula))]
-fn scanned(op: Op, v: u32, width: u8) -> u32
-    requires { IsTrue (is_width width) }
-    ensures { result ≡ scan_formula op v width }
+/// BSF. Source: as above.
+#[inline(never)]
+#[tactic(auto, unfolding(crate::specs::Bits::bit_scan, insn_plan::specs::Plan::carried_out, insn_plan::specs::Plan::settled, guest_space::specs::Pending::first_refusal, guest_space::specs::Pending::all_written))]
+pub(crate) fn bit_scan_forward(m: &mut Machine, i: &Insn) -> Result<(), Event>
+    requires { IsTrue (is_width i.now.width) }
+    ensures { CarriesOut m.old m.new result (bit_scan lowest_bit m.old.world i.now) }
 {
-    match op {
-        Op::Bsf => lowest_bit(v, width),
-        _ => highest_bit(v, width),
-    }
-}
-
-/// BSF and BSR. Source: as above.
-#[tactic(auto, unfolding(crate::specs::Bits::bit_scan))]
-pub(crate) fn bit_scan(m: &Machine, i: &Insn, next: &mut Next) -> Result<(), Event>
-    requires width { IsTrue (is_width i.now.width) }
-    requires fresh { next.old ≡ fresh m.now.world }
-    ensures { Plans next.new result (planned m.now.world [] (bit_scan (scan_formula i.now.op) m.now.world i.now)) }
-{
-    let v = cut(i.width, next.source(m, i.addr32, i.width, &i.second)?);
-    let r = m.regs();
+    let v = cut(i.width, source(m, i.addr32, i.width, &i.second)?);
     let flags = Flags {
         zf: v == 0,
-        ..r.flags
+        ..m.registers().flags
     };
-    next.set_regs(Regs { flags, ..r });
-    if v != 0 {
-        next.put(&r, i.addr32, i.width, &i.first, scanned(i.op, v, i.width));
+    if v == 0 {
+        m.set_flags(flags);
+        return Ok(());
     }
-    Ok(())
+    let place = lowest_bit(v, i.width);
+    put_with_flags(m, flags, i.addr32, i.width, &i.first, place)
+}
+
+/// BSR. Source: as above.
+#[inline(never)]
+#[tactic(auto, unfolding(crate::specs::Bits::bit_scan, insn_plan::specs::Plan::carried_out, insn_plan::specs::Plan::settled, guest_space::specs::Pending::first_refusal, guest_space::specs::Pending::all_written))]
+pub(crate) fn bit_scan_reverse(m: &mut Machine, i: &Insn) -> Result<(), Event>
+    requires { IsTrue (is_width i.now.width) }
+    ensures { CarriesOut m.old m.new result (bit_scan highest_bit m.old.world i.now) }
+{
+    let v = cut(i.width, source(m, i.addr32, i.width, &i.second)?);
+    let flags = Flags {
+        zf: v == 0,
+        ..m.registers().flags
+    };
+    if v == 0 {
+        m.set_flags(flags);
+        return Ok(());
+    }
+    let place = highest_bit(v, i.width);
+    put_with_flags(m, flags, i.addr32, i.width, &i.first, place)
 }

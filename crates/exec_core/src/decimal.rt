@@ -1,77 +1,97 @@
 // Decimal adjustment of AX.
-ghost use Rattle.std.specs.Prelude.{◌≡◌, [], IsTrue};
+#![tactic(auto, unfolding(crate::specs::Decimal::adjust, crate::specs::Decimal::aad, crate::specs::Decimal::aam, insn_plan::specs::Plan::carried_out, insn_plan::specs::Plan::settled, guest_space::specs::Pending::first_refusal, guest_space::specs::Pending::all_written))]
+
+ghost use Rattle.std.specs.Prelude.{◌≡◌};
 ghost use Rattle.client_world.specs.Registers.{low_half};
-ghost use Rattle.exec_core.specs.Decimal.{adjust, adjust_formula, aad, aam, with_ax_in};
-ghost use Rattle.insn_plan.specs.Plan.{fresh, planned, Plans};
+ghost use Rattle.cpu_alu.specs.Decimal.{daa_of, das_of, aaa_of, aas_of};
+ghost use Rattle.exec_core.specs.Decimal.{adjust, aad, aam, with_ax_in};
+ghost use Rattle.guest_space.specs.Registers.{with_registers};
+ghost use Rattle.insn_plan.specs.Plan.{CarriesOut};
 
 use crate::products::divide_error;
-use client_world::{Event, Flags, Regs};
+use client_world::general::EAX;
+use client_world::{Event, Flags};
 use cpu_alu::{aaa, aad, aam, aas, daa, das};
 use guest_space::Machine;
-use insn_forms::{Insn, Op};
-use insn_plan::{Next, set_register};
+use insn_forms::Insn;
+use insn_plan::{put_register, source};
 
-// The result of an adjustment.
-#[tactic(auto, unfolding(crate::specs::Decimal::adjust_formula))]
-fn adjusted(op: Op, ax: u16, f: Flags) -> (u16, Flags)
-    ensures { result ≡ adjust_formula op ax f }
+// AX.
+fn ax(m: &Machine) -> u16
+    ensures { result ≡ low_half m.now.world.regs.eax }
 {
-    match op {
-        Op::Daa => daa(ax, f),
-        Op::Das => das(ax, f),
-        Op::Aaa => aaa(ax, f),
-        _ => aas(ax, f),
-    }
+    (m.registers().eax % 0x1_0000) as u16
 }
 
-// The registers with another AX and other flags.
-fn set_ax(r: &mut Regs, ax: u16, flags: Flags)
-    ensures { r.new ≡ with_ax_in r.old (ax, flags) }
+// Sets AX and the flags.
+fn set_ax(m: &mut Machine, ax: u16, flags: Flags)
+    ensures { m.new ≡ with_registers (with_ax_in m.old.world.regs (ax, flags)) m.old }
 {
-    r.flags = flags;
-    set_register(r, 16, 0, u32::from(ax));
+    m.set_flags(flags);
+    put_register(m, 16, EAX, u32::from(ax));
 }
 
-/// DAA, DAS, AAA, AAS. Source: 80386 Programmer's Reference Manual, ch. 17.
-#[tactic(auto, unfolding(crate::specs::Decimal::adjust))]
-pub(crate) fn adjust(m: &Machine, i: &Insn, next: &mut Next) -> Result<(), Event>
-    requires fresh { next.old ≡ fresh m.now.world }
-    ensures { Plans next.new result (planned m.now.world [] (adjust (adjust_formula i.now.op) m.now.world)) }
+/// DAA. Source: 80386 Programmer's Reference Manual, ch. 17.
+#[inline(never)]
+pub(crate) fn decimal_adjust_after_addition(m: &mut Machine) -> Result<(), Event>
+    ensures { CarriesOut m.old m.new result (adjust daa_of m.old.world) }
 {
-    let mut r = m.regs();
-    let (ax, flags) = adjusted(i.op, (r.eax % 0x1_0000) as u16, r.flags);
-    set_ax(&mut r, ax, flags);
-    next.set_regs(r);
+    let (ax, flags) = daa(ax(m), m.registers().flags);
+    set_ax(m, ax, flags);
+    Ok(())
+}
+
+/// DAS. Source: as above.
+#[inline(never)]
+pub(crate) fn decimal_adjust_after_subtraction(m: &mut Machine) -> Result<(), Event>
+    ensures { CarriesOut m.old m.new result (adjust das_of m.old.world) }
+{
+    let (ax, flags) = das(ax(m), m.registers().flags);
+    set_ax(m, ax, flags);
+    Ok(())
+}
+
+/// AAA. Source: as above.
+#[inline(never)]
+pub(crate) fn adjust_after_addition(m: &mut Machine) -> Result<(), Event>
+    ensures { CarriesOut m.old m.new result (adjust aaa_of m.old.world) }
+{
+    let (ax, flags) = aaa(ax(m), m.registers().flags);
+    set_ax(m, ax, flags);
+    Ok(())
+}
+
+/// AAS. Source: as above.
+#[inline(never)]
+pub(crate) fn adjust_after_subtraction(m: &mut Machine) -> Result<(), Event>
+    ensures { CarriesOut m.old m.new result (adjust aas_of m.old.world) }
+{
+    let (ax, flags) = aas(ax(m), m.registers().flags);
+    set_ax(m, ax, flags);
     Ok(())
 }
 
 /// AAD. Source: as above.
-#[tactic(auto, unfolding(crate::specs::Decimal::aad))]
-pub(crate) fn adjust_before_division(m: &Machine, i: &Insn, next: &mut Next) -> Result<(), Event>
-    requires fresh { next.old ≡ fresh m.now.world }
-    ensures { Plans next.new result (planned m.now.world [] (aad m.now.world i.now)) }
+#[inline(never)]
+pub(crate) fn adjust_before_division(m: &mut Machine, i: &Insn) -> Result<(), Event>
+    ensures { CarriesOut m.old m.new result (aad m.old.world i.now) }
 {
-    let base = next.source(m, i.addr32, 8, &i.first)?;
-    let mut r = m.regs();
-    let (ax, flags) = aad((r.eax % 0x1_0000) as u16, (base % 0x100) as u8, r.flags);
-    set_ax(&mut r, ax, flags);
-    next.set_regs(r);
+    let base = source(m, i.addr32, 8, &i.first)?;
+    let (ax, flags) = aad(ax(m), (base % 0x100) as u8, m.registers().flags);
+    set_ax(m, ax, flags);
     Ok(())
 }
 
 /// AAM; exception 0 for base 0. Source: as above.
-#[tactic(auto, unfolding(crate::specs::Decimal::aam))]
-pub(crate) fn adjust_after_product(m: &Machine, i: &Insn, next: &mut Next) -> Result<(), Event>
-    requires fresh { next.old ≡ fresh m.now.world }
-    ensures { Plans next.new result (planned m.now.world [] (aam m.now.world i.now)) }
+#[inline(never)]
+pub(crate) fn adjust_after_product(m: &mut Machine, i: &Insn) -> Result<(), Event>
+    ensures { CarriesOut m.old m.new result (aam m.old.world i.now) }
 {
-    let base = next.source(m, i.addr32, 8, &i.first)?;
-    let mut r = m.regs();
-    match aam((r.eax % 0x1_0000) as u16, (base % 0x100) as u8, r.flags) {
+    let base = source(m, i.addr32, 8, &i.first)?;
+    match aam(ax(m), (base % 0x100) as u8, m.registers().flags) {
         None => Err(divide_error()),
         Some((ax, flags)) => {
-            set_ax(&mut r, ax, flags);
-            next.set_regs(r);
+            set_ax(m, ax, flags);
             Ok(())
         }
     }

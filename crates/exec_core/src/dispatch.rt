@@ -1,22 +1,34 @@
 // The operations of this crate, and what each of them does.
-ghost use Rattle.std.specs.Prelude.{◌≡◌, [], IsTrue};
+ghost use Rattle.std.specs.Prelude.{◌≡◌, IsTrue};
 ghost use Rattle.exec_core.specs.Dispatch.{is_core, is_no_segment, core_row, IsCore};
 ghost use Rattle.insn_forms.specs.Kinds.{is_width, has_good_number};
-ghost use Rattle.insn_plan.specs.Plan.{fresh, planned, carried_out, Plans, Follows};
+ghost use Rattle.insn_plan.specs.Plan.{CarriesOut};
 
 use crate::arithmetic::{binary, compare, unary};
-use crate::bits::{bit_change, bit_scan, bit_test, setcc};
-use crate::decimal::{adjust, adjust_after_product, adjust_before_division};
-use crate::flag_rows::{clc, cld, cmc, lahf, sahf, stc, std};
+use crate::bits::{
+    Reset, Set, Toggle, bit_change, bit_scan_forward, bit_scan_reverse, bit_test, setcc,
+};
+use crate::decimal::{
+    adjust_after_addition, adjust_after_product, adjust_after_subtraction, adjust_before_division,
+    decimal_adjust_after_addition, decimal_adjust_after_subtraction,
+};
+use crate::flag_rows::{clc, cld, cmc, lahf, sahf, stc, std, wait};
 use crate::moves::{cbw, cwd, lea, mov, movsx, movzx, xchg, xlat};
-use crate::products::{divide, multiply, multiply_signed};
-use crate::shifts::{double_shift, shift};
+use crate::operations::{
+    Add, AddWithCarry, And, Complement, Decrement, ExclusiveOr, Increment, Negate, Or, Subtract,
+    SubtractWithBorrow,
+};
+use crate::products::{Signed, Unsigned, divide, multiply, multiply_signed};
+use crate::shift_operations::{
+    RotateLeft, RotateLeftThroughCarry, RotateRight, RotateRightThroughCarry, ShiftArithmeticRight,
+    ShiftLeft, ShiftRight,
+};
+use crate::shifts::{ShiftLeftDouble, ShiftRightDouble, double_shift, shift};
 use crate::stacks::{pop, popa, push, pusha};
 use crate::strings::{cmps, lods, movs, scas, stos};
 use client_world::Event;
 use guest_space::Machine;
 use insn_forms::{Insn, Op, Operand};
-use insn_plan::Next;
 
 // Whether an operand isn't a segment register.
 fn is_no_segment(operand: &Operand) -> bool
@@ -57,71 +69,81 @@ pub fn is_core(i: &Insn) -> bool
     }
 }
 
-/// The plan of an instruction of this crate: nothing of the machine changes.
-#[tactic(auto, unfolding(crate::specs::Dispatch::is_core, crate::specs::Dispatch::core_row, crate::specs::Arithmetic::binary_formula, crate::specs::Arithmetic::unary_formula, crate::specs::Bits::bit_formula, crate::specs::Bits::scan_formula, crate::specs::Decimal::adjust_formula, crate::specs::FlagRows::wait, crate::specs::Products::product_formula, crate::specs::Products::quotient_formula, crate::specs::Shifts::double_shift_formula, crate::specs::Shifts::shift_formula))]
-fn plan(m: &Machine, i: &Insn, len: u8, next: &mut Next) -> Result<(), Event>
-    requires core { IsCore i.now }
-    requires width { IsTrue (is_width i.now.width) }
-    requires number { IsTrue (has_good_number i.now.op) }
-    requires fresh { next.old ≡ fresh m.now.world }
-    ensures { Plans next.new result (planned m.now.world [] (core_row i.now.op m.now.world i.now len)) }
-{
-    match i.op {
-        Op::Add | Op::Or | Op::Adc | Op::Sbb | Op::And | Op::Sub | Op::Xor => binary(m, i, next),
-        Op::Cmp | Op::Test => compare(m, i, next),
-        Op::Inc | Op::Dec | Op::Not | Op::Neg => unary(m, i, next),
-        Op::Mul => multiply(m, i, next),
-        Op::Imul => multiply_signed(m, i, next),
-        Op::Div | Op::Idiv => divide(m, i, next),
-        Op::Daa | Op::Das | Op::Aaa | Op::Aas => adjust(m, i, next),
-        Op::Aam => adjust_after_product(m, i, next),
-        Op::Aad => adjust_before_division(m, i, next),
-        Op::Rol | Op::Ror | Op::Rcl | Op::Rcr | Op::Shl | Op::Shr | Op::Sar => shift(m, i, next),
-        Op::Shld | Op::Shrd => double_shift(m, i, next),
-        Op::Bt => bit_test(m, i, next),
-        Op::Bts | Op::Btr | Op::Btc => bit_change(m, i, next),
-        Op::Bsf | Op::Bsr => bit_scan(m, i, next),
-        Op::Setcc(n) => setcc(m, i, n, next),
-        Op::Mov => mov(m, i, next),
-        Op::Movzx(from) => movzx(m, i, from, next),
-        Op::Movsx(from) => movsx(m, i, from, next),
-        Op::Xchg => xchg(m, i, next),
-        Op::Lea => lea(m, i, next),
-        Op::Xlat => xlat(m, i, next),
-        Op::Cbw => cbw(m, i, next),
-        Op::Cwd => cwd(m, i, next),
-        Op::Lahf => lahf(m, next),
-        Op::Sahf => sahf(m, next),
-        Op::Push => push(m, i, next),
-        Op::Pop => pop(m, i, next),
-        Op::Pusha => pusha(m, i, next),
-        Op::Popa => popa(m, i, next),
-        Op::Movs => movs(m, i, len, next),
-        Op::Cmps => cmps(m, i, len, next),
-        Op::Stos => stos(m, i, len, next),
-        Op::Lods => lods(m, i, len, next),
-        Op::Scas => scas(m, i, len, next),
-        Op::Clc => clc(m, next),
-        Op::Stc => stc(m, next),
-        Op::Cmc => cmc(m, next),
-        Op::Cld => cld(m, next),
-        Op::Std => std(m, next),
-        Op::Wait => Ok(()),
-        _ => unreachable!(),
-    }
-}
-
 /// Runs an instruction of this crate, whose EIP is already behind it. An event leaves the machine as it was.
-/// Source: 80386 Programmer's Reference Manual, ch. 17; that an instruction which faults changes nothing is own.
-#[tactic(auto, unfolding(insn_plan::specs::Plan::carried_out))]
+/// Source: 80386 Programmer's Reference Manual, ch. 17; that an instruction that faults changes nothing is own.
+#[inline(always)]
+#[tactic(auto, unfolding(crate::specs::Dispatch::is_core, crate::specs::Dispatch::core_row))]
 pub fn run_core(m: &mut Machine, insn: &Insn, len: u8) -> Result<(), Event>
     requires core { IsCore insn.now }
     requires width { IsTrue (is_width insn.now.width) }
     requires number { IsTrue (has_good_number insn.now.op) }
-    ensures { Follows m.old m.new result
-        (carried_out m.old (planned m.old.world [] (core_row insn.now.op m.old.world insn.now len))) }
+    ensures { CarriesOut m.old m.new result (core_row insn.now.op m.old.world insn.now len) }
 {
-    let mut next = Next::new(m);
-    plan(m, insn, len, &mut next)?;
-    next.settle(m)
+    match insn.op {
+        Op::Mov => mov(m, insn),
+        Op::Add => binary::<Add>(m, insn),
+        Op::Or => binary::<Or>(m, insn),
+        Op::Adc => binary::<AddWithCarry>(m, insn),
+        Op::Sbb => binary::<SubtractWithBorrow>(m, insn),
+        Op::And => binary::<And>(m, insn),
+        Op::Sub => binary::<Subtract>(m, insn),
+        Op::Xor => binary::<ExclusiveOr>(m, insn),
+        Op::Cmp => compare::<Subtract>(m, insn),
+        Op::Test => compare::<And>(m, insn),
+        Op::Inc => unary::<Increment>(m, insn),
+        Op::Dec => unary::<Decrement>(m, insn),
+        Op::Not => unary::<Complement>(m, insn),
+        Op::Neg => unary::<Negate>(m, insn),
+        Op::Mul => multiply::<Unsigned>(m, insn),
+        Op::Imul => multiply_signed(m, insn),
+        Op::Div => divide::<Unsigned>(m, insn),
+        Op::Idiv => divide::<Signed>(m, insn),
+        Op::Daa => decimal_adjust_after_addition(m),
+        Op::Das => decimal_adjust_after_subtraction(m),
+        Op::Aaa => adjust_after_addition(m),
+        Op::Aas => adjust_after_subtraction(m),
+        Op::Aam => adjust_after_product(m, insn),
+        Op::Aad => adjust_before_division(m, insn),
+        Op::Rol => shift::<RotateLeft>(m, insn),
+        Op::Ror => shift::<RotateRight>(m, insn),
+        Op::Rcl => shift::<RotateLeftThroughCarry>(m, insn),
+        Op::Rcr => shift::<RotateRightThroughCarry>(m, insn),
+        Op::Shl => shift::<ShiftLeft>(m, insn),
+        Op::Shr => shift::<ShiftRight>(m, insn),
+        Op::Sar => shift::<ShiftArithmeticRight>(m, insn),
+        Op::Shld => double_shift::<ShiftLeftDouble>(m, insn),
+        Op::Shrd => double_shift::<ShiftRightDouble>(m, insn),
+        Op::Bt => bit_test(m, insn),
+        Op::Bts => bit_change::<Set>(m, insn),
+        Op::Btr => bit_change::<Reset>(m, insn),
+        Op::Btc => bit_change::<Toggle>(m, insn),
+        Op::Bsf => bit_scan_forward(m, insn),
+        Op::Bsr => bit_scan_reverse(m, insn),
+        Op::Setcc(n) => setcc(m, insn, n),
+        Op::Movzx(from) => movzx(m, insn, from),
+        Op::Movsx(from) => movsx(m, insn, from),
+        Op::Xchg => xchg(m, insn),
+        Op::Lea => lea(m, insn),
+        Op::Xlat => xlat(m, insn),
+        Op::Cbw => cbw(m, insn),
+        Op::Cwd => cwd(m, insn),
+        Op::Lahf => lahf(m),
+        Op::Sahf => sahf(m),
+        Op::Push => push(m, insn),
+        Op::Pop => pop(m, insn),
+        Op::Pusha => pusha(m, insn),
+        Op::Popa => popa(m, insn),
+        Op::Movs => movs(m, insn, len),
+        Op::Cmps => cmps(m, insn, len),
+        Op::Stos => stos(m, insn, len),
+        Op::Lods => lods(m, insn, len),
+        Op::Scas => scas(m, insn, len),
+        Op::Clc => clc(m),
+        Op::Stc => stc(m),
+        Op::Cmc => cmc(m),
+        Op::Cld => cld(m),
+        Op::Std => std(m),
+        Op::Wait => wait(m),
+        _ => unreachable!(),
+    }
 }

@@ -1,123 +1,109 @@
 // The flags, and WAIT.
-ghost use Rattle.std.specs.Prelude.{◌≡◌, []};
-ghost use Rattle.exec_core.specs.FlagRows.{clc, stc, cmc, cld, std, lahf, sahf};
-ghost use Rattle.insn_plan.specs.Plan.{fresh, planned, Plans};
+ghost use Rattle.std.specs.Prelude.{◌≡◌};
+ghost use Rattle.exec_core.specs.FlagRows.{clc, stc, cmc, cld, std, lahf, sahf, wait};
+ghost use Rattle.insn_plan.specs.Plan.{CarriesOut};
 
-use client_world::{Event, Flags, Regs};
+use crate::products::AH;
+use client_world::{Event, Flags};
 use guest_space::Machine;
-use insn_plan::{Next, register, set_register};
+use insn_plan::{put_register, register};
 
 /// CLC. Source: 80386 Programmer's Reference Manual, ch. 17.
-#[tactic(auto, unfolding(crate::specs::FlagRows::clc))]
-pub(crate) fn clc(m: &Machine, next: &mut Next) -> Result<(), Event>
-    requires fresh { next.old ≡ fresh m.now.world }
-    ensures { Plans next.new result (planned m.now.world [] (clc m.now.world)) }
+#[inline(always)]
+#[tactic(auto, unfolding(crate::specs::FlagRows::clc, insn_plan::specs::Plan::carried_out, insn_plan::specs::Plan::settled, guest_space::specs::Pending::first_refusal, guest_space::specs::Pending::all_written))]
+pub(crate) fn clc(m: &mut Machine) -> Result<(), Event>
+    ensures { CarriesOut m.old m.new result (clc m.old.world) }
 {
-    let r = m.regs();
-    next.set_regs(Regs {
-        flags: Flags {
-            cf: false,
-            ..r.flags
-        },
-        ..r
+    m.set_flags(Flags {
+        cf: false,
+        ..m.registers().flags
     });
     Ok(())
 }
 
 /// STC. Source: as above.
-#[tactic(auto, unfolding(crate::specs::FlagRows::stc))]
-pub(crate) fn stc(m: &Machine, next: &mut Next) -> Result<(), Event>
-    requires fresh { next.old ≡ fresh m.now.world }
-    ensures { Plans next.new result (planned m.now.world [] (stc m.now.world)) }
+#[inline(always)]
+#[tactic(auto, unfolding(crate::specs::FlagRows::stc, insn_plan::specs::Plan::carried_out, insn_plan::specs::Plan::settled, guest_space::specs::Pending::first_refusal, guest_space::specs::Pending::all_written))]
+pub(crate) fn stc(m: &mut Machine) -> Result<(), Event>
+    ensures { CarriesOut m.old m.new result (stc m.old.world) }
 {
-    let r = m.regs();
-    next.set_regs(Regs {
-        flags: Flags {
-            cf: true,
-            ..r.flags
-        },
-        ..r
+    m.set_flags(Flags {
+        cf: true,
+        ..m.registers().flags
     });
     Ok(())
 }
 
 /// CMC. Source: as above.
-#[tactic(auto, unfolding(crate::specs::FlagRows::cmc))]
-pub(crate) fn cmc(m: &Machine, next: &mut Next) -> Result<(), Event>
-    requires fresh { next.old ≡ fresh m.now.world }
-    ensures { Plans next.new result (planned m.now.world [] (cmc m.now.world)) }
+#[inline(always)]
+#[tactic(auto, unfolding(crate::specs::FlagRows::cmc, insn_plan::specs::Plan::carried_out, insn_plan::specs::Plan::settled, guest_space::specs::Pending::first_refusal, guest_space::specs::Pending::all_written))]
+pub(crate) fn cmc(m: &mut Machine) -> Result<(), Event>
+    ensures { CarriesOut m.old m.new result (cmc m.old.world) }
 {
-    let r = m.regs();
-    next.set_regs(Regs {
-        flags: Flags {
-            cf: !r.flags.cf,
-            ..r.flags
-        },
-        ..r
-    });
+    let f = m.registers().flags;
+    m.set_flags(Flags { cf: !f.cf, ..f });
     Ok(())
 }
 
 /// CLD. Source: as above.
-#[tactic(auto, unfolding(crate::specs::FlagRows::cld))]
-pub(crate) fn cld(m: &Machine, next: &mut Next) -> Result<(), Event>
-    requires fresh { next.old ≡ fresh m.now.world }
-    ensures { Plans next.new result (planned m.now.world [] (cld m.now.world)) }
+#[inline(always)]
+#[tactic(auto, unfolding(crate::specs::FlagRows::cld, insn_plan::specs::Plan::carried_out, insn_plan::specs::Plan::settled, guest_space::specs::Pending::first_refusal, guest_space::specs::Pending::all_written))]
+pub(crate) fn cld(m: &mut Machine) -> Result<(), Event>
+    ensures { CarriesOut m.old m.new result (cld m.old.world) }
 {
-    let r = m.regs();
-    next.set_regs(Regs {
-        flags: Flags {
-            df: false,
-            ..r.flags
-        },
-        ..r
+    m.set_flags(Flags {
+        df: false,
+        ..m.registers().flags
     });
     Ok(())
 }
 
 /// STD. Source: as above.
-#[tactic(auto, unfolding(crate::specs::FlagRows::std))]
-pub(crate) fn std(m: &Machine, next: &mut Next) -> Result<(), Event>
-    requires fresh { next.old ≡ fresh m.now.world }
-    ensures { Plans next.new result (planned m.now.world [] (std m.now.world)) }
+#[inline(always)]
+#[tactic(auto, unfolding(crate::specs::FlagRows::std, insn_plan::specs::Plan::carried_out, insn_plan::specs::Plan::settled, guest_space::specs::Pending::first_refusal, guest_space::specs::Pending::all_written))]
+pub(crate) fn std(m: &mut Machine) -> Result<(), Event>
+    ensures { CarriesOut m.old m.new result (std m.old.world) }
 {
-    let r = m.regs();
-    next.set_regs(Regs {
-        flags: Flags {
-            df: true,
-            ..r.flags
-        },
-        ..r
+    m.set_flags(Flags {
+        df: true,
+        ..m.registers().flags
     });
     Ok(())
 }
 
 /// LAHF. Source: as above.
-#[tactic(auto, unfolding(crate::specs::FlagRows::lahf))]
-pub(crate) fn lahf(m: &Machine, next: &mut Next) -> Result<(), Event>
-    requires fresh { next.old ≡ fresh m.now.world }
-    ensures { Plans next.new result (planned m.now.world [] (lahf m.now.world)) }
+#[inline(never)]
+#[tactic(auto, unfolding(crate::specs::FlagRows::lahf, insn_plan::specs::Plan::carried_out, insn_plan::specs::Plan::settled, guest_space::specs::Pending::first_refusal, guest_space::specs::Pending::all_written))]
+pub(crate) fn lahf(m: &mut Machine) -> Result<(), Event>
+    ensures { CarriesOut m.old m.new result (lahf m.old.world) }
 {
-    let mut r = m.regs();
-    let image = r.flags.image(false);
-    set_register(&mut r, 8, 4, u32::from(image % 0x100));
-    next.set_regs(r);
+    let image = m.registers().flags.image(false);
+    put_register(m, 8, AH, u32::from(image % 0x100));
     Ok(())
 }
 
 /// SAHF. Source: as above.
-#[tactic(auto, using(crate::proofs::Parts::ah_fits), unfolding(crate::specs::FlagRows::sahf))]
-pub(crate) fn sahf(m: &Machine, next: &mut Next) -> Result<(), Event>
-    requires fresh { next.old ≡ fresh m.now.world }
-    ensures { Plans next.new result (planned m.now.world [] (sahf m.now.world)) }
+#[inline(never)]
+#[tactic(auto, using(crate::proofs::Parts::ah_fits), unfolding(crate::specs::FlagRows::sahf, insn_plan::specs::Plan::carried_out, insn_plan::specs::Plan::settled, guest_space::specs::Pending::first_refusal, guest_space::specs::Pending::all_written))]
+pub(crate) fn sahf(m: &mut Machine) -> Result<(), Event>
+    ensures { CarriesOut m.old m.new result (sahf m.old.world) }
 {
-    let r = m.regs();
-    let f = Flags::from_image(register(&r, 8, 4) as u16);
+    let r = m.registers();
+    let f = Flags::from_image(register(r, 8, AH) as u16);
     let flags = Flags {
         df: r.flags.df,
         of: r.flags.of,
         ..f
     };
-    next.set_regs(Regs { flags, ..r });
+    m.set_flags(flags);
+    Ok(())
+}
+
+/// WAIT: nothing happens. Source: as above.
+#[inline(always)]
+#[tactic(auto, unfolding(crate::specs::FlagRows::wait, insn_plan::specs::Plan::carried_out, insn_plan::specs::Plan::settled, guest_space::specs::Pending::first_refusal, guest_space::specs::Pending::all_written))]
+pub(crate) fn wait(m: &mut Machine) -> Result<(), Event>
+    ensures { CarriesOut m.old m.new result (wait m.old.world) }
+{
     Ok(())
 }

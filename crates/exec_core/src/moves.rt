@@ -1,5 +1,5 @@
 // Moves.
-ghost use Rattle.std.specs.Prelude.{◌≡◌, ◌<◌, ◌^◌, ◌⊎◌, [], IsTrue};
+ghost use Rattle.std.specs.Prelude.{◌≡◌, ◌<◌, ◌^◌, ◌⊎◌, IsTrue};
 ghost use Rattle.cpu_values.specs.Word.{cut};
 ghost use Rattle.exec_core.specs.Moves.{
   mov,
@@ -16,14 +16,18 @@ ghost use Rattle.exec_core.specs.Moves.{
   operand_offset,
 };
 ghost use Rattle.insn_forms.specs.Kinds.{is_width};
-ghost use Rattle.insn_plan.specs.Plan.{fresh, planned, Plans};
+ghost use Rattle.insn_plan.specs.Plan.{CarriesOut};
 
 use client_world::Event;
+use client_world::general::{EAX, EDX};
 use guest_space::Machine;
 use insn_forms::{Insn, Operand};
-use insn_plan::{Next, cut_address, offset_of, register, set_register};
+use insn_plan::{
+    Next, cut_address, offset_of, put_operand, put_register, read_width, register, source,
+};
 
 /// A number cut to a width of 8, 16 or 32 bits.
+#[inline(always)]
 pub(crate) fn cut(width: u8, v: u32) -> u32
     requires { IsTrue (is_width width) }
     ensures value { result ≡ cut width v }
@@ -37,29 +41,28 @@ pub(crate) fn cut(width: u8, v: u32) -> u32
 }
 
 /// MOV. Source: 80386 Programmer's Reference Manual, ch. 17.
-#[tactic(auto, unfolding(crate::specs::Moves::mov))]
-pub(crate) fn mov(m: &Machine, i: &Insn, next: &mut Next) -> Result<(), Event>
-    requires fresh { next.old ≡ fresh m.now.world }
-    ensures { Plans next.new result (planned m.now.world [] (mov m.now.world i.now)) }
+#[inline(always)]
+#[tactic(auto, unfolding(crate::specs::Moves::mov, insn_plan::specs::Plan::carried_out))]
+pub(crate) fn mov(m: &mut Machine, i: &Insn) -> Result<(), Event>
+    ensures { CarriesOut m.old m.new result (mov m.old.world i.now) }
 {
-    let v = next.source(m, i.addr32, i.width, &i.second)?;
-    next.put(&m.regs(), i.addr32, i.width, &i.first, v);
-    Ok(())
+    let v = source(m, i.addr32, i.width, &i.second)?;
+    put_operand(m, i.addr32, i.width, &i.first, v)
 }
 
 /// MOVZX. Source: as above.
-#[tactic(auto, unfolding(crate::specs::Moves::movzx))]
-pub(crate) fn movzx(m: &Machine, i: &Insn, from: u8, next: &mut Next) -> Result<(), Event>
-    requires from { IsTrue (is_width from) }
-    requires fresh { next.old ≡ fresh m.now.world }
-    ensures { Plans next.new result (planned m.now.world [] (movzx m.now.world i.now from)) }
+#[inline(always)]
+#[tactic(auto, unfolding(crate::specs::Moves::movzx, insn_plan::specs::Plan::carried_out))]
+pub(crate) fn movzx(m: &mut Machine, i: &Insn, from: u8) -> Result<(), Event>
+    requires { IsTrue (is_width from) }
+    ensures { CarriesOut m.old m.new result (movzx m.old.world i.now from) }
 {
-    let v = next.source(m, i.addr32, from, &i.second)?;
-    next.put(&m.regs(), i.addr32, i.width, &i.first, cut(from, v));
-    Ok(())
+    let v = source(m, i.addr32, from, &i.second)?;
+    put_operand(m, i.addr32, i.width, &i.first, cut(from, v))
 }
 
 // A number of some bits with its sign in the bits above, up to a width.
+#[inline(always)]
 fn sign_extended(from: u8, width: u8, v: u32) -> u32
     requires from { IsTrue (is_width from) }
     requires width { IsTrue (is_width width) }
@@ -75,65 +78,64 @@ fn sign_extended(from: u8, width: u8, v: u32) -> u32
 }
 
 /// MOVSX. Source: as above.
-#[tactic(auto, unfolding(crate::specs::Moves::movsx))]
-pub(crate) fn movsx(m: &Machine, i: &Insn, from: u8, next: &mut Next) -> Result<(), Event>
+#[inline(always)]
+#[tactic(auto, unfolding(crate::specs::Moves::movsx, insn_plan::specs::Plan::carried_out))]
+pub(crate) fn movsx(m: &mut Machine, i: &Insn, from: u8) -> Result<(), Event>
     requires from { IsTrue (is_width from) }
     requires width { IsTrue (is_width i.now.width) }
-    requires fresh { next.old ≡ fresh m.now.world }
-    ensures { Plans next.new result (planned m.now.world [] (movsx m.now.world i.now from)) }
+    ensures { CarriesOut m.old m.new result (movsx m.old.world i.now from) }
 {
-    let v = next.source(m, i.addr32, from, &i.second)?;
+    let v = source(m, i.addr32, from, &i.second)?;
     let v = sign_extended(from, i.width, cut(from, v));
-    next.put(&m.regs(), i.addr32, i.width, &i.first, v);
-    Ok(())
+    put_operand(m, i.addr32, i.width, &i.first, v)
 }
 
 /// XCHG. Source: as above.
-#[tactic(auto, unfolding(crate::specs::Moves::xchg))]
-pub(crate) fn xchg(m: &Machine, i: &Insn, next: &mut Next) -> Result<(), Event>
-    requires fresh { next.old ≡ fresh m.now.world }
-    ensures { Plans next.new result (planned m.now.world [] (xchg m.now.world i.now)) }
+#[inline(never)]
+#[tactic(auto, unfolding(crate::specs::Moves::xchg, insn_plan::specs::Plan::carried_out))]
+pub(crate) fn xchg(m: &mut Machine, i: &Insn) -> Result<(), Event>
+    ensures { CarriesOut m.old m.new result (xchg m.old.world i.now) }
 {
-    let a = next.source(m, i.addr32, i.width, &i.first)?;
-    let b = next.source(m, i.addr32, i.width, &i.second)?;
-    next.put(&m.regs(), i.addr32, i.width, &i.first, b);
-    next.put(&m.regs(), i.addr32, i.width, &i.second, a);
-    Ok(())
+    let a = source(m, i.addr32, i.width, &i.first)?;
+    let b = source(m, i.addr32, i.width, &i.second)?;
+    let mut next = Next::new(m);
+    next.put(m.registers(), i.addr32, i.width, &i.first, b);
+    next.put(m.registers(), i.addr32, i.width, &i.second, a);
+    next.settle(m)
 }
 
 // The offset of an operand in memory.
+#[inline(always)]
 fn operand_offset(m: &Machine, i: &Insn, operand: &Operand) -> u32
     ensures { result ≡ operand_offset m.now.world i.now operand.now }
 {
     match operand {
-        Operand::Mem(f) => offset_of(&m.regs(), i.addr32, f),
+        Operand::Mem(f) => offset_of(m.registers(), i.addr32, f),
         _ => 0,
     }
 }
 
 /// LEA. Source: as above.
-#[tactic(auto, unfolding(crate::specs::Moves::lea))]
-pub(crate) fn lea(m: &Machine, i: &Insn, next: &mut Next) -> Result<(), Event>
-    requires width { IsTrue (is_width i.now.width) }
-    requires fresh { next.old ≡ fresh m.now.world }
-    ensures { Plans next.new result (planned m.now.world [] (lea m.now.world i.now)) }
+#[inline(always)]
+#[tactic(auto, unfolding(crate::specs::Moves::lea, insn_plan::specs::Plan::carried_out))]
+pub(crate) fn lea(m: &mut Machine, i: &Insn) -> Result<(), Event>
+    requires { IsTrue (is_width i.now.width) }
+    ensures { CarriesOut m.old m.new result (lea m.old.world i.now) }
 {
     let v = cut(i.width, operand_offset(m, i, &i.second));
-    next.put(&m.regs(), i.addr32, i.width, &i.first, v);
-    Ok(())
+    put_operand(m, i.addr32, i.width, &i.first, v)
 }
 
 /// XLAT. Source: as above.
-#[tactic(auto, unfolding(crate::specs::Moves::xlat))]
-pub(crate) fn xlat(m: &Machine, i: &Insn, next: &mut Next) -> Result<(), Event>
-    requires fresh { next.old ≡ fresh m.now.world }
-    ensures { Plans next.new result (planned m.now.world [] (xlat m.now.world i.now)) }
+#[inline(never)]
+#[tactic(auto, unfolding(crate::specs::Moves::xlat, insn_plan::specs::Plan::carried_out, insn_plan::specs::Plan::settled, guest_space::specs::Pending::first_refusal, guest_space::specs::Pending::all_written))]
+pub(crate) fn xlat(m: &mut Machine, i: &Insn) -> Result<(), Event>
+    ensures { CarriesOut m.old m.new result (xlat m.old.world i.now) }
 {
-    let mut r = m.regs();
+    let r = m.registers();
     let off = cut_address(i.addr32, u64::from(r.ebx) + u64::from(r.eax % 0x100));
-    let v = next.read_at(m, i.seg, off, 8)?;
-    set_register(&mut r, 8, 0, v);
-    next.set_regs(r);
+    let v = read_width(m, i.seg, off, 1)?;
+    put_register(m, 8, EAX, v);
     Ok(())
 }
 
@@ -146,17 +148,15 @@ fn half_width(width: u8) -> u8
 }
 
 /// CBW and CWDE. Source: as above.
-#[tactic(auto, using(crate::proofs::Parts::half_fits), unfolding(crate::specs::Moves::cbw))]
-pub(crate) fn cbw(m: &Machine, i: &Insn, next: &mut Next) -> Result<(), Event>
-    requires width { IsTrue (is_width i.now.width) }
-    requires fresh { next.old ≡ fresh m.now.world }
-    ensures { Plans next.new result (planned m.now.world [] (cbw m.now.world i.now)) }
+#[inline(never)]
+#[tactic(auto, using(crate::proofs::Parts::half_fits), unfolding(crate::specs::Moves::cbw, insn_plan::specs::Plan::carried_out, insn_plan::specs::Plan::settled, guest_space::specs::Pending::first_refusal, guest_space::specs::Pending::all_written))]
+pub(crate) fn cbw(m: &mut Machine, i: &Insn) -> Result<(), Event>
+    requires { IsTrue (is_width i.now.width) }
+    ensures { CarriesOut m.old m.new result (cbw m.old.world i.now) }
 {
-    let mut r = m.regs();
     let half = half_width(i.width);
-    let v = sign_extended(half, i.width, register(&r, half, 0));
-    set_register(&mut r, i.width, 0, v);
-    next.set_regs(r);
+    let v = sign_extended(half, i.width, register(m.registers(), half, EAX));
+    put_register(m, i.width, EAX, v);
     Ok(())
 }
 
@@ -173,15 +173,13 @@ fn sign_bits(width: u8, v: u32) -> u32
 }
 
 /// CWD and CDQ. Source: as above.
-#[tactic(auto, unfolding(crate::specs::Moves::cwd))]
-pub(crate) fn cwd(m: &Machine, i: &Insn, next: &mut Next) -> Result<(), Event>
-    requires width { IsTrue (is_width i.now.width) }
-    requires fresh { next.old ≡ fresh m.now.world }
-    ensures { Plans next.new result (planned m.now.world [] (cwd m.now.world i.now)) }
+#[inline(never)]
+#[tactic(auto, unfolding(crate::specs::Moves::cwd, insn_plan::specs::Plan::carried_out, insn_plan::specs::Plan::settled, guest_space::specs::Pending::first_refusal, guest_space::specs::Pending::all_written))]
+pub(crate) fn cwd(m: &mut Machine, i: &Insn) -> Result<(), Event>
+    requires { IsTrue (is_width i.now.width) }
+    ensures { CarriesOut m.old m.new result (cwd m.old.world i.now) }
 {
-    let mut r = m.regs();
-    let sign = sign_bits(i.width, register(&r, i.width, 0));
-    set_register(&mut r, i.width, 2, sign);
-    next.set_regs(r);
+    let sign = sign_bits(i.width, register(m.registers(), i.width, EAX));
+    put_register(m, i.width, EDX, sign);
     Ok(())
 }

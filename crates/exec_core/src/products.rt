@@ -1,34 +1,41 @@
 // Products and quotients.
-ghost use Rattle.std.specs.Prelude.{◌≡◌, [], IsTrue};
+ghost use Rattle.std.specs.Prelude.{◌≡◌, IsTrue};
 ghost use Rattle.client_world.specs.Access.{fault_with};
 ghost use Rattle.client_world.specs.declared.faults.TheConstants.{DIVIDE_ERROR};
 ghost use Rattle.client_world.specs.declared.faults.Event.TheVariants.{Fault as fault};
+ghost use Rattle.cpu_alu.specs.Products.{mul_of, imul_of};
+ghost use Rattle.cpu_alu.specs.Quotients.{div_of, idiv_of};
 ghost use Rattle.cpu_values.specs.Word.{cut};
-ghost use Rattle.cpu_alu.specs.Products.{imul_of};
 ghost use Rattle.exec_core.specs.Products.{
+  Product,
+  Quotient,
   multiply,
   multiply_two,
   multiply_three,
   imul,
   is_empty,
   divide,
-  product_formula,
-  quotient_formula,
   with_double,
   high_register,
 };
+ghost use Rattle.guest_space.specs.Registers.{with_registers};
 ghost use Rattle.insn_forms.specs.Kinds.{is_width};
+ghost use Rattle.insn_plan.specs.Act.{with_flags};
+ghost use Rattle.insn_plan.specs.Operands.{put};
+ghost use Rattle.insn_plan.specs.Plan.{CarriesOut, Follows, settled};
 ghost use Rattle.insn_plan.specs.Registers.{register};
-ghost use Rattle.insn_forms.specs.declared.insn.Op.TheVariants.{Imul};
-ghost use Rattle.insn_plan.specs.Plan.{fresh, planned, Plans};
 
 use client_world::faults::DIVIDE_ERROR;
-use client_world::{Event, Fault, Flags, Regs};
+use client_world::general::{EAX, EDX};
+use client_world::{Event, Fault, Flags};
 use cpu_alu::{div, idiv, imul, mul};
 use cpu_values::cut;
 use guest_space::Machine;
-use insn_forms::{Insn, Op, Operand};
-use insn_plan::{Next, register, set_register};
+use insn_forms::{Insn, Operand};
+use insn_plan::{put_register, put_with_flags, register, source};
+
+/// The number of AH among the registers of 8 bits.
+pub(crate) const AH: u8 = 4;
 
 // A product at a width.
 macro_rules! product_at_width {
@@ -70,27 +77,55 @@ macro_rules! quotient_at_width {
     };
 }
 
-// The product of MUL or IMUL: its low half, its high half, and the flags.
-#[tactic(auto, unfolding(crate::specs::Products::product_formula))]
-fn product(op: Op, width: u8, a: u32, b: u32, f: Flags) -> (u32, u32, Flags)
-    requires { IsTrue (is_width width) }
-    ensures { result ≡ product_formula op width (cut width a) (cut width b) f }
-{
-    match op {
-        Op::Mul => product_at_width!(mul, width, a, b, f),
-        _ => product_at_width!(imul, width, a, b, f),
+/// Numbers with a sign or without one, in products and quotients.
+pub(crate) trait Sign {
+    ghost product: { Product };
+
+    ghost quotient: { Quotient };
+
+    /// A product at a width: its low half, its high half, and the flags.
+    fn product(width: u8, a: u32, b: u32, f: Flags) -> (u32, u32, Flags)
+        requires { IsTrue (is_width width) }
+        ensures { result ≡ product width (cut width a) (cut width b) f };
+
+    /// The quotient of a double word, its low half first, and the remainder; or none.
+    fn quotient(width: u8, low: u32, high: u32, by: u32) -> Option<(u32, u32)>
+        requires { IsTrue (is_width width) }
+        ensures { result ≡ quotient width (cut width low) (cut width high) (cut width by) };
+}
+
+/// Numbers without a sign, for MUL and DIV.
+pub(crate) struct Unsigned;
+
+impl Sign for Unsigned {
+    ghost product = { mul_of };
+
+    ghost quotient = { div_of };
+
+    fn product(width: u8, a: u32, b: u32, f: Flags) -> (u32, u32, Flags) {
+        product_at_width!(mul, width, a, b, f)
+    }
+
+    fn quotient(width: u8, low: u32, high: u32, by: u32) -> Option<(u32, u32)> {
+        quotient_at_width!(div, width, low, high, by)
     }
 }
 
-// The low half of IMUL's product, and the flags.
-#[tactic(auto, unfolding(crate::specs::Products::product_formula))]
-fn low_product(width: u8, a: u32, b: u32, f: Flags) -> (u32, Flags)
-    requires { IsTrue (is_width width) }
-    ensures low { result.0 ≡ (imul_of width (cut width a) (cut width b) f).0 }
-    ensures flags { result.1 ≡ (imul_of width (cut width a) (cut width b) f).2 }
-{
-    let (low, _, flags) = product(Op::Imul, width, a, b, f);
-    (low, flags)
+/// Numbers with a sign, for IMUL and IDIV.
+pub(crate) struct Signed;
+
+impl Sign for Signed {
+    ghost product = { imul_of };
+
+    ghost quotient = { idiv_of };
+
+    fn product(width: u8, a: u32, b: u32, f: Flags) -> (u32, u32, Flags) {
+        product_at_width!(imul, width, a, b, f)
+    }
+
+    fn quotient(width: u8, low: u32, high: u32, by: u32) -> Option<(u32, u32)> {
+        quotient_at_width!(idiv, width, low, high, by)
+    }
 }
 
 /// Exception 0.
@@ -103,28 +138,29 @@ pub(crate) fn divide_error() -> Event
     })
 }
 
-// The registers with a double word, its low half first.
-fn set_double(r: &mut Regs, width: u8, low: u32, high: u32)
-    ensures { r.new ≡ with_double width low high r.old }
+// Puts a double word into its registers, its low half first.
+fn put_double(m: &mut Machine, width: u8, low: u32, high: u32)
+    ensures { m.new ≡ with_registers (with_double width low high m.old.world.regs) m.old }
 {
-    set_register(r, width, 0, low);
-    set_register(r, width, high_register(width), high);
+    put_register(m, width, EAX, low);
+    put_register(m, width, high_register(width), high);
 }
 
 // The register of a double word's high half.
 fn high_register(width: u8) -> u8
     ensures { result ≡ high_register width }
 {
-    if width == 8 { 4 } else { 2 }
+    if width == 8 { AH } else { EDX }
 }
 
 // The register of a number, and that it has no more bits than the width.
 #[tactic(auto, unfolding(insn_plan::specs::Registers::register))]
-fn word_in(r: &Regs, width: u8, n: u8) -> u32
+fn word_in(m: &Machine, width: u8, n: u8) -> u32
     requires { IsTrue (is_width width) }
-    ensures value { result ≡ register r.now width n }
-    ensures in_range { cut width (register r.now width n) ≡ register r.now width n }
+    ensures value { result ≡ register m.now.world.regs width n }
+    ensures in_range { cut width (register m.now.world.regs width n) ≡ register m.now.world.regs width n }
 {
+    let r = m.registers();
     match width {
         8 => register(r, 8, n),
         16 => register(r, 16, n),
@@ -133,99 +169,82 @@ fn word_in(r: &Regs, width: u8, n: u8) -> u32
 }
 
 /// MUL, and IMUL of one operand. Source: 80386 Programmer's Reference Manual, ch. 17.
-#[tactic(auto, unfolding(crate::specs::Products::multiply))]
-pub(crate) fn multiply(m: &Machine, i: &Insn, next: &mut Next) -> Result<(), Event>
-    requires width { IsTrue (is_width i.now.width) }
-    requires fresh { next.old ≡ fresh m.now.world }
-    ensures { Plans next.new result (planned m.now.world [] (multiply (product_formula i.now.op) m.now.world i.now)) }
+#[inline(never)]
+#[tactic(auto, unfolding(crate::specs::Products::multiply, insn_plan::specs::Plan::carried_out, insn_plan::specs::Plan::settled, guest_space::specs::Pending::first_refusal, guest_space::specs::Pending::all_written))]
+pub(crate) fn multiply<S: Sign>(m: &mut Machine, i: &Insn) -> Result<(), Event>
+    requires { IsTrue (is_width i.now.width) }
+    ensures { CarriesOut m.old m.new result (multiply S.product m.old.world i.now) }
 {
-    let a = next.source(m, i.addr32, i.width, &i.first)?;
-    let mut r = m.regs();
-    let (low, high, flags) = product(i.op, i.width, word_in(&r, i.width, 0), a, r.flags);
-    r.flags = flags;
-    set_double(&mut r, i.width, low, high);
-    next.set_regs(r);
+    let a = source(m, i.addr32, i.width, &i.first)?;
+    let by = word_in(m, i.width, EAX);
+    let (low, high, flags) = S::product(i.width, by, a, m.registers().flags);
+    m.set_flags(flags);
+    put_double(m, i.width, low, high);
     Ok(())
+}
+
+// Puts the low half of IMUL's product where the first operand names and sets the flags, or gives the fault of the write.
+fn put_low_product(m: &mut Machine, i: &Insn, a: u32, b: u32) -> Result<(), Event>
+    requires { IsTrue (is_width i.now.width) }
+    ensures { let value = imul_of i.now.width (cut i.now.width a) (cut i.now.width b) m.old.world.regs.flags in
+        Follows m.old m.new result
+        (settled m.old (put m.old.world.regs i.now.addr32 i.now.width i.now.first value.0 (with_flags value.2 m.old.world))) }
+{
+    let (low, _, flags) = Signed::product(i.width, a, b, m.registers().flags);
+    put_with_flags(m, flags, i.addr32, i.width, &i.first, low)
 }
 
 // IMUL of two operands.
-#[tactic(auto, unfolding(crate::specs::Products::multiply_two))]
-fn multiply_two(m: &Machine, i: &Insn, next: &mut Next) -> Result<(), Event>
-    requires width { IsTrue (is_width i.now.width) }
-    requires fresh { next.old ≡ fresh m.now.world }
-    ensures { Plans next.new result (planned m.now.world [] (multiply_two m.now.world i.now)) }
+#[tactic(auto, unfolding(crate::specs::Products::multiply_two, insn_plan::specs::Plan::carried_out))]
+fn multiply_two(m: &mut Machine, i: &Insn) -> Result<(), Event>
+    requires { IsTrue (is_width i.now.width) }
+    ensures { CarriesOut m.old m.new result (multiply_two m.old.world i.now) }
 {
-    let a = next.source(m, i.addr32, i.width, &i.first)?;
-    let b = next.source(m, i.addr32, i.width, &i.second)?;
-    let r = m.regs();
-    let (low, flags) = low_product(i.width, a, b, r.flags);
-    next.set_regs(Regs { flags, ..r });
-    next.put(&r, i.addr32, i.width, &i.first, low);
-    Ok(())
+    let a = source(m, i.addr32, i.width, &i.first)?;
+    let b = source(m, i.addr32, i.width, &i.second)?;
+    put_low_product(m, i, a, b)
 }
 
 // IMUL of three operands.
-#[tactic(auto, unfolding(crate::specs::Products::multiply_three))]
-fn multiply_three(m: &Machine, i: &Insn, next: &mut Next) -> Result<(), Event>
-    requires width { IsTrue (is_width i.now.width) }
-    requires fresh { next.old ≡ fresh m.now.world }
-    ensures { Plans next.new result (planned m.now.world [] (multiply_three m.now.world i.now)) }
+#[tactic(auto, unfolding(crate::specs::Products::multiply_three, insn_plan::specs::Plan::carried_out))]
+fn multiply_three(m: &mut Machine, i: &Insn) -> Result<(), Event>
+    requires { IsTrue (is_width i.now.width) }
+    ensures { CarriesOut m.old m.new result (multiply_three m.old.world i.now) }
 {
-    let a = next.source(m, i.addr32, i.width, &i.second)?;
-    let b = next.source(m, i.addr32, i.width, &i.third)?;
-    let r = m.regs();
-    let (low, flags) = low_product(i.width, a, b, r.flags);
-    next.set_regs(Regs { flags, ..r });
-    next.put(&r, i.addr32, i.width, &i.first, low);
-    Ok(())
+    let a = source(m, i.addr32, i.width, &i.second)?;
+    let b = source(m, i.addr32, i.width, &i.third)?;
+    put_low_product(m, i, a, b)
 }
 
 /// IMUL, by the number of its operands. Source: as above.
-#[tactic(auto, unfolding(crate::specs::Products::imul, crate::specs::Products::product_formula))]
-pub(crate) fn multiply_signed(m: &Machine, i: &Insn, next: &mut Next) -> Result<(), Event>
-    requires imul { i.now.op ≡ Imul }
-    requires width { IsTrue (is_width i.now.width) }
-    requires fresh { next.old ≡ fresh m.now.world }
-    ensures { Plans next.new result (planned m.now.world [] (imul m.now.world i.now)) }
+#[inline(never)]
+#[tactic(auto, unfolding(crate::specs::Products::imul))]
+pub(crate) fn multiply_signed(m: &mut Machine, i: &Insn) -> Result<(), Event>
+    requires { IsTrue (is_width i.now.width) }
+    ensures { CarriesOut m.old m.new result (imul m.old.world i.now) }
 {
     if i.second == Operand::Empty {
-        multiply(m, i, next)
+        multiply::<Signed>(m, i)
     } else if i.third == Operand::Empty {
-        multiply_two(m, i, next)
+        multiply_two(m, i)
     } else {
-        multiply_three(m, i, next)
-    }
-}
-
-// The quotient of DIV or IDIV and its remainder, or none.
-#[tactic(auto, unfolding(crate::specs::Products::quotient_formula))]
-fn quotient(op: Op, width: u8, low: u32, high: u32, by: u32) -> Option<(u32, u32)>
-    requires { IsTrue (is_width width) }
-    ensures { result ≡ quotient_formula op width (cut width low) (cut width high) (cut width by) }
-{
-    match op {
-        Op::Div => quotient_at_width!(div, width, low, high, by),
-        _ => quotient_at_width!(idiv, width, low, high, by),
+        multiply_three(m, i)
     }
 }
 
 /// DIV and IDIV; exception 0 where there is no quotient. Source: as above.
-#[tactic(auto, unfolding(crate::specs::Products::divide))]
-pub(crate) fn divide(m: &Machine, i: &Insn, next: &mut Next) -> Result<(), Event>
-    requires width { IsTrue (is_width i.now.width) }
-    requires fresh { next.old ≡ fresh m.now.world }
-    ensures { Plans next.new result (planned m.now.world [] (divide (quotient_formula i.now.op) m.now.world i.now)) }
+#[inline(never)]
+#[tactic(auto, unfolding(crate::specs::Products::divide, insn_plan::specs::Plan::carried_out, insn_plan::specs::Plan::settled, guest_space::specs::Pending::first_refusal, guest_space::specs::Pending::all_written))]
+pub(crate) fn divide<S: Sign>(m: &mut Machine, i: &Insn) -> Result<(), Event>
+    requires { IsTrue (is_width i.now.width) }
+    ensures { CarriesOut m.old m.new result (divide S.quotient m.old.world i.now) }
 {
-    let by = next.source(m, i.addr32, i.width, &i.first)?;
-    let mut r = m.regs();
-    let low = word_in(&r, i.width, 0);
-    let high = word_in(&r, i.width, high_register(i.width));
-    match quotient(i.op, i.width, low, high, by) {
-        None => Err(divide_error()),
-        Some((quotient, remainder)) => {
-            set_double(&mut r, i.width, quotient, remainder);
-            next.set_regs(r);
-            Ok(())
-        }
-    }
+    let by = source(m, i.addr32, i.width, &i.first)?;
+    let low = word_in(m, i.width, EAX);
+    let high = word_in(m, i.width, high_register(i.width));
+    let Some((quotient, remainder)) = S::quotient(i.width, low, high, by) else {
+        return Err(divide_error());
+    };
+    put_double(m, i.width, quotient, remainder);
+    Ok(())
 }

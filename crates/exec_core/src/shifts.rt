@@ -1,76 +1,143 @@
 // Shifts and rotates, and the double shifts.
-ghost use Rattle.std.specs.Prelude.{◌≡◌, [], IsTrue};
-ghost use Rattle.cpu_values.specs.Word.{cut};
-ghost use Rattle.exec_core.specs.Shifts.{shift, shift_formula, double_shift, double_shift_formula};
+ghost use Rattle.std.specs.Prelude.{◌≡◌, IsTrue};
+ghost use Rattle.cpu_alu.specs.DoubleShifts.{shld_of, shrd_of};
+ghost use Rattle.cpu_values.specs.Word.{IsWidth, cut};
+ghost use Rattle.exec_core.specs.Shifts.{DoubleFormula, shift, double_shift};
+ghost use Rattle.guest_space.specs.Registers.{with_registers};
 ghost use Rattle.insn_forms.specs.Kinds.{is_width};
-ghost use Rattle.insn_plan.specs.Plan.{fresh, planned, Plans};
+ghost use Rattle.insn_plan.specs.Act.{with_flags};
+ghost use Rattle.insn_plan.specs.Operands.{and_write};
+ghost use Rattle.insn_plan.specs.Plan.{CarriesOut, Follows, settled};
+ghost use Rattle.insn_plan.specs.Registers.{offset_of};
 
 use crate::arithmetic::at_width;
-use client_world::{Event, Flags, Regs};
-use cpu_alu::{rcl, rcr, rol, ror, sar, shl, shld, shr, shrd};
+use crate::shift_operations::{Shift, ShiftAt};
+use client_world::{Event, Flags};
+use cpu_alu::{shld, shrd};
 use cpu_values::cut;
 use guest_space::Machine;
-use insn_forms::{Insn, Op};
-use insn_plan::Next;
+use insn_forms::{Insn, MemForm, Operand};
+use insn_plan::{offset_of, put_register, put_with_flags, source, write_number};
 
-// The result of a shift or rotate.
-#[tactic(auto, unfolding(crate::specs::Shifts::shift_formula))]
-fn shifted(op: Op, width: u8, a: u32, n: u8, f: Flags) -> (u32, Flags)
-    requires { IsTrue (is_width width) }
-    ensures { result ≡ shift_formula op width (cut width a) n f }
+// Sets the flags of a shift, and gives its result.
+#[inline(always)]
+fn set_shift_flags<const W: u8, O: ShiftAt<W>>(m: &mut Machine, a: u32, n: u8) -> u32
+    requires { IsWidth W }
+    ensures value { result ≡ (O.formula W (cut W a) n m.old.world.regs.flags).0 }
+    ensures flags { m.new ≡ with_registers (record m.old.world.regs {
+      flags = (O.formula W (cut W a) n m.old.world.regs.flags).1;
+    }) m.old }
 {
-    match op {
-        Op::Rol => at_width!(rol, width, [a], n, f),
-        Op::Ror => at_width!(ror, width, [a], n, f),
-        Op::Rcl => at_width!(rcl, width, [a], n, f),
-        Op::Rcr => at_width!(rcr, width, [a], n, f),
-        Op::Shl => at_width!(shl, width, [a], n, f),
-        Op::Shr => at_width!(shr, width, [a], n, f),
-        _ => at_width!(sar, width, [a], n, f),
-    }
+    let (v, f) = O::apply(cut::<W>(u64::from(a)), n, m.registers().flags);
+    m.set_flags(f);
+    v.get()
 }
 
-/// SHL, SHR, SAR, ROL, ROR, RCL, RCR. Source: 80386 Programmer's Reference Manual, ch. 17.
-#[tactic(auto, unfolding(crate::specs::Shifts::shift))]
-pub(crate) fn shift(m: &Machine, i: &Insn, next: &mut Next) -> Result<(), Event>
-    requires width { IsTrue (is_width i.now.width) }
-    requires fresh { next.old ≡ fresh m.now.world }
-    ensures { Plans next.new result (planned m.now.world [] (shift (shift_formula i.now.op) m.now.world i.now)) }
+// Writes the result of a shift to memory and sets the flags, or gives the fault of the write, which changes nothing.
+#[inline(never)]
+#[tactic(auto, unfolding(insn_plan::specs::Plan::settled))]
+fn write_shift<const W: u8, O: ShiftAt<W>>(
+    m: &mut Machine,
+    addr32: bool,
+    place: &MemForm,
+    a: u32,
+    n: u8,
+) -> Result<(), Event>
+    requires { IsWidth W }
+    ensures { let value = O.formula W (cut W a) n m.old.world.regs.flags in
+        Follows m.old m.new result (settled m.old (and_write place.now.seg (offset_of m.old.world.regs addr32 place.now) W value.0
+        (with_flags value.1 m.old.world))) }
 {
-    let a = next.source(m, i.addr32, i.width, &i.first)?;
-    let count = next.source(m, i.addr32, 8, &i.second)?;
-    let r = m.regs();
-    let (v, flags) = shifted(i.op, i.width, a, (count % 0x100) as u8, r.flags);
-    next.set_regs(Regs { flags, ..r });
-    next.put(&r, i.addr32, i.width, &i.first, v);
+    let (v, flags) = O::apply(cut::<W>(u64::from(a)), n, m.registers().flags);
+    let off = offset_of(m.registers(), addr32, place);
+    write_number(m, place.seg, off, W, v.get())?;
+    m.set_flags(flags);
     Ok(())
 }
 
-// The result of a double shift.
-#[tactic(auto, unfolding(crate::specs::Shifts::double_shift_formula))]
-fn double_shifted(op: Op, width: u8, a: u32, b: u32, n: u8, f: Flags) -> (u32, Flags)
-    requires { IsTrue (is_width width) }
-    ensures { result ≡ double_shift_formula op width (cut width a) (cut width b) n f }
+/// SHL, SHR, SAR, ROL, ROR, RCL, RCR. Source: 80386 Programmer's Reference Manual, ch. 17.
+#[inline(never)]
+#[tactic(auto, unfolding(crate::specs::Shifts::shift, insn_plan::specs::Operands::put, insn_plan::specs::Plan::carried_out, insn_plan::specs::Plan::settled, guest_space::specs::Pending::first_refusal, guest_space::specs::Pending::all_written))]
+pub(crate) fn shift<O: Shift>(m: &mut Machine, i: &Insn) -> Result<(), Event>
+    requires { IsTrue (is_width i.now.width) }
+    ensures { CarriesOut m.old m.new result (shift O.formula m.old.world i.now) }
 {
-    match op {
-        Op::Shld => at_width!(shld, width, [a, b], n, f),
-        _ => at_width!(shrd, width, [a, b], n, f),
+    let a = source(m, i.addr32, i.width, &i.first)?;
+    let n = (source(m, i.addr32, 8, &i.second)? % 0x100) as u8;
+    match &i.first {
+        Operand::Mem(place) => at_width!(i.width, write_shift, O, m, i.addr32, place, a, n),
+        first => {
+            let v = at_width!(i.width, set_shift_flags, O, m, a, n);
+            if let Operand::Reg { width, number } = first {
+                put_register(m, *width, *number, v);
+            }
+            Ok(())
+        }
+    }
+}
+
+// A double shift at a width: its result, and the flags.
+macro_rules! double_shifted {
+    ($formula:ident, $width:expr, $a:expr, $b:expr, $n:expr, $flags:expr) => {
+        match $width {
+            8 => {
+                let (v, f) = $formula::<8>(cut::<8>(u64::from($a)), cut::<8>(u64::from($b)), $n, $flags);
+                (v.get(), f)
+            }
+            16 => {
+                let (v, f) = $formula::<16>(cut::<16>(u64::from($a)), cut::<16>(u64::from($b)), $n, $flags);
+                (v.get(), f)
+            }
+            _ => {
+                let (v, f) = $formula::<32>(cut::<32>(u64::from($a)), cut::<32>(u64::from($b)), $n, $flags);
+                (v.get(), f)
+            }
+        }
+    };
+}
+
+/// A double shift: bits of a second number come in.
+pub(crate) trait DoubleShift {
+    ghost formula: { DoubleFormula };
+
+    /// The number `a` moved by `n` and the flags, where bits of `b` come in and the flags were `f`.
+    fn apply(width: u8, a: u32, b: u32, n: u8, f: Flags) -> (u32, Flags)
+        requires { IsTrue (is_width width) }
+        ensures { result ≡ formula width (cut width a) (cut width b) n f };
+}
+
+/// SHLD.
+pub(crate) struct ShiftLeftDouble;
+
+impl DoubleShift for ShiftLeftDouble {
+    ghost formula = { shld_of };
+
+    fn apply(width: u8, a: u32, b: u32, n: u8, f: Flags) -> (u32, Flags) {
+        double_shifted!(shld, width, a, b, n, f)
+    }
+}
+
+/// SHRD.
+pub(crate) struct ShiftRightDouble;
+
+impl DoubleShift for ShiftRightDouble {
+    ghost formula = { shrd_of };
+
+    fn apply(width: u8, a: u32, b: u32, n: u8, f: Flags) -> (u32, Flags) {
+        double_shifted!(shrd, width, a, b, n, f)
     }
 }
 
 /// SHLD, SHRD. Source: as above.
-#[tactic(auto, unfolding(crate::specs::Shifts::double_shift))]
-pub(crate) fn double_shift(m: &Machine, i: &Insn, next: &mut Next) -> Result<(), Event>
-    requires width { IsTrue (is_width i.now.width) }
-    requires fresh { next.old ≡ fresh m.now.world }
-    ensures { Plans next.new result (planned m.now.world [] (double_shift (double_shift_formula i.now.op) m.now.world i.now)) }
+#[inline(never)]
+#[tactic(auto, unfolding(crate::specs::Shifts::double_shift, insn_plan::specs::Plan::carried_out))]
+pub(crate) fn double_shift<O: DoubleShift>(m: &mut Machine, i: &Insn) -> Result<(), Event>
+    requires { IsTrue (is_width i.now.width) }
+    ensures { CarriesOut m.old m.new result (double_shift O.formula m.old.world i.now) }
 {
-    let a = next.source(m, i.addr32, i.width, &i.first)?;
-    let b = next.source(m, i.addr32, i.width, &i.second)?;
-    let count = next.source(m, i.addr32, 8, &i.third)?;
-    let r = m.regs();
-    let (v, flags) = double_shifted(i.op, i.width, a, b, (count % 0x100) as u8, r.flags);
-    next.set_regs(Regs { flags, ..r });
-    next.put(&r, i.addr32, i.width, &i.first, v);
-    Ok(())
+    let a = source(m, i.addr32, i.width, &i.first)?;
+    let b = source(m, i.addr32, i.width, &i.second)?;
+    let n = (source(m, i.addr32, 8, &i.third)? % 0x100) as u8;
+    let (v, flags) = O::apply(i.width, a, b, n, m.registers().flags);
+    put_with_flags(m, flags, i.addr32, i.width, &i.first, v)
 }

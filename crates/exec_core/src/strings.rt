@@ -1,5 +1,5 @@
 // Strings. One step is one element.
-ghost use Rattle.std.specs.Prelude.{◌≡◌, [], IsTrue};
+ghost use Rattle.std.specs.Prelude.{◌≡◌, IsTrue};
 ghost use Rattle.exec_core.specs.Strings.{
   is_repeated,
   is_over,
@@ -15,16 +15,21 @@ ghost use Rattle.exec_core.specs.Strings.{
   scas,
 };
 ghost use Rattle.insn_forms.specs.Kinds.{is_width};
-ghost use Rattle.insn_plan.specs.Plan.{fresh, planned, Plans};
+ghost use Rattle.guest_space.specs.Registers.{with_registers};
+ghost use Rattle.insn_plan.specs.Plan.{CarriesOut};
 ghost use Rattle.insn_plan.specs.Registers.{cut_address};
 
 use crate::arithmetic::difference_flags;
-use client_world::{Event, Flags, Regs, SegReg};
+use client_world::general::{EAX, ECX, EDI, ESI};
+use client_world::{Event, Flags, SegReg};
 use guest_space::{Machine, byte_count};
 use insn_forms::{Insn, Rep};
-use insn_plan::{Next, counter, cut_address, register, set_register, with_address};
+use insn_plan::{
+    counter, cut_address, put_register, read_width, register, with_address, write_number,
+};
 
 // Whether there is a repeat prefix.
+#[inline(always)]
 fn is_repeated(rep: Rep) -> bool
     ensures { result ≡ is_repeated rep }
 {
@@ -35,18 +40,20 @@ fn is_repeated(rep: Rep) -> bool
 }
 
 // Whether there is nothing to do: a counter of 0 under a repeat prefix.
+#[inline(always)]
 fn is_over(m: &Machine, i: &Insn) -> bool
     ensures { result ≡ is_over m.now.world i.now }
 {
     is_repeated(i.rep) && counter(m, i) == 0
 }
 
-// A string register behind the element, or before it where DF is set.
+// A string register after the element, or before it where DF is set.
+#[inline(always)]
 fn next_element(m: &Machine, i: &Insn, at: u32) -> u32
     ensures { result ≡ next_element m.now.world i.now at }
 {
     let size = u64::from(byte_count(i.width));
-    let moved = if m.regs().flags.df {
+    let moved = if m.registers().flags.df {
         u64::from(at) + 0x1_0000_0000 - size
     } else {
         u64::from(at) + size
@@ -54,62 +61,61 @@ fn next_element(m: &Machine, i: &Insn, at: u32) -> u32
     with_address(i.addr32, at, cut_address(i.addr32, moved))
 }
 
-// The registers with (E)SI at the next element.
-fn with_source_next(m: &Machine, i: &Insn, r: Regs) -> Regs
-    ensures { result ≡ with_source_next m.now.world i.now r }
-{
-    Regs {
-        esi: next_element(m, i, m.regs().esi),
-        ..r
-    }
-}
-
-// The registers with (E)DI at the next element.
-fn with_destination_next(m: &Machine, i: &Insn, r: Regs) -> Regs
-    ensures { result ≡ with_destination_next m.now.world i.now r }
-{
-    Regs {
-        edi: next_element(m, i, m.regs().edi),
-        ..r
-    }
-}
-
 // The offset of the element at (E)SI.
+#[inline(always)]
 fn source_offset(m: &Machine, i: &Insn) -> u32
     ensures { result ≡ cut_address i.now.addr32 m.now.world.regs.esi }
 {
-    cut_address(i.addr32, u64::from(m.regs().esi))
+    cut_address(i.addr32, u64::from(m.registers().esi))
 }
 
 // The offset of the element at ES:(E)DI.
+#[inline(always)]
 fn destination_offset(m: &Machine, i: &Insn) -> u32
     ensures { result ≡ cut_address i.now.addr32 m.now.world.regs.edi }
 {
-    cut_address(i.addr32, u64::from(m.regs().edi))
+    cut_address(i.addr32, u64::from(m.registers().edi))
 }
 
-// The registers after an element: the counter, and the instruction pointer where the repetition goes on.
-fn repeated(m: &Machine, i: &Insn, len: u8, goes_on: bool, r: Regs) -> Regs
-    ensures { result ≡ repeated m.now.world i.now len goes_on r }
+// Moves (E)SI to the next element.
+#[inline(always)]
+#[tactic(auto, unfolding(client_world::specs::General::with_general))]
+fn move_source(m: &mut Machine, i: &Insn)
+    ensures { m.new ≡ with_registers (with_source_next m.old.world i.now m.old.world.regs) m.old }
 {
-    if !is_repeated(i.rep) {
-        return r;
-    }
-    let count = counter(m, i);
-    let now = m.regs();
-    let start = (u64::from(now.eip) + 0x1_0000_0000 - u64::from(len)) % 0x1_0000_0000;
-    Regs {
-        ecx: with_address(i.addr32, now.ecx, count.saturating_sub(1)),
-        eip: if goes_on && count != 1 {
-            start as u32
-        } else {
-            now.eip
-        },
-        ..r
+    let esi = next_element(m, i, m.registers().esi);
+    m.set_general(ESI, esi);
+}
+
+// Moves (E)DI to the next element.
+#[inline(always)]
+#[tactic(auto, unfolding(client_world::specs::General::with_general))]
+fn move_destination(m: &mut Machine, i: &Insn)
+    ensures { m.new ≡ with_registers (with_destination_next m.old.world i.now m.old.world.regs) m.old }
+{
+    let edi = next_element(m, i, m.registers().edi);
+    m.set_general(EDI, edi);
+}
+
+// Counts an element under a repeat prefix: the counter goes down, and while there are more the instruction pointer goes back.
+#[inline(always)]
+#[tactic(auto, unfolding(client_world::specs::General::with_general))]
+fn count_element(m: &mut Machine, i: &Insn, len: u8, goes_on: bool)
+    ensures { m.new ≡ with_registers (repeated m.old.world i.now len goes_on m.old.world.regs) m.old }
+{
+    if is_repeated(i.rep) {
+        let count = counter(m, i);
+        let ecx = with_address(i.addr32, m.registers().ecx, count.saturating_sub(1));
+        if goes_on && count != 1 {
+            let eip = u64::from(m.registers().eip) + 0x1_0000_0000 - u64::from(len);
+            m.set_eip((eip % 0x1_0000_0000) as u32);
+        }
+        m.set_general(ECX, ecx);
     }
 }
 
 // Whether CMPS and SCAS go on: while ZF is set (F3), or clear (F2).
+#[inline(always)]
 fn goes_on_with(rep: Rep, f: Flags) -> bool
     ensures { result ≡ goes_on_with rep f }
 {
@@ -122,95 +128,100 @@ fn goes_on_with(rep: Rep, f: Flags) -> bool
 
 /// MOVS: the element at ES:(E)DI becomes the one at (E)SI.
 /// Source: 80386 Programmer's Reference Manual, ch. 17, "MOVS/MOVSB/MOVSW/MOVSD"; that a repetition is a step is own.
-#[tactic(auto, unfolding(crate::specs::Strings::movs))]
-pub(crate) fn movs(m: &Machine, i: &Insn, len: u8, next: &mut Next) -> Result<(), Event>
-    requires fresh { next.old ≡ fresh m.now.world }
-    ensures { Plans next.new result (planned m.now.world [] (movs m.now.world i.now len)) }
+#[inline(never)]
+#[tactic(auto, unfolding(crate::specs::Strings::movs, insn_plan::specs::Plan::carried_out, insn_plan::specs::Plan::settled, guest_space::specs::Pending::first_refusal, guest_space::specs::Pending::all_written))]
+pub(crate) fn movs(m: &mut Machine, i: &Insn, len: u8) -> Result<(), Event>
+    ensures { CarriesOut m.old m.new result (movs m.old.world i.now len) }
 {
     if is_over(m, i) {
         return Ok(());
     }
-    let v = next.read_at(m, i.seg, source_offset(m, i), i.width)?;
-    let r = with_source_next(m, i, with_destination_next(m, i, m.regs()));
-    next.set_regs(repeated(m, i, len, true, r));
-    next.write(SegReg::Es, destination_offset(m, i), i.width, v);
+    let v = read_width(m, i.seg, source_offset(m, i), byte_count(i.width))?;
+    write_number(m, SegReg::Es, destination_offset(m, i), i.width, v)?;
+    move_source(m, i);
+    move_destination(m, i);
+    count_element(m, i, len, true);
     Ok(())
 }
 
 /// CMPS: the flags of the element at (E)SI less the one at ES:(E)DI.
 /// Source: 80386 Programmer's Reference Manual, ch. 17, "CMPS/CMPSB/CMPSW/CMPSD"; that a repetition is a step is own.
-#[tactic(auto, unfolding(crate::specs::Strings::cmps))]
-pub(crate) fn cmps(m: &Machine, i: &Insn, len: u8, next: &mut Next) -> Result<(), Event>
-    requires width { IsTrue (is_width i.now.width) }
-    requires fresh { next.old ≡ fresh m.now.world }
-    ensures { Plans next.new result (planned m.now.world [] (cmps m.now.world i.now len)) }
+#[inline(never)]
+#[tactic(auto, unfolding(crate::specs::Strings::cmps, insn_plan::specs::Plan::carried_out, insn_plan::specs::Plan::settled, guest_space::specs::Pending::first_refusal, guest_space::specs::Pending::all_written))]
+pub(crate) fn cmps(m: &mut Machine, i: &Insn, len: u8) -> Result<(), Event>
+    requires { IsTrue (is_width i.now.width) }
+    ensures { CarriesOut m.old m.new result (cmps m.old.world i.now len) }
 {
     if is_over(m, i) {
         return Ok(());
     }
-    let a = next.read_at(m, i.seg, source_offset(m, i), i.width)?;
-    let b = next.read_at(m, SegReg::Es, destination_offset(m, i), i.width)?;
-    let old = m.regs();
-    let flags = difference_flags(i.width, a, b, old.flags);
-    let r = with_source_next(m, i, with_destination_next(m, i, Regs { flags, ..old }));
-    next.set_regs(repeated(m, i, len, goes_on_with(i.rep, flags), r));
+    let size = byte_count(i.width);
+    let a = read_width(m, i.seg, source_offset(m, i), size)?;
+    let b = read_width(m, SegReg::Es, destination_offset(m, i), size)?;
+    let flags = difference_flags(i.width, a, b, m.registers().flags);
+    move_source(m, i);
+    move_destination(m, i);
+    count_element(m, i, len, goes_on_with(i.rep, flags));
+    m.set_flags(flags);
     Ok(())
 }
 
 /// STOS: the element at ES:(E)DI becomes the accumulator.
 /// Source: 80386 Programmer's Reference Manual, ch. 17, "STOS/STOSB/STOSW/STOSD"; that a repetition is a step is own.
-#[tactic(auto, unfolding(crate::specs::Strings::stos))]
-pub(crate) fn stos(m: &Machine, i: &Insn, len: u8, next: &mut Next) -> Result<(), Event>
-    requires fresh { next.old ≡ fresh m.now.world }
-    ensures { Plans next.new result (planned m.now.world [] (stos m.now.world i.now len)) }
+#[inline(never)]
+#[tactic(auto, unfolding(crate::specs::Strings::stos, insn_plan::specs::Plan::carried_out, insn_plan::specs::Plan::settled, guest_space::specs::Pending::first_refusal, guest_space::specs::Pending::all_written))]
+pub(crate) fn stos(m: &mut Machine, i: &Insn, len: u8) -> Result<(), Event>
+    ensures { CarriesOut m.old m.new result (stos m.old.world i.now len) }
 {
     if is_over(m, i) {
         return Ok(());
     }
-    let old = m.regs();
-    let r = with_destination_next(m, i, old);
-    next.set_regs(repeated(m, i, len, true, r));
-    next.write(
+    let accumulator = register(m.registers(), i.width, EAX);
+    write_number(
+        m,
         SegReg::Es,
         destination_offset(m, i),
         i.width,
-        register(&old, i.width, 0),
-    );
+        accumulator,
+    )?;
+    move_destination(m, i);
+    count_element(m, i, len, true);
     Ok(())
 }
 
 /// LODS: the accumulator becomes the element at (E)SI.
 /// Source: 80386 Programmer's Reference Manual, ch. 17, "LODS/LODSB/LODSW/LODSD"; that a repetition is a step is own.
-#[tactic(auto, unfolding(crate::specs::Strings::lods))]
-pub(crate) fn lods(m: &Machine, i: &Insn, len: u8, next: &mut Next) -> Result<(), Event>
-    requires fresh { next.old ≡ fresh m.now.world }
-    ensures { Plans next.new result (planned m.now.world [] (lods m.now.world i.now len)) }
+#[inline(never)]
+#[tactic(auto, unfolding(crate::specs::Strings::lods, insn_plan::specs::Plan::carried_out, insn_plan::specs::Plan::settled, guest_space::specs::Pending::first_refusal, guest_space::specs::Pending::all_written, client_world::specs::General::with_general, insn_plan::specs::Registers::with_register))]
+pub(crate) fn lods(m: &mut Machine, i: &Insn, len: u8) -> Result<(), Event>
+    ensures { CarriesOut m.old m.new result (lods m.old.world i.now len) }
 {
     if is_over(m, i) {
         return Ok(());
     }
-    let v = next.read_at(m, i.seg, source_offset(m, i), i.width)?;
-    let mut r = m.regs();
-    set_register(&mut r, i.width, 0, v);
-    next.set_regs(repeated(m, i, len, true, with_source_next(m, i, r)));
+    let v = read_width(m, i.seg, source_offset(m, i), byte_count(i.width))?;
+    put_register(m, i.width, EAX, v);
+    move_source(m, i);
+    count_element(m, i, len, true);
     Ok(())
 }
 
 /// SCAS: the flags of the accumulator less the element at ES:(E)DI.
 /// Source: 80386 Programmer's Reference Manual, ch. 17, "SCAS/SCASB/SCASW/SCASD"; that a repetition is a step is own.
-#[tactic(auto, unfolding(crate::specs::Strings::scas))]
-pub(crate) fn scas(m: &Machine, i: &Insn, len: u8, next: &mut Next) -> Result<(), Event>
-    requires width { IsTrue (is_width i.now.width) }
-    requires fresh { next.old ≡ fresh m.now.world }
-    ensures { Plans next.new result (planned m.now.world [] (scas m.now.world i.now len)) }
+#[inline(never)]
+#[tactic(auto, unfolding(crate::specs::Strings::scas, insn_plan::specs::Plan::carried_out, insn_plan::specs::Plan::settled, guest_space::specs::Pending::first_refusal, guest_space::specs::Pending::all_written))]
+pub(crate) fn scas(m: &mut Machine, i: &Insn, len: u8) -> Result<(), Event>
+    requires { IsTrue (is_width i.now.width) }
+    ensures { CarriesOut m.old m.new result (scas m.old.world i.now len) }
 {
     if is_over(m, i) {
         return Ok(());
     }
-    let b = next.read_at(m, SegReg::Es, destination_offset(m, i), i.width)?;
-    let old = m.regs();
-    let flags = difference_flags(i.width, register(&old, i.width, 0), b, old.flags);
-    let r = with_destination_next(m, i, Regs { flags, ..old });
-    next.set_regs(repeated(m, i, len, goes_on_with(i.rep, flags), r));
+    let b = read_width(m, SegReg::Es, destination_offset(m, i), byte_count(i.width))?;
+    let a = register(m.registers(), i.width, EAX);
+    let flags = difference_flags(i.width, a, b, m.registers().flags);
+    move_destination(m, i);
+    count_element(m, i, len, goes_on_with(i.rep, flags));
+    m.set_flags(flags);
     Ok(())
 }
