@@ -1,1 +1,2 @@
 pub mod FrameReads
+pub mod Loaded

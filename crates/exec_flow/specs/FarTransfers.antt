@@ -30,7 +30,7 @@ jump_far w i = do
   p ← pointer w i i.first
   far_transfer w (pointer_selector i p) (pointer_offset i p) false (unchanged w)
 
--- CALL far: CS and the instruction pointer behind it are pushed
+-- CALL far: CS and the address of the next instruction are pushed
 unfoldable pub call_far : World → Insn → Act
 call_far w i = do
   p ← pointer w i i.first
@@ -45,13 +45,19 @@ retf w i = do
   far_transfer w (low_half cs) ip true
       (with_regs (released w (immediate i.first) (items_popped w i.width 2 w.regs)) (unchanged w))
 
--- a frame popped that an interrupt pushed, in items of so many bits: the instruction pointer, CS and the flags image
+-- a frame popped that an interrupt pushed, in items of that many bits: the instruction pointer, CS and the flags image
 unfoldable pub frame_popped : World → ℕ → Act
 frame_popped w bits = do
   ip ← stack_item w bits 0
   cs ← stack_item w bits 1
   image ← stack_item w bits 2
   far_transfer w (low_half cs) ip true (flags_popped w image (with_regs (items_popped w bits 3 w.regs) (unchanged w)))
+
+-- what a frame leaves when it is popped, by what its items hold
+abbrev pub frame_left : World → ℕ → ℕ → ℕ → ℕ → Pending
+frame_left w bits ip cs image =
+    let p = flags_popped w image (with_regs (items_popped w bits 3 w.regs) (unchanged w)) in
+    with_regs (record p.regs { cs = code_selector w cs; eip = ip }) p
 
 -- IRET
 unfoldable pub iret : World → Insn → Act

@@ -18,7 +18,7 @@ use Rattle.insn_plan.specs.Stack.{has_big_stack, pushed, items_popped, stack_poi
 use Rattle.exec_flow.specs.Pointers.{memory_bytes}
 use Rattle.exec_flow.specs.Transfers.{at_operand_size, immediate}
 
--- where the frame pointer of a level was saved: so many items below (E)BP
+-- where the frame pointer of a level was saved: that many items below (E)BP
 abbrev pub saved_frame : World → Insn → ℕ → ℕ
 saved_frame w i level = at_operand_size i (w.regs.ebp + 2 ^ 32 - level * byte_count i.width)
 

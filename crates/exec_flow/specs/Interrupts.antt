@@ -35,7 +35,7 @@ item_bits (Some ThirtyTwo) = 32
 abbrev pub frame_bits : World → ℕ
 frame_bits w = elim w.mode [ Real ↦ 16 | Protected ↦ item_bits w.width ]
 
--- what a software interrupt pushes: the flags image with the virtual interrupt flag, CS, and the instruction pointer behind it
+-- what a software interrupt pushes: the flags image with the virtual interrupt flag, CS and EIP
 unfoldable pub interrupt_pushed : World → Pending
 interrupt_pushed w =
     pushed w (frame_bits w) w.regs.eip (pushed w (frame_bits w) w.regs.cs

@@ -1,4 +1,4 @@
--- Far pointers: an offset of the operand size, and behind it a selector. One in memory is read in one access.
+-- Far pointers: an offset of the operand size, and after it a selector. One in memory is read in one access.
 -- Source: 80386 Programmer's Reference Manual, ch. 2, "Pointer", and ch. 17, JMP, CALL and LES; that it is one access is own.
 use Rattle.std.specs.Prelude.{ℕ, ◌+◌, ◌*◌, ◌/◌, ◌%◌, ◌^◌, nat_eq, if◌then◌else◌}
 use Rattle.client_world.specs.Registers.{low_half}
@@ -9,7 +9,7 @@ use Rattle.insn_forms.specs.declared.insn.Operand.TheVariants.{Empty, Reg, Seg, 
 use Rattle.insn_plan.specs.Act.{Given, From, Input}
 use Rattle.insn_plan.specs.Registers.{offset_of}
 
--- an operand in memory read as so many bytes; another operand has none
+-- an operand in memory read as n bytes; another operand has none
 unfoldable pub memory_bytes : World → Insn → ℕ → Operand → Input
 memory_bytes w i n Empty = Given 0
 memory_bytes w i n (Reg own number) = Given 0

@@ -1,4 +1,4 @@
--- Near transfers: Jcc, JCXZ, LOOP, LOOPE, LOOPNE, JMP, CALL, RET. EIP is already behind the instruction.
+-- Near transfers: Jcc, JCXZ, LOOP, LOOPE, LOOPNE, JMP, CALL, RET. EIP already points after the instruction.
 -- Source: 80386 Programmer's Reference Manual, ch. 17, each under its name; that a loop whose jump faults keeps its counter is own.
 use Rattle.std.specs.Prelude.{ℕ, ◌+◌, ◌-◌, ◌%◌, ◌^◌, Bool, false, not, ◌&&◌, nat_eq, if◌then◌else◌}
 use Rattle.client_world.specs.declared.registers.Regs.{Regs}
@@ -15,7 +15,7 @@ use Rattle.insn_plan.specs.Operands.{source}
 use Rattle.insn_plan.specs.Registers.{cut_address}
 use Rattle.insn_plan.specs.Stack.{pushed, stack_item, items_popped, stack_pointer_up, with_stack_pointer}
 
--- the target of a near transfer, before it is cut: a distance from the instruction behind this one, or the number of an operand
+-- the target of a near transfer, before it is cut: a distance from the next instruction, or the number of an operand
 unfoldable pub target : World → Insn → Operand → Input
 target w i Empty = source w.regs i.addr32 i.width Empty
 target w i (Reg own number) = source w.regs i.addr32 i.width (Reg own number)
@@ -64,7 +64,7 @@ jmp w i = do
   ip ← target w i i.first
   near_transfer w i ip (unchanged w)
 
--- CALL: the instruction pointer behind it is pushed
+-- CALL: the address of the next instruction is pushed
 unfoldable pub call : World → Insn → Act
 call w i = do
   ip ← target w i i.first
@@ -79,7 +79,7 @@ immediate (Mem f) = 0
 immediate (Imm v) = v
 immediate (Far pointer) = 0
 
--- the registers with so many bytes more dropped from the stack
+-- the registers with n bytes more dropped from the stack
 abbrev pub released : World → ℕ → Regs → Regs
 released w n r = with_stack_pointer w (stack_pointer_up w n r) r
 

@@ -1,8 +1,8 @@
 // The instructions of this crate, and what each of them does.
-ghost use Rattle.std.specs.Prelude.{◌≡◌, [], IsTrue};
-ghost use Rattle.exec_flow.specs.Dispatch.{IsFlow, flow_row, is_flow, is_segment};
+ghost use Rattle.std.specs.Prelude.{IsTrue};
+ghost use Rattle.exec_flow.specs.Dispatch.{IsFlow, flow_row};
 ghost use Rattle.insn_forms.specs.Kinds.{has_good_number, is_width};
-ghost use Rattle.insn_plan.specs.Plan.{Follows, Plans, carried_out, fresh, planned};
+ghost use Rattle.insn_plan.specs.Plan.{CarriesOut};
 
 use crate::far_transfers::{call_far, iret, jump_far, retf};
 use crate::flag_images::{cli, popf, pushf, sti};
@@ -17,84 +17,62 @@ use crate::segments::{load_pointer, mov_segment, pop_segment, push_segment};
 use crate::transfers::{call, jcc, jcxz, jmp, loop_while, ret};
 use client_world::{Event, SegReg};
 use guest_space::Machine;
-use insn_forms::{Insn, Op, Operand};
-use insn_plan::Next;
+use insn_forms::{Insn, Op};
 
-// Whether an operand is a segment register.
-fn is_segment(operand: &Operand) -> bool
-    ensures { result ≡ is_segment operand.now }
-{
-    matches!(operand, Operand::Seg(_))
-}
-
-/// The plan of an instruction of this crate: nothing of the machine changes.
-#[tactic(auto, unfolding(crate::specs::Dispatch::is_flow, crate::specs::Dispatch::flow_row))]
-fn plan(m: &Machine, i: &Insn, len: u8, next: &mut Next) -> Result<(), Event>
-    requires flow { IsFlow i.now }
-    requires width { IsTrue (is_width i.now.width) }
-    requires number { IsTrue (has_good_number i.now.op) }
-    requires fresh { next.old ≡ fresh m.now.world }
-    ensures { Plans next.new result (planned m.now.world [] (flow_row i.now.op m.now.world i.now len)) }
-{
-    match i.op {
-        Op::Mov => mov_segment(m, i, next),
-        Op::Push => push_segment(m, i, next),
-        Op::Pop => pop_segment(m, i, next),
-        Op::Pushf => pushf(m, i, next),
-        Op::Popf => popf(m, i, next),
-        Op::Jcc(n) => jcc(m, i, n, next),
-        Op::Jcxz => jcxz(m, i, next),
-        Op::Loop => loop_while(m, i, true, next),
-        Op::Loope => loop_while(m, i, m.regs().flags.zf, next),
-        Op::Loopne => loop_while(m, i, !m.regs().flags.zf, next),
-        Op::Jmp => jmp(m, i, next),
-        Op::JmpFar => jump_far(m, i, next),
-        Op::Call => call(m, i, next),
-        Op::CallFar => call_far(m, i, next),
-        Op::Ret => ret(m, i, next),
-        Op::Retf => retf(m, i, next),
-        Op::Int => int(m, i, len, next),
-        Op::Int3 => int3(m, len, next),
-        Op::Into => into(m, len, next),
-        Op::Iret => iret(m, i, next),
-        Op::Bound => bound(m, i, next),
-        Op::Enter => enter(m, i, next),
-        Op::Leave => leave(m, i, next),
-        Op::Cli => cli(m, next),
-        Op::Sti => sti(m, next),
-        Op::In => input(m, i, next),
-        Op::Out => output(m, next),
-        Op::Les => load_pointer(m, i, SegReg::Es, next),
-        Op::Lds => load_pointer(m, i, SegReg::Ds, next),
-        Op::Lss => load_pointer(m, i, SegReg::Ss, next),
-        Op::Lfs => load_pointer(m, i, SegReg::Fs, next),
-        Op::Lgs => load_pointer(m, i, SegReg::Gs, next),
-        Op::Lar => tell_access_rights(m, i, next),
-        Op::Lsl => tell_byte_limit(m, i, next),
-        Op::Verr => verify_readable(m, i, next),
-        Op::Verw => verify_writable(m, i, next),
-        Op::Arpl => arpl(m, i, next),
-        Op::Sldt | Op::Str | Op::Sgdt | Op::Sidt | Op::Smsw => invalid_opcode(m, next),
-        Op::Lldt | Op::Ltr => load_table(m, next),
-        Op::Hlt | Op::Ins | Op::Outs | Op::Lgdt | Op::Lidt | Op::Lmsw => privileged(m, next),
-        Op::Clts | Op::MovControl | Op::MovDebug | Op::MovTest => privileged(m, next),
-        Op::Esc => escape(m, next),
-        _ => unreachable!(),
-    }
-}
-
-/// Runs an instruction of this crate, whose EIP is already behind it. An event leaves the machine as it was; a software interrupt is an
-/// event that names its number and the instruction's length.
+/// Runs an instruction of this crate; EIP already points after it. An event leaves the machine as it was; a software interrupt is an event
+/// that names its number and the instruction's length.
 /// Source: 80386 Programmer's Reference Manual, ch. 17; that an instruction which faults changes nothing is own.
-#[tactic(auto, unfolding(insn_plan::specs::Plan::carried_out))]
+#[inline(always)]
+#[tactic(auto, unfolding(crate::specs::Dispatch::is_flow, crate::specs::Dispatch::flow_row))]
 pub fn run_flow(m: &mut Machine, insn: &Insn, len: u8) -> Result<(), Event>
     requires flow { IsFlow insn.now }
     requires width { IsTrue (is_width insn.now.width) }
     requires number { IsTrue (has_good_number insn.now.op) }
-    ensures { Follows m.old m.new result
-        (carried_out m.old (planned m.old.world [] (flow_row insn.now.op m.old.world insn.now len))) }
+    ensures { CarriesOut m.old m.new result (flow_row insn.now.op m.old.world insn.now len) }
 {
-    let mut next = Next::new(m);
-    plan(m, insn, len, &mut next)?;
-    next.settle(m)
+    match insn.op {
+        Op::Jcc(n) => jcc(m, insn, n),
+        Op::Jmp => jmp(m, insn),
+        Op::Call => call(m, insn),
+        Op::Ret => ret(m, insn),
+        Op::Push => push_segment(m, insn),
+        Op::Pop => pop_segment(m, insn),
+        Op::Mov => mov_segment(m, insn),
+        Op::Les => load_pointer(m, insn, SegReg::Es),
+        Op::Lds => load_pointer(m, insn, SegReg::Ds),
+        Op::Loop => loop_while(m, insn, true),
+        Op::Loope => loop_while(m, insn, m.registers().flags.zf),
+        Op::Loopne => loop_while(m, insn, !m.registers().flags.zf),
+        Op::Jcxz => jcxz(m, insn),
+        Op::Pushf => pushf(m, insn),
+        Op::Popf => popf(m, insn),
+        Op::JmpFar => jump_far(m, insn),
+        Op::CallFar => call_far(m, insn),
+        Op::Retf => retf(m, insn),
+        Op::Int => int(insn, len),
+        Op::Int3 => int3(len),
+        Op::Into => into(m, len),
+        Op::Iret => iret(m, insn),
+        Op::Bound => bound(m, insn),
+        Op::Enter => enter(m, insn),
+        Op::Leave => leave(m, insn),
+        Op::Cli => cli(m),
+        Op::Sti => sti(m),
+        Op::In => input(m, insn),
+        Op::Out => output(m),
+        Op::Lss => load_pointer(m, insn, SegReg::Ss),
+        Op::Lfs => load_pointer(m, insn, SegReg::Fs),
+        Op::Lgs => load_pointer(m, insn, SegReg::Gs),
+        Op::Lar => tell_access_rights(m, insn),
+        Op::Lsl => tell_byte_limit(m, insn),
+        Op::Verr => verify_readable(m, insn),
+        Op::Verw => verify_writable(m, insn),
+        Op::Arpl => arpl(m, insn),
+        Op::Sldt | Op::Str | Op::Sgdt | Op::Sidt | Op::Smsw => invalid_opcode(),
+        Op::Lldt | Op::Ltr => load_table(m),
+        Op::Hlt | Op::Ins | Op::Outs | Op::Lgdt | Op::Lidt | Op::Lmsw => privileged(),
+        Op::Clts | Op::MovControl | Op::MovDebug | Op::MovTest => privileged(),
+        Op::Esc => escape(),
+        _ => unreachable!(),
+    }
 }

@@ -1,18 +1,23 @@
 // Far transfers.
-ghost use Rattle.std.specs.Prelude.{◌≡◌, []};
-ghost use Rattle.exec_flow.specs.FarTransfers.{call_far, code_selector, far_transfer, frame_popped, iret, jump_far, retf};
-ghost use Rattle.insn_plan.specs.Plan.{fresh, pending_of, planned, Plans};
+ghost use Rattle.std.specs.Prelude.{◌≡◌, MatchResult, OnOk, IfErr, None, Some, Ok, Err, is_ok};
+ghost use Rattle.client_world.specs.Loading.{transfer_fault};
+ghost use Rattle.exec_flow.specs.FarTransfers.{call_far, code_selector, frame_left, frame_popped, iret, jump_far, retf};
+ghost use Rattle.guest_space.specs.Registers.{with_registers};
+ghost use Rattle.insn_plan.specs.Plan.{CarriesOut, planned};
 
 use crate::flag_images::set_popped_flags;
 use crate::pointers::{pointer, pointer_offset, pointer_selector};
-use crate::transfers::{check_transfer, immediate, released};
+use crate::stack_tops::{popped_esp, released_esp};
+use crate::transfers::{check_transfer, immediate};
+use client_world::general::ESP;
 use client_world::selectors::{CLIENT_PRIVILEGE, privilege_of};
-use client_world::{Event, Mode, Regs};
+use client_world::{Event, Fault, Mode, Regs, SegReg};
 use guest_space::Machine;
 use insn_forms::Insn;
-use insn_plan::{Next, items_popped};
+use insn_plan::{Next, stack_item};
 
 // What CS holds after a transfer to a selector: in protected mode with privilege level 3.
+#[inline(always)]
 #[tactic(auto, unfolding(crate::specs::FarTransfers::code_selector))]
 fn code_selector(m: &Machine, sel: u16) -> u16
     ensures { result ≡ code_selector m.now.world sel }
@@ -23,77 +28,128 @@ fn code_selector(m: &Machine, sel: u16) -> u16
     }
 }
 
-// The far transfer itself; a return takes privilege level 3 alone.
-#[tactic(auto, unfolding(crate::specs::FarTransfers::far_transfer))]
-fn far_transfer(m: &Machine, sel: u16, ip: u32, ret: bool, next: &mut Next) -> Result<(), Event>
-    ensures { Plans next.new result
-        (planned m.now.world next.old.reads (far_transfer m.now.world sel ip ret (pending_of next.old))) }
+// Sets CS and EIP.
+#[inline(always)]
+fn enter_code(m: &mut Machine, sel: u16, ip: u32)
+    ensures { m.new ≡ with_registers
+        (record m.old.world.regs { cs = code_selector m.old.world sel; eip = ip }) m.old }
+{
+    let cs = code_selector(m, sel);
+    m.set_selector(SegReg::Cs, cs);
+    m.set_eip(ip);
+}
+
+// The far transfer itself, or its fault, which changes nothing; a return takes privilege level 3 alone.
+#[inline(always)]
+fn far_transfer(m: &mut Machine, sel: u16, ip: u32, ret: bool) -> Result<(), Fault>
+    ensures allowed { OnOk result (transfer_fault m.old.world sel ip ret ≡ None) }
+    ensures moved { OnOk result (m.new ≡ with_registers
+        (record m.old.world.regs { cs = code_selector m.old.world sel; eip = ip }) m.old) }
+    ensures refused { IfErr result (λ fault.
+        (transfer_fault m.old.world sel ip ret ≡ Some fault) × (m.new ≡ m.old)) }
 {
     check_transfer(m, sel, ip, ret)?;
-    next.set_regs(Regs {
-        cs: code_selector(m, sel),
-        eip: ip,
-        ..next.regs()
-    });
+    enter_code(m, sel, ip);
     Ok(())
 }
 
 /// JMP far. Source: 80386 Programmer's Reference Manual, ch. 17.
-#[tactic(auto, unfolding(crate::specs::FarTransfers::jump_far))]
-pub(crate) fn jump_far(m: &Machine, i: &Insn, next: &mut Next) -> Result<(), Event>
-    requires fresh { next.old ≡ fresh m.now.world }
-    ensures { Plans next.new result (planned m.now.world [] (jump_far m.now.world i.now)) }
+#[inline(never)]
+#[tactic(auto, unfolding(crate::specs::FarTransfers::jump_far, crate::specs::FarTransfers::far_transfer, insn_plan::specs::Plan::carried_out, insn_plan::specs::Plan::settled, guest_space::specs::Pending::first_refusal, guest_space::specs::Pending::all_written))]
+pub(crate) fn jump_far(m: &mut Machine, i: &Insn) -> Result<(), Event>
+    ensures { CarriesOut m.old m.new result (jump_far m.old.world i.now) }
 {
-    let p = pointer(m, i, &i.first, next)?;
-    far_transfer(m, pointer_selector(i, p), pointer_offset(i, p), false, next)
+    let p = pointer(m, i, &i.first)?;
+    far_transfer(m, pointer_selector(i, p), pointer_offset(i, p), false)?;
+    Ok(())
 }
 
 /// CALL far. Source: as above.
-#[tactic(auto, unfolding(crate::specs::FarTransfers::call_far))]
-pub(crate) fn call_far(m: &Machine, i: &Insn, next: &mut Next) -> Result<(), Event>
-    requires fresh { next.old ≡ fresh m.now.world }
-    ensures { Plans next.new result (planned m.now.world [] (call_far m.now.world i.now)) }
+#[inline(never)]
+#[tactic(auto, unfolding(crate::specs::FarTransfers::call_far, crate::specs::FarTransfers::far_transfer, insn_plan::specs::Plan::carried_out))]
+pub(crate) fn call_far(m: &mut Machine, i: &Insn) -> Result<(), Event>
+    ensures { CarriesOut m.old m.new result (call_far m.old.world i.now) }
 {
-    let p = pointer(m, i, &i.first, next)?;
-    let r = m.regs();
-    next.push(m, i.width, u32::from(r.cs));
-    next.push(m, i.width, r.eip);
-    far_transfer(m, pointer_selector(i, p), pointer_offset(i, p), false, next)
+    let p = pointer(m, i, &i.first)?;
+    let sel = pointer_selector(i, p);
+    let eip = pointer_offset(i, p);
+    check_transfer(m, sel, eip, false)?;
+    let mut next = Next::new(m);
+    next.push(m, i.width, u32::from(m.registers().cs));
+    next.push(m, i.width, m.registers().eip);
+    next.set_regs(Regs {
+        cs: code_selector(m, sel),
+        eip,
+        ..next.regs()
+    });
+    next.settle(m)
 }
 
 /// RETF. Source: 80386 Programmer's Reference Manual, ch. 17, RET.
-#[tactic(auto, unfolding(crate::specs::FarTransfers::retf))]
-pub(crate) fn retf(m: &Machine, i: &Insn, next: &mut Next) -> Result<(), Event>
-    requires fresh { next.old ≡ fresh m.now.world }
-    ensures { Plans next.new result (planned m.now.world [] (retf m.now.world i.now)) }
+#[inline(always)]
+#[tactic(auto, unfolding(crate::specs::FarTransfers::retf, crate::specs::FarTransfers::far_transfer, insn_plan::specs::Plan::carried_out, insn_plan::specs::Plan::settled, guest_space::specs::Pending::first_refusal, guest_space::specs::Pending::all_written, client_world::specs::General::with_general, insn_plan::specs::Stack::items_popped))]
+pub(crate) fn retf(m: &mut Machine, i: &Insn) -> Result<(), Event>
+    ensures { CarriesOut m.old m.new result (retf m.old.world i.now) }
 {
-    let ip = next.stack_item(m, i.width, 0)?;
-    let cs = next.stack_item(m, i.width, 1)?;
-    let popped = items_popped(m, i.width, 2, m.regs());
-    next.set_regs(released(m, immediate(&i.first), popped));
-    far_transfer(m, (cs % 0x1_0000) as u16, ip, true, next)
+    let ip = stack_item(m, i.width, 0)?;
+    let cs = stack_item(m, i.width, 1)?;
+    let esp = released_esp(m, i.width, 2, immediate(&i.first));
+    far_transfer(m, (cs % 0x1_0000) as u16, ip, true)?;
+    m.set_general(ESP, esp);
+    Ok(())
 }
 
-/// Pops a frame that an interrupt pushed, in items of so many bits: the instruction pointer, CS and the flags image.
-/// Source: 80386 Programmer's Reference Manual, ch. 17, IRET.
-#[tactic(auto, unfolding(crate::specs::FarTransfers::frame_popped))]
-pub fn pop_frame(m: &Machine, bits: u8, next: &mut Next) -> Result<(), Event>
-    requires fresh { next.old ≡ fresh m.now.world }
-    ensures { Plans next.new result (planned m.now.world [] (frame_popped m.now.world bits)) }
+// A frame that an interrupt pushed.
+#[derive(Clone, Copy)]
+struct Frame {
+    ip: u32,
+    cs: u16,
+    image: u32,
+}
+
+// Reads the frame at the stack's top, in items of n bits, to which a return may be made; or gives the event.
+#[inline(always)]
+#[tactic(auto, unfolding(crate::specs::FarTransfers::frame_popped, crate::specs::FarTransfers::far_transfer))]
+fn frame_at_top(m: &Machine, bits: u8) -> Result<Frame, Event>
+    ensures { MatchResult result
+        (λ frame. planned m.now.world (frame_popped m.now.world bits)
+        ≡ Ok (frame_left m.now.world bits frame.ip frame.cs frame.image))
+        (λ event. planned m.now.world (frame_popped m.now.world bits) ≡ Err event) }
 {
-    let ip = next.stack_item(m, bits, 0)?;
-    let cs = next.stack_item(m, bits, 1)?;
-    let image = next.stack_item(m, bits, 2)?;
-    next.set_regs(items_popped(m, bits, 3, m.regs()));
-    set_popped_flags(m, image, next);
-    far_transfer(m, (cs % 0x1_0000) as u16, ip, true, next)
+    let ip = stack_item(m, bits, 0)?;
+    let cs = (stack_item(m, bits, 1)? % 0x1_0000) as u16;
+    let image = stack_item(m, bits, 2)?;
+    check_transfer(m, cs, ip, true)?;
+    Ok(Frame { ip, cs, image })
+}
+
+/// Whether the frame at the stack's top, in items of n bits, can be popped. Source: 80386 Programmer's Reference Manual, ch. 17, IRET.
+pub fn can_pop_frame(m: &Machine, bits: u8) -> bool
+    ensures { result ≡ is_ok (planned m.now.world (frame_popped m.now.world bits)) }
+{
+    frame_at_top(m, bits).is_ok()
+}
+
+/// Pops a frame that an interrupt pushed, in items of n bits: the instruction pointer, CS and the flags image; or gives the event, which
+/// changes nothing. Source: 80386 Programmer's Reference Manual, ch. 17, IRET.
+#[inline(always)]
+#[tactic(auto, using(insn_plan::proofs::Settled::carried_event))]
+pub fn pop_frame(m: &mut Machine, bits: u8) -> Result<(), Event>
+    ensures { CarriesOut m.old m.new result (frame_popped m.old.world bits) }
+{
+    let frame = frame_at_top(m, bits)?;
+    let esp = popped_esp(m, bits, 3);
+    enter_code(m, frame.cs, frame.ip);
+    m.set_general(ESP, esp);
+    set_popped_flags(m, frame.image);
+    Ok(())
 }
 
 /// IRET. Source: 80386 Programmer's Reference Manual, ch. 17.
+#[inline(always)]
 #[tactic(auto, unfolding(crate::specs::FarTransfers::iret))]
-pub(crate) fn iret(m: &Machine, i: &Insn, next: &mut Next) -> Result<(), Event>
-    requires fresh { next.old ≡ fresh m.now.world }
-    ensures { Plans next.new result (planned m.now.world [] (iret m.now.world i.now)) }
+pub(crate) fn iret(m: &mut Machine, i: &Insn) -> Result<(), Event>
+    ensures { CarriesOut m.old m.new result (iret m.old.world i.now) }
 {
-    pop_frame(m, i.width, next)
+    pop_frame(m, i.width)
 }

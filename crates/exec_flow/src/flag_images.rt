@@ -1,14 +1,18 @@
 // Flags images on the stack, and the virtual interrupt flag.
-ghost use Rattle.std.specs.Prelude.{◌≡◌, []};
-ghost use Rattle.exec_flow.specs.FlagImages.{cli, flags_popped, popf, popped_interrupt, pushf, shown_interrupt, sti};
-ghost use Rattle.insn_plan.specs.Plan.{fresh, pending_of, planned, Plans};
+ghost use Rattle.std.specs.Prelude.{◌≡◌};
+ghost use Rattle.client_world.specs.Registers.{flags_of_image, low_half};
+ghost use Rattle.exec_flow.specs.FlagImages.{cli, popf, popped_interrupt, pushf, shown_interrupt, sti};
+ghost use Rattle.insn_plan.specs.Plan.{CarriesOut, with_state};
 
-use client_world::{Event, Flags, Mode, Regs, is_interrupt_set};
+use crate::stack_tops::popped_esp;
+use client_world::general::ESP;
+use client_world::{Event, Flags, Mode, is_interrupt_set};
 use guest_space::Machine;
 use insn_forms::Insn;
-use insn_plan::{Next, items_popped};
+use insn_plan::{push_item, stack_item};
 
 // IF as PUSHF shows it.
+#[inline(always)]
 fn shown_interrupt(m: &Machine) -> bool
     ensures { result ≡ shown_interrupt m.now.world }
 {
@@ -19,17 +23,17 @@ fn shown_interrupt(m: &Machine) -> bool
 }
 
 /// PUSHF. Source: 80386 Programmer's Reference Manual, ch. 17; what IF shows is own.
-#[tactic(auto, unfolding(crate::specs::FlagImages::pushf))]
-pub(crate) fn pushf(m: &Machine, i: &Insn, next: &mut Next) -> Result<(), Event>
-    requires fresh { next.old ≡ fresh m.now.world }
-    ensures { Plans next.new result (planned m.now.world [] (pushf m.now.world i.now)) }
+#[inline(always)]
+#[tactic(auto, unfolding(crate::specs::FlagImages::pushf, insn_plan::specs::Plan::carried_out))]
+pub(crate) fn pushf(m: &mut Machine, i: &Insn) -> Result<(), Event>
+    ensures { CarriesOut m.old m.new result (pushf m.old.world i.now) }
 {
-    let image = m.regs().flags.image(shown_interrupt(m));
-    next.push(m, i.width, u32::from(image));
-    Ok(())
+    let image = m.registers().flags.image(shown_interrupt(m));
+    push_item(m, i.width, u32::from(image))
 }
 
 // The virtual flag after an image is popped.
+#[inline(always)]
 fn popped_interrupt(m: &Machine, image: u32) -> bool
     ensures { result ≡ popped_interrupt m.now.world image }
 {
@@ -39,49 +43,46 @@ fn popped_interrupt(m: &Machine, image: u32) -> bool
     }
 }
 
-/// Leaves the flags of an image that is popped, and the virtual flag.
+/// Sets the flags of an image that is popped, and the virtual flag.
 /// Source: 80386 Programmer's Reference Manual, ch. 17, POPF and IRET; what becomes of IF is own.
-#[tactic(auto, unfolding(crate::specs::FlagImages::flags_popped))]
-pub(crate) fn set_popped_flags(m: &Machine, image: u32, next: &mut Next)
-    ensures popped { pending_of next.new ≡ flags_popped m.now.world image (pending_of next.old) }
-    ensures reads { next.new.reads ≡ next.old.reads }
+#[inline(always)]
+pub(crate) fn set_popped_flags(m: &mut Machine, image: u32)
+    ensures { m.new ≡ with_state (record m.old.world.regs { flags = flags_of_image (low_half image) })
+        (popped_interrupt m.old.world image) m.old }
 {
-    let flags = Flags::from_image((image % 0x1_0000) as u16);
-    next.set_regs(Regs {
-        flags,
-        ..next.regs()
-    });
-    next.set_vif(popped_interrupt(m, image));
+    let on = popped_interrupt(m, image);
+    m.set_flags(Flags::from_image((image % 0x1_0000) as u16));
+    m.set_vif(on);
 }
 
 /// POPF. Source: as above.
-#[tactic(auto, unfolding(crate::specs::FlagImages::popf))]
-pub(crate) fn popf(m: &Machine, i: &Insn, next: &mut Next) -> Result<(), Event>
-    requires fresh { next.old ≡ fresh m.now.world }
-    ensures { Plans next.new result (planned m.now.world [] (popf m.now.world i.now)) }
+#[inline(always)]
+#[tactic(auto, unfolding(crate::specs::FlagImages::popf, crate::specs::FlagImages::flags_popped, insn_plan::specs::Plan::carried_out, insn_plan::specs::Plan::settled, guest_space::specs::Pending::first_refusal, guest_space::specs::Pending::all_written, client_world::specs::General::with_general, insn_plan::specs::Stack::items_popped))]
+pub(crate) fn popf(m: &mut Machine, i: &Insn) -> Result<(), Event>
+    ensures { CarriesOut m.old m.new result (popf m.old.world i.now) }
 {
-    let image = next.stack_item(m, i.width, 0)?;
-    next.set_regs(items_popped(m, i.width, 1, m.regs()));
-    set_popped_flags(m, image, next);
+    let image = stack_item(m, i.width, 0)?;
+    m.set_general(ESP, popped_esp(m, i.width, 1));
+    set_popped_flags(m, image);
     Ok(())
 }
 
 /// CLI. Source: DPMI 0.9, "Interrupt State".
-#[tactic(auto, unfolding(crate::specs::FlagImages::cli))]
-pub(crate) fn cli(m: &Machine, next: &mut Next) -> Result<(), Event>
-    requires fresh { next.old ≡ fresh m.now.world }
-    ensures { Plans next.new result (planned m.now.world [] (cli m.now.world)) }
+#[inline(never)]
+#[tactic(auto, unfolding(crate::specs::FlagImages::cli, insn_plan::specs::Plan::carried_out, insn_plan::specs::Plan::settled, guest_space::specs::Pending::first_refusal, guest_space::specs::Pending::all_written))]
+pub(crate) fn cli(m: &mut Machine) -> Result<(), Event>
+    ensures { CarriesOut m.old m.new result (cli m.old.world) }
 {
-    next.set_vif(false);
+    m.set_vif(false);
     Ok(())
 }
 
 /// STI. Source: as above.
-#[tactic(auto, unfolding(crate::specs::FlagImages::sti))]
-pub(crate) fn sti(m: &Machine, next: &mut Next) -> Result<(), Event>
-    requires fresh { next.old ≡ fresh m.now.world }
-    ensures { Plans next.new result (planned m.now.world [] (sti m.now.world)) }
+#[inline(never)]
+#[tactic(auto, unfolding(crate::specs::FlagImages::sti, insn_plan::specs::Plan::carried_out, insn_plan::specs::Plan::settled, guest_space::specs::Pending::first_refusal, guest_space::specs::Pending::all_written))]
+pub(crate) fn sti(m: &mut Machine) -> Result<(), Event>
+    ensures { CarriesOut m.old m.new result (sti m.old.world) }
 {
-    next.set_vif(true);
+    m.set_vif(true);
     Ok(())
 }

@@ -1,31 +1,33 @@
 // Stack frames of procedures, and array bounds.
-ghost use Rattle.std.specs.Prelude.{◌≡◌, ◌+◌, ◌-◌, ◌<◌, ◌≤◌, ◌^◌, [], length, IsTrue, MatchResult, Err};
+ghost use Rattle.std.specs.Prelude.{◌≡◌, ◌+◌, ◌-◌, ◌<◌, ◌≤◌, ◌^◌, length, IsTrue, MatchResult, Err};
 ghost use Rattle.cpu_values.specs.Word.{cut};
 ghost use Rattle.exec_flow.specs.Frames.{
   saved_frame,
   frames_pushed,
   frame_made,
   enter,
-  at_frame,
   leave,
   is_less,
   bound,
 };
+ghost use Rattle.client_world.specs.declared.segments.SegReg.TheVariants.{Ss};
+ghost use Rattle.guest_space.specs.Pending.{byte_count};
 ghost use Rattle.insn_forms.specs.Kinds.{is_width};
-ghost use Rattle.insn_plan.specs.Act.{Act, Pending};
-ghost use Rattle.insn_plan.specs.Plan.{fresh, pending_of, planned, Plans};
-ghost use Rattle.insn_plan.specs.declared.next.TheConstants.{MAX_READS, MAX_WRITES};
+ghost use Rattle.insn_plan.specs.Act.{Act, From, Pending, unchanged, value_of};
+ghost use Rattle.insn_plan.specs.Plan.{CarriesOut, Leaves, planned};
+ghost use Rattle.insn_plan.specs.declared.next.TheConstants.{MAX_WRITES};
 
 use crate::pointers::memory_bytes;
 use crate::raising::exception;
 use crate::transfers::{at_operand_size, immediate};
 use client_world::faults::BOUNDS_CHECK;
-use client_world::{Event, Regs, SegReg};
+use client_world::general::{EBP, ESP};
+use client_world::{Event, SegReg};
 use guest_space::{Machine, byte_count};
 use insn_forms::Insn;
 use insn_plan::{
-    Next, cut_address, has_big_stack, items_popped, register, set_register, set_stack_pointer,
-    stack_pointer,
+    Next, cut_address, esp_up, has_big_stack, put_register, read_width, register, set_register,
+    source, stack_pointer, with_pointer,
 };
 
 // Where the frame pointer of a level was saved.
@@ -36,20 +38,28 @@ fn saved_frame(m: &Machine, i: &Insn, level: u8) -> u32
     at_operand_size(i, u64::from(m.regs().ebp) + 0x1_0000_0000 - below)
 }
 
+// Reads the frame pointer that was saved for a level, or gives the fault of the access.
+fn read_frame(m: &Machine, i: &Insn, level: u8) -> Result<u32, Event>
+    ensures { result
+        ≡ value_of m.now.world (From Ss (saved_frame m.now.world i.now level) (byte_count i.now.width)) }
+{
+    let at = saved_frame(m, i, level);
+    read_width(m, SegReg::Ss, at, byte_count(i.width))
+}
+
 // Reads and pushes the saved frame pointers of n levels, from level 1 on, or gives the fault of a read.
 fn push_frames(m: &Machine, i: &Insn, n: u8, next: &mut Next) -> Result<(), Event>
-    requires reads { length next.old.reads + n < MAX_READS }
     requires writes { length next.old.writes + n < MAX_WRITES }
     ensures pushed { MatchResult result
         (λ _. (rest : Pending → Act) →
-        planned m.now.world next.old.reads (frames_pushed m.now.world i.now 1 n (pending_of next.old) rest)
-        ≡ planned m.now.world next.new.reads (rest (pending_of next.new)))
+        planned m.now.world (frames_pushed m.now.world i.now 1 n next.old rest)
+        ≡ planned m.now.world (rest next.new))
         (λ e. (rest : Pending → Act) →
-        planned m.now.world next.old.reads (frames_pushed m.now.world i.now 1 n (pending_of next.old) rest) ≡ Err e) }
+        planned m.now.world (frames_pushed m.now.world i.now 1 n next.old rest) ≡ Err e) }
     ensures room { length next.new.writes ≤ length next.old.writes + n }
 {
     for k in 0..n {
-        let v = next.read_at(m, SegReg::Ss, saved_frame(m, i, k + 1), i.width)?;
+        let v = read_frame(m, i, k + 1)?;
         next.push(m, i.width, v);
     }
     Ok(())
@@ -58,24 +68,24 @@ fn push_frames(m: &Machine, i: &Insn, n: u8, next: &mut Next) -> Result<(), Even
 // Makes (E)BP the frame's place, and moves (E)SP down by the room for variables.
 #[tactic(auto, unfolding(crate::specs::Frames::frame_made))]
 fn make_frame(m: &Machine, i: &Insn, frame: u32, next: &mut Next)
-    ensures made { pending_of next.new ≡ frame_made m.now.world i.now frame (pending_of next.old) }
-    ensures reads { next.new.reads ≡ next.old.reads }
+    ensures { next.new ≡ frame_made m.now.world i.now frame next.old }
 {
     let mut r = next.regs();
     let room = u64::from(immediate(&i.first) % 0x1_0000);
     let top = u64::from(stack_pointer(m, &r)) + 0x1_0000_0000 - room;
-    set_stack_pointer(m, &mut r, cut_address(has_big_stack(m), top));
-    set_register(&mut r, i.width, 5, frame);
+    let big = has_big_stack(m);
+    r.esp = with_pointer(big, r.esp, cut_address(big, top));
+    set_register(&mut r, i.width, EBP, frame);
     next.set_regs(r);
 }
 
-/// ENTER. Source: 80386 Programmer's Reference Manual, ch. 17; that it reads before it writes is own.
+// What ENTER leaves, before anything is written.
 #[tactic(auto, unfolding(crate::specs::Frames::enter))]
-pub(crate) fn enter(m: &Machine, i: &Insn, next: &mut Next) -> Result<(), Event>
-    requires fresh { next.old ≡ fresh m.now.world }
-    ensures { Plans next.new result (planned m.now.world [] (enter m.now.world i.now)) }
+fn plan_enter(m: &Machine, i: &Insn, next: &mut Next) -> Result<(), Event>
+    requires { next.old ≡ unchanged m.now.world }
+    ensures { Leaves next.new result (planned m.now.world (enter m.now.world i.now)) }
 {
-    next.push(m, i.width, register(&m.regs(), i.width, 5));
+    next.push(m, i.width, register(m.registers(), i.width, EBP));
     let frame = stack_pointer(m, &next.regs());
     let level = (immediate(&i.second) % 32) as u8;
     if level != 0 {
@@ -86,27 +96,30 @@ pub(crate) fn enter(m: &Machine, i: &Insn, next: &mut Next) -> Result<(), Event>
     Ok(())
 }
 
-// The registers with the stack pointer at the frame.
-fn at_frame(m: &Machine) -> Regs
-    ensures { result ≡ at_frame m.now.world }
+/// ENTER. Source: 80386 Programmer's Reference Manual, ch. 17; that it reads before it writes is own.
+#[inline(never)]
+#[tactic(auto, using(insn_plan::proofs::Settled::carried_by, insn_plan::proofs::Settled::carried_event))]
+pub(crate) fn enter(m: &mut Machine, i: &Insn) -> Result<(), Event>
+    ensures { CarriesOut m.old m.new result (enter m.old.world i.now) }
 {
-    let mut r = m.regs();
-    let sp = cut_address(has_big_stack(m), u64::from(r.ebp));
-    set_stack_pointer(m, &mut r, sp);
-    r
+    let mut next = Next::new(m);
+    plan_enter(m, i, &mut next)?;
+    next.settle(m)
 }
 
 /// LEAVE. Source: 80386 Programmer's Reference Manual, ch. 17.
-#[tactic(auto, unfolding(crate::specs::Frames::leave))]
-pub(crate) fn leave(m: &Machine, i: &Insn, next: &mut Next) -> Result<(), Event>
-    requires fresh { next.old ≡ fresh m.now.world }
-    ensures { Plans next.new result (planned m.now.world [] (leave m.now.world i.now)) }
+#[inline(always)]
+#[tactic(auto, unfolding(crate::specs::Frames::leave, insn_plan::specs::Plan::carried_out, insn_plan::specs::Plan::settled, guest_space::specs::Pending::first_refusal, guest_space::specs::Pending::all_written, client_world::specs::General::with_general, insn_plan::specs::Stack::items_popped))]
+pub(crate) fn leave(m: &mut Machine, i: &Insn) -> Result<(), Event>
+    ensures { CarriesOut m.old m.new result (leave m.old.world i.now) }
 {
-    let frame = cut_address(has_big_stack(m), u64::from(m.regs().ebp));
-    let bp = next.read_at(m, SegReg::Ss, frame, i.width)?;
-    let mut r = items_popped(m, i.width, 1, at_frame(m));
-    set_register(&mut r, i.width, 5, bp);
-    next.set_regs(r);
+    let big = has_big_stack(m);
+    let frame = cut_address(big, u64::from(m.registers().ebp));
+    let count = byte_count(i.width);
+    let bp = read_width(m, SegReg::Ss, frame, count)?;
+    let at_frame = with_pointer(big, m.registers().esp, frame);
+    m.set_general(ESP, esp_up(big, u32::from(count), at_frame));
+    put_register(m, i.width, EBP, bp);
     Ok(())
 }
 
@@ -131,14 +144,14 @@ fn is_less(width: u8, a: u64, b: u64) -> bool
 }
 
 /// BOUND. Source: 80386 Programmer's Reference Manual, ch. 17; that the pair is one access is own.
-#[tactic(auto, unfolding(crate::specs::Frames::bound))]
-pub(crate) fn bound(m: &Machine, i: &Insn, next: &mut Next) -> Result<(), Event>
-    requires width { IsTrue (is_width i.now.width) }
-    requires fresh { next.old ≡ fresh m.now.world }
-    ensures { Plans next.new result (planned m.now.world [] (bound m.now.world i.now)) }
+#[inline(never)]
+#[tactic(auto, unfolding(crate::specs::Frames::bound, insn_plan::specs::Plan::carried_out, insn_plan::specs::Plan::settled, guest_space::specs::Pending::first_refusal, guest_space::specs::Pending::all_written))]
+pub(crate) fn bound(m: &Machine, i: &Insn) -> Result<(), Event>
+    requires { IsTrue (is_width i.now.width) }
+    ensures { CarriesOut m.now m.now result (bound m.now.world i.now) }
 {
-    let index = u64::from(next.source(m, i.addr32, i.width, &i.first)?);
-    let pair = memory_bytes(m, i, 2 * byte_count(i.width), &i.second, next)?;
+    let index = u64::from(source(m, i.addr32, i.width, &i.first)?);
+    let pair = memory_bytes(m, i, 2 * byte_count(i.width), &i.second)?;
     let second = pair / (1u64 << i.width);
     if is_less(i.width, index, pair) || is_less(i.width, second, index) {
         Err(exception(BOUNDS_CHECK))

@@ -1,7 +1,9 @@
 // Software interrupts, and what they push.
-ghost use Rattle.std.specs.Prelude.{◌≡◌, ◌+◌, [], length};
+ghost use Rattle.std.specs.Prelude.{◌≡◌};
 ghost use Rattle.exec_flow.specs.Interrupts.{frame_bits, int, int3, interrupt_pushed, into, item_bits};
-ghost use Rattle.insn_plan.specs.Plan.{fresh, pending_of, planned, Plans};
+ghost use Rattle.host_memory.specs.View.{MachineView};
+ghost use Rattle.insn_plan.specs.Act.{unchanged};
+ghost use Rattle.insn_plan.specs.Plan.{CarriesOut};
 
 use crate::transfers::immediate;
 use client_world::{Event, Mode, Width};
@@ -10,9 +12,10 @@ use insn_forms::Insn;
 use insn_plan::Next;
 
 /// INT. Source: 80386 Programmer's Reference Manual, ch. 17, "INT/INTO".
-#[tactic(auto, unfolding(crate::specs::Interrupts::int))]
-pub(crate) fn int(m: &Machine, i: &Insn, len: u8, next: &mut Next) -> Result<(), Event>
-    ensures { Plans next.new result (planned m.now.world [] (int i.now len)) }
+#[inline(never)]
+#[tactic(auto, unfolding(crate::specs::Interrupts::int, insn_plan::specs::Plan::carried_out))]
+pub(crate) fn int(i: &Insn, len: u8) -> Result<(), Event>
+    ensures { (v : MachineView) → CarriesOut v v result (int i.now len) }
 {
     Err(Event::Soft {
         number: (immediate(&i.first) % 0x100) as u8,
@@ -21,20 +24,21 @@ pub(crate) fn int(m: &Machine, i: &Insn, len: u8, next: &mut Next) -> Result<(),
 }
 
 /// INT 3. Source: as above; that it is the client's interrupt 3 is own.
-#[tactic(auto, unfolding(crate::specs::Interrupts::int3))]
-pub(crate) fn int3(m: &Machine, len: u8, next: &mut Next) -> Result<(), Event>
-    ensures { Plans next.new result (planned m.now.world [] (int3 len)) }
+#[inline(never)]
+#[tactic(auto, unfolding(crate::specs::Interrupts::int3, insn_plan::specs::Plan::carried_out))]
+pub(crate) fn int3(len: u8) -> Result<(), Event>
+    ensures { (v : MachineView) → CarriesOut v v result (int3 len) }
 {
     Err(Event::Soft { number: 3, len })
 }
 
 /// INTO. Source: as above; that it is the client's interrupt 4 is own.
-#[tactic(auto, unfolding(crate::specs::Interrupts::into))]
-pub(crate) fn into(m: &Machine, len: u8, next: &mut Next) -> Result<(), Event>
-    requires fresh { next.old ≡ fresh m.now.world }
-    ensures { Plans next.new result (planned m.now.world [] (into m.now.world len)) }
+#[inline(never)]
+#[tactic(auto, unfolding(crate::specs::Interrupts::into, insn_plan::specs::Plan::carried_out, insn_plan::specs::Plan::settled, guest_space::specs::Pending::first_refusal, guest_space::specs::Pending::all_written))]
+pub(crate) fn into(m: &Machine, len: u8) -> Result<(), Event>
+    ensures { CarriesOut m.now m.now result (into m.now.world len) }
 {
-    if m.regs().flags.of {
+    if m.registers().flags.of {
         Err(Event::Soft { number: 4, len })
     } else {
         Ok(())
@@ -61,16 +65,14 @@ pub fn frame_bits(m: &Machine) -> u8
     }
 }
 
-/// Pushes what a software interrupt pushes: the flags image with the virtual interrupt flag, CS, and the instruction pointer behind it.
+/// Pushes what a software interrupt pushes: the flags image with the virtual interrupt flag, CS and EIP.
 /// Source: 80386 Programmer's Reference Manual, ch. 17, "INT/INTO"; DPMI 0.9, "Interrupt State".
 #[tactic(auto, unfolding(crate::specs::Interrupts::interrupt_pushed))]
 pub fn push_interrupt_frame(m: &Machine, next: &mut Next)
-    requires fresh { next.old ≡ fresh m.now.world }
-    ensures pushed { pending_of next.new ≡ interrupt_pushed m.now.world }
-    ensures reads { next.new.reads ≡ next.old.reads }
-    ensures room { length next.new.writes ≡ length next.old.writes + 3 }
+    requires { next.old ≡ unchanged m.now.world }
+    ensures { next.new ≡ interrupt_pushed m.now.world }
 {
-    let r = m.regs();
+    let r = m.registers();
     let bits = frame_bits(m);
     next.push(m, bits, u32::from(r.flags.image(m.vif())));
     next.push(m, bits, u32::from(r.cs));

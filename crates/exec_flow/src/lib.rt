@@ -1,6 +1,6 @@
 //! Transfers, segments and the system's instructions: jumps, calls, returns, frames, flags images, segment registers, descriptor questions.
 //! It promises that an instruction does what its row says, or raises its fault and changes nothing, or is a software interrupt.
-//! It stands on plans of instructions.
+//! It is built on the operands, the stack and the plans of `insn_plan`.
 #![tactic(auto)]
 
 mod dispatch;
@@ -13,8 +13,9 @@ mod ports;
 mod questions;
 mod raising;
 mod segments;
+mod stack_tops;
 mod transfers;
 
 pub use dispatch::run_flow;
-pub use far_transfers::pop_frame;
+pub use far_transfers::{can_pop_frame, pop_frame};
 pub use interrupts::{frame_bits, push_interrupt_frame};

@@ -1,34 +1,22 @@
 // Far pointers.
-ghost use Rattle.std.specs.Prelude.{◌≡◌, ◌+◌, ◌<◌, ◌≤◌, ◌++◌, length};
+ghost use Rattle.std.specs.Prelude.{◌≡◌};
 ghost use Rattle.exec_flow.specs.Pointers.{memory_bytes, offset_range, pointer, pointer_bytes, pointer_offset, pointer_selector};
 ghost use Rattle.insn_plan.specs.Act.{IsCount, value_of};
-ghost use Rattle.insn_plan.specs.Plan.{access_of};
-ghost use Rattle.insn_plan.specs.declared.next.TheConstants.{MAX_READS};
 
 use client_world::Event;
 use guest_space::Machine;
 use insn_forms::{Insn, Operand};
-use insn_plan::{Next, offset_of};
+use insn_plan::{offset_of, read_number};
 
-/// Reads an operand in memory as so many bytes, or gives the fault of the access.
-#[tactic(auto, unfolding(crate::specs::Pointers::memory_bytes, insn_plan::specs::Act::value_of, insn_plan::specs::Plan::access_of))]
-pub(crate) fn memory_bytes(
-    m: &Machine,
-    i: &Insn,
-    n: u8,
-    operand: &Operand,
-    next: &mut Next,
-) -> Result<u64, Event>
-    requires room { length next.old.reads < MAX_READS }
+/// Reads an operand in memory as a number of n bytes, or gives the fault of the access.
+#[inline(always)]
+#[tactic(auto, unfolding(crate::specs::Pointers::memory_bytes, insn_plan::specs::Act::value_of))]
+pub(crate) fn memory_bytes(m: &Machine, i: &Insn, n: u8, operand: &Operand) -> Result<u64, Event>
     requires count { IsCount n }
-    ensures value { result ≡ value_of m.now.world (memory_bytes m.now.world i.now n operand.now) }
-    ensures noted { next.new ≡ record next.old {
-      reads = next.old.reads ++ access_of (memory_bytes m.now.world i.now n operand.now);
-    } }
-    ensures room { length next.new.reads ≤ length next.old.reads + 1 }
+    ensures { result ≡ value_of m.now.world (memory_bytes m.now.world i.now n operand.now) }
 {
     match operand {
-        Operand::Mem(f) => next.read(m, f.seg, offset_of(&m.regs(), i.addr32, f), n),
+        Operand::Mem(f) => read_number(m, f.seg, offset_of(m.registers(), i.addr32, f), n),
         Operand::Reg { .. }
         | Operand::Seg(_)
         | Operand::Imm(_)
@@ -38,6 +26,7 @@ pub(crate) fn memory_bytes(
 }
 
 // The numbers above an offset of the operand size count units of this.
+#[inline(always)]
 fn offset_range(i: &Insn) -> u64
     ensures { result ≡ offset_range i.now }
 {
@@ -49,6 +38,7 @@ fn offset_range(i: &Insn) -> u64
 }
 
 // The bytes of a far pointer in memory.
+#[inline(always)]
 fn pointer_bytes(i: &Insn) -> u8
     ensures value { result ≡ pointer_bytes i.now }
     ensures count { IsCount result }
@@ -58,28 +48,20 @@ fn pointer_bytes(i: &Insn) -> u8
 
 /// Reads a far pointer as one number, the offset lowest, or gives the fault of the access.
 /// Source: 80386 Programmer's Reference Manual, ch. 2, "Pointer"; that it is one access is own.
-#[tactic(auto, unfolding(crate::specs::Pointers::pointer, insn_plan::specs::Act::value_of, insn_plan::specs::Plan::access_of))]
-pub(crate) fn pointer(
-    m: &Machine,
-    i: &Insn,
-    operand: &Operand,
-    next: &mut Next,
-) -> Result<u64, Event>
-    requires room { length next.old.reads < MAX_READS }
-    ensures value { result ≡ value_of m.now.world (pointer m.now.world i.now operand.now) }
-    ensures noted { next.new ≡ record next.old {
-      reads = next.old.reads ++ access_of (pointer m.now.world i.now operand.now);
-    } }
-    ensures room { length next.new.reads ≤ length next.old.reads + 1 }
+#[inline(always)]
+#[tactic(auto, unfolding(crate::specs::Pointers::pointer, insn_plan::specs::Act::value_of))]
+pub(crate) fn pointer(m: &Machine, i: &Insn, operand: &Operand) -> Result<u64, Event>
+    ensures { result ≡ value_of m.now.world (pointer m.now.world i.now operand.now) }
 {
     match operand {
-        Operand::Mem(_) => memory_bytes(m, i, pointer_bytes(i), operand, next),
+        Operand::Mem(_) => memory_bytes(m, i, pointer_bytes(i), operand),
         Operand::Far(p) => Ok(u64::from(p.off) + offset_range(i) * u64::from(p.sel)),
         Operand::Reg { .. } | Operand::Seg(_) | Operand::Imm(_) | Operand::Empty => Ok(0),
     }
 }
 
 /// The offset of a far pointer.
+#[inline(always)]
 pub(crate) fn pointer_offset(i: &Insn, p: u64) -> u32
     ensures { result ≡ pointer_offset i.now p }
 {
@@ -87,6 +69,7 @@ pub(crate) fn pointer_offset(i: &Insn, p: u64) -> u32
 }
 
 /// The selector of a far pointer.
+#[inline(always)]
 pub(crate) fn pointer_selector(i: &Insn, p: u64) -> u16
     ensures { result ≡ pointer_selector i.now p }
 {

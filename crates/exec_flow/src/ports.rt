@@ -1,13 +1,13 @@
 // Ports.
-ghost use Rattle.std.specs.Prelude.{◌≡◌, ◌-◌, ◌^◌, [], IsTrue};
+ghost use Rattle.std.specs.Prelude.{◌≡◌, ◌-◌, ◌^◌, IsTrue};
 ghost use Rattle.exec_flow.specs.Ports.{input, output};
 ghost use Rattle.insn_forms.specs.Kinds.{is_width};
-ghost use Rattle.insn_plan.specs.Plan.{fresh, planned, Plans};
+ghost use Rattle.insn_plan.specs.Plan.{CarriesOut};
 
 use client_world::Event;
 use guest_space::Machine;
 use insn_forms::Insn;
-use insn_plan::Next;
+use insn_plan::put_operand;
 
 // The number whose bits of a width are all ones.
 fn all_ones(width: u8) -> u32
@@ -18,21 +18,20 @@ fn all_ones(width: u8) -> u32
 }
 
 /// IN. Source: 80386 Programmer's Reference Manual, ch. 17; that no port answers is own.
-#[tactic(auto, unfolding(crate::specs::Ports::input))]
-pub(crate) fn input(m: &Machine, i: &Insn, next: &mut Next) -> Result<(), Event>
-    requires width { IsTrue (is_width i.now.width) }
-    requires fresh { next.old ≡ fresh m.now.world }
-    ensures { Plans next.new result (planned m.now.world [] (input m.now.world i.now)) }
+#[inline(never)]
+#[tactic(auto, unfolding(crate::specs::Ports::input, insn_plan::specs::Plan::carried_out))]
+pub(crate) fn input(m: &mut Machine, i: &Insn) -> Result<(), Event>
+    requires { IsTrue (is_width i.now.width) }
+    ensures { CarriesOut m.old m.new result (input m.old.world i.now) }
 {
-    next.put(&m.regs(), i.addr32, i.width, &i.first, all_ones(i.width));
-    Ok(())
+    put_operand(m, i.addr32, i.width, &i.first, all_ones(i.width))
 }
 
 /// OUT. Source: as above.
-#[tactic(auto, unfolding(crate::specs::Ports::output))]
-pub(crate) fn output(m: &Machine, next: &mut Next) -> Result<(), Event>
-    requires fresh { next.old ≡ fresh m.now.world }
-    ensures { Plans next.new result (planned m.now.world [] (output m.now.world)) }
+#[inline(never)]
+#[tactic(auto, unfolding(crate::specs::Ports::output, insn_plan::specs::Plan::carried_out, insn_plan::specs::Plan::settled, guest_space::specs::Pending::first_refusal, guest_space::specs::Pending::all_written))]
+pub(crate) fn output(m: &Machine) -> Result<(), Event>
+    ensures { CarriesOut m.now m.now result (output m.now.world) }
 {
     Ok(())
 }

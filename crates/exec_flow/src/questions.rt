@@ -1,5 +1,5 @@
 // Questions about descriptors.
-ghost use Rattle.std.specs.Prelude.{◌≡◌, ◌<◌, ◌^◌, [], true};
+ghost use Rattle.std.specs.Prelude.{◌≡◌, ◌<◌, ◌^◌, true, false};
 ghost use Rattle.client_world.specs.Descriptor.{byte_limit};
 ghost use Rattle.client_world.specs.Registers.{low_half};
 ghost use Rattle.client_world.specs.Selector.{FitsRow, privilege_of, row_of_selector};
@@ -12,32 +12,29 @@ ghost use Rattle.exec_flow.specs.Questions.{
   tell,
   arpl,
 };
-ghost use Rattle.insn_plan.specs.Act.{unchanged, with_flags};
+ghost use Rattle.insn_plan.specs.Act.{with_flags};
 ghost use Rattle.insn_plan.specs.Operands.{put};
-ghost use Rattle.insn_plan.specs.Plan.{fresh, pending_of, planned, Plans};
+ghost use Rattle.insn_plan.specs.Plan.{CarriesOut, Follows, settled};
 
 use crate::raising::exception;
 use client_world::faults::INVALID_OPCODE;
-use client_world::{Desc, Event, Flags, Mode, Origin, Regs};
+use client_world::{Desc, Event, Flags, Mode, Origin};
 use desc_table::pack;
 use guest_space::Machine;
 use insn_forms::Insn;
-use insn_plan::Next;
+use insn_plan::{put_with_flags, source};
 
 // The number of privilege levels, 0 to 3.
 const PRIVILEGE_LEVELS: u32 = 4;
 
-// Leaves another ZF, and nothing else.
-fn answer(m: &Machine, zero_flag: bool, next: &mut Next)
-    requires { next.old.regs ≡ m.now.world.regs }
-    ensures { next.new ≡ record next.old { regs = record m.now.world.regs { flags = with_zero m.now.world zero_flag } } }
+// The flags with another ZF.
+fn with_zero(m: &Machine, zero_flag: bool) -> Flags
+    ensures { result ≡ with_zero m.now.world zero_flag }
 {
-    let r = m.regs();
-    let flags = Flags {
+    Flags {
         zf: zero_flag,
-        ..r.flags
-    };
-    next.set_regs(Regs { flags, ..r });
+        ..m.registers().flags
+    }
 }
 
 // The descriptor that the low word of a number names as a selector.
@@ -66,30 +63,32 @@ fn is_writable_row(row: Option<(Desc, Origin)>) -> bool
 }
 
 /// VERR. Source: 80386 Programmer's Reference Manual, ch. 17.
-#[tactic(auto, unfolding(crate::specs::Questions::verify, crate::specs::Raising::in_protected, crate::specs::Raising::invalid_opcode))]
-pub(crate) fn verify_readable(m: &Machine, i: &Insn, next: &mut Next) -> Result<(), Event>
-    requires fresh { next.old ≡ fresh m.now.world }
-    ensures { Plans next.new result (planned m.now.world [] (verify is_readable m.now.world i.now)) }
+#[inline(never)]
+#[tactic(auto, unfolding(crate::specs::Questions::verify, crate::specs::Raising::in_protected, crate::specs::Raising::invalid_opcode, insn_plan::specs::Plan::carried_out, insn_plan::specs::Plan::settled, guest_space::specs::Pending::first_refusal, guest_space::specs::Pending::all_written))]
+pub(crate) fn verify_readable(m: &mut Machine, i: &Insn) -> Result<(), Event>
+    ensures { CarriesOut m.old m.new result (verify is_readable m.old.world i.now) }
 {
     if m.mode() == Mode::Real {
         return Err(exception(INVALID_OPCODE));
     }
-    let sel = next.source(m, i.addr32, 16, &i.first)?;
-    answer(m, is_readable(row_of(m, sel)), next);
+    let sel = source(m, i.addr32, 16, &i.first)?;
+    let flags = with_zero(m, is_readable(row_of(m, sel)));
+    m.set_flags(flags);
     Ok(())
 }
 
 /// VERW. Source: as above.
-#[tactic(auto, unfolding(crate::specs::Questions::verify, crate::specs::Raising::in_protected, crate::specs::Raising::invalid_opcode))]
-pub(crate) fn verify_writable(m: &Machine, i: &Insn, next: &mut Next) -> Result<(), Event>
-    requires fresh { next.old ≡ fresh m.now.world }
-    ensures { Plans next.new result (planned m.now.world [] (verify is_writable_row m.now.world i.now)) }
+#[inline(never)]
+#[tactic(auto, unfolding(crate::specs::Questions::verify, crate::specs::Raising::in_protected, crate::specs::Raising::invalid_opcode, insn_plan::specs::Plan::carried_out, insn_plan::specs::Plan::settled, guest_space::specs::Pending::first_refusal, guest_space::specs::Pending::all_written))]
+pub(crate) fn verify_writable(m: &mut Machine, i: &Insn) -> Result<(), Event>
+    ensures { CarriesOut m.old m.new result (verify is_writable_row m.old.world i.now) }
 {
     if m.mode() == Mode::Real {
         return Err(exception(INVALID_OPCODE));
     }
-    let sel = next.source(m, i.addr32, 16, &i.first)?;
-    answer(m, is_writable_row(row_of(m, sel)), next);
+    let sel = source(m, i.addr32, 16, &i.first)?;
+    let flags = with_zero(m, is_writable_row(row_of(m, sel)));
+    m.set_flags(flags);
     Ok(())
 }
 
@@ -103,49 +102,55 @@ fn access_rights(d: &Desc) -> u32
     u32::from(bytes[5]) * 0x100 + u32::from(bytes[6]) / 0x10 * 0x10_0000
 }
 
-// Leaves a number in the first operand, and ZF set.
-fn tell_number(m: &Machine, i: &Insn, v: u32, next: &mut Next)
-    requires fresh { pending_of next.old ≡ unchanged m.now.world }
-    ensures told { pending_of next.new
-        ≡ put m.now.world.regs i.now.addr32 i.now.width i.now.first v (with_flags (with_zero m.now.world true) m.now.world) }
-    ensures reads { next.new.reads ≡ next.old.reads }
+// Puts a number into the first operand and sets ZF, or gives the fault of the write, which changes nothing.
+fn tell_number(m: &mut Machine, i: &Insn, v: u32) -> Result<(), Event>
+    ensures { Follows m.old m.new result (settled m.old
+        (put m.old.world.regs i.now.addr32 i.now.width i.now.first v (with_flags (with_zero m.old.world true) m.old.world))) }
 {
-    answer(m, true, next);
-    next.put(&m.regs(), i.addr32, i.width, &i.first, v);
+    let flags = with_zero(m, true);
+    put_with_flags(m, flags, i.addr32, i.width, &i.first, v)
+}
+
+// Clears ZF.
+#[tactic(auto, unfolding(insn_plan::specs::Plan::settled, guest_space::specs::Pending::first_refusal, guest_space::specs::Pending::all_written))]
+fn tell_nothing(m: &mut Machine) -> Result<(), Event>
+    ensures { Follows m.old m.new result (settled m.old (with_flags (with_zero m.old.world false) m.old.world)) }
+{
+    let flags = with_zero(m, false);
+    m.set_flags(flags);
+    Ok(())
 }
 
 /// LAR. Source: 80386 Programmer's Reference Manual, ch. 17; its mask is own.
-#[tactic(auto, unfolding(crate::specs::Questions::tell, crate::specs::Raising::in_protected, crate::specs::Raising::invalid_opcode))]
-pub(crate) fn tell_access_rights(m: &Machine, i: &Insn, next: &mut Next) -> Result<(), Event>
-    requires fresh { next.old ≡ fresh m.now.world }
-    ensures { Plans next.new result (planned m.now.world [] (tell access_rights m.now.world i.now)) }
+#[inline(never)]
+#[tactic(auto, unfolding(crate::specs::Questions::tell, crate::specs::Raising::in_protected, crate::specs::Raising::invalid_opcode, insn_plan::specs::Plan::carried_out))]
+pub(crate) fn tell_access_rights(m: &mut Machine, i: &Insn) -> Result<(), Event>
+    ensures { CarriesOut m.old m.new result (tell access_rights m.old.world i.now) }
 {
     if m.mode() == Mode::Real {
         return Err(exception(INVALID_OPCODE));
     }
-    let sel = next.source(m, i.addr32, 16, &i.second)?;
+    let sel = source(m, i.addr32, 16, &i.second)?;
     match row_of(m, sel) {
-        None => answer(m, false, next),
-        Some((d, _)) => tell_number(m, i, access_rights(&d), next),
+        None => tell_nothing(m),
+        Some((d, _)) => tell_number(m, i, access_rights(&d)),
     }
-    Ok(())
 }
 
 /// LSL. Source: 80386 Programmer's Reference Manual, ch. 17.
-#[tactic(auto, unfolding(crate::specs::Questions::tell, crate::specs::Raising::in_protected, crate::specs::Raising::invalid_opcode))]
-pub(crate) fn tell_byte_limit(m: &Machine, i: &Insn, next: &mut Next) -> Result<(), Event>
-    requires fresh { next.old ≡ fresh m.now.world }
-    ensures { Plans next.new result (planned m.now.world [] (tell byte_limit m.now.world i.now)) }
+#[inline(never)]
+#[tactic(auto, unfolding(crate::specs::Questions::tell, crate::specs::Raising::in_protected, crate::specs::Raising::invalid_opcode, insn_plan::specs::Plan::carried_out))]
+pub(crate) fn tell_byte_limit(m: &mut Machine, i: &Insn) -> Result<(), Event>
+    ensures { CarriesOut m.old m.new result (tell byte_limit m.old.world i.now) }
 {
     if m.mode() == Mode::Real {
         return Err(exception(INVALID_OPCODE));
     }
-    let sel = next.source(m, i.addr32, 16, &i.second)?;
+    let sel = source(m, i.addr32, 16, &i.second)?;
     match row_of(m, sel) {
-        None => answer(m, false, next),
-        Some((d, _)) => tell_number(m, i, d.byte_limit(), next),
+        None => tell_nothing(m),
+        Some((d, _)) => tell_number(m, i, d.byte_limit()),
     }
-    Ok(())
 }
 
 // The privilege level that a selector asks for.
@@ -156,22 +161,21 @@ fn privilege_of(sel: u32) -> u32
 }
 
 /// ARPL. Source: as above.
-#[tactic(auto, unfolding(crate::specs::Questions::arpl, crate::specs::Raising::in_protected, crate::specs::Raising::invalid_opcode))]
-pub(crate) fn arpl(m: &Machine, i: &Insn, next: &mut Next) -> Result<(), Event>
-    requires fresh { next.old ≡ fresh m.now.world }
-    ensures { Plans next.new result (planned m.now.world [] (arpl m.now.world i.now)) }
+#[inline(never)]
+#[tactic(auto, unfolding(crate::specs::Questions::arpl, crate::specs::Raising::in_protected, crate::specs::Raising::invalid_opcode, insn_plan::specs::Plan::carried_out))]
+pub(crate) fn arpl(m: &mut Machine, i: &Insn) -> Result<(), Event>
+    ensures { CarriesOut m.old m.new result (arpl m.old.world i.now) }
 {
     if m.mode() == Mode::Real {
         return Err(exception(INVALID_OPCODE));
     }
-    let a = next.source(m, i.addr32, 16, &i.first)?;
-    let b = next.source(m, i.addr32, 16, &i.second)?;
+    let a = source(m, i.addr32, 16, &i.first)?;
+    let b = source(m, i.addr32, 16, &i.second)?;
     if privilege_of(a) < privilege_of(b) {
-        answer(m, true, next);
+        let flags = with_zero(m, true);
         let v = a - privilege_of(a) + privilege_of(b);
-        next.put(&m.regs(), i.addr32, 16, &i.first, v);
+        put_with_flags(m, flags, i.addr32, 16, &i.first, v)
     } else {
-        answer(m, false, next);
+        tell_nothing(m)
     }
-    Ok(())
 }

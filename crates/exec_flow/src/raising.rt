@@ -1,14 +1,14 @@
 // Instructions that only raise an exception.
-ghost use Rattle.std.specs.Prelude.{◌≡◌, []};
+ghost use Rattle.std.specs.Prelude.{◌≡◌};
 ghost use Rattle.client_world.specs.Access.{fault_with};
 ghost use Rattle.client_world.specs.declared.faults.Event.TheVariants.{Fault as fault};
 ghost use Rattle.exec_flow.specs.Raising.{invalid_opcode, privileged, escape, load_table};
-ghost use Rattle.insn_plan.specs.Plan.{planned, Plans};
+ghost use Rattle.host_memory.specs.View.{MachineView};
+ghost use Rattle.insn_plan.specs.Plan.{CarriesOut};
 
 use client_world::faults::{COPROCESSOR_NOT_AVAILABLE, GENERAL_PROTECTION, INVALID_OPCODE};
 use client_world::{Event, Fault, Mode};
 use guest_space::Machine;
-use insn_plan::Next;
 
 /// An exception with code 0.
 pub(crate) fn exception(number: u8) -> Event
@@ -18,37 +18,41 @@ pub(crate) fn exception(number: u8) -> Event
 }
 
 /// SLDT, STR, SGDT, SIDT, SMSW. Source: 80386 Programmer's Reference Manual, ch. 17; that they are invalid is own.
-#[tactic(auto, unfolding(crate::specs::Raising::invalid_opcode))]
-pub(crate) fn invalid_opcode(m: &Machine, next: &mut Next) -> Result<(), Event>
-    ensures { Plans next.new result (planned m.now.world [] invalid_opcode) }
+#[inline(never)]
+#[tactic(auto, unfolding(crate::specs::Raising::invalid_opcode, insn_plan::specs::Plan::carried_out))]
+pub(crate) fn invalid_opcode() -> Result<(), Event>
+    ensures { (v : MachineView) → CarriesOut v v result invalid_opcode }
 {
     Err(exception(INVALID_OPCODE))
 }
 
 /// HLT, INS, OUTS, LGDT, LIDT, LMSW, CLTS, moves of control, debug and test registers.
 /// Source: 80386 Programmer's Reference Manual, ch. 17, each under its name, and ch. 15, "Sensitive Instructions".
-#[tactic(auto, unfolding(crate::specs::Raising::privileged))]
-pub(crate) fn privileged(m: &Machine, next: &mut Next) -> Result<(), Event>
-    ensures { Plans next.new result (planned m.now.world [] privileged) }
+#[inline(never)]
+#[tactic(auto, unfolding(crate::specs::Raising::privileged, insn_plan::specs::Plan::carried_out))]
+pub(crate) fn privileged() -> Result<(), Event>
+    ensures { (v : MachineView) → CarriesOut v v result privileged }
 {
     Err(exception(GENERAL_PROTECTION))
 }
 
 /// The coprocessor's escape. Source: 80386 Programmer's Reference Manual, ch. 9, "Interrupt 7 - Coprocessor Not Available".
-#[tactic(auto, unfolding(crate::specs::Raising::escape))]
-pub(crate) fn escape(m: &Machine, next: &mut Next) -> Result<(), Event>
-    ensures { Plans next.new result (planned m.now.world [] escape) }
+#[inline(never)]
+#[tactic(auto, unfolding(crate::specs::Raising::escape, insn_plan::specs::Plan::carried_out))]
+pub(crate) fn escape() -> Result<(), Event>
+    ensures { (v : MachineView) → CarriesOut v v result escape }
 {
     Err(exception(COPROCESSOR_NOT_AVAILABLE))
 }
 
 /// LLDT and LTR. Source: 80386 Programmer's Reference Manual, ch. 17.
+#[inline(never)]
 #[tactic(auto, unfolding(crate::specs::Raising::load_table, crate::specs::Raising::in_protected))]
-pub(crate) fn load_table(m: &Machine, next: &mut Next) -> Result<(), Event>
-    ensures { Plans next.new result (planned m.now.world [] (load_table m.now.world)) }
+pub(crate) fn load_table(m: &Machine) -> Result<(), Event>
+    ensures { CarriesOut m.now m.now result (load_table m.now.world) }
 {
     match m.mode() {
-        Mode::Real => invalid_opcode(m, next),
-        Mode::Protected => privileged(m, next),
+        Mode::Real => invalid_opcode(),
+        Mode::Protected => privileged(),
     }
 }

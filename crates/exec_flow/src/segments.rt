@@ -1,7 +1,8 @@
 // Segment registers loaded and stored.
-ghost use Rattle.std.specs.Prelude.{◌≡◌, []};
+ghost use Rattle.std.specs.Prelude.{◌≡◌, MatchResult, OnOk, IfErr, None, Some};
+ghost use Rattle.client_world.specs.Loading.{register_fault};
+ghost use Rattle.client_world.specs.Segments.{with_selector};
 ghost use Rattle.exec_flow.specs.Segments.{
-  segment_loaded,
   mov_to_segment,
   mov_from_segment,
   mov_segment,
@@ -10,96 +11,111 @@ ghost use Rattle.exec_flow.specs.Segments.{
   pop_segment,
   load_pointer,
 };
-ghost use Rattle.insn_plan.specs.Plan.{fresh, pending_of, planned, Plans};
+ghost use Rattle.guest_space.specs.Registers.{with_registers};
+ghost use Rattle.insn_plan.specs.Plan.{CarriesOut};
 
 use crate::pointers::{pointer, pointer_offset, pointer_selector};
-use client_world::{Event, Mode, SegReg};
+use crate::stack_tops::popped_esp;
+use client_world::general::ESP;
+use client_world::{Event, Fault, Mode, SegReg};
 use guest_space::Machine;
 use insn_forms::{Insn, Operand};
-use insn_plan::{Next, items_popped};
+use insn_plan::{push_item, put_operand, source, stack_item};
 
-// Leaves another selector in a segment register, where it may be loaded; in real mode every word may.
-#[tactic(auto, unfolding(crate::specs::Segments::segment_loaded))]
-fn load_segment(m: &Machine, seg: SegReg, sel: u16, next: &mut Next) -> Result<(), Event>
-    ensures { Plans next.new result
-        (planned m.now.world next.old.reads (segment_loaded m.now.world seg sel (pending_of next.old))) }
+// Whether a selector may be loaded into a segment register; in real mode every word may.
+#[inline(always)]
+fn check_load(m: &Machine, seg: SegReg, sel: u16) -> Result<(), Fault>
+    ensures { MatchResult result (λ _. register_fault m.now.world seg sel ≡ None)
+        (λ fault. register_fault m.now.world seg sel ≡ Some fault) }
 {
-    if m.mode() == Mode::Protected {
-        m.loadable(seg, sel, 0, false)?;
+    match m.mode() {
+        Mode::Real => Ok(()),
+        Mode::Protected => m.loadable(seg, sel, 0, false),
     }
-    let mut r = next.regs();
-    r.set_selector(seg, sel);
-    next.set_regs(r);
+}
+
+// Loads a segment register, or gives the fault of the selector, which changes nothing.
+#[inline(always)]
+fn load_segment(m: &mut Machine, seg: SegReg, sel: u16) -> Result<(), Fault>
+    ensures allowed { OnOk result (register_fault m.old.world seg sel ≡ None) }
+    ensures loaded { OnOk result (m.new ≡ with_registers (with_selector m.old.world.regs seg sel) m.old) }
+    ensures refused { IfErr result (λ fault.
+        (register_fault m.old.world seg sel ≡ Some fault) × (m.new ≡ m.old)) }
+{
+    check_load(m, seg, sel)?;
+    m.set_selector(seg, sel);
     Ok(())
 }
 
 // MOV into a segment register.
-#[tactic(auto, unfolding(crate::specs::Segments::mov_to_segment))]
-fn mov_to_segment(m: &Machine, i: &Insn, seg: SegReg, next: &mut Next) -> Result<(), Event>
-    requires fresh { next.old ≡ fresh m.now.world }
-    ensures { Plans next.new result (planned m.now.world [] (mov_to_segment m.now.world i.now seg)) }
+#[inline(always)]
+#[tactic(auto, unfolding(crate::specs::Segments::mov_to_segment, crate::specs::Segments::segment_loaded, insn_plan::specs::Plan::carried_out, insn_plan::specs::Plan::settled, guest_space::specs::Pending::first_refusal, guest_space::specs::Pending::all_written))]
+fn mov_to_segment(m: &mut Machine, i: &Insn, seg: SegReg) -> Result<(), Event>
+    ensures { CarriesOut m.old m.new result (mov_to_segment m.old.world i.now seg) }
 {
-    let v = next.source(m, i.addr32, 16, &i.second)?;
-    load_segment(m, seg, (v % 0x1_0000) as u16, next)
-}
-
-// MOV from a segment register.
-#[tactic(auto, unfolding(crate::specs::Segments::mov_from_segment))]
-fn mov_from_segment(m: &Machine, i: &Insn, next: &mut Next) -> Result<(), Event>
-    requires fresh { next.old ≡ fresh m.now.world }
-    ensures { Plans next.new result (planned m.now.world [] (mov_from_segment m.now.world i.now)) }
-{
-    let v = next.source(m, i.addr32, 16, &i.second)?;
-    next.put(&m.regs(), i.addr32, 16, &i.first, v);
+    let v = source(m, i.addr32, 16, &i.second)?;
+    load_segment(m, seg, (v % 0x1_0000) as u16)?;
     Ok(())
 }
 
+// MOV from a segment register.
+#[inline(always)]
+#[tactic(auto, unfolding(crate::specs::Segments::mov_from_segment, insn_plan::specs::Plan::carried_out))]
+fn mov_from_segment(m: &mut Machine, i: &Insn) -> Result<(), Event>
+    ensures { CarriesOut m.old m.new result (mov_from_segment m.old.world i.now) }
+{
+    let v = source(m, i.addr32, 16, &i.second)?;
+    put_operand(m, i.addr32, 16, &i.first, v)
+}
+
 /// MOV with a segment register. Source: 80386 Programmer's Reference Manual, ch. 17.
+#[inline(always)]
 #[tactic(auto, unfolding(crate::specs::Segments::mov_segment))]
-pub(crate) fn mov_segment(m: &Machine, i: &Insn, next: &mut Next) -> Result<(), Event>
-    requires fresh { next.old ≡ fresh m.now.world }
-    ensures { Plans next.new result (planned m.now.world [] (mov_segment m.now.world i.now)) }
+pub(crate) fn mov_segment(m: &mut Machine, i: &Insn) -> Result<(), Event>
+    ensures { CarriesOut m.old m.new result (mov_segment m.old.world i.now) }
 {
     match i.first {
-        Operand::Seg(seg) => mov_to_segment(m, i, seg, next),
+        Operand::Seg(seg) => mov_to_segment(m, i, seg),
         Operand::Empty
         | Operand::Reg { .. }
         | Operand::Mem(_)
         | Operand::Imm(_)
-        | Operand::Far(_) => mov_from_segment(m, i, next),
+        | Operand::Far(_) => mov_from_segment(m, i),
     }
 }
 
 /// PUSH of a segment register. Source: as above.
-#[tactic(auto, unfolding(crate::specs::Segments::push_segment))]
-pub(crate) fn push_segment(m: &Machine, i: &Insn, next: &mut Next) -> Result<(), Event>
-    requires fresh { next.old ≡ fresh m.now.world }
-    ensures { Plans next.new result (planned m.now.world [] (push_segment m.now.world i.now)) }
+#[inline(always)]
+#[tactic(auto, unfolding(crate::specs::Segments::push_segment, insn_plan::specs::Plan::carried_out))]
+pub(crate) fn push_segment(m: &mut Machine, i: &Insn) -> Result<(), Event>
+    ensures { CarriesOut m.old m.new result (push_segment m.old.world i.now) }
 {
-    let v = next.source(m, i.addr32, i.width, &i.first)?;
-    next.push(m, i.width, v);
-    Ok(())
+    let v = source(m, i.addr32, i.width, &i.first)?;
+    push_item(m, i.width, v)
 }
 
 // POP into a segment register.
-#[tactic(auto, unfolding(crate::specs::Segments::pop_into))]
-fn pop_into(m: &Machine, i: &Insn, seg: SegReg, next: &mut Next) -> Result<(), Event>
-    requires fresh { next.old ≡ fresh m.now.world }
-    ensures { Plans next.new result (planned m.now.world [] (pop_into m.now.world i.now seg)) }
+#[inline(always)]
+#[tactic(auto, unfolding(crate::specs::Segments::pop_into, crate::specs::Segments::segment_loaded, insn_plan::specs::Plan::carried_out, insn_plan::specs::Plan::settled, guest_space::specs::Pending::first_refusal, guest_space::specs::Pending::all_written, client_world::specs::General::with_general, insn_plan::specs::Stack::items_popped))]
+fn pop_into(m: &mut Machine, i: &Insn, seg: SegReg) -> Result<(), Event>
+    ensures { CarriesOut m.old m.new result (pop_into m.old.world i.now seg) }
 {
-    let v = next.stack_item(m, i.width, 0)?;
-    next.set_regs(items_popped(m, i.width, 1, m.regs()));
-    load_segment(m, seg, (v % 0x1_0000) as u16, next)
+    let v = stack_item(m, i.width, 0)?;
+    let sel = (v % 0x1_0000) as u16;
+    check_load(m, seg, sel)?;
+    m.set_general(ESP, popped_esp(m, i.width, 1));
+    m.set_selector(seg, sel);
+    Ok(())
 }
 
 /// POP of a segment register. Source: as above.
-#[tactic(auto, unfolding(crate::specs::Segments::pop_segment))]
-pub(crate) fn pop_segment(m: &Machine, i: &Insn, next: &mut Next) -> Result<(), Event>
-    requires fresh { next.old ≡ fresh m.now.world }
-    ensures { Plans next.new result (planned m.now.world [] (pop_segment m.now.world i.now)) }
+#[inline(always)]
+#[tactic(auto, unfolding(crate::specs::Segments::pop_segment, insn_plan::specs::Plan::carried_out, insn_plan::specs::Plan::settled, guest_space::specs::Pending::first_refusal, guest_space::specs::Pending::all_written))]
+pub(crate) fn pop_segment(m: &mut Machine, i: &Insn) -> Result<(), Event>
+    ensures { CarriesOut m.old m.new result (pop_segment m.old.world i.now) }
 {
     match i.first {
-        Operand::Seg(seg) => pop_into(m, i, seg, next),
+        Operand::Seg(seg) => pop_into(m, i, seg),
         Operand::Empty
         | Operand::Reg { .. }
         | Operand::Mem(_)
@@ -109,12 +125,15 @@ pub(crate) fn pop_segment(m: &Machine, i: &Insn, next: &mut Next) -> Result<(), 
 }
 
 /// LES, LDS, LSS, LFS, LGS. Source: 80386 Programmer's Reference Manual, ch. 17, LGS/LSS/LDS/LES/LFS.
-#[tactic(auto, unfolding(crate::specs::Segments::load_pointer))]
-pub(crate) fn load_pointer(m: &Machine, i: &Insn, seg: SegReg, next: &mut Next) -> Result<(), Event>
-    requires fresh { next.old ≡ fresh m.now.world }
-    ensures { Plans next.new result (planned m.now.world [] (load_pointer seg m.now.world i.now)) }
+#[inline(always)]
+#[tactic(auto, unfolding(crate::specs::Segments::load_pointer, crate::specs::Segments::segment_loaded, insn_plan::specs::Plan::carried_out), using(crate::proofs::Loaded::settled_with_selector, insn_plan::proofs::Settled::refused_with))]
+pub(crate) fn load_pointer(m: &mut Machine, i: &Insn, seg: SegReg) -> Result<(), Event>
+    ensures { CarriesOut m.old m.new result (load_pointer seg m.old.world i.now) }
 {
-    let p = pointer(m, i, &i.second, next)?;
-    next.put(&m.regs(), i.addr32, i.width, &i.first, pointer_offset(i, p));
-    load_segment(m, seg, pointer_selector(i, p), next)
+    let p = pointer(m, i, &i.second)?;
+    let sel = pointer_selector(i, p);
+    check_load(m, seg, sel)?;
+    put_operand(m, i.addr32, i.width, &i.first, pointer_offset(i, p))?;
+    m.set_selector(seg, sel);
+    Ok(())
 }

@@ -1,5 +1,5 @@
 // Near transfers.
-ghost use Rattle.std.specs.Prelude.{◌≡◌, ◌+◌, ◌<◌, ◌≤◌, ◌++◌, [], length, MatchResult, None, Some};
+ghost use Rattle.std.specs.Prelude.{◌≡◌, MatchResult, OnOk, IfErr, None, Some, false};
 ghost use Rattle.client_world.specs.Loading.{transfer_fault};
 ghost use Rattle.exec_flow.specs.Transfers.{
   at_operand_size,
@@ -10,41 +10,35 @@ ghost use Rattle.exec_flow.specs.Transfers.{
   jcxz,
   jmp,
   loop_while,
-  near_transfer,
-  released,
   ret,
   target,
 };
+ghost use Rattle.guest_space.specs.Registers.{with_registers};
 ghost use Rattle.insn_plan.specs.Act.{value_of};
-ghost use Rattle.insn_plan.specs.Plan.{access_of, fresh, pending_of, planned, Plans};
-ghost use Rattle.insn_plan.specs.declared.next.TheConstants.{MAX_READS};
+ghost use Rattle.insn_plan.specs.Plan.{CarriesOut};
 
+use crate::stack_tops::released_esp;
 use client_world::faults::GENERAL_PROTECTION;
-use client_world::{Event, Fault, Mode, Regs, SegReg};
+use client_world::general::{ECX, ESP};
+use client_world::{Event, Fault, Mode, SegReg};
 use guest_space::Machine;
 use insn_forms::{Insn, Operand};
-use insn_plan::{
-    Next, condition, counter, cut_address, items_popped, set_stack_pointer, stack_pointer_up,
-    with_address,
-};
+use insn_plan::{condition, counter, cut_address, push_item, source, stack_item, with_address};
 
-/// Reads the target of a near transfer, before it is cut, or gives the fault of the access.
-#[tactic(auto, unfolding(crate::specs::Transfers::target, insn_plan::specs::Act::value_of, insn_plan::specs::Plan::access_of))]
-fn target(m: &Machine, i: &Insn, next: &mut Next) -> Result<u64, Event>
-    requires { length next.old.reads < MAX_READS }
-    ensures value { result ≡ value_of m.now.world (target m.now.world i.now i.now.first) }
-    ensures noted { next.new ≡ record next.old {
-      reads = next.old.reads ++ access_of (target m.now.world i.now i.now.first);
-    } }
-    ensures room { length next.new.reads ≤ length next.old.reads + 1 }
+// Reads the target of a near transfer, before it is cut, or gives the fault of the access.
+#[inline(always)]
+#[tactic(auto, unfolding(crate::specs::Transfers::target, insn_plan::specs::Act::value_of))]
+fn target(m: &Machine, i: &Insn) -> Result<u64, Event>
+    ensures { result ≡ value_of m.now.world (target m.now.world i.now i.now.first) }
 {
     match &i.first {
-        Operand::Imm(distance) => Ok(u64::from(m.regs().eip) + u64::from(*distance)),
-        operand => Ok(u64::from(next.source(m, i.addr32, i.width, operand)?)),
+        Operand::Imm(distance) => Ok(u64::from(m.registers().eip) + u64::from(*distance)),
+        operand => Ok(u64::from(source(m, i.addr32, i.width, operand)?)),
     }
 }
 
 /// An instruction pointer at the operand size.
+#[inline(always)]
 pub(crate) fn at_operand_size(i: &Insn, ip: u64) -> u32
     ensures { result ≡ at_operand_size i.now ip }
 {
@@ -57,6 +51,7 @@ pub(crate) fn at_operand_size(i: &Insn, ip: u64) -> u32
 
 /// Whether a transfer may go to an offset of a segment; in real mode the offset alone is asked.
 /// Source: 80386 Programmer's Reference Manual, ch. 17, JMP, CALL and RET.
+#[inline(always)]
 pub(crate) fn check_transfer(m: &Machine, sel: u16, off: u32, ret: bool) -> Result<(), Fault>
     ensures { MatchResult result (λ _. transfer_fault m.now.world sel off ret ≡ None)
         (λ fault. transfer_fault m.now.world sel off ret ≡ Some fault) }
@@ -71,47 +66,51 @@ pub(crate) fn check_transfer(m: &Machine, sel: u16, off: u32, ret: bool) -> Resu
     }
 }
 
-/// The near transfer itself: outside the code segment's limit there is nothing but the fault.
-#[tactic(auto, unfolding(crate::specs::Transfers::near_transfer))]
-fn near_transfer(m: &Machine, i: &Insn, ip: u64, next: &mut Next) -> Result<(), Event>
-    ensures { Plans next.new result
-        (planned m.now.world next.old.reads (near_transfer m.now.world i.now ip (pending_of next.old))) }
+// The near transfer itself, or the fault of a target outside the code segment's limit, which changes nothing.
+#[inline(always)]
+fn near_transfer(m: &mut Machine, i: &Insn, ip: u64) -> Result<(), Fault>
+    ensures allowed { OnOk result
+        (transfer_fault m.old.world m.old.world.regs.cs (at_operand_size i.now ip) false ≡ None) }
+    ensures moved { OnOk result
+        (m.new ≡ with_registers (record m.old.world.regs { eip = at_operand_size i.now ip }) m.old) }
+    ensures refused { IfErr result (λ fault.
+        (transfer_fault m.old.world m.old.world.regs.cs (at_operand_size i.now ip) false ≡ Some fault)
+        × (m.new ≡ m.old)) }
 {
     let eip = at_operand_size(i, ip);
-    check_transfer(m, m.regs().cs, eip, false)?;
-    next.set_regs(Regs { eip, ..next.regs() });
+    check_transfer(m, m.registers().cs, eip, false)?;
+    m.set_eip(eip);
     Ok(())
 }
 
 /// Jcc. Source: 80386 Programmer's Reference Manual, ch. 17.
-#[tactic(auto, unfolding(crate::specs::Transfers::jcc))]
-pub(crate) fn jcc(m: &Machine, i: &Insn, n: u8, next: &mut Next) -> Result<(), Event>
-    requires fresh { next.old ≡ fresh m.now.world }
-    ensures { Plans next.new result (planned m.now.world [] (jcc m.now.world i.now n)) }
+#[inline(always)]
+#[tactic(auto, unfolding(crate::specs::Transfers::jcc, crate::specs::Transfers::near_transfer, insn_plan::specs::Plan::carried_out, insn_plan::specs::Plan::settled, guest_space::specs::Pending::first_refusal, guest_space::specs::Pending::all_written))]
+pub(crate) fn jcc(m: &mut Machine, i: &Insn, n: u8) -> Result<(), Event>
+    ensures { CarriesOut m.old m.new result (jcc m.old.world i.now n) }
 {
-    let ip = target(m, i, next)?;
-    if condition(n, m.regs().flags) {
-        near_transfer(m, i, ip, next)
-    } else {
-        Ok(())
+    let ip = target(m, i)?;
+    if condition(n, m.registers().flags) {
+        near_transfer(m, i, ip)?;
     }
+    Ok(())
 }
 
 /// JCXZ. Source: as above.
-#[tactic(auto, unfolding(crate::specs::Transfers::jcxz))]
-pub(crate) fn jcxz(m: &Machine, i: &Insn, next: &mut Next) -> Result<(), Event>
-    requires fresh { next.old ≡ fresh m.now.world }
-    ensures { Plans next.new result (planned m.now.world [] (jcxz m.now.world i.now)) }
+#[inline(always)]
+#[tactic(auto, unfolding(crate::specs::Transfers::jcxz, crate::specs::Transfers::near_transfer, insn_plan::specs::Plan::carried_out, insn_plan::specs::Plan::settled, guest_space::specs::Pending::first_refusal, guest_space::specs::Pending::all_written))]
+pub(crate) fn jcxz(m: &mut Machine, i: &Insn) -> Result<(), Event>
+    ensures { CarriesOut m.old m.new result (jcxz m.old.world i.now) }
 {
-    let ip = target(m, i, next)?;
+    let ip = target(m, i)?;
     if counter(m, i) == 0 {
-        near_transfer(m, i, ip, next)
-    } else {
-        Ok(())
+        near_transfer(m, i, ip)?;
     }
+    Ok(())
 }
 
 // The counter less 1.
+#[inline(always)]
 fn count_down(m: &Machine, i: &Insn) -> u32
     ensures { result ≡ count_down m.now.world i.now }
 {
@@ -120,47 +119,48 @@ fn count_down(m: &Machine, i: &Insn) -> u32
 
 /// LOOP, and LOOPE and LOOPNE with their condition.
 /// Source: 80386 Programmer's Reference Manual, ch. 17, "LOOP/LOOPcond"; that a loop whose jump faults keeps its counter is own.
-#[tactic(auto, unfolding(crate::specs::Transfers::loop_while))]
-pub(crate) fn loop_while(m: &Machine, i: &Insn, holds: bool, next: &mut Next) -> Result<(), Event>
-    requires fresh { next.old ≡ fresh m.now.world }
-    ensures { Plans next.new result (planned m.now.world [] (loop_while holds m.now.world i.now)) }
+#[inline(always)]
+#[tactic(auto, unfolding(crate::specs::Transfers::loop_while, crate::specs::Transfers::near_transfer, insn_plan::specs::Plan::carried_out, insn_plan::specs::Plan::settled, guest_space::specs::Pending::first_refusal, guest_space::specs::Pending::all_written, client_world::specs::General::with_general))]
+pub(crate) fn loop_while(m: &mut Machine, i: &Insn, holds: bool) -> Result<(), Event>
+    ensures { CarriesOut m.old m.new result (loop_while holds m.old.world i.now) }
 {
-    let ip = target(m, i, next)?;
+    let ip = target(m, i)?;
     let count = count_down(m, i);
-    let r = m.regs();
-    next.set_regs(Regs {
-        ecx: with_address(i.addr32, r.ecx, count),
-        ..r
-    });
+    let ecx = with_address(i.addr32, m.registers().ecx, count);
     if holds && count != 0 {
-        near_transfer(m, i, ip, next)
-    } else {
-        Ok(())
+        near_transfer(m, i, ip)?;
     }
+    m.set_general(ECX, ecx);
+    Ok(())
 }
 
 /// JMP. Source: 80386 Programmer's Reference Manual, ch. 17.
-#[tactic(auto, unfolding(crate::specs::Transfers::jmp))]
-pub(crate) fn jmp(m: &Machine, i: &Insn, next: &mut Next) -> Result<(), Event>
-    requires fresh { next.old ≡ fresh m.now.world }
-    ensures { Plans next.new result (planned m.now.world [] (jmp m.now.world i.now)) }
+#[inline(always)]
+#[tactic(auto, unfolding(crate::specs::Transfers::jmp, crate::specs::Transfers::near_transfer, insn_plan::specs::Plan::carried_out, insn_plan::specs::Plan::settled, guest_space::specs::Pending::first_refusal, guest_space::specs::Pending::all_written))]
+pub(crate) fn jmp(m: &mut Machine, i: &Insn) -> Result<(), Event>
+    ensures { CarriesOut m.old m.new result (jmp m.old.world i.now) }
 {
-    let ip = target(m, i, next)?;
-    near_transfer(m, i, ip, next)
+    let ip = target(m, i)?;
+    near_transfer(m, i, ip)?;
+    Ok(())
 }
 
 /// CALL. Source: as above.
-#[tactic(auto, unfolding(crate::specs::Transfers::call))]
-pub(crate) fn call(m: &Machine, i: &Insn, next: &mut Next) -> Result<(), Event>
-    requires fresh { next.old ≡ fresh m.now.world }
-    ensures { Plans next.new result (planned m.now.world [] (call m.now.world i.now)) }
+#[inline(always)]
+#[tactic(auto, unfolding(crate::specs::Transfers::call, crate::specs::Transfers::near_transfer, insn_plan::specs::Plan::carried_out), using(insn_plan::proofs::Settled::settled_with, insn_plan::proofs::Settled::refused_with))]
+pub(crate) fn call(m: &mut Machine, i: &Insn) -> Result<(), Event>
+    ensures { CarriesOut m.old m.new result (call m.old.world i.now) }
 {
-    let ip = target(m, i, next)?;
-    next.push(m, i.width, m.regs().eip);
-    near_transfer(m, i, ip, next)
+    let ip = target(m, i)?;
+    let eip = at_operand_size(i, ip);
+    check_transfer(m, m.registers().cs, eip, false)?;
+    push_item(m, i.width, m.registers().eip)?;
+    m.set_eip(eip);
+    Ok(())
 }
 
 /// The number of an immediate.
+#[inline(always)]
 pub(crate) fn immediate(operand: &Operand) -> u32
     ensures { result ≡ immediate operand.now }
 {
@@ -170,23 +170,15 @@ pub(crate) fn immediate(operand: &Operand) -> u32
     }
 }
 
-/// The registers with so many bytes more dropped from the stack.
-pub(crate) fn released(m: &Machine, n: u32, mut r: Regs) -> Regs
-    ensures { result ≡ released m.now.world n r }
-{
-    let sp = stack_pointer_up(m, n, &r);
-    set_stack_pointer(m, &mut r, sp);
-    r
-}
-
 /// RET. Source: as above.
-#[tactic(auto, unfolding(crate::specs::Transfers::ret))]
-pub(crate) fn ret(m: &Machine, i: &Insn, next: &mut Next) -> Result<(), Event>
-    requires fresh { next.old ≡ fresh m.now.world }
-    ensures { Plans next.new result (planned m.now.world [] (ret m.now.world i.now)) }
+#[inline(always)]
+#[tactic(auto, unfolding(crate::specs::Transfers::ret, crate::specs::Transfers::near_transfer, insn_plan::specs::Plan::carried_out, insn_plan::specs::Plan::settled, guest_space::specs::Pending::first_refusal, guest_space::specs::Pending::all_written, client_world::specs::General::with_general, insn_plan::specs::Stack::items_popped))]
+pub(crate) fn ret(m: &mut Machine, i: &Insn) -> Result<(), Event>
+    ensures { CarriesOut m.old m.new result (ret m.old.world i.now) }
 {
-    let ip = next.stack_item(m, i.width, 0)?;
-    let popped = items_popped(m, i.width, 1, m.regs());
-    next.set_regs(released(m, immediate(&i.first), popped));
-    near_transfer(m, i, u64::from(ip), next)
+    let ip = stack_item(m, i.width, 0)?;
+    let esp = released_esp(m, i.width, 1, immediate(&i.first));
+    near_transfer(m, i, u64::from(ip))?;
+    m.set_general(ESP, esp);
+    Ok(())
 }

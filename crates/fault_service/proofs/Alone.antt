@@ -21,7 +21,7 @@ use Rattle.insn_decode.specs.declared.decoding.Decoded.TheVariants.{Whole, More,
 use Rattle.insn_decode.specs.Decode.{decoded}
 use Rattle.insn_forms.specs.declared.insn.Insn.{Insn}
 use Rattle.insn_plan.specs.Act.{Pending}
-use Rattle.insn_plan.specs.Plan.{Plan, carried_out, pending_of, planned, settled, with_state}
+use Rattle.insn_plan.specs.Plan.{carried_out, planned, settled, with_state}
 use Rattle.fault_service.specs.Delivery.{frame_pushed, handler_entered, handler_interrupts, has_real_vector, interrupt_of, interrupt_vector, interrupted, iret_popped, popped_or_bad, real_delivery, software_interrupt, unserved}
 use Rattle.fault_service.specs.Worlds.{bare, its_world, on_world, world_delivery, world_interrupt, world_popped, world_step}
 
@@ -57,9 +57,9 @@ settled_alone v p =
     (with_state p.regs p.vif (all_written (bare v.world) p.writes))
     (ap (λ (w : World). record w { regs = p.regs; vif = p.vif }) (all_alone v p.writes))
 
-carried_alone : (v : MachineView) (r : Result Plan Event) → its_world (carried_out v r) ≡ its_world (carried_out (bare v.world) r)
+carried_alone : (v : MachineView) (r : Result Pending Event) → its_world (carried_out v r) ≡ its_world (carried_out (bare v.world) r)
 unfolding carried_out
-carried_alone v (Ok p) = settled_alone v (pending_of p)
+carried_alone v (Ok p) = settled_alone v p
 carried_alone v (Err e) = refl
 
 -- ---- a step
@@ -157,7 +157,7 @@ popped_or_bad_alone (Err e) = refl
 pub popped_alone : (v : MachineView) → its_world (iret_popped v) ≡ world_popped v.world
 unfolding iret_popped world_popped
 popped_alone v =
-    let plan = planned v.world [] (frame_popped v.world (frame_bits v.world)) in
+    let plan = planned v.world (frame_popped v.world (frame_bits v.world)) in
     popped_or_bad_alone (carried_out v plan) ∙ ap good_or_bad (carried_alone v plan)
     ∙ sym (popped_or_bad_alone (carried_out (bare v.world) plan))
 

@@ -1,5 +1,5 @@
 -- In real mode a frame can be popped exactly where its three words lie inside the stack segment.
-use Rattle.std.proofs.Common.{◌≡◌, ℕ, ◌+◌, ◌*◌, ◌%◌, ◌<◌, ◌^◌, Bool, true, false, ◌&&◌, List, [], ◌++◌, refl, ap, ◌∙◌, sym, subst, arith, Option, Result, Ok, Err}
+use Rattle.std.proofs.Common.{◌≡◌, ℕ, ◌+◌, ◌*◌, ◌%◌, ◌<◌, ◌^◌, Bool, true, false, ◌&&◌, List, refl, ap, ◌∙◌, sym, subst, arith, Option, Result, Ok, Err}
 use Rattle.std.specs.Prelude.{is_ok, nat_le}
 use Rattle.std.proofs.lemmas.Bool.{leb-true, lt-ltb}
 use Rattle.std.proofs.Math.Bool.{and-true, and_assoc}
@@ -18,8 +18,7 @@ use Rattle.exec_flow.specs.FarTransfers.{far_transfer, frame_popped}
 use Rattle.guest_space.specs.Transfer.{bytes_at, loaded}
 use Rattle.host_memory.specs.View.{MachineView}
 use Rattle.insn_plan.specs.Act.{Act, From, Read, number_read, value_of}
-use Rattle.insn_plan.specs.declared.next.Access.{Access}
-use Rattle.insn_plan.specs.Plan.{access_of, planned}
+use Rattle.insn_plan.specs.Plan.{planned}
 use Rattle.insn_plan.specs.Stack.{has_big_stack, stack_item}
 use Rattle.fault_service.specs.Delivery.{iret_popped}
 use Rattle.fault_service.specs.RealFrames.{frame_fits, word_fits}
@@ -62,38 +61,38 @@ item_where w above s = rw mod-add-mod (word_where w ((w.regs.esp + 2 * above) % 
 
 -- ---- what is popped
 
--- each plan of the act is made where that holds
+-- the plan of the act is made where that holds
 abbrev IsMadeWhere : World → Bool → Act → Type 0
-IsMadeWhere w fits act = (reads : List Access) → is_ok (planned w reads act) ≡ fits
+IsMadeWhere w fits act = is_ok (planned w act) ≡ fits
 
-read_where : (w : World) (reads : List Access) (r : Result ℕ Event) (rest : ℕ → Act) (fits later : Bool) → IsWordWhere fits r →
-    ((v : ℕ) → v < 0x10000 → is_ok (planned w reads (rest v)) ≡ later) →
-    is_ok (elim r [ Ok v ↦ planned w reads (rest v) | Err e ↦ Err e ]) ≡ (fits && later)
-read_where w reads (Ok v) rest fits later word made = rw (word.0, made v word.1) refl
-read_where w reads (Err e) rest fits later none made = rw none refl
+read_where : (w : World) (r : Result ℕ Event) (rest : ℕ → Act) (fits later : Bool) → IsWordWhere fits r →
+    ((v : ℕ) → v < 0x10000 → is_ok (planned w (rest v)) ≡ later) →
+    is_ok (elim r [ Ok v ↦ planned w (rest v) | Err e ↦ Err e ]) ≡ (fits && later)
+read_where w (Ok v) rest fits later word made = rw (word.0, made v word.1) refl
+read_where w (Err e) rest fits later none made = rw none refl
 
 item_made : (w : World) (above : ℕ) (rest : ℕ → Act) (later : Bool) → IsSound w →
     ((v : ℕ) → v < 0x10000 → IsMadeWhere (real w) later (rest v)) →
     IsMadeWhere (real w) (word_fits w.regs.esp above && later) (Read (stack_item (real w) 16 above) rest)
-item_made w above rest later s made = λ reads.
-    read_where (real w) (reads ++ access_of (stack_item (real w) 16 above)) _ rest _ later (item_where w above s) (λ v small. made v small _)
+item_made w above rest later s made =
+    read_where (real w) _ rest _ later (item_where w above s) (λ v small. made v small)
 
 image_made : (w : World) (ip cs image : ℕ) → ip < 0x10000 → IsMadeWhere (real w) true (with_image (real w) 16 ip cs image)
 unfolding far_transfer
-image_made w ip cs image small = λ reads. rw (lt-ltb ip SEGMENT_SIZE small) refl
+image_made w ip cs image small = rw (lt-ltb ip SEGMENT_SIZE small) refl
 
 cs_made : (w : World) (ip cs : ℕ) → IsSound w → ip < 0x10000 → IsMadeWhere (real w) (word_fits w.regs.esp 2) (with_cs (real w) 16 ip cs)
-cs_made w ip cs s small = λ reads.
-    item_made w 2 (with_image (real w) 16 ip cs) true s (λ image _. image_made w ip cs image small) reads ∙ and-true _
+cs_made w ip cs s small =
+    item_made w 2 (with_image (real w) 16 ip cs) true s (λ image _. image_made w ip cs image small) ∙ and-true _
 
 ip_made : (w : World) (ip : ℕ) → IsSound w → ip < 0x10000 →
     IsMadeWhere (real w) (word_fits w.regs.esp 1 && word_fits w.regs.esp 2) (with_ip (real w) 16 ip)
 ip_made w ip s small = item_made w 1 (with_cs (real w) 16 ip) _ s (λ cs _. cs_made w ip cs s small)
 
-frame_made : (w : World) → IsSound w → is_ok (planned (real w) [] (frame_popped (real w) 16)) ≡ frame_fits w.regs.esp
+frame_made : (w : World) → IsSound w → is_ok (planned (real w) (frame_popped (real w) 16)) ≡ frame_fits w.regs.esp
 unfolding frame_popped
 frame_made w s =
-    item_made w 0 (with_ip (real w) 16) _ s (λ ip small. ip_made w ip s small) []
+    item_made w 0 (with_ip (real w) 16) _ s (λ ip small. ip_made w ip s small)
     ∙ sym (and_assoc (word_fits w.regs.esp 0) _ _)
 
 -- ---- of worlds

@@ -1,5 +1,5 @@
 -- A return writes nothing, so that it can be made where its plan can.
-use Rattle.std.proofs.Common.{◌≡◌, ℕ, Bool, true, List, [], ◌++◌, refl, ap, ◌∙◌, Option, None, Some, Result, Ok, Err}
+use Rattle.std.proofs.Common.{◌≡◌, ℕ, Bool, true, [], refl, ap, ◌∙◌, Option, None, Some, Result, Ok, Err}
 use Rattle.std.specs.Prelude.{is_ok}
 use Rattle.client_world.specs.declared.faults.Event.{Event}
 use Rattle.client_world.specs.declared.faults.Event.TheVariants.{Fault as fault}
@@ -14,31 +14,30 @@ use Rattle.guest_space.proofs.Writes.{first_none}
 use Rattle.guest_space.specs.Pending.{all_written, first_refusal}
 use Rattle.host_memory.specs.View.{MachineView}
 use Rattle.insn_plan.specs.Act.{Act, Input, Pending, Read, done, unchanged, unless_fault, value_of, with_regs}
-use Rattle.insn_plan.specs.declared.next.Access.{Access}
-use Rattle.insn_plan.specs.Plan.{Plan, access_of, carried_out, pending_of, planned, settled, with_state}
+use Rattle.insn_plan.specs.Plan.{carried_out, planned, settled, with_state}
 use Rattle.insn_plan.specs.Stack.{stack_item, items_popped}
 use Rattle.fault_service.specs.Delivery.{popped_or_bad, iret_popped}
 
 -- a plan without writes, where there is one
-abbrev WritesNothing : Result Plan Event → Type 0
+abbrev WritesNothing : Result Pending Event → Type 0
 WritesNothing (Ok p) = p.writes ≡ []
 WritesNothing (Err e) = Unit {0}
 
--- an act of which each plan has none
+-- an act whose plan has none
 abbrev IsQuiet : World → Act → Type 0
-IsQuiet w act = (reads : List Access) → WritesNothing (planned w reads act)
+IsQuiet w act = WritesNothing (planned w act)
 
-by_value : (w : World) (reads : List Access) (r : Result ℕ Event) (rest : ℕ → Act) → ((v : ℕ) → IsQuiet w (rest v)) →
-    WritesNothing (elim r [ Ok v ↦ planned w reads (rest v) | Err e ↦ Err e ])
-by_value w reads (Ok v) rest quiet = quiet v reads
-by_value w reads (Err e) rest quiet = tt
+by_value : (w : World) (r : Result ℕ Event) (rest : ℕ → Act) → ((v : ℕ) → IsQuiet w (rest v)) →
+    WritesNothing (elim r [ Ok v ↦ planned w (rest v) | Err e ↦ Err e ])
+by_value w (Ok v) rest quiet = quiet v
+by_value w (Err e) rest quiet = tt
 
 quiet_read : (w : World) (input : Input) (rest : ℕ → Act) → ((v : ℕ) → IsQuiet w (rest v)) → IsQuiet w (Read input rest)
-quiet_read w input rest quiet = λ reads. by_value w (reads ++ access_of input) (value_of w input) rest quiet
+quiet_read w input rest quiet = by_value w (value_of w input) rest quiet
 
 quiet_unless : (w : World) (o : Option Fault) (p : Pending) → p.writes ≡ [] → IsQuiet w (unless_fault o (done p))
-quiet_unless w None p none = λ reads. none
-quiet_unless w (Some f) p none = λ reads. tt
+quiet_unless w None p none = none
+quiet_unless w (Some f) p none = tt
 
 quiet_transfer : (w : World) (sel ip : ℕ) (return : Bool) (p : Pending) → p.writes ≡ [] → IsQuiet w (far_transfer w sel ip return p)
 unfolding far_transfer
@@ -88,12 +87,12 @@ quiet_settled v p none =
     popped_where_granted (first_refusal v.world p.writes) (with_state p.regs p.vif (all_written v p.writes))
     (ap (first_refusal v.world) none ∙ first_none v.world)
 
-quiet_carried : (v : MachineView) (r : Result Plan Event) → WritesNothing r → is_ok (popped_or_bad (carried_out v r)) ≡ is_ok r
+quiet_carried : (v : MachineView) (r : Result Pending Event) → WritesNothing r → is_ok (popped_or_bad (carried_out v r)) ≡ is_ok r
 unfolding carried_out
-quiet_carried v (Ok p) none = quiet_settled v (pending_of p) none
+quiet_carried v (Ok p) none = quiet_settled v p none
 quiet_carried v (Err e) none = refl
 
 pub return_is_made : (v : MachineView) →
-    is_ok (iret_popped v) ≡ is_ok (planned v.world [] (frame_popped v.world (frame_bits v.world)))
+    is_ok (iret_popped v) ≡ is_ok (planned v.world (frame_popped v.world (frame_bits v.world)))
 unfolding iret_popped
-return_is_made v = quiet_carried v _ (quiet_frame v.world (frame_bits v.world) [])
+return_is_made v = quiet_carried v _ (quiet_frame v.world (frame_bits v.world))

@@ -1,5 +1,5 @@
 -- An interrupt, an exception and a return lead from a sound world to a sound one.
-use Rattle.std.proofs.Common.{◌≡◌, ℕ, ◌+◌, ◌*◌, ◌<◌, inl, inr, [], List, length, refl, subst, arith, if◌then◌else◌, Bool, true, false, Option, None, Some, Result, Ok, Err}
+use Rattle.std.proofs.Common.{◌≡◌, ℕ, ◌+◌, ◌*◌, ◌<◌, inl, inr, List, length, refl, subst, arith, if◌then◌else◌, Bool, true, false, Option, None, Some, Result, Ok, Err}
 use Rattle.std.proofs.lemmas.Bool.{cases_lt}
 use Rattle.std.proofs.lemmas.List.{get_or_past}
 use Rattle.client_world.specs.declared.faults.Event.{Event}
@@ -140,8 +140,8 @@ pub sound_popped : (v u : MachineView) → IsSound v.world → iret_popped v ≡
 unfolding iret_popped
 sound_popped v u s e =
     let act = frame_popped v.world (frame_bits v.world) in
-    sound_by_plan v u act (planned v.world [] act) refl (frame_leaves v.world (frame_bits v.world) (words_of v.world.regs s.segments)) s
-    (return_was (carried_out v (planned v.world [] act)) u e)
+    sound_by_plan v u act (planned v.world act) refl (frame_leaves v.world (frame_bits v.world) (words_of v.world.regs s.segments)) s
+    (return_was (carried_out v (planned v.world act)) u e)
 
 -- ---- of worlds
 

@@ -1,7 +1,7 @@
 -- Software interrupts, exceptions in real mode, and the return from an interrupt at a trap.
 -- Source: 80386 Programmer's Reference Manual, ch. 17, INT/INTO and IRET, and ch. 9; DPMI 0.9, "Interrupts"; which exceptions the vectors of
 -- real mode serve, and that all others end the client, is own.
-use Rattle.std.specs.Prelude.{ℕ, ◌+◌, ◌*◌, Bool, false, [], ◌||◌, nat_eq, if◌then◌else◌, Ok, Err, Some, None, slice_index_or}
+use Rattle.std.specs.Prelude.{ℕ, ◌+◌, ◌*◌, Bool, false, ◌||◌, nat_eq, if◌then◌else◌, Ok, Err, Some, None, slice_index_or}
 use Rattle.std.specs.declared.result.Result.{Result}
 use Rattle.client_world.specs.declared.faults.Event.{Event}
 use Rattle.client_world.specs.declared.faults.Fault.{Fault}
@@ -90,4 +90,4 @@ popped_or_bad (Err e) = Err exits.BadFrame
 
 -- the machine after the frame at the stack's top is popped; one that can't be popped ends the client
 unfoldable pub iret_popped : MachineView → Result MachineView Exit
-iret_popped v = popped_or_bad (carried_out v (planned v.world [] (frame_popped v.world (frame_bits v.world))))
+iret_popped v = popped_or_bad (carried_out v (planned v.world (frame_popped v.world (frame_bits v.world))))

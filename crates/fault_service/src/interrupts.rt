@@ -7,8 +7,8 @@ ghost use Rattle.guest_space.specs.Pending.{first_refusal};
 ghost use Rattle.fault_service.specs.Delivery.{frame_pushed, handler_entered, interrupted, real_vector, software_interrupt};
 ghost use Rattle.fault_service.specs.Worlds.{world_interrupt};
 
-use client_world::{Event, FarPtr, Fault, Regs};
-use cpu_step::{move_behind, put_back};
+use client_world::{Event, FarPtr, Fault, SegReg};
+use cpu_step::move_behind;
 use exec_flow::push_interrupt_frame;
 use guest_space::Machine;
 use insn_plan::Next;
@@ -49,11 +49,8 @@ fn enter(m: &mut Machine, p: FarPtr)
     requires inside { p.off < SEGMENT_SIZE }
     ensures { handler_entered m.old p ≡ Ok m.new }
 {
-    m.set_regs(Regs {
-        cs: p.sel,
-        eip: p.off,
-        ..m.regs()
-    });
+    m.set_selector(SegReg::Cs, p.sel);
+    m.set_eip(p.off);
     m.set_vif(false);
 }
 
@@ -79,12 +76,12 @@ pub fn soft_int(m: &mut Machine, n: u8, len: u8) -> Result<(), Fault>
     ensures world { MatchResult result (λ _. world_interrupt m.old.world n len ≡ Ok m.new.world)
         (λ f. world_interrupt m.old.world n len ≡ Err f) }
 {
-    let before = m.regs();
+    let start = m.registers().eip;
     move_behind(m, len);
     match interrupt(m, n) {
         Ok(()) => Ok(()),
         Err(f) => {
-            put_back(m, before);
+            m.set_eip(start);
             Err(f)
         }
     }

@@ -6,7 +6,7 @@ use Rattle.fault_service.proofs.returns.pop_iret.Goals as goal
 
 pub returns-in-Ok-clause-world : goal.returns-in-Ok-clause-world
 unfolding iret_popped
-returns-in-Ok-clause-world c = popped_ok c.args.m.now c.carry_out.new.m (search rules)
+returns-in-Ok-clause-world c = popped_ok c.args.m.now c.pop_frame.new.m (search rules)
 
 pub returns-in-Err-clause-world : goal.returns-in-Err-clause-world
 unfolding iret_popped

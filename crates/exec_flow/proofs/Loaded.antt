@@ -1,0 +1,32 @@
+-- A segment register that is loaded after what else the instruction leaves.
+use Rattle.std.proofs.Common.{◌≡◌, ℕ, Ok, Err, None, Some, ap, ◌∙◌}
+use Rattle.std.specs.declared.option.Option.{Option}
+use Rattle.std.specs.declared.result.Result.{Result}
+use Rattle.client_world.specs.declared.faults.Event.{Event}
+use Rattle.client_world.specs.declared.faults.Event.TheVariants.{Fault as fault}
+use Rattle.client_world.specs.declared.faults.Fault.{Fault}
+use Rattle.client_world.specs.declared.registers.Regs.{Regs}
+use Rattle.client_world.specs.declared.segments.SegReg.{SegReg}
+use Rattle.client_world.specs.Segments.{with_selector}
+use Rattle.guest_space.specs.Pending.{first_refusal, all_written}
+use Rattle.guest_space.specs.Registers.{with_registers}
+use Rattle.host_memory.specs.View.{MachineView}
+use Rattle.insn_plan.proofs.Settled.{settled_with}
+use Rattle.insn_plan.specs.Act.{Pending, with_regs}
+use Rattle.insn_plan.specs.Plan.{settled, with_state}
+
+granted_regs : (o : Option Fault) (v u : MachineView) →
+    elim o as (λ _. Result MachineView Event) [ Some f ↦ Err (fault f) | None ↦ Ok v ] ≡ Ok u → v.world.regs ≡ u.world.regs
+granted_regs None v u e = let same : v ≡ u = cc in ap (λ (x : MachineView). x.world.regs) same
+granted_regs (Some f) v u e = absurd cc
+
+-- the registers are those that are left
+settled_regs : (v u : MachineView) (p : Pending) → settled v p ≡ Ok u → p.regs ≡ u.world.regs
+unfolding settled
+settled_regs v u p e = granted_regs (first_refusal v.world p.writes) (with_state p.regs p.vif (all_written v p.writes)) u e
+
+pub settled_with_selector : (v u : MachineView) (p : Pending) (seg : SegReg) (sel : ℕ) → settled v p ≡ Ok u →
+    settled v (with_regs (with_selector p.regs seg sel) p) ≡ Ok (with_registers (with_selector u.world.regs seg sel) u)
+settled_with_selector v u p seg sel e =
+    settled_with v (with_selector p.regs seg sel) p u e
+    ∙ ap (λ (r : Regs). Ok (with_registers (with_selector r seg sel) u)) (settled_regs v u p e)
