@@ -21,8 +21,8 @@ use Rattle.guest_space.specs.Pending.{byte_count, first_refusal}
 use Rattle.insn_decode.specs.declared.decoding.Decoded.{Decoded}
 use Rattle.insn_decode.specs.declared.decoding.Decoded.TheVariants.{Whole, More, Invalid}
 use Rattle.insn_decode.specs.Decode.{decoded}
-use Rattle.insn_plan.specs.Act.{Act, End, Read, Input, Given, From, value_of}
-use Rattle.insn_plan.specs.Plan.{Plan, planned}
+use Rattle.insn_plan.specs.Act.{Act, End, Read, Input, Given, From, Pending, value_of}
+use Rattle.insn_plan.specs.Plan.{planned}
 use Rattle.cpu_step.specs.Step.{has_big_code, code, client_row, moved}
 use Rattle.cpu_step.specs.Touched.{and_then, fetched, input_read, read_places, write_places, vector_places, vector_read, places_behind, executed_touches, decoded_touches, touched}
 
@@ -124,7 +124,7 @@ vector_read_held w n =
     let refused = first_refusal w (interrupt_pushed w).writes in
     by_mode_held w w.mode (elim refused [ None ↦ vector_places n | Some f ↦ [] ]) (where_pushed_held w refused n)
 
-places_behind_held : (w : World) (r : Result Plan Event) → AreHeld w (places_behind w r)
+places_behind_held : (w : World) (r : Result Pending Event) → AreHeld w (places_behind w r)
 places_behind_held w (Ok p) = write_places_held w p.writes
 places_behind_held w (Err (fault f)) = All-nil (IsHeld w)
 places_behind_held w (Err (Soft n len)) =
@@ -135,7 +135,7 @@ places_behind_held w (Err (Soft n len)) =
 
 executed_held : (w : World) (act : Act) → AreHeld w (executed_touches w act)
 executed_held w act =
-    All-append (IsHeld w) (read_places w act) (places_behind w (planned w [] act)) (read_places_held w act) (places_behind_held w (planned w [] act))
+    All-append (IsHeld w) (read_places w act) (places_behind w (planned w act)) (read_places_held w act) (places_behind_held w (planned w act))
 
 back : (w : World) (len : ℕ) (p : Place) → IsHeld (moved len w) p → IsHeld w p
 back w len (Dos at) h = h

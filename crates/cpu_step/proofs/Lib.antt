@@ -7,3 +7,4 @@ pub mod Outcomes
 pub mod SegmentWords
 pub mod SoundSteps
 pub mod SoundWritten
+pub mod KnownSteps

@@ -1,5 +1,5 @@
 -- What an instruction leaves in the segment registers are words. Here the shared words of the rows.
-use Rattle.std.proofs.Common.{◌≡◌, ℕ, ◌-◌, ◌<◌, List, ◌++◌, arith, nat_eq, nat_lt, if◌then◌else◌, Bool, true, false, Option, None, Some, Result, Ok, Err}
+use Rattle.std.proofs.Common.{◌≡◌, ℕ, ◌-◌, ◌<◌, arith, nat_eq, nat_lt, if◌then◌else◌, Bool, true, false, Option, None, Some, Result, Ok, Err}
 use Rattle.client_world.specs.declared.faults.Event.{Event}
 use Rattle.client_world.specs.declared.faults.Fault.{Fault}
 use Rattle.client_world.specs.declared.registers.Mode.{Mode}
@@ -7,17 +7,17 @@ use Rattle.client_world.specs.declared.registers.Mode.TheVariants.{Real, Protect
 use Rattle.client_world.specs.declared.registers.Regs.{Regs}
 use Rattle.client_world.specs.declared.segments.SegReg.{SegReg}
 use Rattle.client_world.specs.declared.segments.SegReg.TheVariants.{Es, Cs, Ss, Ds, Fs, Gs}
+use Rattle.client_world.specs.General.{with_general}
 use Rattle.client_world.specs.Registers.{low_half}
 use Rattle.client_world.specs.Segments.{with_selector}
 use Rattle.client_world.specs.Soundness.{HasSegments}
 use Rattle.client_world.specs.World.{World}
 use Rattle.insn_forms.specs.declared.insn.Operand.{Operand}
 use Rattle.insn_forms.specs.declared.insn.Operand.TheVariants.{Empty, Reg, Seg, Mem, Imm, Far}
-use Rattle.insn_plan.specs.declared.next.Access.{Access}
 use Rattle.insn_plan.specs.Act.{Act, End, Read, Outcome, Done, Raise, Interrupt, Pending, unless_fault, value_of}
 use Rattle.insn_plan.specs.Operands.{put}
-use Rattle.insn_plan.specs.Plan.{Plan, planned, access_of}
-use Rattle.insn_plan.specs.Registers.{with_register32, with_register}
+use Rattle.insn_plan.specs.Plan.{planned}
+use Rattle.insn_plan.specs.Registers.{with_register}
 use Rattle.insn_plan.specs.Stack.{pushed}
 
 -- ---- six words: the other registers have no part in it, so registers that differ in those alone have one proof
@@ -51,20 +51,19 @@ LeavesWords (End outcome) = EndsInWords outcome
 LeavesWords (Read input rest) = (v : ℕ) → LeavesWords (rest v)
 
 -- after a read
-read_words : (r : Result ℕ Event) (next : ℕ → Result Plan Event) (p : Plan) → ((v : ℕ) → next v ≡ Ok p → HasSegments p.regs) →
-    elim r as (λ _. Result Plan Event) [ Ok v ↦ next v | Err e ↦ Err e ] ≡ Ok p → HasSegments p.regs
+read_words : (r : Result ℕ Event) (next : ℕ → Result Pending Event) (p : Pending) → ((v : ℕ) → next v ≡ Ok p → HasSegments p.regs) →
+    elim r as (λ _. Result Pending Event) [ Ok v ↦ next v | Err e ↦ Err e ] ≡ Ok p → HasSegments p.regs
 read_words (Ok v) next p words e = words v e
 read_words (Err event) next p words e = absurd cc
 
-pub planned_words : (w : World) (reads : List Access) (act : Act) (p : Plan) → LeavesWords act → planned w reads act ≡ Ok p → HasSegments p.regs
-planned_words w reads (End (Done q)) p s e =
+pub planned_words : (w : World) (act : Act) (p : Pending) → LeavesWords act → planned w act ≡ Ok p → HasSegments p.regs
+planned_words w (End (Done q)) p s e =
     let same : q.regs ≡ p.regs = cc in
     rw (← same) (segments_of q.regs s)
-planned_words w reads (End (Raise f)) p s e = absurd cc
-planned_words w reads (End (Interrupt number len)) p s e = absurd cc
-planned_words w reads (Read input rest) p s e =
-    read_words (value_of w input) (λ v. planned w (reads ++ access_of input) (rest v)) p
-    (λ v plan. planned_words w (reads ++ access_of input) (rest v) p (s v) plan) e
+planned_words w (End (Raise f)) p s e = absurd cc
+planned_words w (End (Interrupt number len)) p s e = absurd cc
+planned_words w (Read input rest) p s e =
+    read_words (value_of w input) (λ v. planned w (rest v)) p (λ v plan. planned_words w (rest v) p (s v) plan) e
 
 -- ---- choices
 
@@ -86,9 +85,9 @@ leaves_unless (Some f) act s = tt
 
 -- ---- general registers
 
-pub words_register32 : (r : Regs) (n v : ℕ) → HoldWords r → HoldWords (with_register32 r n v)
-unfolding with_register32
-words_register32 r n v s =
+pub words_general : (r : Regs) (n v : ℕ) → HoldWords r → HoldWords (with_general r n v)
+unfolding with_general
+words_general r n v s =
     words_if (nat_eq n 0) _ _ s (words_if (nat_eq n 1) _ _ s (words_if (nat_eq n 2) _ _ s (words_if (nat_eq n 3) _ _ s
     (words_if (nat_eq n 4) _ _ s (words_if (nat_eq n 5) _ _ s (words_if (nat_eq n 6) _ _ s s))))))
 
@@ -96,8 +95,8 @@ pub words_register : (r : Regs) (width n v : ℕ) → HoldWords r → HoldWords 
 unfolding with_register
 words_register r width n v s =
     words_if (nat_eq width 8) _ _
-    (words_if (nat_lt n 4) _ _ (words_register32 r n _ s) (words_register32 r (n - 4) _ s))
-    (words_if (nat_eq width 16) _ _ (words_register32 r n _ s) (words_register32 r n _ s))
+    (words_if (nat_lt n 4) _ _ (words_general r n _ s) (words_general r (n - 4) _ s))
+    (words_if (nat_eq width 16) _ _ (words_general r n _ s) (words_general r n _ s))
 
 pub words_put : (r : Regs) (addr32 : Bool) (width : ℕ) (o : Operand) (v : ℕ) (p : Pending) → HoldWords p.regs → HoldWords (put r addr32 width o v p).regs
 unfolding put

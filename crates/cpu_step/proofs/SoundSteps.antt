@@ -1,5 +1,5 @@
 -- A step of the client's leads from a sound world to a sound one.
-use Rattle.std.proofs.Common.{◌≡◌, ℕ, [], refl, Result, Ok, Err}
+use Rattle.std.proofs.Common.{◌≡◌, ℕ, refl, Result, Ok, Err}
 use Rattle.client_world.specs.declared.faults.Event.{Event}
 use Rattle.client_world.specs.Soundness.{IsSound}
 use Rattle.client_world.specs.World.{World}
@@ -11,8 +11,8 @@ use Rattle.insn_decode.specs.declared.decoding.Decoded.{Decoded}
 use Rattle.insn_decode.specs.declared.decoding.Decoded.TheVariants.{Whole, More, Invalid}
 use Rattle.insn_decode.specs.Decode.{decoded}
 use Rattle.insn_forms.specs.declared.insn.Insn.{Insn}
-use Rattle.insn_plan.specs.Act.{Act}
-use Rattle.insn_plan.specs.Plan.{Plan, planned, pending_of, carried_out}
+use Rattle.insn_plan.specs.Act.{Act, Pending}
+use Rattle.insn_plan.specs.Plan.{planned, carried_out}
 use Rattle.cpu_step.specs.Step.{has_big_code, code, behind, client_row, executed, step_of, client_step}
 use Rattle.cpu_step.proofs.CoreSegments.{core_leaves}
 use Rattle.cpu_step.proofs.FlowSegments.{flow_leaves}
@@ -24,10 +24,10 @@ unfolding client_row
 row_leaves w insn len s = leaves_if (is_core insn.op insn.first insn.second) (core_row insn.op w insn len) (flow_row insn.op w insn len)
     (core_leaves insn.op w insn len s) (flow_leaves insn.op w insn len s)
 
-pub sound_by_plan : (v u : MachineView) (act : Act) (r : Result Plan Event) → planned v.world [] act ≡ r → LeavesWords act → IsSound v.world →
+pub sound_by_plan : (v u : MachineView) (act : Act) (r : Result Pending Event) → planned v.world act ≡ r → LeavesWords act → IsSound v.world →
     carried_out v r ≡ Ok u → IsSound u.world
 unfolding carried_out
-sound_by_plan v u act (Ok p) plan words s e = sound_settled v u (pending_of p) (planned_words v.world [] act p words plan) s e
+sound_by_plan v u act (Ok p) plan words s e = sound_settled v u p (planned_words v.world act p words plan) s e
 sound_by_plan v u act (Err event) plan words s e = absurd cc
 
 pub sound_behind : (v : MachineView) (len : ℕ) → IsSound v.world → IsSound (behind len v).world
@@ -38,7 +38,7 @@ unfolding executed
 sound_executed v u insn len s e =
     let at = behind len v in
     let act = client_row at.world insn len in
-    sound_by_plan at u act (planned at.world [] act) refl (row_leaves at.world insn len (words_of v.world.regs s.segments)) (sound_behind v len s) e
+    sound_by_plan at u act (planned at.world act) refl (row_leaves at.world insn len (words_of v.world.regs s.segments)) (sound_behind v len s) e
 
 sound_step_of : (v u : MachineView) (d : Decoded) → IsSound v.world → step_of v d ≡ Ok u → IsSound u.world
 sound_step_of v u (Whole insn len) s e = sound_executed v u insn len s e

@@ -1,7 +1,7 @@
 -- One instruction of the client: twice, as what the grammar says of the code bytes, and as what reading them from left to right gives.
 -- Source: 80386 Programmer's Reference Manual, ch. 9 and 17; which of several exceptions is raised, and that an instruction of more than 15
 -- bytes is a general protection fault with code 0 before its next byte is fetched, is own.
-use Rattle.std.specs.Prelude.{◌≡◌, ◌<◌, ℕ, ◌+◌, ◌%◌, ◌^◌, Bool, false, List, [], ◌++◌, length, Ok, Err, nat_eq, if◌then◌else◌}
+use Rattle.std.specs.Prelude.{◌≡◌, ◌<◌, ℕ, ◌+◌, ◌%◌, ◌^◌, Bool, false, List, ◌++◌, length, Ok, Err, nat_eq, if◌then◌else◌}
 use Rattle.std.specs.declared.result.Result.{Result}
 use Rattle.client_world.specs.declared.faults.Event.{Event}
 use Rattle.client_world.specs.declared.faults.Event.TheVariants.{Fault as fault}
@@ -46,7 +46,7 @@ client_row w insn len =
 
 -- the machine after it, or its event
 unfoldable pub executed : MachineView → Insn → ℕ → Result MachineView Event
-executed v insn len = carried_out (behind len v) (planned (behind len v).world [] (client_row (behind len v).world insn len))
+executed v insn len = carried_out (behind len v) (planned (behind len v).world (client_row (behind len v).world insn len))
 
 -- ---- what the grammar says
 

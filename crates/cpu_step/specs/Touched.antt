@@ -19,8 +19,8 @@ use Rattle.guest_space.specs.Pending.{byte_count, first_refusal}
 use Rattle.insn_decode.specs.declared.decoding.Decoded.{Decoded}
 use Rattle.insn_decode.specs.declared.decoding.Decoded.TheVariants.{Whole, More, Invalid}
 use Rattle.insn_decode.specs.Decode.{decoded}
-use Rattle.insn_plan.specs.Act.{Act, End, Read, Input, Given, From, value_of}
-use Rattle.insn_plan.specs.Plan.{Plan, planned}
+use Rattle.insn_plan.specs.Act.{Act, End, Read, Input, Given, From, Pending, value_of}
+use Rattle.insn_plan.specs.Plan.{planned}
 use Rattle.cpu_step.specs.Step.{has_big_code, code, client_row, moved}
 
 -- the places of an access, and of what comes behind it where it doesn't fault
@@ -59,14 +59,14 @@ vector_read w n = elim w.mode [
 ]
 
 -- what comes behind the reads
-abbrev pub places_behind : World → Result Plan Event → List Place
+abbrev pub places_behind : World → Result Pending Event → List Place
 places_behind w (Ok p) = write_places w p.writes
 places_behind w (Err (fault f)) = []
 places_behind w (Err (Soft number len)) = write_places w (interrupt_pushed w).writes ++ vector_read w number
 
 -- an instruction, with EIP behind it
 abbrev pub executed_touches : World → Act → List Place
-executed_touches w act = read_places w act ++ places_behind w (planned w [] act)
+executed_touches w act = read_places w act ++ places_behind w (planned w act)
 
 abbrev pub decoded_touches : World → Decoded → List Place
 decoded_touches w (Whole insn len) = executed_touches (moved len w) (client_row (moved len w) insn len)

@@ -9,4 +9,4 @@ mod steps;
 mod tests;
 
 pub use laws::{a_step_has_one_outcome, every_step_is_sound, every_touched_place_is_held};
-pub use steps::{has_big_code, move_behind, put_back, step};
+pub use steps::{has_big_code, move_behind, step, step_with_memo};

@@ -1,27 +1,30 @@
 // The client's next instruction.
-ghost use Rattle.std.specs.Prelude.{◌≡◌, []};
+ghost use Rattle.std.specs.Prelude.{◌≡◌};
+ghost use Rattle.client_world.specs.CodeWords.{code_bytes};
 ghost use Rattle.insn_forms.specs.Kinds.{IsWellFormed};
-ghost use Rattle.insn_plan.specs.Plan.{Follows, carried_out, planned};
-ghost use Rattle.cpu_step.specs.Step.{behind, client_row, client_step, executed, has_big_code, unfinished};
+ghost use Rattle.insn_plan.specs.Plan.{CarriesOut, Follows};
+ghost use Rattle.cpu_step.specs.Step.{behind, client_row, client_step, code, executed, has_big_code, unfinished};
 
 use arrayvec::ArrayVec;
 use client_world::faults::{GENERAL_PROTECTION, INVALID_OPCODE};
-use client_world::{Event, Fault, Mode, Regs};
+use client_world::memory_map::PARAGRAPH_SIZE;
+use client_world::{CodeWords, Event, Fault, Mode};
 use exec_core::{is_core, run_core};
 use exec_flow::run_flow;
 use guest_space::Machine;
-use insn_decode::{Decoded, decode};
+use insn_decode::{Decoded, Memo, decode};
 use insn_forms::{Insn, every_instruction_is_well_formed};
 
 /// Whether operands and addresses have 32 bits where no prefix says otherwise: the code segment has D = 1.
 /// Source: 80386 Programmer's Reference Manual, ch. 16, "How the 80386 Implements 16-Bit and 32-Bit Features".
+#[inline(always)]
 #[tactic(auto, unfolding(crate::specs::Step::has_big_code))]
 pub fn has_big_code(m: &Machine) -> bool
     ensures { result ≡ has_big_code m.now.world }
 {
     match m.mode() {
         Mode::Real => false,
-        Mode::Protected => match m.desc_of(m.regs().cs) {
+        Mode::Protected => match m.desc_of(m.registers().cs) {
             None => false,
             Some((d, _)) => d.size,
         },
@@ -29,27 +32,19 @@ pub fn has_big_code(m: &Machine) -> bool
 }
 
 /// Moves EIP behind an instruction of so many bytes, modulo 2^32.
+#[inline(always)]
 pub fn move_behind(m: &mut Machine, len: u8)
     ensures { m.new ≡ behind len m.old }
 {
-    let mut r = m.regs();
-    r.eip = r.eip.wrapping_add(u32::from(len));
-    m.set_regs(r);
-}
-
-/// Gives back the registers from before an instruction that had an event, and changes nothing else.
-pub fn put_back(m: &mut Machine, r: Regs)
-    ensures { m.new ≡ record m.old { world = record m.old.world { regs = r } } }
-{
-    m.set_regs(r);
+    m.set_eip(m.registers().eip.wrapping_add(u32::from(len)));
 }
 
 // Runs an instruction whose EIP is already behind it, by the crate that has it.
+#[inline(always)]
 #[tactic(auto, unfolding(crate::specs::Step::client_row), using(crate::proofs::CoreOrFlow::flow_where_not_core))]
 fn run(m: &mut Machine, insn: &Insn, len: u8) -> Result<(), Event>
     requires { IsWellFormed insn.now }
-    ensures { Follows m.old m.new result
-        (carried_out m.old (planned m.old.world [] (client_row m.old.world insn.now len))) }
+    ensures { CarriesOut m.old m.new result (client_row m.old.world insn.now len) }
 {
     if is_core(insn) {
         run_core(m, insn, len)
@@ -59,17 +54,18 @@ fn run(m: &mut Machine, insn: &Insn, len: u8) -> Result<(), Event>
 }
 
 // Executes an instruction of so many bytes; an event leaves the machine as it was, EIP too.
+#[inline(always)]
 #[tactic(auto, unfolding(crate::specs::Step::executed))]
 fn execute(m: &mut Machine, insn: &Insn, len: u8) -> Result<(), Event>
     requires { IsWellFormed insn.now }
     ensures { Follows m.old m.new result (executed m.old insn.now len) }
 {
-    let before = m.regs();
+    let start = m.registers().eip;
     move_behind(m, len);
     match run(m, insn, len) {
         Ok(()) => Ok(()),
         Err(event) => {
-            put_back(m, before);
+            m.set_eip(start);
             Err(event)
         }
     }
@@ -94,6 +90,7 @@ fn unfinished(m: &Machine, bytes: &ArrayVec<u8, 15>) -> Fault
 
 /// Makes the client's next instruction, or gives its event, which leaves the machine as it was.
 /// Source: 80386 Programmer's Reference Manual, ch. 9, "Exception 6" and "Exception 13", and ch. 17.
+#[inline(never)]
 #[tactic(auto, unfolding(crate::specs::Step::client_step))]
 pub fn step(m: &mut Machine) -> Result<(), Event>
     ensures { Follows m.old m.new result (client_step m.old) }
@@ -109,5 +106,51 @@ pub fn step(m: &mut Machine) -> Result<(), Event>
             code: 0,
         })),
         Decoded::More => Err(Event::Fault(unfinished(m, &code))),
+    }
+}
+
+// The address by which a memo keeps the next instruction: the one that CS:EIP is in real mode.
+#[inline(always)]
+fn code_key(m: &Machine) -> u32 {
+    let r = m.registers();
+    (PARAGRAPH_SIZE * u32::from(r.cs)).wrapping_add(r.eip)
+}
+
+// Learns the instruction of these code bytes and makes it.
+#[inline(never)]
+#[tactic(auto, using(crate::proofs::KnownSteps::known_step))]
+fn learn_and_step(
+    m: &mut Machine,
+    memo: &mut Memo,
+    words: CodeWords,
+    big: bool,
+) -> Result<(), Event>
+    requires code { code m.old.world ≡ code_bytes words }
+    requires big { big ≡ has_big_code m.old.world }
+    ensures { Follows m.old m.new result (client_step m.old) }
+{
+    let key = code_key(m);
+    memo.learn(key, words, big);
+    match memo.known(key, words, big) {
+        Some(entry) => execute(m, &entry.insn, entry.len),
+        None => step(m),
+    }
+}
+
+/// Makes the client's next instruction as `step` does, with a memo of the instructions that were decoded before.
+#[inline(always)]
+#[tactic(auto, using(crate::proofs::KnownSteps::known_step))]
+pub fn step_with_memo(m: &mut Machine, memo: &mut Memo) -> Result<(), Event>
+    ensures { Follows m.old m.new result (client_step m.old) }
+{
+    match m.code_words() {
+        None => step(m),
+        Some(words) => {
+            let big = has_big_code(m);
+            match memo.known(code_key(m), words, big) {
+                Some(entry) => execute(m, &entry.insn, entry.len),
+                None => learn_and_step(m, memo, words, big),
+            }
+        }
     }
 }

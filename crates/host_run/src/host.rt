@@ -18,6 +18,7 @@ use client_world::{Event, Exit, Fault, LoadFault, Mode, TraceLine};
 use dos_calls::{Console, Keys};
 use fault_service::{deliver, soft_int};
 use guest_space::Machine;
+use insn_decode::Memo;
 use std::alloc::{AllocError, Global};
 use std::marker::Model;
 
@@ -26,6 +27,7 @@ use std::marker::Model;
 #[derive(Drop)]
 pub struct Host {
     pub(crate) machine: Machine,
+    pub(crate) memo: Memo,
     pub(crate) keys: Keys,
     pub(crate) console: Console,
     pub(crate) keep: u32,
@@ -68,9 +70,11 @@ impl Host {
         let machine = Machine::new(alloc, pages)?;
         let keys = Keys::new(alloc, keys)?;
         let console = Console::new(alloc)?;
+        let memo = Memo::new(alloc)?;
         let kept = Vec::with_capacity(alloc, keep as usize)?;
         Ok(Host {
             machine,
+            memo,
             keys,
             console,
             keep,
@@ -201,7 +205,7 @@ impl Host {
         requires real { self.old.world.machine.mode ≡ real }
         ensures { ComesTo self.old self.new result (stepped self.old.world) }
     {
-        match step_machine(&mut self.machine) {
+        match step_machine(&mut self.machine, &mut self.memo) {
             Ok(()) => Ok(()),
             Err(Event::Fault(f)) => self.delivered(f),
             Err(Event::Soft { number, len }) => self.interrupted(number, len),

@@ -7,20 +7,21 @@ ghost use Rattle.dos_calls.specs.Multiplex.{multiplex_call};
 ghost use Rattle.fault_service.specs.Worlds.{world_step, world_popped};
 
 use client_world::{DosDone, Event};
-use cpu_step::step;
+use cpu_step::step_with_memo;
 use dos_calls::{Console, Keys, every_dos_call_leaves_the_stack, int2f, int21};
 use fault_service::{
     a_real_frame_is_popped_where_it_fits, can_pop_iret, every_answer_depends_on_the_world_alone,
 };
 use guest_space::Machine;
+use insn_decode::Memo;
 
 /// The client's next instruction, or its event, which leaves the machine.
-pub(crate) fn step_machine(m: &mut Machine) -> Result<(), Event>
+pub(crate) fn step_machine(m: &mut Machine, memo: &mut Memo) -> Result<(), Event>
     ensures { MatchResult result (λ _. world_step m.old.world ≡ Ok m.new.world)
         (λ e. (world_step m.old.world ≡ Err e) × (m.new ≡ m.old)) }
 {
     every_answer_depends_on_the_world_alone();
-    step(m)
+    step_with_memo(m, memo)
 }
 
 /// Whether the frame of an interrupt can be popped.

@@ -54,8 +54,9 @@ fn trap_of(at: u64) -> Trap
 pub(crate) fn real_trap(m: &Machine) -> Trap
     ensures { result ≡ real_trap m.now.world }
 {
-    let r = m.regs();
-    let at = u64::from(r.cs) * u64::from(PARAGRAPH_SIZE) + u64::from(r.eip);
+    let cs = m.registers().cs;
+    let eip = m.registers().eip;
+    let at = u64::from(cs) * u64::from(PARAGRAPH_SIZE) + u64::from(eip);
     if at < u64::from(ROM_START) {
         return Trap::NoTrap;
     }

@@ -5,3 +5,4 @@ pub mod HeadReaders
 pub mod InsnReaders
 pub mod Spellings
 pub mod Answering
+pub mod SameStart

@@ -7,6 +7,7 @@ mod address;
 mod decoding;
 mod head;
 mod laws;
+mod memo;
 mod number;
 mod operand;
 mod reading;
@@ -16,3 +17,4 @@ mod tests;
 
 pub use decoding::{Decoded, decode};
 pub use laws::{a_spelling_is_of_one_instruction, reading_is_the_grammar};
+pub use memo::{Entry, Memo};

@@ -1,0 +1,168 @@
+-- Code bytes that agree in the bytes of an instruction.
+use Rattle.std.proofs.Common.{◌≡◌, ℕ, zero, suc, ◌+◌, ◌-◌, ◌*◌, ◌/◌, ◌%◌, ◌^◌, ◌<◌, ◌≤◌, Bool, List, ◌++◌, length, take, drop, sym, ap, ◌∙◌, arith, lit<, IsTrue, nat_eq, subst, T}
+use Rattle.std.proofs.Math.Arith.{mod-mul}
+use Rattle.std.proofs.Math.Facts.{eqb_yes}
+use Rattle.std.proofs.Math.Nat.{mul-div_cancel, mul-mod_left}
+use Rattle.std.proofs.lemmas.List.{take-append-drop, length-take-le}
+use Rattle.std.proofs.lemmas.Nat.{div-mul-add, mod-mul-add, mod_below}
+use Rattle.client_world.specs.declared.code.CodeWords.{CodeWords}
+use Rattle.client_world.specs.CodeWords.{code_bytes}
+use Rattle.insn_decode.specs.declared.decoding.Decoded.TheVariants.{Whole}
+use Rattle.insn_decode.specs.Decode.{decoded}
+use Rattle.insn_decode.proofs.Answering.{decoded_only, decoded_whole}
+use Rattle.insn_forms.specs.declared.insn.Insn.{Insn}
+use Rattle.insn_forms.specs.Grammar.{AreBytes}
+
+-- ---- numbers that are the same after a shift
+
+shifted : (n k p : ℕ) → 0 < k → 0 < p → n * p % (k * p) ≡ n % k * p
+shifted n k p some more =
+    mod-mul (n * p) some more
+    ∙ ap (λ (x : ℕ). x % k * p + n * p % p) (mul-div_cancel n more)
+    ∙ ap (λ (x : ℕ). n % k * p + x) (mul-mod_left n p)
+    ∙ (omega arith)
+
+low_same : (a b k p : ℕ) → 0 < k → 0 < p → a * p % (k * p) ≡ b * p % (k * p) → a % k ≡ b % k
+low_same a b k p some more e =
+    sym (mul-div_cancel (a % k) more)
+    ∙ ap (λ (x : ℕ). x / p) (sym (shifted a k p some more) ∙ e ∙ shifted b k p some more)
+    ∙ mul-div_cancel (b % k) more
+
+-- a byte is one of the low bytes
+digit : (n m c : ℕ) → 0 < m → 0 < c → n % (m * 256 * c) / c % 256 ≡ n / c % 256
+digit n m c some more =
+    ap (λ (x : ℕ). x / c % 256) (mod-mul n {m = m * 256} (omega arith) more)
+    ∙ ap (λ (x : ℕ). x % 256) (div-mul-add (n / c % (m * 256)) c (n % c) (mod_below n c more))
+    ∙ ap (λ (x : ℕ). x % 256) (mod-mul (n / c) {m = m} {c = 256} some (lit< tt))
+    ∙ mod-mul-add (n / c / 256 % m) 256 (n / c % 256) (mod_below (n / c) 256 (lit< tt))
+
+lowest : (n m : ℕ) → 0 < m → n % (m * 256) % 256 ≡ n % 256
+lowest n m some = ap (λ (x : ℕ). x % 256) (mod-mul n some (lit< tt)) ∙ mod-mul-add (n / 256 % m) 256 (n % 256) (mod_below n 256 (lit< tt))
+
+lowest_same : (a b m : ℕ) → 0 < m → a % (m * 256) ≡ b % (m * 256) → a % 256 ≡ b % 256
+lowest_same a b m some e = sym (lowest a m some) ∙ ap (λ (x : ℕ). x % 256) e ∙ lowest b m some
+
+digit_same : (a b m c : ℕ) → 0 < m → 0 < c → a % (m * 256 * c) ≡ b % (m * 256 * c) → a / c % 256 ≡ b / c % 256
+digit_same a b m c some more e = sym (digit a m c some more) ∙ ap (λ (x : ℕ). x / c % 256) e ∙ digit b m c some more
+
+-- ---- code bytes whose first word is the same after a shift agree in those that are left of it
+
+pub same_start : (a b : CodeWords) (len : ℕ) → 0 < len → len ≤ 8 →
+    a.low * 2 ^ (8 * (8 - len)) % 2 ^ 64 ≡ b.low * 2 ^ (8 * (8 - len)) % 2 ^ 64 → take len (code_bytes a) ≡ take len (code_bytes b)
+unfolding code_bytes
+same_start a b zero some few e = absurd (omega (arith, some))
+same_start a b (suc zero) some few e =
+    let low : a.low % 0x100 ≡ b.low % 0x100 = low_same a.low b.low 0x100 0x100000000000000 (lit< tt) (lit< tt) e in
+    let d0 : a.low % 0x100 ≡ b.low % 0x100 = lowest_same a.low b.low 0x1 (lit< tt) low in
+    cc
+same_start a b (suc (suc zero)) some few e =
+    let low : a.low % 0x10000 ≡ b.low % 0x10000 = low_same a.low b.low 0x10000 0x1000000000000 (lit< tt) (lit< tt) e in
+    let d0 : a.low % 0x100 ≡ b.low % 0x100 = lowest_same a.low b.low 0x100 (lit< tt) low in
+    let d1 : a.low / 0x100 % 0x100 ≡ b.low / 0x100 % 0x100 = digit_same a.low b.low 0x1 0x100 (lit< tt) (lit< tt) low in
+    cc
+same_start a b (suc (suc (suc zero))) some few e =
+    let low : a.low % 0x1000000 ≡ b.low % 0x1000000 = low_same a.low b.low 0x1000000 0x10000000000 (lit< tt) (lit< tt) e in
+    let d0 : a.low % 0x100 ≡ b.low % 0x100 = lowest_same a.low b.low 0x10000 (lit< tt) low in
+    let d1 : a.low / 0x100 % 0x100 ≡ b.low / 0x100 % 0x100 = digit_same a.low b.low 0x100 0x100 (lit< tt) (lit< tt) low in
+    let d2 : a.low / 0x10000 % 0x100 ≡ b.low / 0x10000 % 0x100 = digit_same a.low b.low 0x1 0x10000 (lit< tt) (lit< tt) low in
+    cc
+same_start a b (suc (suc (suc (suc zero)))) some few e =
+    let low : a.low % 0x100000000 ≡ b.low % 0x100000000 = low_same a.low b.low 0x100000000 0x100000000 (lit< tt) (lit< tt) e in
+    let d0 : a.low % 0x100 ≡ b.low % 0x100 = lowest_same a.low b.low 0x1000000 (lit< tt) low in
+    let d1 : a.low / 0x100 % 0x100 ≡ b.low / 0x100 % 0x100 = digit_same a.low b.low 0x10000 0x100 (lit< tt) (lit< tt) low in
+    let d2 : a.low / 0x10000 % 0x100 ≡ b.low / 0x10000 % 0x100 = digit_same a.low b.low 0x100 0x10000 (lit< tt) (lit< tt) low in
+    let d3 : a.low / 0x1000000 % 0x100 ≡ b.low / 0x1000000 % 0x100 = digit_same a.low b.low 0x1 0x1000000 (lit< tt) (lit< tt) low in
+    cc
+same_start a b (suc (suc (suc (suc (suc zero))))) some few e =
+    let low : a.low % 0x10000000000 ≡ b.low % 0x10000000000 = low_same a.low b.low 0x10000000000 0x1000000 (lit< tt) (lit< tt) e in
+    let d0 : a.low % 0x100 ≡ b.low % 0x100 = lowest_same a.low b.low 0x100000000 (lit< tt) low in
+    let d1 : a.low / 0x100 % 0x100 ≡ b.low / 0x100 % 0x100 = digit_same a.low b.low 0x1000000 0x100 (lit< tt) (lit< tt) low in
+    let d2 : a.low / 0x10000 % 0x100 ≡ b.low / 0x10000 % 0x100 = digit_same a.low b.low 0x10000 0x10000 (lit< tt) (lit< tt) low in
+    let d3 : a.low / 0x1000000 % 0x100 ≡ b.low / 0x1000000 % 0x100 = digit_same a.low b.low 0x100 0x1000000 (lit< tt) (lit< tt) low in
+    let d4 : a.low / 0x100000000 % 0x100 ≡ b.low / 0x100000000 % 0x100 = digit_same a.low b.low 0x1 0x100000000 (lit< tt) (lit< tt) low in
+    cc
+same_start a b (suc (suc (suc (suc (suc (suc zero)))))) some few e =
+    let low : a.low % 0x1000000000000 ≡ b.low % 0x1000000000000 = low_same a.low b.low 0x1000000000000 0x10000 (lit< tt) (lit< tt) e in
+    let d0 : a.low % 0x100 ≡ b.low % 0x100 = lowest_same a.low b.low 0x10000000000 (lit< tt) low in
+    let d1 : a.low / 0x100 % 0x100 ≡ b.low / 0x100 % 0x100 = digit_same a.low b.low 0x100000000 0x100 (lit< tt) (lit< tt) low in
+    let d2 : a.low / 0x10000 % 0x100 ≡ b.low / 0x10000 % 0x100 = digit_same a.low b.low 0x1000000 0x10000 (lit< tt) (lit< tt) low in
+    let d3 : a.low / 0x1000000 % 0x100 ≡ b.low / 0x1000000 % 0x100 = digit_same a.low b.low 0x10000 0x1000000 (lit< tt) (lit< tt) low in
+    let d4 : a.low / 0x100000000 % 0x100 ≡ b.low / 0x100000000 % 0x100 = digit_same a.low b.low 0x100 0x100000000 (lit< tt) (lit< tt) low in
+    let d5 : a.low / 0x10000000000 % 0x100 ≡ b.low / 0x10000000000 % 0x100 = digit_same a.low b.low 0x1 0x10000000000 (lit< tt) (lit< tt) low in
+    cc
+same_start a b (suc (suc (suc (suc (suc (suc (suc zero))))))) some few e =
+    let low : a.low % 0x100000000000000 ≡ b.low % 0x100000000000000 = low_same a.low b.low 0x100000000000000 0x100 (lit< tt) (lit< tt) e in
+    let d0 : a.low % 0x100 ≡ b.low % 0x100 = lowest_same a.low b.low 0x1000000000000 (lit< tt) low in
+    let d1 : a.low / 0x100 % 0x100 ≡ b.low / 0x100 % 0x100 = digit_same a.low b.low 0x10000000000 0x100 (lit< tt) (lit< tt) low in
+    let d2 : a.low / 0x10000 % 0x100 ≡ b.low / 0x10000 % 0x100 = digit_same a.low b.low 0x100000000 0x10000 (lit< tt) (lit< tt) low in
+    let d3 : a.low / 0x1000000 % 0x100 ≡ b.low / 0x1000000 % 0x100 = digit_same a.low b.low 0x1000000 0x1000000 (lit< tt) (lit< tt) low in
+    let d4 : a.low / 0x100000000 % 0x100 ≡ b.low / 0x100000000 % 0x100 = digit_same a.low b.low 0x10000 0x100000000 (lit< tt) (lit< tt) low in
+    let d5 : a.low / 0x10000000000 % 0x100 ≡ b.low / 0x10000000000 % 0x100 = digit_same a.low b.low 0x100 0x10000000000 (lit< tt) (lit< tt) low in
+    let d6 : a.low / 0x1000000000000 % 0x100 ≡ b.low / 0x1000000000000 % 0x100 = digit_same a.low b.low 0x1 0x1000000000000 (lit< tt) (lit< tt) low in
+    cc
+same_start a b (suc (suc (suc (suc (suc (suc (suc (suc zero)))))))) some few e =
+    let low : a.low % 0x10000000000000000 ≡ b.low % 0x10000000000000000 = low_same a.low b.low 0x10000000000000000 0x1 (lit< tt) (lit< tt) e in
+    let d0 : a.low % 0x100 ≡ b.low % 0x100 = lowest_same a.low b.low 0x100000000000000 (lit< tt) low in
+    let d1 : a.low / 0x100 % 0x100 ≡ b.low / 0x100 % 0x100 = digit_same a.low b.low 0x1000000000000 0x100 (lit< tt) (lit< tt) low in
+    let d2 : a.low / 0x10000 % 0x100 ≡ b.low / 0x10000 % 0x100 = digit_same a.low b.low 0x10000000000 0x10000 (lit< tt) (lit< tt) low in
+    let d3 : a.low / 0x1000000 % 0x100 ≡ b.low / 0x1000000 % 0x100 = digit_same a.low b.low 0x100000000 0x1000000 (lit< tt) (lit< tt) low in
+    let d4 : a.low / 0x100000000 % 0x100 ≡ b.low / 0x100000000 % 0x100 = digit_same a.low b.low 0x1000000 0x100000000 (lit< tt) (lit< tt) low in
+    let d5 : a.low / 0x10000000000 % 0x100 ≡ b.low / 0x10000000000 % 0x100 = digit_same a.low b.low 0x10000 0x10000000000 (lit< tt) (lit< tt) low in
+    let d6 : a.low / 0x1000000000000 % 0x100 ≡ b.low / 0x1000000000000 % 0x100 = digit_same a.low b.low 0x100 0x1000000000000 (lit< tt) (lit< tt) low in
+    let d7 : a.low / 0x100000000000000 % 0x100 ≡ b.low / 0x100000000000000 % 0x100 = digit_same a.low b.low 0x1 0x100000000000000 (lit< tt) (lit< tt) low in
+    cc
+same_start a b (suc (suc (suc (suc (suc (suc (suc (suc (suc len))))))))) some few e = absurd (omega (arith, few))
+
+below : (n : ℕ) → n % 0x100 < 0x100
+below n = mod_below n 0x100 (lit< tt)
+
+-- each of them is a byte
+pub are_code_bytes : (words : CodeWords) → AreBytes (code_bytes words)
+unfolding code_bytes
+are_code_bytes words = (
+  below _,
+  (
+    below _,
+    (
+      below _,
+      (
+        below _,
+        (
+          below _,
+          (
+            below _,
+            (
+              below _,
+              (
+                below _,
+                (
+                  below _,
+                  (
+                    below _,
+                    (
+                      below _,
+                      (below _, (below _, (below _, (below _, tt)))),
+                    ),
+                  ),
+                ),
+              ),
+            ),
+          ),
+        ),
+      ),
+    ),
+  ),
+)
+
+-- bytes that agree in the first ones of others begin with the instruction that those begin with
+pub decoded_start : (big : Bool) (insn : Insn) (len : ℕ) (bytes other : List ℕ) → AreBytes bytes →
+    take len bytes ≡ take len other → decoded big bytes ≡ Whole insn len → decoded big other ≡ Whole insn len
+decoded_start big insn len bytes other are same e =
+    let spelled = decoded_whole big insn len bytes are e in
+    let short : length (take len bytes) ≡ len = length-take-le len bytes spelled.1 in
+    decoded_only big insn (take len bytes) (drop len other) other
+    (sym (take-append-drop len other) ∙ ap (λ (xs : List ℕ). xs ++ drop len other) (sym same)) spelled.0
+    ∙ ap (Whole insn) short
+
+pub by_test : (x y : ℕ) → IsTrue (nat_eq x y) → x ≡ y
+by_test x y t = eqb_yes (subst T (sym t) tt)
