@@ -10,7 +10,7 @@ use Rattle.client_world.specs.Loading.{register_fault, transfer_fault}
 use Rattle.client_world.specs.Selector.{Row, selector_code, privilege_of}
 use Rattle.client_world.specs.World.{World}
 use Rattle.exec_flow.specs.Dispatch.{flow_row}
-use Rattle.exec_flow.specs.FarTransfers.{code_selector, far_transfer, jump_far, call_far, retf, frame_popped, iret}
+use Rattle.exec_flow.specs.FarTransfers.{code_selector, far_transfer, jump_far, call_far, far_frame_popped, retf, frame_popped, iret}
 use Rattle.exec_flow.specs.FlagImages.{pushf, flags_popped, popf, cli, sti}
 use Rattle.exec_flow.specs.Frames.{frames_pushed, frame_made, enter, leave, is_less, bound}
 use Rattle.exec_flow.specs.Interrupts.{int, int3, into}
@@ -84,9 +84,13 @@ call_far_leaves : (w : World) (i : Insn) → HoldWords w.regs → LeavesWords (c
 unfolding call_far
 call_far_leaves w i s = λ p. far_leaves w _ _ _ _ (half_is_word (p / offset_range i)) (words_pushed _ _ _ _ (words_pushed _ _ _ _ s))
 
+pub far_frame_leaves : (w : World) (bits bytes : ℕ) → HoldWords w.regs → LeavesWords (far_frame_popped w bits bytes)
+unfolding far_frame_popped items_popped
+far_frame_leaves w bits bytes s = λ ip cs. far_leaves w _ _ _ _ (half_is_word cs) s
+
 retf_leaves : (w : World) (i : Insn) → HoldWords w.regs → LeavesWords (retf w i)
-unfolding retf items_popped
-retf_leaves w i s = λ ip cs. far_leaves w _ _ _ _ (half_is_word cs) s
+unfolding retf
+retf_leaves w i s = far_frame_leaves w i.width (immediate i.first) s
 
 pub frame_leaves : (w : World) (bits : ℕ) → HoldWords w.regs → LeavesWords (frame_popped w bits)
 unfolding frame_popped flags_popped items_popped

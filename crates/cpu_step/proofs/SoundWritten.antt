@@ -43,7 +43,7 @@ dword_is_bytes v small =
     (one_more (v / 0x10000 % 0x100) (v / 0x1000000 ∷ []) (omega arith)
     (one_more (v / 0x1000000) [] (omega arith) no_bytes)))
 
-number_is_bytes : (width value : ℕ) → AreBytes (number_bytes width value)
+pub number_is_bytes : (width value : ℕ) → AreBytes (number_bytes width value)
 number_is_bytes width value =
     let word = value % 0x10000 in
     let dword = value % 0x100000000 in

@@ -11,8 +11,8 @@ use client_world::{Event, Regs, SegReg};
 use guest_space::{Machine, byte_count};
 use insn_forms::{Insn, MemForm, Operand};
 use insn_plan::{
-    Next, cut_address, esp_up, has_big_stack, offset_of, push_item, put_register, read_width,
-    register, source, stack_item, write_number,
+    cut_address, esp_up, has_big_stack, item_pushed, offset_of, push_item, put_register,
+    read_width, register, settle_pushes, source, stack_item, write_number,
 };
 
 /// PUSH. Source: 80386 Programmer's Reference Manual, ch. 17.
@@ -69,17 +69,17 @@ pub(crate) fn pop(m: &mut Machine, i: &Insn) -> Result<(), Event>
 pub(crate) fn pusha(m: &mut Machine, i: &Insn) -> Result<(), Event>
     ensures { CarriesOut m.old m.new result (pusha m.old.world i.now) }
 {
-    let r = m.regs();
-    let mut next = Next::new(m);
-    next.push(m, i.width, register(&r, i.width, EAX));
-    next.push(m, i.width, register(&r, i.width, ECX));
-    next.push(m, i.width, register(&r, i.width, EDX));
-    next.push(m, i.width, register(&r, i.width, EBX));
-    next.push(m, i.width, register(&r, i.width, ESP));
-    next.push(m, i.width, register(&r, i.width, EBP));
-    next.push(m, i.width, register(&r, i.width, ESI));
-    next.push(m, i.width, register(&r, i.width, EDI));
-    next.settle(m)
+    let big = has_big_stack(m);
+    let r = m.registers();
+    let (ax, esp) = item_pushed(big, i.width, r.esp, register(r, i.width, EAX));
+    let (cx, esp) = item_pushed(big, i.width, esp, register(r, i.width, ECX));
+    let (dx, esp) = item_pushed(big, i.width, esp, register(r, i.width, EDX));
+    let (bx, esp) = item_pushed(big, i.width, esp, register(r, i.width, EBX));
+    let (sp, esp) = item_pushed(big, i.width, esp, register(r, i.width, ESP));
+    let (bp, esp) = item_pushed(big, i.width, esp, register(r, i.width, EBP));
+    let (si, esp) = item_pushed(big, i.width, esp, register(r, i.width, ESI));
+    let (di, esp) = item_pushed(big, i.width, esp, register(r, i.width, EDI));
+    settle_pushes(m, &[ax, cx, dx, bx, sp, bp, si, di], esp)
 }
 
 /// POPA. Source: as above.

@@ -37,13 +37,16 @@ call_far w i = do
   far_transfer w (pointer_selector i p) (pointer_offset i p) false
       (pushed w i.width w.regs.eip (pushed w i.width w.regs.cs (unchanged w)))
 
--- RETF: the instruction pointer and CS are popped, and then the bytes of the operand are dropped
+-- a far return's frame popped, in items of that many bits: the instruction pointer and CS; and then that many bytes dropped
+unfoldable pub far_frame_popped : World → ℕ → ℕ → Act
+far_frame_popped w bits bytes = do
+  ip ← stack_item w bits 0
+  cs ← stack_item w bits 1
+  far_transfer w (low_half cs) ip true (with_regs (released w bytes (items_popped w bits 2 w.regs)) (unchanged w))
+
+-- RETF drops the bytes of its operand
 unfoldable pub retf : World → Insn → Act
-retf w i = do
-  ip ← stack_item w i.width 0
-  cs ← stack_item w i.width 1
-  far_transfer w (low_half cs) ip true
-      (with_regs (released w (immediate i.first) (items_popped w i.width 2 w.regs)) (unchanged w))
+retf w i = far_frame_popped w i.width (immediate i.first)
 
 -- a frame popped that an interrupt pushed, in items of that many bits: the instruction pointer, CS and the flags image
 unfoldable pub frame_popped : World → ℕ → Act

@@ -1,7 +1,7 @@
 // Far transfers.
 ghost use Rattle.std.specs.Prelude.{◌≡◌, MatchResult, OnOk, IfErr, None, Some, Ok, Err, is_ok};
 ghost use Rattle.client_world.specs.Loading.{transfer_fault};
-ghost use Rattle.exec_flow.specs.FarTransfers.{call_far, code_selector, frame_left, frame_popped, iret, jump_far, retf};
+ghost use Rattle.exec_flow.specs.FarTransfers.{call_far, code_selector, far_frame_popped, frame_left, frame_popped, iret, jump_far, retf};
 ghost use Rattle.guest_space.specs.Registers.{with_registers};
 ghost use Rattle.insn_plan.specs.Plan.{CarriesOut, planned};
 
@@ -16,10 +16,10 @@ use guest_space::Machine;
 use insn_forms::Insn;
 use insn_plan::{Next, stack_item};
 
-// What CS holds after a transfer to a selector: in protected mode with privilege level 3.
+/// What CS holds after a transfer to a selector: in protected mode with privilege level 3. Source: own.
 #[inline(always)]
 #[tactic(auto, unfolding(crate::specs::FarTransfers::code_selector))]
-fn code_selector(m: &Machine, sel: u16) -> u16
+pub fn code_selector(m: &Machine, sel: u16) -> u16
     ensures { result ≡ code_selector m.now.world sel }
 {
     match m.mode() {
@@ -85,18 +85,28 @@ pub(crate) fn call_far(m: &mut Machine, i: &Insn) -> Result<(), Event>
     next.settle(m)
 }
 
-/// RETF. Source: 80386 Programmer's Reference Manual, ch. 17, RET.
+/// Pops the frame of a far return, in items of n bits: the instruction pointer and CS; and drops a number of bytes after it. Or gives the event,
+/// which changes nothing. Source: 80386 Programmer's Reference Manual, ch. 17, RET.
 #[inline(always)]
-#[tactic(auto, unfolding(crate::specs::FarTransfers::retf, crate::specs::FarTransfers::far_transfer, insn_plan::specs::Plan::carried_out, insn_plan::specs::Plan::settled, guest_space::specs::Pending::first_refusal, guest_space::specs::Pending::all_written, client_world::specs::General::with_general, insn_plan::specs::Stack::items_popped))]
-pub(crate) fn retf(m: &mut Machine, i: &Insn) -> Result<(), Event>
-    ensures { CarriesOut m.old m.new result (retf m.old.world i.now) }
+#[tactic(auto, unfolding(crate::specs::FarTransfers::far_frame_popped, crate::specs::FarTransfers::far_transfer, insn_plan::specs::Plan::carried_out, insn_plan::specs::Plan::settled, guest_space::specs::Pending::first_refusal, guest_space::specs::Pending::all_written, client_world::specs::General::with_general, insn_plan::specs::Stack::items_popped))]
+pub fn pop_far_frame(m: &mut Machine, bits: u8, bytes: u32) -> Result<(), Event>
+    ensures { CarriesOut m.old m.new result (far_frame_popped m.old.world bits bytes) }
 {
-    let ip = stack_item(m, i.width, 0)?;
-    let cs = stack_item(m, i.width, 1)?;
-    let esp = released_esp(m, i.width, 2, immediate(&i.first));
+    let ip = stack_item(m, bits, 0)?;
+    let cs = stack_item(m, bits, 1)?;
+    let esp = released_esp(m, bits, 2, bytes);
     far_transfer(m, (cs % 0x1_0000) as u16, ip, true)?;
     m.set_general(ESP, esp);
     Ok(())
+}
+
+/// RETF. Source: 80386 Programmer's Reference Manual, ch. 17, RET.
+#[inline(always)]
+#[tactic(auto, unfolding(crate::specs::FarTransfers::retf))]
+pub(crate) fn retf(m: &mut Machine, i: &Insn) -> Result<(), Event>
+    ensures { CarriesOut m.old m.new result (retf m.old.world i.now) }
+{
+    pop_far_frame(m, i.width, immediate(&i.first))
 }
 
 // A frame that an interrupt pushed.

@@ -17,5 +17,6 @@ mod stack_tops;
 mod transfers;
 
 pub use dispatch::run_flow;
-pub use far_transfers::{can_pop_frame, pop_frame};
+pub use far_transfers::{can_pop_frame, code_selector, pop_far_frame, pop_frame};
 pub use interrupts::{frame_bits, push_interrupt_frame};
+pub use transfers::check_transfer;

@@ -52,7 +52,7 @@ pub(crate) fn at_operand_size(i: &Insn, ip: u64) -> u32
 /// Whether a transfer may go to an offset of a segment; in real mode the offset alone is asked.
 /// Source: 80386 Programmer's Reference Manual, ch. 17, JMP, CALL and RET.
 #[inline(always)]
-pub(crate) fn check_transfer(m: &Machine, sel: u16, off: u32, ret: bool) -> Result<(), Fault>
+pub fn check_transfer(m: &Machine, sel: u16, off: u32, ret: bool) -> Result<(), Fault>
     ensures { MatchResult result (λ _. transfer_fault m.now.world sel off ret ≡ None)
         (λ fault. transfer_fault m.now.world sel off ret ≡ Some fault) }
 {

@@ -42,7 +42,7 @@ blocks_by : (k : Processor) (v : MachineView) → HoldsBlocks k v → SoundBlock
 blocks_by k v h = subst (λ (w : World). SoundBlocks w.blocks k.budget) h.is h.blocks
 
 -- one byte
-byte_holds : (k : Processor) (v : MachineView) (p : Place) (x : ℕ) → HoldsBlocks k v → CanWrite v.world p → HoldsBlocks k (with_place v p x)
+pub byte_holds : (k : Processor) (v : MachineView) (p : Place) (x : ℕ) → HoldsBlocks k v → CanWrite v.world p → HoldsBlocks k (with_place v p x)
 byte_holds k v p x h can = record {
   holds = write_holds v.bytes k.budget h.holds k.mode k.regs k.vif k.width p x can.may (held_by k v p h can);
   is = ap (λ (w : World). with_byte_of w p x) h.is

@@ -2,7 +2,7 @@
 -- Source: own.
 use Rattle.std.specs.Prelude.{ℕ, ◌+◌, true, false, List}
 use Rattle.client_world.specs.declared.segments.FarPtr.{FarPtr}
-use Rattle.client_world.specs.Access.{far_access, bytes_of}
+use Rattle.client_world.specs.Access.{far_access, bytes_of, with_bytes_of}
 use Rattle.client_world.specs.World.{World}
 use Rattle.host_memory.specs.View.{MachineView}
 use Rattle.guest_space.specs.Transfer.{places_of_access, with_places}
@@ -11,7 +11,11 @@ use Rattle.guest_space.specs.Transfer.{places_of_access, with_places}
 unfoldable pub far_bytes : World → FarPtr → ℕ → List ℕ
 far_bytes w p n = bytes_of w (places_of_access (far_access w p n false))
 
--- the machine with other bytes at a pointer that is reachable for writing
+-- the world with other bytes at a pointer that is reachable for writing
+unfoldable pub far_put : World → FarPtr → ℕ → List ℕ → World
+far_put w p n bytes = with_bytes_of w (places_of_access (far_access w p n true)) bytes
+
+-- and the machine
 unfoldable pub far_written : MachineView → FarPtr → ℕ → List ℕ → MachineView
 far_written v p n bytes = with_places v (places_of_access (far_access v.world p n true)) bytes
 

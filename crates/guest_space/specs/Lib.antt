@@ -4,5 +4,8 @@ pub mod Dos
 pub mod Far
 pub mod Machines
 pub mod Pending
+pub mod Records
 pub mod Registers
 pub mod Transfer
+pub mod VectorLists
+pub mod WriteRuns

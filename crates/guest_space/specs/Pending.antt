@@ -1,13 +1,15 @@
 -- Writes that are asked for one after another: all of them are probed first, and then all are made. Source: own.
-use Rattle.std.specs.Prelude.{◌≡◌, ◌⊎◌, ℕ, ◌%◌, ◌^◌, true, List, [], ◌∷◌, None, Some, nat_eq, if◌then◌else◌}
+use Rattle.std.specs.Prelude.{◌≡◌, ◌⊎◌, ℕ, ◌%◌, ◌^◌, true, List, [], ◌∷◌, ◌++◌, None, Some, nat_eq, if◌then◌else◌}
 use Rattle.std.specs.declared.option.Option.{Option}
 use Rattle.client_world.specs.declared.faults.Fault.{Fault}
+use Rattle.client_world.specs.declared.place.Place.{Place}
+use Rattle.client_world.specs.Access.{access}
 use Rattle.client_world.specs.World.{World}
 use Rattle.guest_ram.specs.Bytes.{dword_bytes}
 use Rattle.host_memory.specs.Vectors.{word_bytes}
 use Rattle.host_memory.specs.View.{MachineView}
 use Rattle.guest_space.specs.declared.pending.Write.{Write}
-use Rattle.guest_space.specs.Transfer.{refusal, stored}
+use Rattle.guest_space.specs.Transfer.{places_of_access, refusal, stored}
 
 -- the bytes of a number of 8, 16 or 32 bits, least byte first
 abbrev pub number_bytes : ℕ → ℕ → List ℕ
@@ -41,3 +43,8 @@ first_refusal w (x ∷ xs) = elim (write_refusal w x) [ Some fault ↦ Some faul
 unfoldable pub all_written : MachineView → List Write → MachineView
 all_written v [] = v
 all_written v (x ∷ xs) = all_written (written v x) xs
+
+-- the places of some writes, in the world before all of them; one that has a fault has none
+abbrev pub places_of_writes : World → List Write → List Place
+places_of_writes w [] = []
+places_of_writes w (x ∷ xs) = places_of_access (access w x.seg x.off (byte_count x.width) true) ++ places_of_writes w xs

@@ -1,6 +1,6 @@
 -- What reads and writes through a segment register answer, and the machine after them. These words stay closed above this crate.
 -- Source: 80386 Programmer's Reference Manual, ch. 2, "Memory Organization and Segmentation", and ch. 5.
-use Rattle.std.specs.Prelude.{ℕ, Bool, true, false, List, [], ◌∷◌, None, Some, Ok, Err, if◌then◌else◌, slice_set}
+use Rattle.std.specs.Prelude.{◌≡◌, ℕ, Bool, true, false, List, [], ◌∷◌, None, Some, Ok, Err, if◌then◌else◌, slice_set}
 use Rattle.std.specs.declared.option.Option.{Option}
 use Rattle.std.specs.declared.result.Result.{Result}
 use Rattle.client_world.specs.declared.faults.Fault.{Fault}
@@ -58,3 +58,7 @@ translated v at write =
 -- an access to n bytes from a linear address on
 abbrev pub linear_access : World → ℕ → ℕ → Bool → Result (List Place) Fault
 linear_access w at n write = touched_places (places_from w.blocks at n) write
+
+-- the world is another one at most in what the client's memory holds
+abbrev pub HasOtherMemory : World → World → Type 0
+HasOtherMemory w u = u ≡ record w { dos = u.dos; blocks = u.blocks }

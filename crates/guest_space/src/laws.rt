@@ -1,22 +1,30 @@
 // What holds of every read and write, for any world. Each is a fact that callers get by a call of the function, which does nothing.
-ghost use Rattle.std.specs.Prelude.{ℕ, ◌≡◌, ◌≤◌, ◌+◌, Bool, true, false, List, Ok, length};
+ghost use Rattle.std.specs.Prelude.{ℕ, ◌≡◌, ◌≢◌, ◌≤◌, ◌<◌, ◌+◌, ◌*◌, Bool, true, false, List, Ok, None, length};
 ghost use Rattle.std.specs.declared.option.Option.{Option};
-ghost use Rattle.client_world.specs.declared.host_frames.TheConstants.{PAGE_SIZE};
+ghost use Rattle.client_world.specs.declared.host_frames.TheConstants.{PAGE_SIZE, BUDGET_FRAMES};
+ghost use Rattle.client_world.specs.declared.limits.TheConstants.{GREATEST_DEPTH};
+ghost use Rattle.client_world.specs.declared.memory_map.TheConstants.{PROTECTED_STACK_SIZE};
 ghost use Rattle.client_world.specs.declared.place.Place.{Place};
 ghost use Rattle.client_world.specs.declared.registers.Mode.{Mode};
 ghost use Rattle.client_world.specs.declared.registers.Regs.{Regs};
 ghost use Rattle.client_world.specs.declared.registers.Width.{Width};
 ghost use Rattle.client_world.specs.declared.segments.FarPtr.{FarPtr};
 ghost use Rattle.client_world.specs.declared.segments.SegReg.{SegReg};
+ghost use Rattle.client_world.specs.declared.selectors.TheConstants.{HOST_STACKS};
 ghost use Rattle.client_world.specs.Access.{access, far_access, is_reachable};
+ghost use Rattle.client_world.specs.Selector.{selector_of};
 ghost use Rattle.client_world.specs.Soundness.{IsSound};
 ghost use Rattle.client_world.specs.World.{World};
-ghost use Rattle.guest_ram.specs.Bytes.{region};
+ghost use Rattle.guest_ram.specs.Bytes.{AreBytes, put, region};
 ghost use Rattle.host_memory.specs.Holds.{Holds};
 ghost use Rattle.host_memory.specs.Layout.{world_of};
+ghost use Rattle.host_memory.specs.Records.{record_size};
 ghost use Rattle.host_memory.specs.View.{MachineView, OnlyAt};
+ghost use Rattle.guest_space.specs.declared.pending.Write.{Write};
+ghost use Rattle.guest_space.specs.Pending.{all_written, places_of_writes};
 ghost use Rattle.guest_space.specs.Far.{far_bytes, far_written, further};
-ghost use Rattle.guest_space.specs.Transfer.{stored, with_places};
+ghost use Rattle.guest_space.specs.Records.{OnlyAtAndRow, record_place};
+ghost use Rattle.guest_space.specs.Transfer.{HasOtherMemory, places_of_access, stored, with_places};
 
 /// A write that has no fault changes the bytes of its places, and nothing else in the memory.
 pub fn every_write_changes_only_its_places()
@@ -53,4 +61,47 @@ pub fn a_part_is_read_as_in_the_run()
 pub fn what_was_written_is_read()
     ensures { (v : MachineView) (p : FarPtr) (n : ℕ) (bytes : List ℕ) → IsSound v.world → n ≤ PAGE_SIZE → length bytes ≡ n →
         is_reachable v.world p n true ≡ true → far_bytes (far_written v p n bytes).world p n ≡ bytes }
+{}
+
+/// Once there is a width, the host's protected-mode stacks are memory that may be read and written, at every depth.
+pub fn the_protected_stacks_are_reachable()
+    ensures { (w : World) (off n : ℕ) (write : Bool) → IsSound w → w.width ≢ None → off + n ≤ GREATEST_DEPTH * PROTECTED_STACK_SIZE →
+        is_reachable w (record { sel = selector_of HOST_STACKS; off = off }) n write ≡ true }
+{}
+
+/// A write changes nothing of the world but the bytes of the megabyte and of memory blocks.
+#[tactic(auto, using(crate::proofs::MemoryAlone::other_all, crate::proofs::MemoryAlone::other_far))]
+pub fn every_write_changes_the_memory_alone()
+    ensures near { (v : MachineView) (writes : List Write) → HasOtherMemory v.world (all_written v writes).world }
+    ensures far { (v : MachineView) (p : FarPtr) (n : ℕ) (bytes : List ℕ) → HasOtherMemory v.world (far_written v p n bytes).world }
+{}
+
+/// A write at a far pointer changes the bytes of its places, and nothing else in the memory; where it has a fault, nothing.
+pub fn every_far_write_changes_only_its_places()
+    ensures { (b : List ℕ) (budget : ℕ) (mode : Mode) (regs : Regs) (vif : Bool) (width : Option Width) →
+        Holds b budget → IsSound (world_of b budget mode regs vif width) → (p : FarPtr) (n : ℕ) (bytes : List ℕ) →
+        OnlyAt (places_of_access (far_access (world_of b budget mode regs vif width) p n true)) b
+        (far_written (record { world = world_of b budget mode regs vif width; bytes = b }) p n bytes).bytes }
+{}
+
+/// Writes that are made one after another change the bytes of their places, and nothing else in the memory.
+pub fn all_writes_change_only_their_places()
+    ensures { (b : List ℕ) (budget : ℕ) (mode : Mode) (regs : Regs) (vif : Bool) (width : Option Width) →
+        Holds b budget → IsSound (world_of b budget mode regs vif width) → (writes : List Write) →
+        OnlyAt (places_of_writes (world_of b budget mode regs vif width) writes) b
+        (all_written (record { world = world_of b budget mode regs vif width; bytes = b }) writes).bytes }
+{}
+
+/// A write of bytes at a far pointer leaves a sound world sound, and what it makes of the world depends on the world alone.
+pub fn every_far_write_is_sound()
+    ensures sound { (v : MachineView) (p : FarPtr) (n : ℕ) (bytes : List ℕ) → IsSound v.world → AreBytes bytes → IsSound (far_written v p n bytes).world }
+    ensures alone { (v u : MachineView) (p : FarPtr) (n : ℕ) (bytes : List ℕ) → v.world ≡ u.world →
+        (far_written v p n bytes).world ≡ (far_written u p n bytes).world }
+{}
+
+/// The row of a record that is written after other writes changes its own bytes besides, and no address.
+pub fn every_row_changes_only_itself()
+    ensures { (places : List Place) (old new : List ℕ) (budget row : ℕ) (bytes : List ℕ) → OnlyAt places old new →
+        length old ≡ PAGE_SIZE * (BUDGET_FRAMES + budget) → row < GREATEST_DEPTH → length bytes ≡ record_size →
+        OnlyAtAndRow places row old (put new (record_place row) bytes) }
 {}

@@ -4,6 +4,7 @@
 #![tactic(auto)]
 
 mod arena;
+mod blocks;
 mod code;
 mod descriptors;
 mod dos;
@@ -13,13 +14,19 @@ mod loading;
 mod machine;
 mod memory;
 mod pending;
+mod records;
 mod segments;
 #[cfg(test)]
 mod tests;
+mod vectors;
+mod write_runs;
 
 pub use laws::{
     a_part_is_read_as_in_the_run, a_reachable_run_is_reachable_in_parts, a_write_changes_no_access,
-    every_write_changes_only_its_places, what_was_written_is_read,
+    all_writes_change_only_their_places, every_far_write_changes_only_its_places,
+    every_far_write_is_sound, every_row_changes_only_itself, every_write_changes_only_its_places,
+    every_write_changes_the_memory_alone, the_protected_stacks_are_reachable,
+    what_was_written_is_read,
 };
 pub use machine::Machine;
 pub use pending::{Write, byte_count};

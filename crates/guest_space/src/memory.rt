@@ -22,7 +22,7 @@ fn page_fault(present: bool, write: bool) -> Fault
 }
 
 // Each of them is a byte.
-fn are_bytes(bytes: &[u8])
+pub(crate) fn are_bytes(bytes: &[u8])
     ensures { (i : ℕ) → slice_index bytes.now i < 0x100 }
 {}
 

@@ -29,7 +29,7 @@ pub fn byte_count(width: u8) -> u8
 
 // The bytes of the low 16 bits of a number.
 #[inline(always)]
-fn word_bytes(v: u32) -> [u8; 2]
+pub(crate) fn word_bytes(v: u32) -> [u8; 2]
     ensures { result ≡ number_bytes 16 v }
 {
     ((v % 0x1_0000) as u16).to_le_bytes()
@@ -37,7 +37,7 @@ fn word_bytes(v: u32) -> [u8; 2]
 
 // The bytes of a number of 32 bits.
 #[inline(always)]
-fn dword_bytes(v: u32) -> [u8; 4]
+pub(crate) fn dword_bytes(v: u32) -> [u8; 4]
     ensures { result ≡ number_bytes 32 v }
 {
     v.to_le_bytes()
@@ -91,6 +91,7 @@ impl Machine {
     }
 
     // Makes some writes, all of which are probed first.
+    #[inline(never)]
     fn write_probed(&mut self, writes: &[Write]) -> Result<(), Fault>
         ensures done { OnOk result ((first_refusal self.old.world writes.now ≡ None)
             × (self.new ≡ all_written self.old writes.now)) }
@@ -116,6 +117,9 @@ impl Machine {
     {
         if writes.len() == 1 {
             self.write_one(&writes[0])
+        } else if let Some(shift) = self.shift_of(writes) {
+            self.make_runs(shift, writes);
+            Ok(())
         } else {
             self.write_probed(writes)
         }

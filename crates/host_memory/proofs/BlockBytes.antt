@@ -43,7 +43,7 @@ entry_some : (budget entry : ℕ) → NamesBudgetFrame budget entry → entry �
 entry_some budget entry p none = let from = p.from in omega arith
 
 -- pages of two blocks differ
-apart_pages : (handles : List ℕ) → HasRanges handles → (place other i j : ℕ) → place < MAX_BLOCKS → other < MAX_BLOCKS → place ≢ other →
+pub apart_pages : (handles : List ℕ) → HasRanges handles → (place other i j : ℕ) → place < MAX_BLOCKS → other < MAX_BLOCKS → place ≢ other →
     i < pages_of handles place → j < pages_of handles other → first_page_of handles place + i ≢ first_page_of handles other + j
 apart_pages handles ranges place other i j within inside ne hi hj same =
     let some : pages_of handles place ≢ 0 = omega arith in

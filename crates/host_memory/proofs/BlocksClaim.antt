@@ -52,7 +52,7 @@ unfolding dword
 dword_zero b at e f g h = omega arith
 
 -- the row of a free handle has the linear address 0
-base_free : (b : List ℕ) (budget : ℕ) → Holds b budget → (place : ℕ) → place < MAX_BLOCKS → pages_of (handles_part b) place ≡ 0 →
+pub base_free : (b : List ℕ) (budget : ℕ) → Holds b budget → (place : ℕ) → place < MAX_BLOCKS → pages_of (handles_part b) place ≡ 0 →
     base_of (handles_part b) place ≡ 0
 base_free b budget holds place within none = dword_zero (handles_part b) (16 * place)
     (ap (slice_index (handles_part b)) (sym (add-zero (16 * place))) ∙ zeros 0 (omega arith)) (zeros 1 (omega arith)) (zeros 2 (omega arith)) (zeros 3 (omega arith))

@@ -20,9 +20,12 @@ pub mod OnlyAtLaws
 pub mod PartBytes
 pub mod Parts
 pub mod PlaceRanges
+pub mod PutBlockParts
 pub mod PutParts
 pub mod RowWrites
 pub mod TablesClaim
+pub mod VectorParts
+pub mod VectorWrites
 pub mod VectorsClaim
 pub mod WalkAnswers
 pub mod WalkLaw

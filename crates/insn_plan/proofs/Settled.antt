@@ -1,16 +1,21 @@
 -- What carrying a plan out comes to.
-use Rattle.std.proofs.Common.{◌≡◌, Ok, Err, None, Some, refl, sym, ◌∙◌}
+use Rattle.std.proofs.Common.{◌≡◌, ℕ, Bool, List, Ok, Err, None, Some, refl, ap, sym, ◌∙◌}
 use Rattle.std.specs.declared.option.Option.{Option}
 use Rattle.std.specs.declared.result.Result.{Result}
 use Rattle.client_world.specs.declared.faults.Event.{Event}
 use Rattle.client_world.specs.declared.faults.Event.TheVariants.{Fault as fault}
 use Rattle.client_world.specs.declared.faults.Fault.{Fault}
+use Rattle.client_world.specs.declared.general.TheConstants.{ESP}
 use Rattle.client_world.specs.declared.registers.Regs.{Regs}
+use Rattle.client_world.specs.General.{with_general}
+use Rattle.guest_space.specs.declared.pending.Write.{Write}
 use Rattle.guest_space.specs.Pending.{first_refusal, all_written}
 use Rattle.guest_space.specs.Registers.{with_registers}
 use Rattle.host_memory.specs.View.{MachineView}
 use Rattle.insn_plan.specs.Act.{Pending, with_regs}
 use Rattle.insn_plan.specs.Plan.{carried_out, settled, with_state}
+use Rattle.insn_plan.specs.Stack.{pushes_made}
+use Rattle.insn_plan.proofs.WrittenState.{all_state}
 
 -- it is what its plan leaves
 pub carried_by : (v : MachineView) (plan : Result Pending Event) (p : Pending) → plan ≡ Ok p → carried_out v plan ≡ settled v p
@@ -55,3 +60,22 @@ refused_by (Some f) u w event e = cc
 
 pub refused_with : (v : MachineView) (r : Regs) (p : Pending) (event : Event) → settled v p ≡ Err event → settled v (with_regs r p) ≡ Err event
 refused_with v r p event e = settled_unless v (with_regs r p) ∙ refused_by (first_refusal v.world p.writes) _ _ event (sym (settled_unless v p) ∙ e)
+
+-- some pushes: their writes, and then ESP
+esp_set : (v mid : MachineView) (xs : List Write) (esp : ℕ) → mid ≡ all_written v xs →
+    with_state (record v.world.regs { esp = esp }) v.world.vif (all_written v xs) ≡ with_registers (with_general mid.world.regs ESP esp) mid
+unfolding with_general
+esp_set v mid xs esp is =
+    let u = all_written v xs in
+    let state = all_state v xs in
+    ap (λ (r : Regs). with_state (record r { esp = esp }) v.world.vif u) (sym state.regs)
+    ∙ ap (λ (on : Bool). with_state (record u.world.regs { esp = esp }) on u) (sym state.vif)
+    ∙ ap (λ (m : MachineView). with_registers (record m.world.regs { esp = esp }) m) (sym is)
+
+pub pushes_settled : (v mid new : MachineView) (xs : List Write) (esp : ℕ) → first_refusal v.world xs ≡ None → mid ≡ all_written v xs →
+    new ≡ with_registers (with_general mid.world.regs ESP esp) mid → settled v (pushes_made v.world xs esp) ≡ Ok new
+pushes_settled v mid new xs esp none made is =
+    let p = pushes_made v.world xs esp in
+    settled_unless v p
+    ∙ ap (λ (o : Option Fault). unless o (with_state p.regs p.vif (all_written v xs))) none
+    ∙ ap (λ (u : MachineView). Ok u) (esp_set v mid xs esp made ∙ sym is)

@@ -1,4 +1,4 @@
--- One write alone. It leaves the registers and the virtual interrupt flag.
+-- Writes leave the registers and the virtual interrupt flag.
 use Rattle.std.proofs.Common.{◌≡◌, ℕ, true, List, [], ◌∷◌, None, Some, refl, ap, ◌∙◌}
 use Rattle.client_world.specs.declared.faults.Event.TheVariants.{Fault as fault}
 use Rattle.client_world.specs.declared.faults.Fault.{Fault}
@@ -31,14 +31,23 @@ bytes_state w (p ∷ places) (x ∷ bytes) =
     let rest = bytes_state (with_byte_of w p x) places bytes in
     record { regs = rest.regs ∙ first.regs; vif = rest.vif ∙ first.vif }
 
-written_state : (v : MachineView) (x : Write) → SameState v.world (all_written v (x ∷ [])).world
-unfolding all_written written stored with_places
-written_state v x = bytes_state v.world (places_of_access (access v.world x.seg x.off (byte_count x.width) true)) (number_bytes x.width x.value)
+write_state : (v : MachineView) (x : Write) → SameState v.world (written v x).world
+unfolding written stored with_places
+write_state v x = bytes_state v.world (places_of_access (access v.world x.seg x.off (byte_count x.width) true)) (number_bytes x.width x.value)
+
+-- and so do all of some writes
+pub all_state : (v : MachineView) (xs : List Write) → SameState v.world (all_written v xs).world
+unfolding all_written
+all_state v [] = record { regs = refl; vif = refl }
+all_state v (x ∷ xs) =
+    let first = write_state v x in
+    let rest = all_state (written v x) xs in
+    record { regs = rest.regs ∙ first.regs; vif = rest.vif ∙ first.vif }
 
 pub made : (old new : MachineView) (x : Write) → write_refusal old.world x ≡ None → new ≡ written old x → IsWritten x old new
 unfolding first_refusal all_written
 made old new x allowed is =
-    let state = written_state old x in
+    let state = all_state old (x ∷ []) in
     record {
       allowed = rw (first_refusal, allowed) refl;
       is = is;

@@ -1,12 +1,13 @@
 -- The stack: the stack pointer is ESP where the segment in SS has B = 1, else SP; the other half stays.
 -- Source: 80386 Programmer's Reference Manual, ch. 2, "Stack Implementation", and ch. 17, PUSH and POP.
-use Rattle.std.specs.Prelude.{ℕ, ◌+◌, ◌-◌, ◌*◌, ◌^◌, Bool, false, if◌then◌else◌, None, Some}
+use Rattle.std.specs.Prelude.{ℕ, ◌+◌, ◌-◌, ◌*◌, ◌^◌, Bool, false, if◌then◌else◌, None, Some, List, [], ◌∷◌, ◌++◌}
 use Rattle.client_world.specs.declared.registers.Mode.TheVariants.{Real, Protected}
 use Rattle.client_world.specs.declared.registers.Regs.{Regs}
 use Rattle.client_world.specs.declared.segments.SegReg.TheVariants.{Ss}
 use Rattle.client_world.specs.Registers.{with_low_half}
 use Rattle.client_world.specs.Selector.{Row, row_of_selector}
 use Rattle.client_world.specs.World.{World}
+use Rattle.guest_space.specs.declared.pending.Write.{Write}
 use Rattle.guest_space.specs.Pending.{byte_count}
 use Rattle.insn_plan.specs.Act.{Input, From, Pending, with_regs}
 use Rattle.insn_plan.specs.Operands.{and_write}
@@ -42,6 +43,14 @@ unfoldable pub pushed : World → ℕ → ℕ → Pending → Pending
 pushed w width v p =
     let sp = cut_address (has_big_stack w) (stack_pointer w p.regs + 2 ^ 32 - byte_count width) in
     and_write Ss sp width v (with_regs (with_stack_pointer w sp p.regs) p)
+
+-- one more write, and another ESP
+abbrev pub with_push : Write → ℕ → Pending → Pending
+with_push x esp p = record p { regs = record p.regs { esp = esp }; writes = p.writes ++ x ∷ [] }
+
+-- some writes and another ESP, and nothing else
+abbrev pub pushes_made : World → List Write → ℕ → Pending
+pushes_made w writes esp = record { regs = record w.regs { esp = esp }; vif = w.vif; writes = writes }
 
 -- the stack pointer so many bytes further up
 abbrev pub stack_pointer_up : World → ℕ → Regs → ℕ

@@ -17,4 +17,7 @@ pub use next::{MAX_WRITES, Next};
 pub use operands::{put_operand, put_register, put_with_flags, source, write_number};
 pub use read::{read_number, read_width};
 pub use registers::{cut_address, offset_of, register, set_register};
-pub use stack::{esp_up, has_big_stack, push_item, stack_item, stack_pointer, with_pointer};
+pub use stack::{
+    esp_up, has_big_stack, item_pushed, push_item, settle_pushes, stack_item, stack_pointer,
+    with_pointer,
+};

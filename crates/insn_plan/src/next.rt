@@ -1,11 +1,12 @@
 // What an instruction of several writes leaves.
 ghost use Rattle.std.specs.Prelude.{◌≡◌, ◌+◌, ◌<◌, ◌≤◌, length};
+ghost use Rattle.guest_space.specs.Pending.{first_refusal};
 ghost use Rattle.insn_plan.specs.Act.{unchanged};
 ghost use Rattle.insn_plan.specs.Operands.{and_write, put};
 ghost use Rattle.insn_plan.specs.Plan.{Follows, settled};
 
 use crate::registers::{offset_of, set_register};
-use client_world::{Event, Regs, SegReg};
+use client_world::{Event, Fault, Regs, SegReg};
 use guest_space::{Machine, Write};
 use insn_forms::Operand;
 use std::marker::Model;
@@ -76,6 +77,22 @@ impl Next {
         self.regs = r;
     }
 
+    /// The ESP that it leaves.
+    #[inline(always)]
+    pub fn esp(&self) -> u32
+        ensures { result ≡ self.now.regs.esp }
+    {
+        self.regs.esp
+    }
+
+    /// Leaves another ESP.
+    #[inline(always)]
+    pub fn set_esp(&mut self, esp: u32)
+        ensures { self.new ≡ record self.old { regs = record self.old.regs { esp = esp } } }
+    {
+        self.regs.esp = esp;
+    }
+
     /// Leaves one more write.
     #[inline(always)]
     pub fn write(&mut self, seg: SegReg, off: u32, width: u8, value: u32)
@@ -104,6 +121,13 @@ impl Next {
             Operand::Mem(f) => self.write(f.seg, offset_of(r, addr32, f), width, v),
             Operand::Imm(_) | Operand::Seg(_) | Operand::Empty | Operand::Far(_) => {}
         }
+    }
+
+    /// The fault of the first of its writes that has one.
+    pub fn refusal(&self, m: &Machine) -> Option<Fault>
+        ensures { result ≡ first_refusal m.now.world self.now.writes }
+    {
+        m.first_fault(&self.writes[..self.write_count])
     }
 
     /// Makes all the writes, and then sets the registers and the virtual interrupt flag; or, where one of the writes has a fault, does

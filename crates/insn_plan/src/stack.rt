@@ -1,12 +1,15 @@
 // The stack.
 ghost use Rattle.std.specs.Prelude.{◌≡◌, ◌+◌, ◌-◌, ◌<◌, ◌^◌, ◌⊎◌, IsTrue, length};
-ghost use Rattle.insn_plan.specs.Act.{unchanged, value_of};
+ghost use Rattle.client_world.specs.World.{World};
+ghost use Rattle.insn_plan.specs.Act.{Pending, unchanged, value_of};
 ghost use Rattle.insn_plan.specs.Plan.{Follows, settled};
 ghost use Rattle.insn_plan.specs.Registers.{cut_address};
 ghost use Rattle.insn_plan.specs.Stack.{
   has_big_stack,
   stack_pointer,
   with_pointer,
+  with_push,
+  pushes_made,
   esp_up,
   pushed,
   stack_item,
@@ -19,7 +22,7 @@ use crate::read::read_width;
 use crate::registers::cut_address;
 use client_world::general::ESP;
 use client_world::{Event, Mode, Regs, SegReg};
-use guest_space::{Machine, byte_count};
+use guest_space::{Machine, Write, byte_count};
 
 /// Whether the stack pointer is ESP: the segment in SS has B = 1.
 /// Source: 80386 Programmer's Reference Manual, ch. 16, "Stack-Segment Default Size".
@@ -108,6 +111,34 @@ pub fn push_item(m: &mut Machine, width: u8, v: u32) -> Result<(), Event>
     Ok(())
 }
 
+/// The write of a number of a width that is pushed at an ESP, and ESP after it, where it is known whether the stack pointer is ESP or SP.
+#[inline(always)]
+#[tactic(auto, unfolding(crate::specs::Stack::pushed))]
+pub fn item_pushed(big: bool, width: u8, esp: u32, v: u32) -> (Write, u32)
+    ensures { (w : World) (p : Pending) → has_big_stack w ≡ big → p.regs.esp ≡ esp →
+        pushed w width v p ≡ with_push result.0 result.1 p }
+{
+    let sp = pointer_down(big, byte_count(width), esp);
+    let write = Write {
+        seg: SegReg::Ss,
+        width,
+        off: sp,
+        value: v,
+    };
+    (write, with_pointer(big, esp, sp))
+}
+
+/// Makes the writes of some pushes and then sets ESP; or, where one of them has a fault, does nothing at all.
+#[inline(always)]
+#[tactic(auto, unfolding(crate::specs::Plan::settled, client_world::specs::General::with_general))]
+pub fn settle_pushes(m: &mut Machine, writes: &[Write], esp: u32) -> Result<(), Event>
+    ensures { Follows m.old m.new result (settled m.old (pushes_made m.old.world writes.now esp)) }
+{
+    m.write_all(writes)?;
+    m.set_general(ESP, esp);
+    Ok(())
+}
+
 impl Next {
     /// Pushes a number of a width.
     #[tactic(auto, unfolding(crate::specs::Stack::pushed))]
@@ -117,10 +148,9 @@ impl Next {
         ensures room { length self.new.writes ≡ length self.old.writes + 1 }
     {
         let big = has_big_stack(m);
-        let mut r = self.regs();
-        let sp = pointer_down(big, byte_count(width), r.esp);
-        r.esp = with_pointer(big, r.esp, sp);
-        self.set_regs(r);
+        let esp = self.esp();
+        let sp = pointer_down(big, byte_count(width), esp);
+        self.set_esp(with_pointer(big, esp, sp));
         self.write(SegReg::Ss, sp, width, v);
     }
 }

@@ -1,0 +1,192 @@
+-- The row of a block, and a block at another linear address and with another size, in the memory.
+use Rattle.std.proofs.Common.{◌≡◌, ◌≢◌, ℕ, suc, ◌+◌, ◌-◌, ◌*◌, List, length, length-set, slice_index_or, slice_set, refl, ap, ◌∙◌, sym, subst, arith, Option, None, Some, take}
+use Rattle.std.specs.Prelude.{min}
+use Rattle.std.proofs.lemmas.Bool.{ne_eqb}
+use Rattle.std.proofs.lemmas.List.{length-append, length-take}
+use Rattle.client_world.specs.declared.host_frames.TheConstants.{PAGE_SIZE, BLOCK_ROWS, BLOCK_TABLES, LOCK_COUNTS}
+use Rattle.client_world.specs.Access.{HasByte, bytes_of_block}
+use Rattle.client_world.specs.Soundness.{SoundBlocks, pages_of_block}
+use Rattle.client_world.specs.World.{World, MemoryBlock}
+use Rattle.guest_ram.specs.Bytes.{dword}
+use Rattle.guest_ram.specs.Listed.{zeros}
+use Rattle.guest_ram.proofs.ListedLaws.{length-zeros}
+use Rattle.host_memory.specs.Holds.{Holds}
+use Rattle.host_memory.specs.Layout.{handles_part, pages_of}
+use Rattle.host_memory.proofs.BlockRows.{row_there, held_base}
+use Rattle.host_memory.proofs.Parts.{parts_of}
+use Rattle.block_memory.specs.BlockChanges.{blocks_held, CanHoldIn, CanMoveIn, CanSizeIn, HasBlockIn, HasPagesIn, IsHeldIn, ReplacesBlock, with_at}
+use Rattle.block_memory.specs.BlockSizes.{CanHold, CanMove, HasPages, at_base, base_of_held, extended, resized, shorter, slid}
+use Rattle.block_memory.proofs.BlockSteps.{becomes, for_budget, held_still, held_there, one_budget, ranges_held, replaced_at}
+use Rattle.block_memory.proofs.MoveWrites.{moved, moved_changes}
+use Rattle.block_memory.proofs.PageChanges.{block_reads}
+use Rattle.block_memory.proofs.PageCounts.{pages_of_row}
+use Rattle.block_memory.proofs.PageMore.{first_page}
+use Rattle.block_memory.proofs.PageParts.{block_parts}
+use Rattle.block_memory.proofs.PageWrites.{with_block_row}
+use Rattle.block_memory.proofs.RowReads.{row_base_read, row_pages_read}
+use Rattle.block_memory.proofs.SizedBlocks.{shorter_none}
+use Rattle.block_memory.proofs.SizedCalls.{Sizing, cut_blocks, moved_blocks, can_move, can_extend, sized_blocks}
+use Rattle.block_memory.proofs.SizedSound.{length-bytes, moved_sound, moved_fits}
+
+-- a block that is held has a page
+some_pages : (blocks : List (Option MemoryBlock)) (budget place : ℕ) → SoundBlocks blocks budget → (o : Option MemoryBlock) → slice_index_or blocks place None ≡ o →
+    o ≢ None → (n : ℕ) → pages_of_block o ≡ n → n ≢ 0
+some_pages blocks budget place sound None e there n count = absurd (there refl)
+some_pages blocks budget place sound (Some block) e there n count =
+    let is = sound.each (suc place) block e in let long = is.pages in let some = is.some in omega arith
+
+-- the two doublewords of a row
+pub row_read : (b : List ℕ) (place base pages : ℕ) → HasBlockIn b place → base ≡ dword b (PAGE_SIZE * BLOCK_ROWS + 16 * place) →
+    pages ≡ dword b (PAGE_SIZE * BLOCK_ROWS + 16 * place + 4) → (budget : ℕ) → Holds b budget → HasPages (blocks_held b budget) place base pages
+row_read b place base pages h e f other holds =
+    let s = block_parts (parts_of b h.budget) in
+    let handles = handles_part b in
+    let blocks = blocks_held b h.budget in
+    let first = row_base_read b place base h.within e in
+    let second = row_pages_read b place pages h.within f in
+    let count : pages_of_block (slice_index_or blocks place None) ≡ pages_of handles place =
+    ap pages_of_block (block_reads s place h.within) ∙ pages_of_row s.handles s.tables s.locks s.frames place in
+    let some : pages_of handles place ≢ 0 =
+    some_pages blocks h.budget place h.holds.sound (slice_index_or blocks place None) refl h.held (pages_of handles place) count in
+    let range = (ranges_held b h.budget h.holds).each place h.within some in
+    let above = range.from in let below = range.to in
+    subst (λ (n : ℕ). HasPages (blocks_held b n) place base pages) (one_budget b h.budget other h.holds.holds holds) (record {
+      handles = h.holds.sound.handles;
+      within = h.within;
+      count = count ∙ sym second;
+      based = λ more. ap base_of_held (block_reads s place h.within ∙ row_there s.handles s.tables s.locks s.frames place some)
+          ∙ held_base s.handles s.tables s.locks s.frames place ∙ sym first;
+      above = omega arith;
+      below = omega arith;
+    })
+
+-- a block without pages is none
+pub dropped : (b c : List ℕ) (place : ℕ) → ReplacesBlock b c place (λ o. shorter o 0) → ReplacesBlock b c place (λ o. None)
+dropped b c place replaces budget holds =
+    becomes b c budget _ _ (replaces budget holds)
+    (ap (λ (o : Option MemoryBlock). slice_set (blocks_held b budget) place o) (shorter_none (slice_index_or (blocks_held b budget) place None)))
+
+-- ---- another linear address
+
+-- the three writes
+moved_is : (b b1 b2 b3 : List ℕ) (place old base n : ℕ) →
+    b1 ≡ slid b (PAGE_SIZE * BLOCK_TABLES + 4 * first_page old) (PAGE_SIZE * BLOCK_TABLES + 4 * first_page base) (4 * n) →
+    b2 ≡ slid b1 (PAGE_SIZE * LOCK_COUNTS + 2 * first_page old) (PAGE_SIZE * LOCK_COUNTS + 2 * first_page base) (2 * n) →
+    b3 ≡ with_block_row b2 place base n → b3 ≡ moved b place old base n
+moved_is b b1 b2 b3 place old base n e f g =
+    g ∙ ap (λ (x : List ℕ). with_block_row x place base n)
+    (f ∙ ap (λ (x : List ℕ). slid x (PAGE_SIZE * LOCK_COUNTS + 2 * first_page old) (PAGE_SIZE * LOCK_COUNTS + 2 * first_page base) (2 * n)) e)
+
+pub block_moved : (b b1 b2 b3 : List ℕ) (place old base n : ℕ) → CanMoveIn b place old base n →
+    b1 ≡ slid b (PAGE_SIZE * BLOCK_TABLES + 4 * first_page old) (PAGE_SIZE * BLOCK_TABLES + 4 * first_page base) (4 * n) →
+    b2 ≡ slid b1 (PAGE_SIZE * LOCK_COUNTS + 2 * first_page old) (PAGE_SIZE * LOCK_COUNTS + 2 * first_page base) (2 * n) →
+    b3 ≡ with_block_row b2 place base n → ReplacesBlock b b3 place (λ o. at_base base o)
+block_moved b b1 b2 b3 place old base n g e1 e2 e3 =
+    let blocks = blocks_held b g.budget in
+    replaced_at b (moved b place old base n) b3 g.budget place (λ o. at_base base o) g.holds (moved_is b b1 b2 b3 place old base n e1 e2 e3)
+    (moved_changes b g.budget place old base n g.holds.holds (ranges_held b g.budget g.holds) g.has g.can)
+    (moved_sound blocks g.budget place base n g.holds.sound g.can) (moved_fits blocks place base n g.holds.fits g.can)
+
+-- ---- another size, in three steps
+
+-- all that is known at the start
+pub sizing : (b : List ℕ) (place from old base pages kept : ℕ) (g : CanSizeIn b place base pages) → HasPages (blocks_held b g.budget) place from old → kept ≡ min old pages →
+    Sizing (blocks_held b g.budget) g.budget place from old base pages kept
+sizing b place from old base pages kept g has few = record {
+  has = has;
+  can = g.can;
+  some = some_pages (blocks_held b g.budget) g.budget place g.holds.sound (slice_index_or (blocks_held b g.budget) place None) refl g.can.held old has.count;
+  few = few;
+}
+
+-- after the cut the block may move
+pub moves_after : (b c : List ℕ) (place from old base pages kept : ℕ) (g : CanSizeIn b place base pages) →
+    Sizing (blocks_held b g.budget) g.budget place from old base pages kept → ReplacesBlock b c place (λ o. shorter o kept) → HasPagesIn c place from kept →
+    CanMoveIn c place from base kept
+moves_after b c place from old base pages kept g s cut has =
+    let blocks = blocks_held b g.budget in
+    let one = cut g.budget g.holds.holds in
+    let own : HasPages (blocks_held c g.budget) place from kept =
+    subst (λ (n : ℕ). HasPages (blocks_held c n) place from kept) (one_budget c has.budget g.budget has.holds.holds one.after.holds) has.has in
+    record {
+      budget = g.budget;
+      holds = one.after;
+      has = own;
+      can = subst (λ (bs : List (Option MemoryBlock)). CanMove bs place base kept) (sym one.are)
+          (can_move blocks g.budget place from old base pages kept s (subst (λ (bs : List (Option MemoryBlock)). HasPages bs place from kept) one.are own));
+    }
+
+-- after the move it may grow
+pub grows_after : (b c d : List ℕ) (place from old base pages kept : ℕ) (g : CanSizeIn b place base pages) →
+    Sizing (blocks_held b g.budget) g.budget place from old base pages kept → ReplacesBlock b c place (λ o. shorter o kept) → HasPagesIn c place from kept →
+    ReplacesBlock c d place (λ o. at_base base o) → CanHoldIn d place base kept pages
+grows_after b c d place from old base pages kept g s cut has move =
+    let blocks = blocks_held b g.budget in
+    let one = cut g.budget g.holds.holds in
+    let two = move g.budget one.after.holds in
+    let own = subst (λ (n : ℕ). HasPages (blocks_held c n) place from kept) (one_budget c has.budget g.budget has.holds.holds one.after.holds) has.has in
+    record {
+      budget = g.budget;
+      holds = two.after;
+      can = subst (λ (bs : List (Option MemoryBlock)). CanHold bs g.budget place base kept pages)
+          (sym (two.are ∙ ap (λ (bs : List (Option MemoryBlock)). moved_blocks bs place base) one.are))
+          (can_extend blocks g.budget place from old base pages kept s (subst (λ (bs : List (Option MemoryBlock)). HasPages bs place from kept) one.are own));
+    }
+
+-- a byte that the block has before and after it has in between
+resized_byte : (base pages kept : ℕ) (o : Option MemoryBlock) (old at : ℕ) → length (bytes_of_block o) ≡ PAGE_SIZE * old → pages_of_block o ≡ old → kept ≡ min old pages → kept ≢ 0 →
+    HasByte o at → HasByte (resized base pages o) at → HasByte (shorter o kept) at
+unfolding resized
+resized_byte base pages kept None old at long count few some has later = absurd has
+resized_byte base pages kept (Some block) old at long count few some has later =
+    rw (ne_eqb kept 0 some) (omega (
+      arith,
+      length-take (PAGE_SIZE * kept) block.bytes,
+      length-append (take (PAGE_SIZE * pages) block.bytes) (zeros (PAGE_SIZE * (pages - length block.locks))),
+      length-take (PAGE_SIZE * pages) block.bytes,
+      length-zeros (PAGE_SIZE * (pages - length block.locks)),
+    ))
+
+based_byte : (base : ℕ) (o : Option MemoryBlock) (at : ℕ) → HasByte o at → HasByte (at_base base o) at
+based_byte base None at has = absurd has
+based_byte base (Some block) at has = has
+
+-- and in the end it has that address and size
+pub block_resized : (b c d e : List ℕ) (place from old base pages kept : ℕ) (g : CanSizeIn b place base pages) →
+    Sizing (blocks_held b g.budget) g.budget place from old base pages kept → ReplacesBlock b c place (λ o. shorter o kept) → ReplacesBlock c d place (λ o. at_base base o) →
+    ReplacesBlock d e place (λ o. extended base o (pages - kept)) → ReplacesBlock b e place (λ o. resized base pages o)
+block_resized b c d e place from old base pages kept g s cut move extend =
+    let blocks = blocks_held b g.budget in
+    let o = slice_index_or blocks place None in
+    let one = cut g.budget g.holds.holds in
+    let two = move g.budget one.after.holds in
+    let three = extend g.budget two.after.holds in
+    let within = s.has.within in let handles = s.has.handles in let few = s.few in let some = s.some in let more = s.can.some in
+    let cut_list = cut_blocks blocks place kept in
+    let final = slice_set blocks place (resized base pages o) in
+    let size : length cut_list ≡ length blocks = length-set blocks place _ in
+    let moved_now : with_at (blocks_held c g.budget) place (λ x. at_base base x) ≡ moved_blocks cut_list place base =
+    ap (λ (bs : List (Option MemoryBlock)). moved_blocks bs place base) one.are in
+    let last : with_at (blocks_held d g.budget) place (λ x. extended base x (pages - kept)) ≡ final =
+    ap (λ (bs : List (Option MemoryBlock)). with_at bs place (λ x. extended base x (pages - kept))) (two.are ∙ moved_now)
+    ∙ sized_blocks blocks g.budget place from old base pages kept g.holds.sound s in
+    let long : length (bytes_of_block o) ≡ PAGE_SIZE * old = length-bytes blocks g.budget place g.holds.sound o refl ∙ ap (λ (n : ℕ). PAGE_SIZE * n) s.has.count in
+    let in_cut = held_there blocks place (resized base pages o) (shorter o kept) (omega arith)
+    (λ at before after. resized_byte base pages kept o old at long s.has.count few (omega arith) before after) in
+    let in_moved = held_still cut_list place (at_base base (slice_index_or cut_list place None)) (omega arith)
+    (λ at has. based_byte base (slice_index_or cut_list place None) at has) in
+    let second = becomes c d g.budget _ _ two moved_now in
+    let third = becomes d e g.budget _ _ three last in
+    for_budget b e place (λ x. resized base pages x) g.budget g.holds.holds (record {
+      after = third.after;
+      are = third.are;
+      world = λ mode regs vif width. third.world mode regs vif width
+          ∙ ap (λ (w : World). record w { blocks = final }) (second.world mode regs vif width ∙ ap (λ (w : World). record w { blocks = moved_blocks cut_list place base }) (one.world mode regs vif width));
+      rows = third.rows ∙ second.rows ∙ one.rows;
+      addresses = λ p before after. (
+          let held = in_cut p before after in
+          let held_next = in_moved p held in
+          third.addresses p (subst (λ (bs : List (Option MemoryBlock)). IsHeldIn bs p) (sym second.are) held_next) after
+          ∙ second.addresses p (subst (λ (bs : List (Option MemoryBlock)). IsHeldIn bs p) (sym one.are) held) held_next
+          ∙ one.addresses p before held);
+    })

@@ -1,0 +1,181 @@
+-- What mapping asks of the pages of the block region, and where their entries stand.
+use Rattle.std.proofs.Common.{◌≡◌, ◌≢◌, ℕ, ◌+◌, ◌-◌, ◌*◌, ◌/◌, ◌%◌, ◌<◌, ◌≤◌, ◌^◌, ◌⊎◌, inl, inr, true, List, slice_index, ap, ◌∙◌, sym, subst, arith}
+use Rattle.std.proofs.lemmas.Bool.{cases_lt, lt-ltb, le-ltb, false≢true}
+use Rattle.client_world.specs.Registers.{has_bit}
+use Rattle.client_world.specs.declared.host_frames.TheConstants.{PAGE_SIZE, PAGE_DIRECTORY, LOW_TABLE, WINDOW_TABLE, BLOCK_TABLES, BUDGET_FRAMES, TAKEN_FRAMES, DOS_FRAMES}
+use Rattle.client_world.specs.declared.limits.TheConstants.{MAX_PAGES}
+use Rattle.client_world.specs.declared.memory_map.TheConstants.{BLOCK_REGION, BLOCK_REGION_END, BLOCK_REGION_PAGES, HOST_WINDOW, ROM_START, DOS_VIEW_PAGES}
+use Rattle.guest_ram.specs.Bytes.{dword}
+use Rattle.guest_ram.proofs.PutLaws.{at_region, dword-region}
+use Rattle.page_tables.specs.Entry.{page_entry}
+use Rattle.page_tables.specs.Budget.{HasBudget, IsNamedNowhere}
+use Rattle.page_tables.specs.Mapping.{HasTables, IsCovered, IsMapped, IsUnmapped}
+use Rattle.page_tables.specs.Walk.{directory_entry, table_place, table_entry, entry_place, frame_of}
+use Rattle.page_tables.specs.declared.entry.TheConstants.{ENTRY_SIZE, PRESENT, TABLE_ENTRIES, TABLE_SPAN}
+use Rattle.page_tables.proofs.EntryLaws.{page_entry_present}
+use Rattle.page_tables.proofs.HostDirectory.{HasTables-host_directory}
+use Rattle.host_memory.specs.Layout.{fixed_part, tables_part, taken_part, pages_of, first_page_of, entry_of}
+use Rattle.host_memory.specs.Tables.{HasFixedEntries, HasBlockEntries, NamesBudgetFrame, directory_entry_at, low_entry_at, window_entry_at, supervisor_entry}
+use Rattle.host_memory.proofs.BlockRows.{HasRanges, over_tells}
+use Rattle.host_memory.proofs.FixedWalks.{directory_is, directory_of_block, directory_of_none, block_table}
+use Rattle.host_memory.proofs.HostTables.{host_directory}
+use Rattle.host_memory.proofs.Parts.{HasSize}
+
+-- what stays while a page is mapped: the size, the budget, and the host's own entries
+pub record HasHost (b : List ℕ) (budget : ℕ) : Type 0 where
+  pub size : HasSize b budget
+  pub most : budget ≤ MAX_PAGES
+  pub fixed : HasFixedEntries (fixed_part b)
+
+pub tables_of : (b : List ℕ) (budget : ℕ) → HasHost b budget → HasTables b
+tables_of b budget host =
+    let size = host.size in
+    HasTables-host_directory b (host_directory b host.fixed) (omega arith)
+
+pub budget_of : (b : List ℕ) (budget : ℕ) → HasHost b budget → HasBudget b
+budget_of b budget host =
+    let size = host.size in let most = host.most in
+    record { host = omega arith; most = omega arith }
+
+-- the linear address is one of the block region
+pub record InRegion (lin : ℕ) : Type 0 where
+  pub from : BLOCK_REGION ≤ lin
+  pub to : lin < BLOCK_REGION_END
+
+-- its page there
+abbrev pub page_at : ℕ → ℕ
+page_at lin = (lin - BLOCK_REGION) / PAGE_SIZE
+
+pub region_directory : (b : List ℕ) (budget lin : ℕ) → HasHost b budget → InRegion lin →
+    directory_entry b PAGE_DIRECTORY lin ≡ page_entry (block_table lin) true
+region_directory b budget lin host in_region =
+    let from = in_region.from in let to = in_region.to in
+    directory_is b (lin / TABLE_SPAN) host.fixed (omega arith) ∙ directory_of_block (lin / TABLE_SPAN) (omega arith) (omega arith)
+
+pub region_place : (b : List ℕ) (budget lin : ℕ) → HasHost b budget → InRegion lin →
+    table_place b PAGE_DIRECTORY lin ≡ PAGE_SIZE * BLOCK_TABLES + ENTRY_SIZE * page_at lin
+region_place b budget lin host in_region =
+    let from = in_region.from in let to = in_region.to in
+    ap (λ (d : ℕ). entry_place (frame_of d) (lin / PAGE_SIZE % TABLE_ENTRIES)) (region_directory b budget lin host in_region)
+    ∙ (let at : entry_place (frame_of (page_entry (block_table lin) true)) (lin / PAGE_SIZE % TABLE_ENTRIES)
+    ≡ PAGE_SIZE * BLOCK_TABLES + ENTRY_SIZE * page_at lin = omega arith in at)
+
+pub region_entry : (b : List ℕ) (budget lin : ℕ) → HasHost b budget → InRegion lin →
+    table_entry b PAGE_DIRECTORY lin ≡ entry_of (tables_part b) (page_at lin)
+region_entry b budget lin host in_region =
+    let from = in_region.from in let to = in_region.to in
+    ap (dword b) (region_place b budget lin host in_region)
+    ∙ sym (dword-region b (PAGE_SIZE * BLOCK_TABLES) (PAGE_SIZE * 16) (ENTRY_SIZE * page_at lin) (omega arith))
+
+pub region_covered : (b : List ℕ) (budget lin : ℕ) → HasHost b budget → InRegion lin → IsCovered b lin
+region_covered b budget lin host in_region =
+    ap (λ (d : ℕ). has_bit d PRESENT) (region_directory b budget lin host in_region) ∙ page_entry_present (block_table lin) true
+
+pub region_unmapped : (b : List ℕ) (budget lin : ℕ) → HasHost b budget → InRegion lin → entry_of (tables_part b) (page_at lin) ≡ 0 → IsUnmapped b lin
+region_unmapped b budget lin host in_region none =
+    ap (λ (e : ℕ). has_bit e PRESENT) (region_entry b budget lin host in_region ∙ none)
+
+pub region_mapped : (b : List ℕ) (budget lin frame : ℕ) → HasHost b budget → InRegion lin → entry_of (tables_part b) (page_at lin) ≡ page_entry frame true → IsMapped b lin
+region_mapped b budget lin frame host in_region entry = record {
+  covered = region_covered b budget lin host in_region;
+  present = ap (λ (e : ℕ). has_bit e PRESENT) (region_entry b budget lin host in_region ∙ entry) ∙ page_entry_present frame true;
+}
+
+-- the entries of the other tables name no frame of the budget
+low_entry : (b : List ℕ) (budget lin : ℕ) → HasHost b budget → lin < BLOCK_REGION → table_entry b PAGE_DIRECTORY lin ≡ low_entry_at (lin / PAGE_SIZE)
+low_entry b budget lin host below =
+    let first : lin / TABLE_SPAN ≡ 0 = omega arith in
+    let directory : directory_entry b PAGE_DIRECTORY lin ≡ page_entry LOW_TABLE true = directory_is b (lin / TABLE_SPAN) host.fixed (omega arith)
+    ∙ ap (directory_entry_at) first in
+    let at : entry_place (frame_of (page_entry LOW_TABLE true)) (lin / PAGE_SIZE % TABLE_ENTRIES) ≡ PAGE_SIZE * PAGE_DIRECTORY + (PAGE_SIZE + ENTRY_SIZE * (lin / PAGE_SIZE)) = omega arith in
+    ap (λ (d : ℕ). dword b (entry_place (frame_of d) (lin / PAGE_SIZE % TABLE_ENTRIES))) directory
+    ∙ ap (dword b) at
+    ∙ sym (dword-region b (PAGE_SIZE * PAGE_DIRECTORY) (PAGE_SIZE * 3) (PAGE_SIZE + ENTRY_SIZE * (lin / PAGE_SIZE)) (omega arith))
+    ∙ host.fixed.low (lin / PAGE_SIZE) (omega arith)
+
+low_frame : (page : ℕ) → frame_of (low_entry_at page) < BUDGET_FRAMES
+low_frame page = elim (cases_lt page (ROM_START / PAGE_SIZE)) [
+  | inl plain ↦ rw (lt-ltb page (ROM_START / PAGE_SIZE) plain) (omega arith)
+  | inr above ↦ rw (le-ltb page (ROM_START / PAGE_SIZE) above) (elim (cases_lt page DOS_FRAMES) [
+    | inl rom ↦ rw (lt-ltb page DOS_FRAMES rom) (omega arith)
+    | inr more ↦ rw (le-ltb page DOS_FRAMES more) (elim (cases_lt page DOS_VIEW_PAGES) [
+      | inl mirror ↦ rw (lt-ltb page DOS_VIEW_PAGES mirror) (omega arith)
+      | inr none ↦ rw (le-ltb page DOS_VIEW_PAGES none) (omega arith)
+    ])
+  ])
+]
+
+window_entry : (b : List ℕ) (budget lin : ℕ) → HasHost b budget → HOST_WINDOW ≤ lin → lin < HOST_WINDOW + TABLE_SPAN →
+    table_entry b PAGE_DIRECTORY lin ≡ window_entry_at (lin / PAGE_SIZE % TABLE_ENTRIES)
+window_entry b budget lin host from to =
+    let index : lin / TABLE_SPAN ≡ 768 = omega arith in
+    let directory : directory_entry b PAGE_DIRECTORY lin ≡ supervisor_entry WINDOW_TABLE = directory_is b (lin / TABLE_SPAN) host.fixed (omega arith)
+    ∙ ap (directory_entry_at) index in
+    let at : entry_place (frame_of (supervisor_entry WINDOW_TABLE)) (lin / PAGE_SIZE % TABLE_ENTRIES)
+    ≡ PAGE_SIZE * PAGE_DIRECTORY + (2 * PAGE_SIZE + ENTRY_SIZE * (lin / PAGE_SIZE % TABLE_ENTRIES)) = omega arith in
+    ap (λ (d : ℕ). dword b (entry_place (frame_of d) (lin / PAGE_SIZE % TABLE_ENTRIES))) directory
+    ∙ ap (dword b) at
+    ∙ sym (dword-region b (PAGE_SIZE * PAGE_DIRECTORY) (PAGE_SIZE * 3) (2 * PAGE_SIZE + ENTRY_SIZE * (lin / PAGE_SIZE % TABLE_ENTRIES)) (omega arith))
+    ∙ host.fixed.window (lin / PAGE_SIZE % TABLE_ENTRIES) (omega arith)
+
+window_frame : (page : ℕ) → frame_of (window_entry_at page) < BUDGET_FRAMES
+window_frame page = elim (cases_lt page (BUDGET_FRAMES - PAGE_DIRECTORY)) [
+  | inl host ↦ rw (lt-ltb page (BUDGET_FRAMES - PAGE_DIRECTORY) host) (omega arith)
+  | inr none ↦ rw (le-ltb page (BUDGET_FRAMES - PAGE_DIRECTORY) none) (omega arith)
+]
+
+nothing_covered : (b : List ℕ) (budget lin : ℕ) → HasHost b budget → lin < 2 ^ 32 → BLOCK_REGION_END ≤ lin →
+    (lin < HOST_WINDOW) ⊎ (HOST_WINDOW + TABLE_SPAN ≤ lin) → IsMapped b lin → ⊥
+nothing_covered b budget lin host small from out mapped =
+    let other : lin / TABLE_SPAN ≢ 768 = elim out [ inl below ↦ omega arith | inr above ↦ omega arith ] in
+    let directory : directory_entry b PAGE_DIRECTORY lin ≡ 0 =
+    directory_is b (lin / TABLE_SPAN) host.fixed (omega arith) ∙ directory_of_none (lin / TABLE_SPAN) (omega arith) other in
+    false≢true (sym (ap (λ (d : ℕ). has_bit d PRESENT) directory) ∙ mapped.covered)
+
+-- a frame of the budget that no page of the block region names is named nowhere
+pub named_nowhere : (b : List ℕ) (budget frame : ℕ) → HasHost b budget → BUDGET_FRAMES ≤ frame →
+    ((page : ℕ) → page < BLOCK_REGION_PAGES → frame_of (entry_of (tables_part b) page) ≢ frame) → IsNamedNowhere b frame
+named_nowhere b budget frame host from none = λ lin small mapped same.
+    elim (cases_lt lin BLOCK_REGION) [
+      | inl low ↦ (
+          let entry = low_entry b budget lin host low in
+          let less = low_frame (lin / PAGE_SIZE) in
+          let named : frame_of (low_entry_at (lin / PAGE_SIZE)) ≡ frame = sym (ap frame_of entry) ∙ same in
+          omega arith)
+      | inr above ↦ elim (cases_lt lin BLOCK_REGION_END) [
+        | inl inside ↦ none (page_at lin) (omega arith) (sym (ap frame_of (region_entry b budget lin host (record { from = above; to = inside }))) ∙ same)
+        | inr over ↦ elim (cases_lt lin HOST_WINDOW) [
+          | inl gap ↦ nothing_covered b budget lin host small over (inl gap) mapped
+          | inr window ↦ elim (cases_lt lin (HOST_WINDOW + TABLE_SPAN)) [
+            | inl within ↦ (
+                let entry = window_entry b budget lin host window within in
+                let less = window_frame (lin / PAGE_SIZE % TABLE_ENTRIES) in
+                let named : frame_of (window_entry_at (lin / PAGE_SIZE % TABLE_ENTRIES)) ≡ frame = sym (ap frame_of entry) ∙ same in
+                omega arith)
+            | inr past ↦ nothing_covered b budget lin host small over (inr past) mapped
+          ]
+        ]
+      ]
+    ]
+
+-- an entry of the block region is absent, or names a frame of the budget
+pub entry_kinds : (handles tables locks frames taken : List ℕ) (budget page : ℕ) → HasRanges handles → HasBlockEntries handles tables taken budget →
+    page < BLOCK_REGION_PAGES → (entry_of tables page ≡ 0) ⊎ NamesBudgetFrame budget (entry_of tables page)
+entry_kinds handles tables locks frames taken budget page ranges h small =
+    elim (over_tells handles tables locks frames (BLOCK_REGION + PAGE_SIZE * page) (omega arith) (omega arith)) [
+      | inl found ↦ (
+          let some = found.some in let inside = found.inside in let offset = found.offset in
+          let r = ranges.each found.place found.within some in
+          let whole = r.whole in let from = r.from in let to = r.to in
+          let same : first_page_of handles found.place + found.at / PAGE_SIZE ≡ page = omega arith in
+          inr (subst (λ (k : ℕ). NamesBudgetFrame budget (entry_of tables k)) same (h.named found.place (found.at / PAGE_SIZE) found.within (omega arith))))
+      | inr missed ↦ inl (h.absent page small (λ place offset within less same.
+          let some : pages_of handles place ≢ 0 = omega arith in
+          let r = ranges.each place within some in
+          let whole = r.whole in let from = r.from in let to = r.to in
+          missed.none place (record { within = within; from = omega arith; to = omega arith })))
+    ]
+
+-- the taken byte of a frame
+pub taken_byte : (b : List ℕ) (frame : ℕ) → frame < MAX_PAGES → slice_index b (PAGE_SIZE * TAKEN_FRAMES + frame) ≡ slice_index (taken_part b) frame
+taken_byte b frame small = sym (at_region b (PAGE_SIZE * TAKEN_FRAMES) (PAGE_SIZE * 1) frame (omega arith))

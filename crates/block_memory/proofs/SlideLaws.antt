@@ -1,0 +1,141 @@
+-- What a run of bytes that moves leaves: the bytes, and the doublewords and words that they make.
+use Rattle.std.proofs.Common.{◌≡◌, ℕ, ◌+◌, ◌-◌, ◌*◌, ◌<◌, ◌≤◌, ◌⊎◌, inl, inr, List, length, slice_index, refl, ap, ◌∙◌, sym, arith, add-zero}
+use Rattle.std.proofs.lemmas.Bool.{cases_lt, lt-ltb, le-ltb}
+use Rattle.client_world.specs.declared.memory_map.TheConstants.{BLOCK_REGION_PAGES}
+use Rattle.guest_ram.specs.Bytes.{put, region, dword, word_of}
+use Rattle.guest_ram.specs.Listed.{copies}
+use Rattle.guest_ram.proofs.ListedLaws.{length-copies, at_copies}
+use Rattle.guest_ram.proofs.PutLaws.{length-put, length-region, at_region, put_away, put_within, same_dword}
+use Rattle.block_memory.specs.BlockSizes.{vacant, vacated, slid}
+use Rattle.host_memory.specs.Layout.{entry_of, lock_of}
+use Rattle.block_memory.proofs.BlockMoves.{GoAlong}
+
+-- the bytes that are left are those of before which aren't among those of after
+record Leaves (from to n at count : ℕ) : Type 0 where
+  low : from ≤ at
+  high : at + count ≤ from + n
+  off : (at + count ≤ to) ⊎ (to + n ≤ at)
+  covers : (k : ℕ) → from ≤ k → k < from + n → (k < to) ⊎ (to + n ≤ k) → (at ≤ k) × (k < at + count)
+
+leaves : (from to n : ℕ) → Leaves from to n (vacated from to n) (vacant from to n)
+leaves from to n = elim (cases_lt from to) [
+  | inl up ↦ rw (lt-ltb from to up) (record {
+    low = omega arith;
+    high = omega arith;
+    off = inl (omega arith);
+    covers = λ k a b off. elim off [ inl below ↦ (omega arith, omega arith) | inr above ↦ (omega arith, omega arith) ];
+  })
+  | inr down ↦ rw (le-ltb from to down) (record {
+    low = omega arith;
+    high = omega arith;
+    off = inr (omega arith);
+    covers = λ k a b off. elim off [ inl below ↦ (omega arith, omega arith) | inr above ↦ (omega arith, omega arith) ];
+  })
+]
+
+pub length-slid : (b : List ℕ) (from to n : ℕ) → length (slid b from to n) ≡ length b
+unfolding slid
+length-slid b from to n = length-put (put b to (region b from n)) (vacated from to n) (copies (vacant from to n) 0) ∙ length-put b to (region b from n)
+
+-- both runs are inside
+pub record Inside (b : List ℕ) (from to n : ℕ) : Type 0 where
+  pub source : from + n ≤ length b
+  pub target : to + n ≤ length b
+
+pub slid_there : (b : List ℕ) (from to n k : ℕ) → Inside b from to n → k < n → slice_index (slid b from to n) (to + k) ≡ slice_index b (from + k)
+unfolding slid
+slid_there b from to n k inside less =
+    let source = inside.source in let target = inside.target in
+    let l = leaves from to n in
+    let long : length (region b from n) ≡ n = length-region b from n source in
+    put_away (put b to (region b from n)) (vacated from to n) (copies (vacant from to n) 0) (to + k) (elim l.off [
+      | inl below ↦ inl (omega (arith, length-copies (vacant from to n) 0))
+      | inr above ↦ inr (omega arith)
+    ])
+    ∙ put_within b to (region b from n) k (to + k) (omega arith) (omega arith) refl
+    ∙ at_region b from n k less
+
+pub slid_left : (b : List ℕ) (from to n k : ℕ) → Inside b from to n → from ≤ k → k < from + n → (k < to) ⊎ (to + n ≤ k) → slice_index (slid b from to n) k ≡ 0
+unfolding slid
+slid_left b from to n k inside low high off =
+    let source = inside.source in
+    let l = leaves from to n in
+    let here = l.covers k low high off in
+    let a = here.0 in let c = here.1 in let end = l.high in
+    put_within (put b to (region b from n)) (vacated from to n) (copies (vacant from to n) 0) (k - vacated from to n) k
+    (omega (arith, length-copies (vacant from to n) 0, length-put b to (region b from n))) (omega (arith, length-copies (vacant from to n) 0)) (omega arith)
+    ∙ at_copies (vacant from to n) 0 (k - vacated from to n) (omega arith)
+
+pub slid_other : (b : List ℕ) (from to n k : ℕ) → Inside b from to n → (k < from) ⊎ (from + n ≤ k) → (k < to) ⊎ (to + n ≤ k) → slice_index (slid b from to n) k ≡ slice_index b k
+unfolding slid
+slid_other b from to n k inside away off =
+    let source = inside.source in
+    let l = leaves from to n in
+    let low = l.low in let high = l.high in
+    put_away (put b to (region b from n)) (vacated from to n) (copies (vacant from to n) 0) k (elim away [
+      | inl below ↦ inr (omega arith)
+      | inr above ↦ inl (omega (arith, length-copies (vacant from to n) 0))
+    ])
+    ∙ put_away b to (region b from n) k (elim off [
+      | inl below ↦ inr below
+      | inr above ↦ inl (omega (arith, length-region b from n source))
+    ])
+
+-- doublewords go along
+zero_dword : (b : List ℕ) (at : ℕ) → ((k : ℕ) → k < 4 → slice_index b (at + k) ≡ 0) → dword b at ≡ 0
+unfolding dword
+zero_dword b at h =
+    let e0 : slice_index b at ≡ 0 = ap (slice_index b) (sym (add-zero at)) ∙ h 0 (omega arith) in
+    let e1 = h 1 (omega arith) in let e2 = h 2 (omega arith) in let e3 = h 3 (omega arith) in
+    omega arith
+
+pub entries_go : (b : List ℕ) (from to n : ℕ) → length b ≡ 4 * BLOCK_REGION_PAGES → from + n ≤ BLOCK_REGION_PAGES → to + n ≤ BLOCK_REGION_PAGES →
+    GoAlong (entry_of b) (entry_of (slid b (4 * from) (4 * to) (4 * n))) from to n
+entries_go b from to n long source target = record {
+  there = λ i less. same_dword (slid b (4 * from) (4 * to) (4 * n)) b (4 * (to + i)) (4 * (from + i)) (λ k small.
+      ap (slice_index (slid b (4 * from) (4 * to) (4 * n))) (let e : 4 * (to + i) + k ≡ 4 * to + (4 * i + k) = omega arith in e)
+      ∙ slid_there b (4 * from) (4 * to) (4 * n) (4 * i + k) inside (omega arith)
+      ∙ ap (slice_index b) (let e : 4 * from + (4 * i + k) ≡ 4 * (from + i) + k = omega arith in e));
+  left = λ page small is off. (
+      let less = is.less in let same = is.is in
+      zero_dword (slid b (4 * from) (4 * to) (4 * n)) (4 * page) (λ k few.
+      slid_left b (4 * from) (4 * to) (4 * n) (4 * page + k) inside (omega arith) (omega arith) (elim off [ inl a ↦ inl (omega arith) | inr a ↦ inr (omega arith) ])));
+  others = λ page small away off. same_dword (slid b (4 * from) (4 * to) (4 * n)) b (4 * page) (4 * page) (λ k few.
+      slid_other b (4 * from) (4 * to) (4 * n) (4 * page + k) inside (elim away [ inl a ↦ inl (omega arith) | inr a ↦ inr (omega arith) ])
+      (elim off [ inl a ↦ inl (omega arith) | inr a ↦ inr (omega arith) ]));
+}
+  where
+    inside : Inside b (4 * from) (4 * to) (4 * n)
+    inside = record { source = omega arith; target = omega arith }
+
+-- and words
+same_word : (b c : List ℕ) (p q : ℕ) → ((i : ℕ) → i < 2 → slice_index b (p + i) ≡ slice_index c (q + i)) → word_of b p ≡ word_of c q
+same_word b c p q h =
+    let low : slice_index b p ≡ slice_index c q = rw (← add-zero p, ← add-zero q) (h 0 (omega arith)) in
+    let high = h 1 (omega arith) in
+    rw (low, high) refl
+
+zero_word : (b : List ℕ) (at : ℕ) → ((k : ℕ) → k < 2 → slice_index b (at + k) ≡ 0) → word_of b at ≡ 0
+zero_word b at h =
+    let e0 : slice_index b at ≡ 0 = ap (slice_index b) (sym (add-zero at)) ∙ h 0 (omega arith) in
+    let e1 = h 1 (omega arith) in
+    omega arith
+
+pub locks_go : (b : List ℕ) (from to n : ℕ) → length b ≡ 2 * BLOCK_REGION_PAGES → from + n ≤ BLOCK_REGION_PAGES → to + n ≤ BLOCK_REGION_PAGES →
+    GoAlong (lock_of b) (lock_of (slid b (2 * from) (2 * to) (2 * n))) from to n
+locks_go b from to n long source target = record {
+  there = λ i less. same_word (slid b (2 * from) (2 * to) (2 * n)) b (2 * (to + i)) (2 * (from + i)) (λ k small.
+      ap (slice_index (slid b (2 * from) (2 * to) (2 * n))) (let e : 2 * (to + i) + k ≡ 2 * to + (2 * i + k) = omega arith in e)
+      ∙ slid_there b (2 * from) (2 * to) (2 * n) (2 * i + k) inside (omega arith)
+      ∙ ap (slice_index b) (let e : 2 * from + (2 * i + k) ≡ 2 * (from + i) + k = omega arith in e));
+  left = λ page small is off. (
+      let less = is.less in let same = is.is in
+      zero_word (slid b (2 * from) (2 * to) (2 * n)) (2 * page) (λ k few.
+      slid_left b (2 * from) (2 * to) (2 * n) (2 * page + k) inside (omega arith) (omega arith) (elim off [ inl a ↦ inl (omega arith) | inr a ↦ inr (omega arith) ])));
+  others = λ page small away off. same_word (slid b (2 * from) (2 * to) (2 * n)) b (2 * page) (2 * page) (λ k few.
+      slid_other b (2 * from) (2 * to) (2 * n) (2 * page + k) inside (elim away [ inl a ↦ inl (omega arith) | inr a ↦ inr (omega arith) ])
+      (elim off [ inl a ↦ inl (omega arith) | inr a ↦ inr (omega arith) ]));
+}
+  where
+    inside : Inside b (2 * from) (2 * to) (2 * n)
+    inside = record { source = omega arith; target = omega arith }

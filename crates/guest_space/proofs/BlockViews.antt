@@ -1,0 +1,69 @@
+-- The blocks that a machine's memory holds are those of its world; and the machine once they are replaced.
+use Rattle.std.proofs.Common.{◌≡◌, ◌≢◌, ℕ, List, ap, sym, subst, Option, None}
+use Rattle.client_world.specs.declared.place.Place.{Place}
+use Rattle.client_world.specs.Access.{IsHeld}
+use Rattle.client_world.specs.Soundness.{IsSound, SoundBlocks, HoldBytes}
+use Rattle.client_world.specs.World.{World, MemoryBlock}
+use Rattle.host_memory.specs.Holds.{Holds}
+use Rattle.host_memory.specs.Layout.{address_of, handles_part}
+use Rattle.host_memory.specs.View.{MachineView}
+use Rattle.host_memory.proofs.BlockRows.{HasRanges}
+use Rattle.host_memory.proofs.ClientPlaces.{ranges_of}
+use Rattle.host_memory.proofs.WorldParts.{blocks_is, budget_is}
+use Rattle.block_memory.specs.BlockChanges.{blocks_held, HoldsBlocks, ReplacesBlocks}
+use Rattle.block_memory.proofs.PageChanges.{held_in}
+use Rattle.block_memory.proofs.SizedSound.{sound_blocks}
+use Rattle.guest_space.specs.Machines.{Processor, held_world}
+
+-- the view of a machine
+abbrev pub IsView : Processor → List ℕ → MachineView → Type 0
+IsView k b v = record { world = held_world k b; bytes = b } ≡ v
+
+-- its blocks and its budget
+pub held_blocks : (k : Processor) (b : List ℕ) → (held_world k b).blocks ≡ blocks_held b k.budget
+held_blocks k b = blocks_is b k.budget k.mode k.regs k.vif k.width
+
+pub held_budget : (k : Processor) (b : List ℕ) → (held_world k b).budget ≡ k.budget
+held_budget k b = budget_is b k.budget k.mode k.regs k.vif k.width
+
+pub memory_blocks : (k : Processor) (b : List ℕ) → IsSound (held_world k b) → SoundBlocks (blocks_held b k.budget) k.budget
+memory_blocks k b sound =
+    subst (λ (n : ℕ). SoundBlocks (blocks_held b k.budget) n) (held_budget k b)
+    (subst (λ (bs : List (Option MemoryBlock)). SoundBlocks bs (held_world k b).budget) (held_blocks k b) sound.blocks)
+
+pub memory_bytes : (k : Processor) (b : List ℕ) → IsSound (held_world k b) → HoldBytes (blocks_held b k.budget)
+memory_bytes k b sound = subst HoldBytes (held_blocks k b) sound.block_bytes
+
+pub memory_ranges : (k : Processor) (b : List ℕ) → IsSound (held_world k b) → HasRanges (handles_part b)
+memory_ranges k b sound = ranges_of b k.budget (held_world k b).budget k.mode k.regs k.vif k.width sound.blocks
+
+-- what is true of the blocks and the budget of the world is true of those of the memory
+pub in_memory : (k : Processor) (b : List ℕ) (v : MachineView) → IsView k b v → (P : List (Option MemoryBlock) → ℕ → Type 0) →
+    P v.world.blocks v.world.budget → P (blocks_held b k.budget) k.budget
+in_memory k b v is P own =
+    subst (P (blocks_held b k.budget)) (held_budget k b)
+    (subst (λ (bs : List (Option MemoryBlock)). P bs (held_world k b).budget) (held_blocks k b) (subst (λ (x : MachineView). P x.world.blocks x.world.budget) (sym is) own))
+
+pub holds_blocks : (k : Processor) (b : List ℕ) → Holds b k.budget → IsSound (held_world k b) → HoldsBlocks b k.budget
+holds_blocks k b holds sound = record { holds = holds; sound = memory_blocks k b sound; fits = memory_bytes k b sound }
+
+-- the machine whose memory holds other blocks
+pub record ReplacedMachine (k : Processor) (b c : List ℕ) (blocks : List (Option MemoryBlock)) : Type 0 where
+  pub holds : Holds c k.budget
+  pub sound : IsSound (held_world k c)
+  pub world : held_world k c ≡ record (held_world k b) { blocks = blocks }
+  pub addresses : (p : Place) → IsHeld (held_world k b) p → IsHeld (held_world k c) p → address_of c p ≡ address_of b p
+
+pub replaced_machine : (k : Processor) (b c : List ℕ) (blocks : List (Option MemoryBlock)) → IsSound (held_world k b) → (held_world k b).width ≢ None →
+    ReplacesBlocks b c k.budget blocks → ReplacedMachine k b c blocks
+replaced_machine k b c blocks sound some replaces =
+    let world : held_world k c ≡ record (held_world k b) { blocks = blocks } = replaces.world k.mode k.regs k.vif k.width in
+    let after : SoundBlocks blocks k.budget = subst (λ (bs : List (Option MemoryBlock)). SoundBlocks bs k.budget) replaces.are replaces.after.sound in
+    record {
+      holds = replaces.after.holds;
+      sound = subst IsSound (sym world) (sound_blocks (held_world k b) blocks sound some (subst (SoundBlocks blocks) (sym (held_budget k b)) after)
+          (subst HoldBytes replaces.are replaces.after.fits));
+      world = world;
+      addresses = λ p one two. replaces.addresses p (held_in (held_world k b) (blocks_held b k.budget) p (held_blocks k b) one)
+          (held_in (held_world k c) blocks p (ap (λ (w : World). w.blocks) world) two);
+    }

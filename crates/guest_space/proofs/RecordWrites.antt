@@ -1,0 +1,295 @@
+-- The memory with one record more or one less: the world that it holds, which is sound.
+use Rattle.std.proofs.Common.{◌≡◌, ◌≢◌, ℕ, ◌+◌, ◌-◌, ◌*◌, ◌<◌, ◌≤◌, ◌⊎◌, inl, inr, Bool, List, [], ◌∷◌, ◌++◌, length, get_or, take, refl, ap, ◌∙◌, sym, subst, arith, add-zero, zero-add, add_assoc, Option, Some, None}
+use Rattle.std.specs.List.{slice_get}
+use Rattle.std.proofs.lemmas.Bool.{cases_lt}
+use Rattle.std.proofs.lemmas.Option.{slice_get-get_or}
+use Rattle.client_world.specs.declared.calls.Record.{Record}
+use Rattle.client_world.specs.declared.host_frames.TheConstants.{PAGE_SIZE, RECORDS, VECTORS}
+use Rattle.client_world.specs.declared.limits.TheConstants.{GREATEST_DEPTH, EXCEPTION_VECTORS}
+use Rattle.client_world.specs.declared.segments.FarPtr.{FarPtr}
+use Rattle.client_world.specs.declared.place.Place.{Place}
+use Rattle.client_world.specs.declared.registers.Mode.{Mode}
+use Rattle.client_world.specs.declared.registers.Regs.{Regs}
+use Rattle.client_world.specs.declared.registers.Width.{Width}
+use Rattle.client_world.specs.Soundness.{IsSound, SoundWidth}
+use Rattle.client_world.specs.World.{World}
+use Rattle.guest_ram.specs.Bytes.{put, region, word_of, dword}
+use Rattle.guest_ram.specs.Listed.{zeros, copies}
+use Rattle.guest_ram.proofs.ListedLaws.{length-zeros, at_listed}
+use Rattle.guest_ram.proofs.PutLaws.{length-put, length-region, at_region, region-put, put_away}
+use Rattle.host_memory.specs.Holds.{Holds}
+use Rattle.host_memory.specs.Layout.{address_of, records_part, vectors_part, world_of}
+use Rattle.host_memory.specs.Records.{record_at, record_bytes, record_count, record_size, calls_in, KeepsRecords}
+use Rattle.host_memory.specs.Vectors.{pointer_at, exceptions_start}
+use Rattle.host_memory.specs.View.{MachineView, OnlyAt}
+use Rattle.host_memory.proofs.Parts.{MemoryParts, HoldsParts, parts_of, HasSize, addresses_by, world_by, holds_by, holds_parts}
+use Rattle.host_memory.proofs.PutParts.{put_beside, size_put}
+use Rattle.host_memory.proofs.PartBytes.{part_word, part_dword}
+use Rattle.host_memory.proofs.WorldParts.{calls_is, exception_vectors_is}
+use Rattle.guest_space.specs.Machines.{Processor, held_world}
+use Rattle.guest_space.specs.Records.{record_place, with_record, without_record, IsInRow, OnlyAtAndRow}
+use Rattle.guest_space.proofs.RecordLists.{IsRecordPart, kind_some, count_of_part, part_of_keeps, calls_of_part, keeps_of_part, one_more, one_less, counted}
+use Rattle.guest_space.proofs.RecordRuns.{same_record}
+
+-- a run of bytes into the frame of the records leaves all other parts
+pub put_records : (b : List ℕ) (budget address at : ℕ) (xs : List ℕ) → HasSize b budget → address ≡ PAGE_SIZE * RECORDS + at → at + length xs ≤ PAGE_SIZE * 1 →
+    parts_of (put b address xs) budget ≡ record (parts_of b budget) { records = put (records_part b) at xs }
+put_records b budget address at xs size e room =
+    let beside = put_beside b budget address xs size in
+    rw (
+      beside.dos (inr (omega (arith, e))),
+      beside.fixed (inr (omega (arith, e))),
+      beside.tables (inr (omega (arith, e))),
+      beside.rows (inr (omega (arith, e))),
+      beside.vectors (inr (omega (arith, e))),
+      region-put b address xs (PAGE_SIZE * RECORDS) (PAGE_SIZE * 1) at (omega (arith, e)) room,
+      beside.handles (inl (omega (arith, e))),
+      beside.locks (inl (omega (arith, e))),
+      beside.arena (inl (omega (arith, e))),
+      beside.taken (inl (omega (arith, e))),
+      beside.frames (inl (omega (arith, e))),
+    ) refl
+
+holds_with_records : (parts : MemoryParts) (budget : ℕ) (records : List ℕ) → KeepsRecords records → HoldsParts parts budget →
+    HoldsParts (record parts { records = records }) budget
+holds_with_records parts budget records keeps h = record {
+  fixed = h.fixed;
+  rows = h.rows;
+  vectors = h.vectors;
+  records = keeps;
+  handles = h.handles;
+  blocks = h.blocks;
+  count = h.count;
+  locks = h.locks;
+  arena = h.arena;
+}
+
+length-records_part : (b : List ℕ) (budget : ℕ) → HasSize b budget → length (records_part b) ≡ PAGE_SIZE
+length-records_part b budget size = length-region b (PAGE_SIZE * RECORDS) (PAGE_SIZE * 1) (omega (arith, size))
+
+-- the row of a record written, where the frame then holds these records
+pub row_holds : (b : List ℕ) (budget : ℕ) → Holds b budget → (place : ℕ) (xs : List ℕ) (rs : List Record) → place < GREATEST_DEPTH → length xs ≡ record_size →
+    IsRecordPart (put (records_part b) (record_size * place) xs) rs → Holds (put b (record_place place) xs) budget
+row_holds b budget holds place xs rs small long part =
+    holds_by (put b (record_place place) xs) budget (record (parts_of b budget) { records = put (records_part b) (record_size * place) xs })
+    (put_records b budget (record_place place) (record_size * place) xs holds.size refl (omega arith))
+    (size_put b budget (record_place place) xs holds.size) holds.most
+    (holds_with_records (parts_of b budget) budget (put (records_part b) (record_size * place) xs)
+    (keeps_of_part (put (records_part b) (record_size * place) xs) rs part) (holds_parts b budget holds))
+
+pub row_world : (b : List ℕ) (budget : ℕ) → Holds b budget → (place : ℕ) (xs : List ℕ) (rs : List Record) → place < GREATEST_DEPTH → length xs ≡ record_size →
+    IsRecordPart (put (records_part b) (record_size * place) xs) rs → (mode : Mode) (regs : Regs) (vif : Bool) (width : Option Width) →
+    world_of (put b (record_place place) xs) budget mode regs vif width ≡ record (world_of b budget mode regs vif width) { calls = rs }
+unfolding world_of
+row_world b budget holds place xs rs small long part mode regs vif width =
+    world_by (put b (record_place place) xs) budget (record (parts_of b budget) { records = put (records_part b) (record_size * place) xs })
+    (put_records b budget (record_place place) (record_size * place) xs holds.size refl (omega arith)) mode regs vif width
+    ∙ ap (λ (calls : List Record). record (world_of b budget mode regs vif width) { calls = calls })
+    (calls_of_part (put (records_part b) (record_size * place) xs) rs part)
+
+-- a sound world with other records, which are few, is sound once there is a width
+keeps_width : (width : Option Width) (w : World) (calls : List Record) → width ≢ None → SoundWidth width w → SoundWidth width (record w { calls = calls })
+keeps_width None w calls some s = absurd (some refl)
+keeps_width (Some width) w calls some s = s
+
+pub IsSound-calls : (w : World) (calls : List Record) → IsSound w → w.width ≢ None → length calls ≤ GREATEST_DEPTH → IsSound (record w { calls = calls })
+IsSound-calls w calls s some few = record {
+  segments = s.segments;
+  megabyte = s.megabyte;
+  arena = s.arena;
+  blocks = s.blocks;
+  block_bytes = s.block_bytes;
+  pageable = s.pageable;
+  descriptors = s.descriptors;
+  runs = s.runs;
+  interrupt_vectors = s.interrupt_vectors;
+  exception_vectors = s.exception_vectors;
+  callbacks = s.callbacks;
+  depth = few;
+  width = keeps_width w.width w calls some s.width;
+}
+
+-- where there is a record there is a width
+none_before : (width : Option Width) (w : World) → 0 < length w.calls → SoundWidth width w → width ≢ None
+none_before None w some s = λ e. (let none = s.calls in omega arith)
+none_before (Some width) w some s = λ e. cc
+
+pub has_width : (w : World) → IsSound w → 0 < length w.calls → w.width ≢ None
+has_width w s some = none_before w.width w some s.width
+
+-- what a machine's view shows of the records
+pub calls_of : (k : Processor) (b : List ℕ) (v : MachineView) → record { world = held_world k b; bytes = b } ≡ v → v.world.calls ≡ calls_in (records_part b)
+calls_of k b v is = ap (λ (x : MachineView). x.world.calls) (sym is) ∙ calls_is b k.budget k.mode k.regs k.vif k.width
+
+pub part_of : (k : Processor) (b : List ℕ) (v : MachineView) → record { world = held_world k b; bytes = b } ≡ v → Holds b k.budget →
+    IsRecordPart (records_part b) v.world.calls
+part_of k b v is holds = subst (IsRecordPart (records_part b)) (sym (calls_of k b v is)) (part_of_keeps (records_part b) holds.records)
+
+-- the memory after a row was written holds the world with these records, which is sound
+pub record After (k : Processor) (c : List ℕ) (v : MachineView) (calls : List Record) : Type 0 where
+  pub holds : Holds c k.budget
+  pub world : held_world k c ≡ record v.world { calls = calls }
+  pub sound : IsSound (held_world k c)
+
+after : (k : Processor) (b : List ℕ) (v : MachineView) → record { world = held_world k b; bytes = b } ≡ v → Holds b k.budget → IsSound (held_world k b) →
+    v.world.width ≢ None → (place : ℕ) (xs : List ℕ) (rs : List Record) → place < GREATEST_DEPTH → length xs ≡ record_size →
+    IsRecordPart (put (records_part b) (record_size * place) xs) rs → After k (put b (record_place place) xs) v rs
+after k b v is holds sound some place xs rs small long part =
+    let world = row_world b k.budget holds place xs rs small long part k.mode k.regs k.vif k.width
+    ∙ ap (λ (x : MachineView). record x.world { calls = rs }) is in
+    record {
+      holds = row_holds b k.budget holds place xs rs small long part;
+      world = world;
+      sound = subst IsSound (sym world) (IsSound-calls v.world rs (subst (λ (x : MachineView). IsSound x.world) is sound) some part.few);
+    }
+
+pub after_put : (k : Processor) (b : List ℕ) (v : MachineView) → record { world = held_world k b; bytes = b } ≡ v → Holds b k.budget → IsSound (held_world k b) →
+    v.world.width ≢ None → (xs : List ℕ) → length v.world.calls < GREATEST_DEPTH → length xs ≡ record_size → record_bytes (record_at xs 0) ≡ xs →
+    After k (put b (record_place (length v.world.calls)) xs) v (v.world.calls ++ record_at xs 0 ∷ [])
+after_put k b v is holds sound some xs room long exact =
+    after k b v is holds sound some (length v.world.calls) xs (v.world.calls ++ record_at xs 0 ∷ []) room long
+    (one_more (records_part b) v.world.calls xs (length-records_part b k.budget holds.size) (part_of k b v is holds) room long exact)
+
+pub after_drop : (k : Processor) (b : List ℕ) (v : MachineView) → record { world = held_world k b; bytes = b } ≡ v → Holds b k.budget → IsSound (held_world k b) →
+    0 < length v.world.calls →
+    After k (put b (record_place (length v.world.calls - 1)) (zeros record_size)) v (take (length v.world.calls - 1) v.world.calls)
+after_drop k b v is holds sound some =
+    let part = part_of k b v is holds in
+    let few = part.few in
+    after k b v is holds sound (has_width v.world (subst (λ (x : MachineView). IsSound x.world) is sound) some) (length v.world.calls - 1) (zeros record_size)
+    (take (length v.world.calls - 1) v.world.calls) (omega arith) (length-zeros record_size)
+    (one_less (records_part b) v.world.calls (length-records_part b k.budget holds.size) part some)
+
+-- a byte of a row in the memory is one of the frame
+pub row_byte : (b : List ℕ) (place i : ℕ) → place < GREATEST_DEPTH → i < record_size →
+    get_or b (record_place place + i) 0 ≡ get_or (records_part b) (record_size * place + i) 0
+row_byte b place i small within =
+    ap (λ (j : ℕ). get_or b j 0) (add_assoc (PAGE_SIZE * RECORDS) (record_size * place) i)
+    ∙ sym (at_region b (PAGE_SIZE * RECORDS) (PAGE_SIZE * 1) (record_size * place + i) (omega arith))
+
+pub row_kind : (b : List ℕ) (place : ℕ) → place < GREATEST_DEPTH →
+    get_or b (record_place place) 0 ≡ get_or (records_part b) (record_size * place) 0
+row_kind b place small =
+    ap (λ (j : ℕ). get_or b j 0) (sym (add-zero (record_place place))) ∙ row_byte b place 0 small (omega arith)
+    ∙ ap (λ (j : ℕ). get_or (records_part b) j 0) (add-zero (record_size * place))
+
+pub counted_rows : (b : List ℕ) (n : ℕ) → n ≤ GREATEST_DEPTH → ((k : ℕ) → k < n → get_or b (record_place k) 0 ≢ 0) →
+    (GREATEST_DEPTH ≡ n) ⊎ (get_or b (record_place n) 0 ≡ 0) → record_count (records_part b) ≡ n
+counted_rows b n few some ends = counted (records_part b) n few
+    (λ k small none. some k small (row_kind b k (omega arith) ∙ none))
+    (elim (cases_lt n 16) [
+      | inl room ↦ elim ends [
+        | inl full ↦ inl full
+        | inr none ↦ inr (sym (row_kind b n room) ∙ none)
+      ]
+      | inr full ↦ inl (omega arith)
+    ])
+
+pub count_of : (k : Processor) (b : List ℕ) (v : MachineView) → record { world = held_world k b; bytes = b } ≡ v → Holds b k.budget →
+    length v.world.calls ≡ record_count (records_part b)
+count_of k b v is holds = sym (count_of_part (records_part b) v.world.calls (part_of k b v is holds))
+
+-- what the bytes of a row say
+pub row_held : (k : Processor) (b : List ℕ) (v : MachineView) → record { world = held_world k b; bytes = b } ≡ v → Holds b k.budget → (place : ℕ) →
+    place < GREATEST_DEPTH → place < length v.world.calls →
+    slice_get v.world.calls place ≡ Some (record_at (region b (record_place place) record_size) 0)
+row_held k b v is holds place small held =
+    let part = part_of k b v is holds in
+    let d = record_at b 0 in
+    slice_get-get_or v.world.calls place d held
+    ∙ ap (λ (r : Record). Some r) (sym (part.read place d held)
+    ∙ same_record (records_part b) (region b (record_place place) record_size) (record_size * place) 0
+    (λ i within. sym (row_byte b place i small within) ∙ sym (at_region b (record_place place) record_size i within)
+    ∙ ap (λ (j : ℕ). get_or (region b (record_place place) record_size) j 0) (sym (zero-add i))))
+
+row_first : (b : List ℕ) (place : ℕ) → place < GREATEST_DEPTH →
+    get_or (region b (record_place place) record_size) 0 0 ≡ get_or (records_part b) (record_size * place) 0
+row_first b place small =
+    at_region b (record_place place) record_size 0 (omega arith) ∙ ap (λ (j : ℕ). get_or b j 0) (add-zero (record_place place)) ∙ row_kind b place small
+
+pub row_some : (k : Processor) (b : List ℕ) (v : MachineView) → record { world = held_world k b; bytes = b } ≡ v → Holds b k.budget → (place : ℕ) →
+    place < GREATEST_DEPTH → place < length v.world.calls → get_or (region b (record_place place) record_size) 0 0 ≢ 0
+row_some k b v is holds place small held e =
+    let part = part_of k b v is holds in
+    let d = record_at b 0 in
+    kind_some (get_or v.world.calls place d) (sym (part.bytes place 0 d held (omega arith))
+    ∙ ap (λ (j : ℕ). get_or (records_part b) j 0) (add-zero (record_size * place)) ∙ sym (row_first b place small) ∙ e)
+
+pub row_none : (k : Processor) (b : List ℕ) (v : MachineView) → record { world = held_world k b; bytes = b } ≡ v → Holds b k.budget → (place : ℕ) →
+    place < GREATEST_DEPTH → length v.world.calls ≤ place → get_or (region b (record_place place) record_size) 0 0 ≡ 0
+row_none k b v is holds place small free =
+    row_first b place small ∙ (part_of k b v is holds).rest (record_size * place) (omega arith) (omega arith)
+
+pub zeros_are : (n : ℕ) → copies n 0 ≡ zeros n
+unfolding zeros copies
+zeros_are n = refl
+
+-- an exception vector is read from the frame of the vectors
+pub vector_read : (k : Processor) (b : List ℕ) (v : MachineView) → record { world = held_world k b; bytes = b } ≡ v → (n : ℕ) (d : FarPtr) → n < EXCEPTION_VECTORS →
+    record { sel = word_of b (PAGE_SIZE * VECTORS + 0x800 + 8 * n + 4); off = dword b (PAGE_SIZE * VECTORS + 0x800 + 8 * n) } ≡ get_or v.world.exception_vectors n d
+vector_read k b v is n d small =
+    let place : PAGE_SIZE * VECTORS + (0x800 + 8 * n + 4) ≡ PAGE_SIZE * VECTORS + 0x800 + 8 * n + 4 = omega arith in
+    let start : PAGE_SIZE * VECTORS + (0x800 + 8 * n) ≡ PAGE_SIZE * VECTORS + 0x800 + 8 * n = omega arith in
+    let pointer : ℕ → ℕ → FarPtr = λ s o. record { sel = s; off = o } in
+    ap (λ (s : ℕ). pointer s (dword b (PAGE_SIZE * VECTORS + 0x800 + 8 * n))) (ap (word_of b) (sym place) ∙ part_word b VECTORS 1 (0x800 + 8 * n + 4) (omega arith))
+    ∙ ap (pointer (word_of (vectors_part b) (0x800 + 8 * n + 4))) (ap (dword b) (sym start) ∙ part_dword b VECTORS 1 (0x800 + 8 * n) (omega arith))
+    ∙ sym (at_listed EXCEPTION_VECTORS (λ m. pointer_at (vectors_part b) (exceptions_start + 8 * m)) n d small)
+    ∙ ap (λ (vs : List FarPtr). get_or vs n d) (sym (exception_vectors_is b k.budget k.mode k.regs k.vif k.width))
+    ∙ ap (λ (x : MachineView). get_or x.world.exception_vectors n d) is
+
+-- the view of a machine after a row was written
+abbrev view_of : World → List ℕ → MachineView
+view_of w b = record { world = w; bytes = b }
+
+view_after : (k : Processor) (b c : List ℕ) (v : MachineView) → record { world = held_world k b; bytes = b } ≡ v → (place : ℕ) (xs : List ℕ) (calls : List Record) →
+    c ≡ put b (record_place place) xs → After k (put b (record_place place) xs) v calls →
+    view_of (held_world k c) c ≡ view_of (record v.world { calls = calls }) (put v.bytes (record_place place) xs)
+view_after k b c v is place xs calls e done =
+    ap (λ (d : List ℕ). view_of (held_world k d) d) e
+    ∙ ap (λ (w : World). view_of w (put b (record_place place) xs)) done.world
+    ∙ ap (λ (x : MachineView). view_of (record v.world { calls = calls }) (put x.bytes (record_place place) xs)) is
+
+pub view_put : (k : Processor) (b c : List ℕ) (v : MachineView) → record { world = held_world k b; bytes = b } ≡ v → (xs : List ℕ) →
+    c ≡ put b (record_place (length v.world.calls)) xs →
+    After k (put b (record_place (length v.world.calls)) xs) v (v.world.calls ++ record_at xs 0 ∷ []) →
+    record { world = held_world k c; bytes = c } ≡ with_record v (record_at xs 0) xs
+view_put k b c v is xs e done = view_after k b c v is (length v.world.calls) xs (v.world.calls ++ record_at xs 0 ∷ []) e done
+
+pub view_drop : (k : Processor) (b c : List ℕ) (v : MachineView) → record { world = held_world k b; bytes = b } ≡ v →
+    c ≡ put b (record_place (length v.world.calls - 1)) (zeros record_size) →
+    After k (put b (record_place (length v.world.calls - 1)) (zeros record_size)) v (take (length v.world.calls - 1) v.world.calls) →
+    record { world = held_world k c; bytes = c } ≡ without_record v
+view_drop k b c v is e done = view_after k b c v is (length v.world.calls - 1) (zeros record_size) (take (length v.world.calls - 1) v.world.calls) e done
+
+-- a row that is written after other writes
+beside_row : (row at : ℕ) → ¬ IsInRow row at → (record_place row + record_size ≤ at) ⊎ (at < record_place row)
+beside_row row at out = elim (cases_lt at (record_place row)) [
+  | inl below ↦ inr below
+  | inr from ↦ elim (cases_lt at (record_place row + record_size)) [
+    | inl inside ↦ absurd (out (from, inside))
+    | inr past ↦ inl past
+  ]
+]
+
+row_addresses : (b : List ℕ) (budget row : ℕ) (xs : List ℕ) → HasSize b budget → row < GREATEST_DEPTH → length xs ≡ record_size → (place : Place) →
+    address_of (put b (record_place row) xs) place ≡ address_of b place
+row_addresses b budget row xs size small long =
+    let beside = put_beside b budget (record_place row) xs size in
+    addresses_by b (put b (record_place row) xs) (beside.handles (inl (omega arith))) (beside.tables (inr (omega arith)))
+
+pub only_row : (places : List Place) (b c : List ℕ) (budget row : ℕ) (xs : List ℕ) → OnlyAt places b c → HasSize b budget → row < GREATEST_DEPTH →
+    length xs ≡ record_size → OnlyAtAndRow places row b (put c (record_place row) xs)
+only_row places b c budget row xs only size small long =
+    let same : HasSize c budget = only.size ∙ size in
+    record {
+      size = length-put c (record_place row) xs ∙ only.size;
+      addresses = λ place. row_addresses c budget row xs same small long place ∙ only.addresses place;
+      others = λ at away out. put_away c (record_place row) xs at (next at (beside_row row at out)) ∙ only.others at away;
+      host = λ at from to out. put_away c (record_place row) xs at (next at (beside_row row at out)) ∙ only.host at from to;
+    }
+  where
+    next : (at : ℕ) → (record_place row + record_size ≤ at) ⊎ (at < record_place row) → (record_place row + length xs ≤ at) ⊎ (at < record_place row)
+    next at o = elim o [
+      | inl past ↦ inl (omega arith)
+      | inr below ↦ inr below
+    ]

@@ -1,0 +1,186 @@
+-- Runs of bytes in one page: their parts are runs, a write leaves them runs, and writes to them have no fault.
+use Rattle.std.proofs.Common.{◌≡◌, ℕ, suc, ◌+◌, ◌-◌, ◌%◌, ◌<◌, ◌≤◌, ◌^◌, Bool, true, List, [], ◌∷◌, length, slice_index_or, ap, ◌∙◌, sym, subst, arith, None, Ok, Err}
+use Rattle.std.specs.List.{AllWithin}
+use Rattle.std.specs.Prelude.{if◌then◌else◌}
+use Rattle.std.proofs.lemmas.Bool.Decides.{nat_tests}
+use Rattle.std.proofs.lemmas.List.{get_or_default}
+use Rattle.std.proofs.lemmas.List.Elements.{AllWithin-more}
+use Rattle.client_world.specs.declared.place.Place.{Place}
+use Rattle.client_world.specs.declared.place.Place.TheVariants.{Nothing}
+use Rattle.client_world.specs.declared.registers.Mode.{Mode}
+use Rattle.client_world.specs.declared.registers.Regs.{Regs}
+use Rattle.client_world.specs.declared.segments.SegReg.{SegReg}
+use Rattle.client_world.specs.Access.{place_in, may_touch, is_present, page_fault, linear, segment_base, places_from}
+use Rattle.client_world.specs.Selector.{Row}
+use Rattle.client_world.specs.World.{World}
+use Rattle.guest_ram.specs.Bytes.{put}
+use Rattle.host_memory.specs.Layout.{address_of}
+use Rattle.host_memory.specs.View.{MachineView}
+use Rattle.host_memory.proofs.WalkAnswers.{TouchesAt}
+use Rattle.guest_space.specs.declared.pending.Write.{Write}
+use Rattle.guest_space.specs.Machines.{Processor, held_world, IsMachine}
+use Rattle.guest_space.specs.Pending.{byte_count, number_bytes, write_refusal, written, first_refusal}
+use Rattle.guest_space.specs.Transfer.{translated, refusal, stored, with_places}
+use Rattle.guest_space.specs.WriteRuns.{LiesIn, IsRun, AreRuns}
+use Rattle.guest_space.proofs.Accesses.{refusal_linear, stored_linear}
+use Rattle.guest_space.proofs.KeptAccess.{SameAccess, same_places}
+use Rattle.guest_space.proofs.Machines.{AllBytes, CanWrite, CanWriteAll, with_place, can_write_after, with_places_none, with_places_short, with_places_first, written_machine, written_addresses}
+use Rattle.guest_space.proofs.Parts.{segment_part}
+use Rattle.guest_space.proofs.Puts.{store_opened, store_is}
+use Rattle.guest_space.proofs.Runs.{run_all, run_inside, run_touches, no_fault, can_write_run}
+use Rattle.guest_space.proofs.Writes.{first_none, first_later}
+
+-- one more write in a span that may have grown
+pub span_grows : (seg : SegReg) (low high least most : ℕ) (xs : List Write) (i : ℕ) (e : Write) → i < length xs →
+    AllWithin (λ (x : Write). LiesIn seg low high x) xs 0 i → LiesIn seg least most (slice_index_or xs i e) → least ≤ low → high ≤ most →
+    AllWithin (λ (x : Write). LiesIn seg least most x) xs 0 (i + 1)
+span_grows seg low high least most xs i e within before here lower higher =
+    AllWithin-more (λ (x : Write). LiesIn seg least most x) xs 0 i
+    (λ k d from below. (let lies = before k d from below in
+    let above : low ≤ (slice_index_or xs k d).off = lies.1 in
+    let inside : (slice_index_or xs k d).off + byte_count (slice_index_or xs k d).width ≤ high = lies.2 in
+    (lies.0, omega arith, omega arith)))
+    (λ d. subst (λ (x : Write). LiesIn seg least most x) (get_or_default xs i e d within) here)
+
+-- where a place may be touched, its translation is its address
+translated_where : (v : MachineView) (lin : ℕ) (write : Bool) (p : ℕ) → TouchesAt v.bytes (place_in v.world.blocks lin) write p → translated v lin write ≡ Ok p
+unfolding translated
+translated_where v lin write p touches = rw touches.may (ap (λ (a : ℕ). Ok a) (sym touches.address))
+
+-- a part of a run is a run
+pub part_of_run : (k : Processor) (v : MachineView) (seg : SegReg) (low n at i m : ℕ) → IsMachine k v → IsRun v seg low n at → i + m ≤ n → 0 < m →
+    IsRun v seg (low + i) m (at + i)
+part_of_run k v seg low n at i m machine run within some =
+    let lin = linear (run.base + low) in
+    let room = run.room in
+    let same : linear (lin + i) ≡ linear (run.base + (low + i)) = omega arith in
+    record {
+      base = run.base;
+      allowed = segment_part v.world.mode v.world.regs v.world.descriptors seg low n i m true run.base within run.allowed;
+      room = omega arith;
+      ends = ap (λ (a : ℕ). translated v a true) (sym same)
+          ∙ translated_where v (linear (lin + i)) true (at + i)
+          (run_touches k v lin i n at true machine (omega arith) room (omega arith) run.ends);
+    }
+
+-- it lies inside the memory, whose addresses are numbers of 32 bits
+pub run_in_memory : (k : Processor) (v : MachineView) (seg : SegReg) (low n at : ℕ) → IsMachine k v → IsRun v seg low n at → 0 < n → at + n ≤ length v.bytes
+run_in_memory k v seg low n at machine run some =
+    run_inside k v (linear (run.base + low)) n at true machine (omega arith) run.room some run.ends
+
+run_is_small : (k : Processor) (v : MachineView) (seg : SegReg) (low n at : ℕ) → IsMachine k v → IsRun v seg low n at → 0 < n → at + n ≤ 2 ^ 32
+run_is_small k v seg low n at machine run some =
+    let inside = run_in_memory k v seg low n at machine run some in
+    let size = machine.holds.size in
+    let most = machine.holds.most in
+    omega arith
+
+-- a write with its bytes in the run, at its offset and the shift of the run
+count_some : (width : ℕ) → 0 < byte_count width
+count_some width = grind (arith, nat_tests)
+
+pub write_in_run : (k : Processor) (v : MachineView) (seg : SegReg) (low high n at : ℕ) (x : Write) → IsMachine k v → IsRun v seg low n at → low + n ≡ high →
+    low < 2 ^ 32 → LiesIn seg low high x → IsRun v x.seg x.off (byte_count x.width) (linear (x.off + (at + (2 ^ 32 - low)) % 2 ^ 32))
+write_in_run k v seg low high n at x machine run end small lies =
+    let above : low ≤ x.off = lies.1 in
+    let below : x.off + byte_count x.width ≤ high = lies.2 in
+    let some = count_some x.width in
+    let part = part_of_run k v seg low n at (x.off - low) (byte_count x.width) machine run (omega arith) some in
+    let last = run_is_small k v seg low n at machine run (omega arith) in
+    let offset : low + (x.off - low) ≡ x.off = omega arith in
+    let address : at + (x.off - low) ≡ linear (x.off + (at + (2 ^ 32 - low)) % 2 ^ 32) = omega arith in
+    subst (λ (s : SegReg). IsRun v s x.off (byte_count x.width) (linear (x.off + (at + (2 ^ 32 - low)) % 2 ^ 32))) (sym lies.0)
+    (subst (λ (a : ℕ). IsRun v seg x.off (byte_count x.width) a) address
+    (subst (λ (o : ℕ). IsRun v seg o (byte_count x.width) (at + (x.off - low))) offset part))
+
+-- none of the writes has a fault
+run_not_refused : (k : Processor) (v : MachineView) (seg : SegReg) (low n at : ℕ) → IsMachine k v → IsRun v seg low n at → refusal v.world seg low n true ≡ None
+run_not_refused k v seg low n at machine run =
+    refusal_linear v.world seg low n run.base true run.allowed
+    ∙ no_fault v.world (linear (run.base + low)) n true
+    (run_all k v (linear (run.base + low)) n at true machine (omega arith) run.room run.ends)
+
+write_not_refused : (k : Processor) (v : MachineView) (x : Write) (at : ℕ) → IsMachine k v → IsRun v x.seg x.off (byte_count x.width) at →
+    write_refusal v.world x ≡ None
+unfolding write_refusal
+write_not_refused k v x at machine run = run_not_refused k v x.seg x.off (byte_count x.width) at machine run
+
+pub runs_not_refused : (k : Processor) (v : MachineView) (shift : ℕ) (xs : List Write) → IsMachine k v → AreRuns v shift xs → first_refusal v.world xs ≡ None
+runs_not_refused k v shift [] machine runs = first_none v.world
+runs_not_refused k v shift (x ∷ xs) machine runs =
+    first_later v.world x xs (write_not_refused k v x (linear (x.off + shift)) machine (runs 0 x (omega arith)))
+    ∙ runs_not_refused k v shift xs machine (λ i d within. runs (suc i) d (omega arith))
+
+-- bytes that are put where a run stands
+pub run_stored : (k : Processor) (v : MachineView) (seg : SegReg) (low n at : ℕ) (bytes : List ℕ) → IsMachine k v → IsRun v seg low n at →
+    length bytes ≡ n → AllBytes bytes →
+    record { world = held_world k (put v.bytes at bytes); bytes = put v.bytes at bytes } ≡ stored v seg low n bytes
+run_stored k v seg low n at bytes machine run size small =
+    let lin = linear (run.base + low) in
+    store_is k v lin n at bytes machine (omega arith) run.room run.ends size small
+    ∙ stored_linear v seg low n run.base bytes run.allowed
+    (no_fault v.world lin n true (run_all k v lin n at true machine (omega arith) run.room run.ends))
+
+pub run_opened : (k : Processor) (v : MachineView) (seg : SegReg) (low n at : ℕ) (bytes : List ℕ) → IsMachine k v → IsRun v seg low n at →
+    length bytes ≡ n → AllBytes bytes →
+    IsMachine k (record { world = held_world k (put v.bytes at bytes); bytes = put v.bytes at bytes })
+run_opened k v seg low n at bytes machine run size small =
+    store_opened k v (linear (run.base + low)) n at bytes machine (omega arith) run.room run.ends size small
+
+-- they move no place, and no address of one
+places_keep_addresses : (k : Processor) (v : MachineView) (places : List Place) (bytes : List ℕ) → IsMachine k v → CanWriteAll v.world places →
+    AllBytes bytes → (q : Place) → address_of (with_places v places bytes).bytes q ≡ address_of v.bytes q
+places_keep_addresses k v [] bytes m can small q = ap (λ (u : MachineView). address_of u.bytes q) (with_places_none v bytes)
+places_keep_addresses k v (p ∷ places) [] m can small q = ap (λ (u : MachineView). address_of u.bytes q) (with_places_short v (p ∷ places))
+places_keep_addresses k v (p ∷ places) (x ∷ bytes) m can small q =
+    let first : CanWrite v.world p = can 0 (omega arith) in
+    ap (λ (u : MachineView). address_of u.bytes q) (with_places_first v p places x bytes)
+    ∙ places_keep_addresses k (with_place v p x) places bytes (written_machine k v p x m first (small 0 (omega arith)))
+    (λ i within. can_write_after v.world p (slice_index_or places i Nothing) x (can (suc i) (omega arith)))
+    (λ i within. small (suc i) (omega arith)) q
+    ∙ written_addresses k v p x m first q
+
+translated_same : (v u : MachineView) (lin : ℕ) (write : Bool) → place_in u.world.blocks lin ≡ place_in v.world.blocks lin →
+    ((q : Place) → address_of u.bytes q ≡ address_of v.bytes q) → translated u lin write ≡ translated v lin write
+unfolding translated
+translated_same v u lin write same addresses =
+    ap (λ (p : Place). if may_touch p write then Ok (address_of u.bytes p) else Err (page_fault (is_present p) write)) same
+    ∙ ap (λ (a : ℕ). if may_touch (place_in v.world.blocks lin) write then Ok a else Err (page_fault (is_present (place_in v.world.blocks lin)) write))
+    (addresses (place_in v.world.blocks lin))
+
+base_same : (w u : World) → SameAccess w u → (seg : SegReg) (offset n : ℕ) →
+    segment_base u.mode u.regs u.descriptors seg offset n true ≡ segment_base w.mode w.regs w.descriptors seg offset n true
+base_same w u same seg offset n =
+    ap (λ (m : Mode). segment_base m u.regs u.descriptors seg offset n true) same.mode
+    ∙ ap (λ (r : Regs). segment_base w.mode r u.descriptors seg offset n true) same.regs
+    ∙ ap (λ (rows : List Row). segment_base w.mode w.regs rows seg offset n true) same.descriptors
+
+run_same : (v u : MachineView) → SameAccess v.world u.world → ((q : Place) → address_of u.bytes q ≡ address_of v.bytes q) →
+    (seg : SegReg) (offset n at : ℕ) → IsRun v seg offset n at → IsRun u seg offset n at
+run_same v u same addresses seg offset n at run = record {
+  base = run.base;
+  allowed = base_same v.world u.world same seg offset n ∙ run.allowed;
+  room = run.room;
+  ends = translated_same v u (linear (run.base + offset)) true (same.places (linear (run.base + offset))) addresses ∙ run.ends;
+}
+
+-- so each run is one still
+pub run_kept : (k : Processor) (v : MachineView) (seg : SegReg) (low n at : ℕ) (bytes : List ℕ) → IsMachine k v → IsRun v seg low n at →
+    length bytes ≡ n → AllBytes bytes → (s : SegReg) (offset m address : ℕ) → IsRun v s offset m address →
+    IsRun (record { world = held_world k (put v.bytes at bytes); bytes = put v.bytes at bytes }) s offset m address
+run_kept k v seg low n at bytes machine run size small s offset m address other =
+    let lin = linear (run.base + low) in
+    let places = places_from v.world.blocks lin n in
+    subst (λ (u : MachineView). IsRun u s offset m address)
+    (sym (store_is k v lin n at bytes machine (omega arith) run.room run.ends size small))
+    (run_same v (with_places v places bytes) (same_places v places bytes)
+    (places_keep_addresses k v places bytes machine
+    (can_write_run v.world lin n (run_all k v lin n at true machine (omega arith) run.room run.ends)) small)
+    s offset m address other)
+
+-- a write is its bytes stored
+pub written_by_bytes : (v new : MachineView) (x : Write) (n : ℕ) (bytes : List ℕ) → byte_count x.width ≡ n → number_bytes x.width x.value ≡ bytes →
+    new ≡ stored v x.seg x.off n bytes → new ≡ written v x
+unfolding written
+written_by_bytes v new x n bytes count is e =
+    e ∙ sym (ap (λ (k : ℕ). stored v x.seg x.off k (number_bytes x.width x.value)) count ∙ ap (stored v x.seg x.off n) is)

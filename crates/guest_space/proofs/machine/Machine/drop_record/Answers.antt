@@ -1,0 +1,38 @@
+use Rattle.std.proofs.Common.{◌-◌, ◌∙◌, sym, ap, subst, arith, ℕ, List}
+use Rattle.guest_ram.specs.Bytes.{put}
+use Rattle.guest_ram.specs.Listed.{zeros}
+use Rattle.client_world.specs.Soundness.{IsSound}
+use Rattle.host_memory.specs.Holds.{Holds}
+use Rattle.host_memory.specs.Records.{record_size}
+use Rattle.guest_space.specs.Machines.{Processor, held_world}
+use Rattle.guest_space.specs.Records.{record_place}
+use Rattle.guest_space.proofs.RecordWrites.{count_of, after_drop, view_drop, zeros_are}
+use Rattle.guest_space.proofs.machine.Machine.drop_record.Goals as goal
+
+pub overflow_sub-place : goal.overflow_sub-place
+overflow_sub-place c =
+    let m = c.self.inside in
+    let k : Processor = record { budget = m.pages; mode = m.mode; regs = m.regs; vif = m.vif; width = m.width } in
+    omega (arith, c.requires, count_of k m.ram c.args.self.now c.self.view_is c.self.invariant.0, c.record_count-place.ensures.count)
+
+pub invariant_of-self : goal.invariant_of-self
+invariant_of-self c =
+    let m = c.self.inside in
+    let v = c.args.self.now in
+    let k : Processor = record { budget = m.pages; mode = m.mode; regs = m.regs; vif = m.vif; width = m.width } in
+    let place = c.record_count-place.ensures.count ∙ sym (count_of k m.ram v c.self.view_is c.self.invariant.0) in
+    let done = after_drop k m.ram v c.self.view_is c.self.invariant.0 c.self.invariant.1 c.requires in
+    let is = c.fill.ensures.bytes ∙ ap (λ (xs : List ℕ). put m.ram (record_place (c.record_count-place.result - 1)) xs) (zeros_are record_size)
+    ∙ ap (λ (n : ℕ). put m.ram (record_place (n - 1)) (zeros record_size)) place in
+    (subst (λ (b : List ℕ). Holds b m.pages) (sym is) done.holds, subst (λ (b : List ℕ). IsSound (held_world k b)) (sym is) done.sound)
+
+pub returns : goal.returns
+returns c =
+    let m = c.self.inside in
+    let v = c.args.self.now in
+    let k : Processor = record { budget = m.pages; mode = m.mode; regs = m.regs; vif = m.vif; width = m.width } in
+    let place = c.record_count-place.ensures.count ∙ sym (count_of k m.ram v c.self.view_is c.self.invariant.0) in
+    let done = after_drop k m.ram v c.self.view_is c.self.invariant.0 c.self.invariant.1 c.requires in
+    let is = c.fill.ensures.bytes ∙ ap (λ (xs : List ℕ). put m.ram (record_place (c.record_count-place.result - 1)) xs) (zeros_are record_size)
+    ∙ ap (λ (n : ℕ). put m.ram (record_place (n - 1)) (zeros record_size)) place in
+    view_drop k m.ram _ v c.self.view_is is done

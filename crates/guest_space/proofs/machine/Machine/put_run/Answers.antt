@@ -1,0 +1,41 @@
+use Rattle.std.proofs.Common.{arith}
+use Rattle.guest_space.specs.Machines.{Processor}
+use Rattle.guest_space.proofs.Machines.{machine_of}
+use Rattle.guest_space.proofs.WriteRuns.{run_in_memory, run_stored, run_opened, run_kept}
+use Rattle.guest_space.proofs.machine.Machine.put_run.Goals as goal
+
+pub write-requires : goal.write-requires
+write-requires g c =
+    let m = c.self.inside in
+    let k : Processor = record { budget = m.pages; mode = m.mode; regs = m.regs; vif = m.vif; width = m.width } in
+    let machine = machine_of k m.ram c.self.invariant.0 c.self.invariant.1 in
+    let size = c.told-bytes in
+    let inside = run_in_memory k _ c.args.seg c.args.off g.row.N c.args.at machine (rw (← c.self.view_is) at c.requires.run) c.requires.some in
+    omega arith
+
+pub invariant_of-self : goal.invariant_of-self
+invariant_of-self g c =
+    let m = c.self.inside in
+    let k : Processor = record { budget = m.pages; mode = m.mode; regs = m.regs; vif = m.vif; width = m.width } in
+    let machine = machine_of k m.ram c.self.invariant.0 c.self.invariant.1 in
+    let run = rw (← c.self.view_is) at c.requires.run in
+    let after = run_opened k _ c.args.seg c.args.off g.row.N c.args.at c.args.bytes.now machine run c.told-bytes (λ i within. c.are_bytes.ensures i) in
+    rw c.write.ensures.bytes (after.holds, after.sound)
+
+pub returns-clause-bytes : goal.returns-clause-bytes
+returns-clause-bytes g c =
+    let m = c.self.inside in
+    let k : Processor = record { budget = m.pages; mode = m.mode; regs = m.regs; vif = m.vif; width = m.width } in
+    let machine = machine_of k m.ram c.self.invariant.0 c.self.invariant.1 in
+    let run = rw (← c.self.view_is) at c.requires.run in
+    rw (← c.self.view_is) (rw c.write.ensures.bytes
+    (run_stored k _ c.args.seg c.args.off g.row.N c.args.at c.args.bytes.now machine run c.told-bytes (λ i within. c.are_bytes.ensures i)))
+
+pub returns-clause-kept : goal.returns-clause-kept
+returns-clause-kept g c =
+    let m = c.self.inside in
+    let k : Processor = record { budget = m.pages; mode = m.mode; regs = m.regs; vif = m.vif; width = m.width } in
+    let machine = machine_of k m.ram c.self.invariant.0 c.self.invariant.1 in
+    let run = rw (← c.self.view_is) at c.requires.run in
+    rw (← c.self.view_is) (rw c.write.ensures.bytes
+    (run_kept k _ c.args.seg c.args.off g.row.N c.args.at c.args.bytes.now machine run c.told-bytes (λ i within. c.are_bytes.ensures i)))

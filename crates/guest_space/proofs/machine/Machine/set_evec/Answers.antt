@@ -1,0 +1,28 @@
+use Rattle.std.proofs.Common.{◌≡◌, subst}
+use Rattle.client_world.specs.declared.place.Place.{Place}
+use Rattle.host_memory.specs.Layout.{address_of}
+use Rattle.host_memory.specs.View.{MachineView}
+use Rattle.guest_space.specs.Machines.{Processor}
+use Rattle.guest_space.proofs.VectorCalls.{set_exception}
+use Rattle.guest_space.proofs.machine.Machine.set_evec.Goals as goal
+
+pub invariant_of-self : goal.invariant_of-self
+invariant_of-self c =
+    let m = c.self.inside in
+    let k : Processor = record { budget = m.pages; mode = m.mode; regs = m.regs; vif = m.vif; width = m.width } in
+    let after = set_exception k m.ram c.self.invariant.0 c.self.invariant.1 c.args.n c.args.p c.requires c.set_pointer.new.ram c.set_pointer.ensures in
+    (after.holds, after.sound)
+
+pub returns-clause-world : goal.returns-clause-world
+returns-clause-world c =
+    let m = c.self.inside in
+    let k : Processor = record { budget = m.pages; mode = m.mode; regs = m.regs; vif = m.vif; width = m.width } in
+    let after = set_exception k m.ram c.self.invariant.0 c.self.invariant.1 c.args.n c.args.p c.requires c.set_pointer.new.ram c.set_pointer.ensures in
+    rw (← c.self.view_is) after.world
+
+pub returns-clause-addresses : goal.returns-clause-addresses
+returns-clause-addresses c =
+    let m = c.self.inside in
+    let k : Processor = record { budget = m.pages; mode = m.mode; regs = m.regs; vif = m.vif; width = m.width } in
+    let after = set_exception k m.ram c.self.invariant.0 c.self.invariant.1 c.args.n c.args.p c.requires c.set_pointer.new.ram c.set_pointer.ensures in
+    subst (λ (v : MachineView). (p : Place) → address_of c.set_pointer.new.ram p ≡ address_of v.bytes p) c.self.view_is after.addresses

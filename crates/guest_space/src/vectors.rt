@@ -1,0 +1,110 @@
+// The protected-mode vectors, and which pages of the DOS megabyte's view are pageable.
+ghost use Rattle.std.specs.Prelude.{◌≡◌, ◌≤◌, ◌<◌, ◌+◌, ◌*◌, ℕ, cond, length, slice_set};
+ghost use Rattle.client_world.specs.declared.host_frames.TheConstants.{PAGE_SIZE, BUDGET_FRAMES, VECTORS};
+ghost use Rattle.client_world.specs.declared.limits.TheConstants.{EXCEPTION_VECTORS};
+ghost use Rattle.client_world.specs.declared.memory_map.TheConstants.{DOS_VIEW_PAGES};
+ghost use Rattle.client_world.specs.declared.place.Place.{Place};
+ghost use Rattle.guest_ram.specs.Bytes.{dword_bytes, put};
+ghost use Rattle.guest_space.specs.VectorLists.{is_pageable, vector_at};
+ghost use Rattle.host_memory.specs.Layout.{address_of};
+ghost use Rattle.host_memory.specs.Vectors.{exceptions_start, pageable_start, pointer_at, word_bytes};
+
+use crate::machine::Machine;
+use client_world::FarPtr;
+use client_world::host_frames::{PAGE_SIZE, VECTORS};
+use guest_ram::Ram;
+
+// Where the exception vectors lie in the frame of the vectors.
+const EXCEPTIONS_START: u32 = 0x800;
+
+// Where the byte of each pageable page lies in that frame.
+const PAGEABLE_START: u32 = 0xA00;
+
+// The far pointer at a place of the frame of the vectors: an offset, and then a selector.
+fn pointer(ram: &Ram, at: u32) -> FarPtr
+    requires size { PAGE_SIZE * BUDGET_FRAMES ≤ length ram.now }
+    requires room { at + 6 ≤ PAGE_SIZE }
+    ensures { result ≡ pointer_at ram.now (PAGE_SIZE * VECTORS + at) }
+{
+    let address = PAGE_SIZE * VECTORS + at;
+    FarPtr {
+        off: ram.get32(address),
+        sel: ram.get16(address + 4),
+    }
+}
+
+// Writes a far pointer at a place of that frame.
+fn set_pointer(ram: &mut Ram, at: u32, p: FarPtr)
+    requires size { PAGE_SIZE * BUDGET_FRAMES ≤ length ram.old }
+    requires room { at + 6 ≤ PAGE_SIZE }
+    ensures { ram.new ≡ put (put ram.old (PAGE_SIZE * VECTORS + at) (dword_bytes p.off)) (PAGE_SIZE * VECTORS + at + 4) (word_bytes p.sel) }
+{
+    let address = PAGE_SIZE * VECTORS + at;
+    ram.set32(address, p.off);
+    ram.set16(address + 4, p.sel);
+}
+
+// The byte of a page: 1 where it is pageable, else 0.
+fn bit(on: bool) -> u8
+    ensures { result ≡ cond on 1 0 }
+{
+    if on { 1 } else { 0 }
+}
+
+impl Machine {
+    /// The protected-mode interrupt vector of a number.
+    pub fn pvec(&self, n: u8) -> FarPtr
+        ensures { result ≡ vector_at self.now.world.interrupt_vectors n }
+    {
+        pointer(&self.ram, 8 * n as u32)
+    }
+
+    /// Sets the protected-mode interrupt vector of a number. Source: own.
+    pub fn set_pvec(&mut self, n: u8, p: FarPtr)
+        ensures world { self.new.world ≡ record self.old.world {
+          interrupt_vectors = slice_set self.old.world.interrupt_vectors n p;
+        } }
+        ensures addresses { (place : Place) → address_of self.new.bytes place ≡ address_of self.old.bytes place }
+    {
+        set_pointer(&mut self.ram, 8 * n as u32, p);
+    }
+
+    /// The exception vector of a number below 32.
+    pub fn evec(&self, n: u8) -> FarPtr
+        requires { n < EXCEPTION_VECTORS }
+        ensures { result ≡ vector_at self.now.world.exception_vectors n }
+    {
+        pointer(&self.ram, EXCEPTIONS_START + 8 * n as u32)
+    }
+
+    /// Sets the exception vector of a number below 32. Source: own.
+    pub fn set_evec(&mut self, n: u8, p: FarPtr)
+        requires { n < EXCEPTION_VECTORS }
+        ensures world { self.new.world ≡ record self.old.world {
+          exception_vectors = slice_set self.old.world.exception_vectors n p;
+        } }
+        ensures addresses { (place : Place) → address_of self.new.bytes place ≡ address_of self.old.bytes place }
+    {
+        set_pointer(&mut self.ram, EXCEPTIONS_START + 8 * n as u32, p);
+    }
+
+    /// Whether a page of the DOS megabyte's view is pageable.
+    pub fn pageable(&self, page: u16) -> bool
+        requires { page < DOS_VIEW_PAGES }
+        ensures { result ≡ is_pageable self.now.world.pageable page }
+    {
+        self.ram
+            .get8(PAGE_SIZE * VECTORS + PAGEABLE_START + page as u32)
+            == 1
+    }
+
+    /// Makes a page of the DOS megabyte's view pageable, or no longer pageable. Source: own.
+    pub fn set_pageable(&mut self, page: u16, on: bool)
+        requires { page < DOS_VIEW_PAGES }
+        ensures world { self.new.world ≡ record self.old.world { pageable = slice_set self.old.world.pageable page on } }
+        ensures addresses { (place : Place) → address_of self.new.bytes place ≡ address_of self.old.bytes place }
+    {
+        let at = PAGE_SIZE * VECTORS + PAGEABLE_START + page as u32;
+        self.ram.set8(at, bit(on));
+    }
+}

@@ -1,0 +1,109 @@
+// Several writes whose bytes lie in one page: one look at the segment and one walk of the page tables serve all of them.
+ghost use Rattle.std.specs.Prelude.{◌≡◌, ◌<◌, ◌≤◌, ◌+◌, ◌%◌, ℕ, All, IfSome, None};
+ghost use Rattle.client_world.specs.declared.host_frames.TheConstants.{PAGE_SIZE};
+ghost use Rattle.guest_space.specs.declared.pending.Write.{Write};
+ghost use Rattle.guest_space.specs.Pending.{byte_count, first_refusal, written, all_written};
+ghost use Rattle.guest_space.specs.Transfer.{stored};
+ghost use Rattle.guest_space.specs.WriteRuns.{LiesIn, IsRun, AreRuns};
+
+use crate::machine::Machine;
+use crate::memory::{are_bytes, is_in_page};
+use crate::pending::{Write, byte_count, dword_bytes, word_bytes};
+use client_world::SegReg;
+use client_world::host_frames::PAGE_SIZE;
+
+// The lowest offset of some writes, and the one after their last byte, if all of them are made through that segment register.
+#[inline(always)]
+fn span_of(seg: SegReg, writes: &[Write]) -> Option<(u32, u64)>
+    ensures { IfSome result (λ span. All (λ x. LiesIn seg span.0 span.1 x) writes.now) }
+{
+    let mut low = u32::MAX;
+    let mut high = 0_u64;
+    for x in writes {
+        if x.seg != seg {
+            return None;
+        }
+        let end = u64::from(x.off) + u64::from(byte_count(x.width));
+        low = low.min(x.off);
+        high = high.max(end);
+    }
+    Some((low, high))
+}
+
+impl Machine {
+    // The address in the memory of n bytes at an offset of a segment register, if they lie in one page and may be written.
+    #[inline(always)]
+    fn run_at(&self, seg: SegReg, off: u32, n: u32) -> Option<u32>
+        requires { n ≤ PAGE_SIZE }
+        ensures { IfSome result (λ at. IsRun self.now seg off n at) }
+    {
+        let base = match self.quick_base(seg, off, n) {
+            Some(base) => base,
+            None => self.segment_base(seg, off, n, true).ok()?,
+        };
+        let lin = base.wrapping_add(off);
+        if is_in_page(lin, n) {
+            self.translate(lin, true).ok()
+        } else {
+            None
+        }
+    }
+
+    // The distance from a write's offset to the address of its bytes in the memory, modulo 2^32. It is the same for all of some writes
+    // that lie in one page and have no fault. `None` says nothing.
+    #[inline(always)]
+    pub(crate) fn shift_of(&self, writes: &[Write]) -> Option<u32>
+        ensures runs { IfSome result (λ shift. AreRuns self.now shift writes.now) }
+        ensures none { IfSome result (λ _. first_refusal self.now.world writes.now ≡ None) }
+    {
+        self.holds_world();
+        let seg = writes.first()?.seg;
+        let (low, high) = span_of(seg, writes)?;
+        let start = u64::from(low);
+        if high < start || u64::from(PAGE_SIZE) < high - start {
+            return None;
+        }
+
+        let at = self.run_at(seg, low, (high - start) as u32)?;
+        Some(at.wrapping_sub(low))
+    }
+
+    // Puts N bytes at an offset of a segment register, whose address in the memory is known.
+    #[inline(always)]
+    fn put_run<const N: usize>(&mut self, seg: SegReg, off: u32, at: u32, bytes: &[u8; N])
+        requires some { 0 < N }
+        requires run { IsRun self.old seg off N at }
+        ensures bytes { self.new ≡ stored self.old seg off N bytes.now }
+        ensures kept { (s : SegReg) (offset n address : ℕ) → IsRun self.old s offset n address → IsRun self.new s offset n address }
+    {
+        are_bytes(bytes);
+        self.ram.write(at, bytes);
+    }
+
+    // Makes a write, of whose bytes the address in the memory is known.
+    #[inline(always)]
+    fn make_at(&mut self, x: &Write, at: u32)
+        requires { IsRun self.old x.now.seg x.now.off (byte_count x.now.width) at }
+        ensures written { self.new ≡ written self.old x.now }
+        ensures kept { (s : SegReg) (offset n address : ℕ) → IsRun self.old s offset n address → IsRun self.new s offset n address }
+    {
+        if x.width == 8 {
+            self.put_run(x.seg, x.off, at, &[(x.value % 0x100) as u8]);
+        } else if x.width == 16 {
+            self.put_run(x.seg, x.off, at, &word_bytes(x.value));
+        } else {
+            self.put_run(x.seg, x.off, at, &dword_bytes(x.value));
+        }
+    }
+
+    // Makes some writes, whose addresses in the memory are their offsets plus a shift.
+    #[inline(always)]
+    pub(crate) fn make_runs(&mut self, shift: u32, writes: &[Write])
+        requires { AreRuns self.old shift writes.now }
+        ensures { self.new ≡ all_written self.old writes.now }
+    {
+        for x in writes {
+            self.make_at(x, x.off.wrapping_add(shift));
+        }
+    }
+}

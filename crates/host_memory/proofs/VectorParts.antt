@@ -1,0 +1,218 @@
+-- A far pointer, or a byte of a pageable page, put into the frame of the vectors: its lists, and what it must keep.
+use Rattle.std.proofs.Common.{◌≡◌, ◌≢◌, ℕ, zero, suc, ◌+◌, ◌*◌, ◌/◌, ◌%◌, ◌<◌, ◌≤◌, ◌⊎◌, inl, inr, Bool, true, false, List, [], ◌∷◌, length, slice_index, slice_set, refl, ap, ◌∙◌, sym, subst, arith, Option, nat_eq, cond}
+use Rattle.std.proofs.lemmas.Bool.{cases_eq, cases_lt}
+use Rattle.client_world.specs.declared.host_frames.TheConstants.{PAGE_SIZE}
+use Rattle.client_world.specs.declared.limits.TheConstants.{CALLBACKS, INTERRUPT_VECTORS, EXCEPTION_VECTORS}
+use Rattle.client_world.specs.declared.memory_map.TheConstants.{DOS_VIEW_PAGES}
+use Rattle.client_world.specs.declared.segments.FarPtr.{FarPtr}
+use Rattle.client_world.specs.World.{Callback}
+use Rattle.guest_ram.specs.Bytes.{put, dword, dword_bytes, word_of}
+use Rattle.guest_ram.proofs.ListedLaws.{listed-set, same_listed}
+use Rattle.guest_ram.proofs.PutLaws.{dword_put, length-put, put_away, put_below, put_within, same_dword}
+use Rattle.host_memory.specs.Vectors.{KeepsVectors, callback_at, callback_bytes, callbacks_in, callbacks_start, exception_vectors_in, exceptions_start, interrupt_vectors_in, pageable_in, pageable_start, pointer_at, vector_bytes, word_bytes}
+
+-- ---- a pointer
+
+abbrev pub put_pointer : List ℕ → ℕ → FarPtr → List ℕ
+put_pointer part at p = put (put part at (dword_bytes p.off)) (at + 4) (word_bytes p.sel)
+
+-- its six bytes alone change
+pub pointer_away : (part : List ℕ) (at : ℕ) (p : FarPtr) (k : ℕ) → (at + 6 ≤ k) ⊎ (k < at) → slice_index (put_pointer part at p) k ≡ slice_index part k
+pointer_away part at p k away =
+    put_away (put part at (dword_bytes p.off)) (at + 4) (word_bytes p.sel) k (outer away) ∙ put_away part at (dword_bytes p.off) k (inner away)
+  where
+    outer : (at + 6 ≤ k) ⊎ (k < at) → (at + 4 + 2 ≤ k) ⊎ (k < at + 4)
+    outer a = elim a [ inl above ↦ inl (omega arith) | inr below ↦ inr (omega arith) ]
+
+    inner : (at + 6 ≤ k) ⊎ (k < at) → (at + 4 ≤ k) ⊎ (k < at)
+    inner a = elim a [ inl above ↦ inl (omega arith) | inr below ↦ inr below ]
+
+low_bytes : (part : List ℕ) (at : ℕ) (p : FarPtr) (i k : ℕ) → at + 6 ≤ length part → i < 4 → k ≡ at + i →
+    slice_index (put_pointer part at p) k ≡ slice_index (dword_bytes p.off) i
+low_bytes part at p i k room less e =
+    put_below (put part at (dword_bytes p.off)) (at + 4) (word_bytes p.sel) k (omega arith)
+    ∙ put_within part at (dword_bytes p.off) i k (omega arith) less e
+
+high_bytes : (part : List ℕ) (at : ℕ) (p : FarPtr) (i k : ℕ) → at + 6 ≤ length part → i < 2 → k ≡ at + 4 + i →
+    slice_index (put_pointer part at p) k ≡ slice_index (word_bytes p.sel) i
+high_bytes part at p i k room less e =
+    put_within (put part at (dword_bytes p.off)) (at + 4) (word_bytes p.sel) i k (omega (arith, length-put part at (dword_bytes p.off))) less e
+
+abbrev pub far : ℕ → ℕ → FarPtr
+far sel off = record { sel = sel; off = off }
+
+pub same_parts : (p : FarPtr) (sel off : ℕ) → sel ≡ p.sel → off ≡ p.off → record { sel = sel; off = off } ≡ p
+same_parts p sel off one other =
+    ap (λ (s : ℕ). far s off) one ∙ ap (λ (o : ℕ). far p.sel o) other
+
+pub pointer_there : (part : List ℕ) (at : ℕ) (p : FarPtr) → at + 6 ≤ length part → pointer_at (put_pointer part at p) at ≡ p
+pointer_there part at p room = same_parts p _ _ selector offset
+  where
+    offset : dword (put_pointer part at p) at ≡ p.off
+    offset = same_dword (put_pointer part at p) (put part at (dword_bytes p.off)) at at
+        (λ i less. put_below (put part at (dword_bytes p.off)) (at + 4) (word_bytes p.sel) (at + i) (omega arith))
+        ∙ dword_put part at p.off (omega arith)
+
+    selector : word_of (put_pointer part at p) (at + 4) ≡ p.sel
+    selector =
+        let low : slice_index (put_pointer part at p) (at + 4) ≡ p.sel % 0x100 = high_bytes part at p 0 (at + 4) room (omega arith) (omega arith) in
+        let high : slice_index (put_pointer part at p) (at + 4 + 1) ≡ p.sel / 0x100 = high_bytes part at p 1 (at + 4 + 1) room (omega arith) refl in
+        rw (low, high) (omega arith)
+
+pub same_pointer : (b c : List ℕ) (at : ℕ) → ((i : ℕ) → i < 6 → slice_index b (at + i) ≡ slice_index c (at + i)) → pointer_at b at ≡ pointer_at c at
+same_pointer b c at same = same_parts (pointer_at c at) _ _ selector offset
+  where
+    offset : dword b at ≡ dword c at
+    offset = same_dword b c at at (λ i less. same i (omega arith))
+
+    selector : word_of b (at + 4) ≡ word_of c (at + 4)
+    selector =
+        let five : slice_index b (at + 4 + 1) ≡ slice_index c (at + 4 + 1) = (let k : at + 5 ≡ at + 4 + 1 = omega arith in
+        ap (slice_index b) (sym k) ∙ same 5 (omega arith) ∙ ap (slice_index c) k) in
+        rw (same 4 (omega arith), five) refl
+
+-- the bytes of a vector, of which the last two are 0
+stored : (part : List ℕ) (at : ℕ) (p : FarPtr) → at + 8 ≤ length part → slice_index part (at + 6) ≡ 0 → slice_index part (at + 7) ≡ 0 →
+    (i : ℕ) → i < 8 → slice_index (put_pointer part at p) (at + i) ≡ slice_index (vector_bytes p) i
+stored part at p room six seven zero less = low_bytes part at p 0 (at + 0) (omega arith) (omega arith) (omega arith)
+stored part at p room six seven (suc zero) less = low_bytes part at p 1 (at + 1) (omega arith) (omega arith) (omega arith)
+stored part at p room six seven (suc (suc zero)) less = low_bytes part at p 2 (at + 2) (omega arith) (omega arith) (omega arith)
+stored part at p room six seven (suc (suc (suc zero))) less = low_bytes part at p 3 (at + 3) (omega arith) (omega arith) (omega arith)
+stored part at p room six seven (suc (suc (suc (suc zero)))) less = high_bytes part at p 0 (at + 4) (omega arith) (omega arith) (omega arith)
+stored part at p room six seven (suc (suc (suc (suc (suc zero))))) less = high_bytes part at p 1 (at + 5) (omega arith) (omega arith) (omega arith)
+stored part at p room six seven (suc (suc (suc (suc (suc (suc zero)))))) less = pointer_away part at p (at + 6) (inl (omega arith)) ∙ six
+stored part at p room six seven (suc (suc (suc (suc (suc (suc (suc zero))))))) less = pointer_away part at p (at + 7) (inl (omega arith)) ∙ seven
+stored part at p room six seven (suc (suc (suc (suc (suc (suc (suc (suc i)))))))) less = absurd (omega arith)
+
+-- ---- the lists of the frame where some bytes are the same
+
+same_callback : (b c : List ℕ) (at : ℕ) → ((i : ℕ) → i < 16 → slice_index b (at + i) ≡ slice_index c (at + i)) → callback_at b at ≡ callback_at c at
+unfolding callback_at
+same_callback b c at same =
+    let procedure = same_pointer b c at (λ i less. same i (omega arith)) in
+    let structure = same_pointer b c (at + 6) (λ i less. (let k : at + (6 + i) ≡ at + 6 + i = omega arith in
+    ap (slice_index b) (sym k) ∙ same (6 + i) (omega arith) ∙ ap (slice_index c) k)) in
+    rw (same 12 (omega arith), procedure, structure) refl
+
+-- the bytes are the same from the callbacks on
+pub same_callbacks : (b c : List ℕ) → ((k : ℕ) → callbacks_start ≤ k → k < pageable_start → slice_index b k ≡ slice_index c k) → callbacks_in b ≡ callbacks_in c
+same_callbacks b c same = same_listed CALLBACKS (λ slot. callback_at b (callbacks_start + 16 * slot)) (λ slot. callback_at c (callbacks_start + 16 * slot))
+    (λ slot less. same_callback b c (callbacks_start + 16 * slot) (λ i small. same (callbacks_start + 16 * slot + i) (omega arith) (omega arith)))
+
+pub same_pageable : (b c : List ℕ) → ((k : ℕ) → pageable_start ≤ k → k < PAGE_SIZE → slice_index b k ≡ slice_index c k) → pageable_in b ≡ pageable_in c
+same_pageable b c same = same_listed DOS_VIEW_PAGES (λ page. nat_eq (slice_index b (pageable_start + page)) 1) (λ page. nat_eq (slice_index c (pageable_start + page)) 1)
+    (λ page less. ap (λ (x : ℕ). nat_eq x 1) (same (pageable_start + page) (omega arith) (omega arith)))
+
+pub same_interrupts : (b c : List ℕ) → ((k : ℕ) → k < exceptions_start → slice_index b k ≡ slice_index c k) → interrupt_vectors_in b ≡ interrupt_vectors_in c
+same_interrupts b c same = same_listed INTERRUPT_VECTORS (λ n. pointer_at b (8 * n)) (λ n. pointer_at c (8 * n))
+    (λ n less. same_pointer b c (8 * n) (λ i small. same (8 * n + i) (omega arith)))
+
+pub same_exceptions : (b c : List ℕ) → ((k : ℕ) → exceptions_start ≤ k → k < callbacks_start → slice_index b k ≡ slice_index c k) →
+    exception_vectors_in b ≡ exception_vectors_in c
+same_exceptions b c same = same_listed EXCEPTION_VECTORS (λ n. pointer_at b (exceptions_start + 8 * n)) (λ n. pointer_at c (exceptions_start + 8 * n))
+    (λ n less. same_pointer b c (exceptions_start + 8 * n) (λ i small. same (exceptions_start + 8 * n + i) (omega arith) (omega arith)))
+
+-- what the callbacks and the bytes behind them must keep
+keeps_callbacks : (part other : List ℕ) → KeepsVectors part → ((k : ℕ) → callbacks_start ≤ k → k < pageable_start → slice_index other k ≡ slice_index part k) →
+    (slot at : ℕ) → slot < CALLBACKS → at < 16 →
+    slice_index other (callbacks_start + (16 * slot + at)) ≡ slice_index (callback_bytes (callback_at other (callbacks_start + 16 * slot))) at
+keeps_callbacks part other keeps same slot at less small =
+    same (callbacks_start + (16 * slot + at)) (omega arith) (omega arith)
+    ∙ keeps.callbacks slot at less small
+    ∙ sym (ap (λ (o : Option Callback). slice_index (callback_bytes o) at)
+    (same_callback other part (callbacks_start + 16 * slot) (λ i s. same (callbacks_start + 16 * slot + i) (omega arith) (omega arith))))
+
+-- ---- a vector, of one of the two lists
+
+pub keeps_pointer : (part : List ℕ) (v : ℕ) (p : FarPtr) → length part ≡ PAGE_SIZE → v < INTERRUPT_VECTORS + EXCEPTION_VECTORS → KeepsVectors part →
+    KeepsVectors (put_pointer part (8 * v) p)
+keeps_pointer part v p long within keeps = record {
+  vectors = vectors;
+  callbacks = keeps_callbacks part (put_pointer part (8 * v) p) keeps (λ k from to. pointer_away part (8 * v) p k (inl (omega arith)));
+  pageable = λ page less. subst (λ (x : ℕ). x < 2) (sym (pointer_away part (8 * v) p (pageable_start + page) (inl (omega arith)))) (keeps.pageable page less);
+  rest = λ at from to. pointer_away part (8 * v) p at (inl (omega arith)) ∙ keeps.rest at from to;
+}
+  where
+    vectors : (n at : ℕ) → n < INTERRUPT_VECTORS + EXCEPTION_VECTORS → at < 8 →
+        slice_index (put_pointer part (8 * v) p) (8 * n + at) ≡ slice_index (vector_bytes (pointer_at (put_pointer part (8 * v) p) (8 * n))) at
+    vectors n at small less = elim (cases_eq n v) [
+      | inl same ↦ (let k : 8 * n ≡ 8 * v = omega arith in
+          ap (λ (x : ℕ). slice_index (put_pointer part (8 * v) p) (x + at)) k
+          ∙ stored part (8 * v) p (omega arith) (keeps.vectors v 6 within (omega arith)) (keeps.vectors v 7 within (omega arith)) at less
+          ∙ sym (ap (λ (q : FarPtr). slice_index (vector_bytes q) at)
+          (ap (pointer_at (put_pointer part (8 * v) p)) k ∙ pointer_there part (8 * v) p (omega arith))))
+      | inr ne ↦ (pointer_away part (8 * v) p (8 * n + at) (beside n at ne less)
+          ∙ keeps.vectors n at small less
+          ∙ sym (ap (λ (q : FarPtr). slice_index (vector_bytes q) at) (same_pointer (put_pointer part (8 * v) p) part (8 * n)
+          (λ i s. pointer_away part (8 * v) p (8 * n + i) (beside n i ne (omega arith))))))
+    ]
+      where
+        beside : (n at : ℕ) → n ≢ v → at < 8 → (8 * v + 6 ≤ 8 * n + at) ⊎ (8 * n + at < 8 * v)
+        beside n at ne less = elim (cases_lt n v) [ inl below ↦ inr (omega arith) | inr above ↦ inl (omega arith) ]
+
+pub interrupts_set : (part : List ℕ) (n : ℕ) (p : FarPtr) → length part ≡ PAGE_SIZE → n < INTERRUPT_VECTORS →
+    interrupt_vectors_in (put_pointer part (8 * n) p) ≡ slice_set (interrupt_vectors_in part) n p
+interrupts_set part n p long within =
+    listed-set INTERRUPT_VECTORS (λ k. pointer_at part (8 * k)) (λ k. pointer_at (put_pointer part (8 * n) p) (8 * k)) n p within
+    (pointer_there part (8 * n) p (omega arith))
+    (λ k less ne. same_pointer (put_pointer part (8 * n) p) part (8 * k) (λ i small. pointer_away part (8 * n) p (8 * k + i) (beside k i ne small)))
+  where
+    beside : (k i : ℕ) → k ≢ n → i < 6 → (8 * n + 6 ≤ 8 * k + i) ⊎ (8 * k + i < 8 * n)
+    beside k i ne small = elim (cases_lt k n) [ inl below ↦ inr (omega arith) | inr above ↦ inl (omega arith) ]
+
+pub exceptions_set : (part : List ℕ) (n : ℕ) (p : FarPtr) → length part ≡ PAGE_SIZE → n < EXCEPTION_VECTORS →
+    exception_vectors_in (put_pointer part (exceptions_start + 8 * n) p) ≡ slice_set (exception_vectors_in part) n p
+exceptions_set part n p long within =
+    listed-set EXCEPTION_VECTORS (λ k. pointer_at part (exceptions_start + 8 * k)) (λ k. pointer_at (put_pointer part (exceptions_start + 8 * n) p) (exceptions_start + 8 * k)) n p within
+    (pointer_there part (exceptions_start + 8 * n) p (omega arith))
+    (λ k less ne. same_pointer (put_pointer part (exceptions_start + 8 * n) p) part (exceptions_start + 8 * k)
+    (λ i small. pointer_away part (exceptions_start + 8 * n) p (exceptions_start + 8 * k + i) (beside k i ne small)))
+  where
+    beside : (k i : ℕ) → k ≢ n → i < 6 → (exceptions_start + 8 * n + 6 ≤ exceptions_start + 8 * k + i) ⊎ (exceptions_start + 8 * k + i < exceptions_start + 8 * n)
+    beside k i ne small = elim (cases_lt k n) [ inl below ↦ inr (omega arith) | inr above ↦ inl (omega arith) ]
+
+-- ---- the byte of a pageable page
+
+abbrev pub put_pageable : List ℕ → ℕ → Bool → List ℕ
+put_pageable part page on = slice_set part (pageable_start + page) (cond on 1 0)
+
+pub pageable_away : (part : List ℕ) (page : ℕ) (on : Bool) (k : ℕ) → k ≢ pageable_start + page → slice_index (put_pageable part page on) k ≡ slice_index part k
+pageable_away part page on k ne = put_away part (pageable_start + page) (cond on 1 0 ∷ []) k (elim (cases_lt k (pageable_start + page)) [
+  | inl below ↦ inr below
+  | inr above ↦ inl (omega arith)
+])
+
+pageable_there : (part : List ℕ) (page : ℕ) (on : Bool) → length part ≡ PAGE_SIZE → page < DOS_VIEW_PAGES →
+    slice_index (put_pageable part page on) (pageable_start + page) ≡ cond on 1 0
+pageable_there part page on long within =
+    put_within part (pageable_start + page) (cond on 1 0 ∷ []) 0 (pageable_start + page) (omega arith) (omega arith) (omega arith)
+
+is_one : (on : Bool) → nat_eq (cond on 1 0) 1 ≡ on
+is_one true = refl
+is_one false = refl
+
+bit_small : (on : Bool) → cond on 1 0 < 2
+bit_small true = omega arith
+bit_small false = omega arith
+
+pub keeps_pageable : (part : List ℕ) (page : ℕ) (on : Bool) → length part ≡ PAGE_SIZE → page < DOS_VIEW_PAGES → KeepsVectors part →
+    KeepsVectors (put_pageable part page on)
+keeps_pageable part page on long within keeps = record {
+  vectors = λ n at small less. pageable_away part page on (8 * n + at) (λ z. omega arith)
+      ∙ keeps.vectors n at small less
+      ∙ sym (ap (λ (q : FarPtr). slice_index (vector_bytes q) at) (same_pointer (put_pageable part page on) part (8 * n)
+      (λ i s. pageable_away part page on (8 * n + i) (λ z. omega arith))));
+  callbacks = keeps_callbacks part (put_pageable part page on) keeps (λ k from to. pageable_away part page on k (λ z. omega arith));
+  pageable = λ other less. elim (cases_eq other page) [
+    | inl same ↦ subst (λ (x : ℕ). x < 2) (sym (ap (λ (k : ℕ). slice_index (put_pageable part page on) (pageable_start + k)) same ∙ pageable_there part page on long within)) (bit_small on)
+    | inr ne ↦ subst (λ (x : ℕ). x < 2) (sym (pageable_away part page on (pageable_start + other) (λ z. ne (omega arith)))) (keeps.pageable other less)
+  ];
+  rest = λ at from to. pageable_away part page on at (λ z. omega arith) ∙ keeps.rest at from to;
+}
+
+pub pageable_set : (part : List ℕ) (page : ℕ) (on : Bool) → length part ≡ PAGE_SIZE → page < DOS_VIEW_PAGES →
+    pageable_in (put_pageable part page on) ≡ slice_set (pageable_in part) page on
+pageable_set part page on long within =
+    listed-set DOS_VIEW_PAGES (λ k. nat_eq (slice_index part (pageable_start + k)) 1) (λ k. nat_eq (slice_index (put_pageable part page on) (pageable_start + k)) 1) page on within
+    (ap (λ (x : ℕ). nat_eq x 1) (pageable_there part page on long within) ∙ is_one on)
+    (λ k less ne. ap (λ (x : ℕ). nat_eq x 1) (pageable_away part page on (pageable_start + k) (λ z. ne (omega arith))))

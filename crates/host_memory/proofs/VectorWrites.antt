@@ -1,0 +1,170 @@
+-- The memory after a write of a vector or of a pageable page.
+use Rattle.std.proofs.Common.{◌≡◌, ℕ, ◌+◌, ◌*◌, ◌<◌, ◌≤◌, inl, inr, Bool, List, [], ◌∷◌, length, slice_set, refl, ap, ◌∙◌, subst, arith, Option, cond}
+use Rattle.client_world.specs.declared.host_frames.TheConstants.{PAGE_SIZE, VECTORS}
+use Rattle.client_world.specs.declared.limits.TheConstants.{INTERRUPT_VECTORS, EXCEPTION_VECTORS}
+use Rattle.client_world.specs.declared.memory_map.TheConstants.{DOS_VIEW_PAGES}
+use Rattle.client_world.specs.declared.place.Place.{Place}
+use Rattle.client_world.specs.declared.registers.Mode.{Mode}
+use Rattle.client_world.specs.declared.registers.Regs.{Regs}
+use Rattle.client_world.specs.declared.registers.Width.{Width}
+use Rattle.client_world.specs.declared.segments.FarPtr.{FarPtr}
+use Rattle.client_world.specs.World.{World, Callback}
+use Rattle.guest_ram.specs.Bytes.{put, dword_bytes}
+use Rattle.guest_ram.proofs.PutLaws.{length-region}
+use Rattle.host_memory.specs.Holds.{Holds}
+use Rattle.host_memory.specs.Layout.{address_of, rows_part, vectors_part, world_of}
+use Rattle.host_memory.specs.Vectors.{KeepsVectors, callbacks_in, exception_vectors_in, exceptions_start, interrupt_vectors_in, pageable_in, pageable_start, word_bytes}
+use Rattle.host_memory.proofs.Parts.{HasSize, HoldsParts, MemoryParts, addresses_by, holds_by, holds_parts, parts_of, world_by}
+use Rattle.host_memory.proofs.PutBlockParts.{put_vectors}
+use Rattle.host_memory.proofs.PutParts.{size_put}
+use Rattle.host_memory.proofs.VectorParts.{exceptions_set, interrupts_set, keeps_pageable, keeps_pointer, pageable_away, pageable_set, pointer_away, put_pageable, put_pointer, same_callbacks, same_exceptions, same_interrupts, same_pageable}
+
+-- a world with other vectors and other pageable pages
+abbrev pub with_vectors : World → List FarPtr → List FarPtr → List Bool → World
+with_vectors w interrupts exceptions pageable = record w {
+  interrupt_vectors = interrupts;
+  exception_vectors = exceptions;
+  pageable = pageable;
+}
+
+-- the memory still holds a world, of which those lists alone have changed
+pub record ChangesVectors (b c : List ℕ) (budget : ℕ) (interrupts exceptions : List FarPtr) (pageable : List Bool) : Type 0 where
+  pub holds : Holds c budget
+  pub world : (mode : Mode) (regs : Regs) (vif : Bool) (width : Option Width) →
+      world_of c budget mode regs vif width ≡ with_vectors (world_of b budget mode regs vif width) interrupts exceptions pageable
+  pub rows : rows_part c ≡ rows_part b
+  pub addresses : (p : Place) → address_of c p ≡ address_of b p
+
+-- the lists of a frame
+record Lists (part : List ℕ) (interrupts exceptions : List FarPtr) (callbacks : List (Option Callback)) (pageable : List Bool) : Type 0 where
+  int : interrupt_vectors_in part ≡ interrupts
+  exc : exception_vectors_in part ≡ exceptions
+  back : callbacks_in part ≡ callbacks
+  page : pageable_in part ≡ pageable
+
+with_lists : World → List FarPtr → List FarPtr → List (Option Callback) → List Bool → World
+with_lists w interrupts exceptions callbacks pageable = record w {
+  interrupt_vectors = interrupts;
+  exception_vectors = exceptions;
+  callbacks = callbacks;
+  pageable = pageable;
+}
+
+same_lists : (w : World) (part : List ℕ) (interrupts exceptions : List FarPtr) (callbacks : List (Option Callback)) (pageable : List Bool) →
+    Lists part interrupts exceptions callbacks pageable →
+    with_lists w (interrupt_vectors_in part) (exception_vectors_in part) (callbacks_in part) (pageable_in part)
+    ≡ with_lists w interrupts exceptions callbacks pageable
+same_lists w part interrupts exceptions callbacks pageable l =
+    ap (λ (xs : List FarPtr). with_lists w xs (exception_vectors_in part) (callbacks_in part) (pageable_in part)) l.int
+    ∙ ap (λ (xs : List FarPtr). with_lists w interrupts xs (callbacks_in part) (pageable_in part)) l.exc
+    ∙ ap (λ (xs : List (Option Callback)). with_lists w interrupts exceptions xs (pageable_in part)) l.back
+    ∙ ap (λ (xs : List Bool). with_lists w interrupts exceptions callbacks xs) l.page
+
+holds_with_vectors : (parts : MemoryParts) (budget : ℕ) (vectors : List ℕ) → KeepsVectors vectors → HoldsParts parts budget →
+    HoldsParts (record parts { vectors = vectors }) budget
+holds_with_vectors parts budget vectors keeps h = record {
+  fixed = h.fixed;
+  rows = h.rows;
+  vectors = keeps;
+  records = h.records;
+  handles = h.handles;
+  blocks = h.blocks;
+  count = h.count;
+  locks = h.locks;
+  arena = h.arena;
+}
+
+changes : (b c : List ℕ) (budget : ℕ) (part : List ℕ) (interrupts exceptions : List FarPtr) (pageable : List Bool) → Holds b budget →
+    parts_of c budget ≡ record (parts_of b budget) { vectors = part } → HasSize c budget → KeepsVectors part →
+    Lists part interrupts exceptions (callbacks_in (vectors_part b)) pageable → ChangesVectors b c budget interrupts exceptions pageable
+unfolding world_of with_lists
+changes b c budget part interrupts exceptions pageable holds e size keeps lists = record {
+  holds = holds_by c budget (record (parts_of b budget) { vectors = part }) e size holds.most
+      (holds_with_vectors (parts_of b budget) budget part keeps (holds_parts b budget holds));
+  world = λ mode regs vif width. world_by c budget (record (parts_of b budget) { vectors = part }) e mode regs vif width
+      ∙ same_lists (world_of b budget mode regs vif width) part interrupts exceptions (callbacks_in (vectors_part b)) pageable lists;
+  rows = ap (λ (x : MemoryParts). x.rows) e;
+  addresses = addresses_by b c (ap (λ (x : MemoryParts). x.handles) e) (ap (λ (x : MemoryParts). x.tables) e);
+}
+
+pub vectors_size : (b : List ℕ) (budget : ℕ) → HasSize b budget → length (vectors_part b) ≡ PAGE_SIZE
+vectors_size b budget size = length-region b (PAGE_SIZE * VECTORS) (PAGE_SIZE * 1) (omega (arith, size))
+
+-- ---- a vector
+
+abbrev pub with_pointer : List ℕ → ℕ → FarPtr → List ℕ
+with_pointer b at p = put (put b (PAGE_SIZE * VECTORS + at) (dword_bytes p.off)) (PAGE_SIZE * VECTORS + at + 4) (word_bytes p.sel)
+
+pointer_size : (b : List ℕ) (budget at : ℕ) (p : FarPtr) → HasSize b budget → HasSize (with_pointer b at p) budget
+pointer_size b budget at p size =
+    size_put (put b (PAGE_SIZE * VECTORS + at) (dword_bytes p.off)) budget (PAGE_SIZE * VECTORS + at + 4) (word_bytes p.sel)
+    (size_put b budget (PAGE_SIZE * VECTORS + at) (dword_bytes p.off) size)
+
+pointer_parts : (b : List ℕ) (budget at : ℕ) (p : FarPtr) → HasSize b budget → at + 8 ≤ PAGE_SIZE →
+    parts_of (with_pointer b at p) budget ≡ record (parts_of b budget) { vectors = put_pointer (vectors_part b) at p }
+pointer_parts b budget at p size room =
+    let c = put b (PAGE_SIZE * VECTORS + at) (dword_bytes p.off) in
+    let first = put_vectors b budget (PAGE_SIZE * VECTORS + at) at (dword_bytes p.off) size refl (omega arith) in
+    put_vectors c budget (PAGE_SIZE * VECTORS + at + 4) (at + 4) (word_bytes p.sel) (size_put b budget (PAGE_SIZE * VECTORS + at) (dword_bytes p.off) size) (omega arith) (omega arith)
+    ∙ ap (λ (x : MemoryParts). record x { vectors = put x.vectors (at + 4) (word_bytes p.sel) }) first
+
+pub interrupt_changes : (b : List ℕ) (budget n : ℕ) (p : FarPtr) → Holds b budget → n < INTERRUPT_VECTORS →
+    ChangesVectors b (with_pointer b (8 * n) p) budget (slice_set (interrupt_vectors_in (vectors_part b)) n p)
+    (exception_vectors_in (vectors_part b)) (pageable_in (vectors_part b))
+interrupt_changes b budget n p holds within =
+    let part = vectors_part b in
+    let long = vectors_size b budget holds.size in
+    changes b (with_pointer b (8 * n) p) budget (put_pointer part (8 * n) p) (slice_set (interrupt_vectors_in part) n p) (exception_vectors_in part) (pageable_in part) holds
+    (pointer_parts b budget (8 * n) p holds.size (omega arith)) (pointer_size b budget (8 * n) p holds.size)
+    (keeps_pointer part n p long (omega arith) holds.vectors)
+    (record {
+      int = interrupts_set part n p long within;
+      exc = same_exceptions (put_pointer part (8 * n) p) part (λ k from to. pointer_away part (8 * n) p k (inl (omega arith)));
+      back = same_callbacks (put_pointer part (8 * n) p) part (λ k from to. pointer_away part (8 * n) p k (inl (omega arith)));
+      page = same_pageable (put_pointer part (8 * n) p) part (λ k from to. pointer_away part (8 * n) p k (inl (omega arith)));
+    })
+
+keeps_exception : (part : List ℕ) (n : ℕ) (p : FarPtr) → length part ≡ PAGE_SIZE → n < EXCEPTION_VECTORS → KeepsVectors part →
+    KeepsVectors (put_pointer part (exceptions_start + 8 * n) p)
+keeps_exception part n p long within keeps =
+    let at : 8 * (INTERRUPT_VECTORS + n) ≡ exceptions_start + 8 * n = omega arith in
+    subst (λ (k : ℕ). KeepsVectors (put_pointer part k p)) at (keeps_pointer part (INTERRUPT_VECTORS + n) p long (omega arith) keeps)
+
+pub exception_changes : (b : List ℕ) (budget n : ℕ) (p : FarPtr) → Holds b budget → n < EXCEPTION_VECTORS →
+    ChangesVectors b (with_pointer b (exceptions_start + 8 * n) p) budget (interrupt_vectors_in (vectors_part b))
+    (slice_set (exception_vectors_in (vectors_part b)) n p) (pageable_in (vectors_part b))
+exception_changes b budget n p holds within =
+    let part = vectors_part b in
+    let long = vectors_size b budget holds.size in
+    let at = exceptions_start + 8 * n in
+    changes b (with_pointer b at p) budget (put_pointer part at p) (interrupt_vectors_in part) (slice_set (exception_vectors_in part) n p) (pageable_in part) holds
+    (pointer_parts b budget at p holds.size (omega arith)) (pointer_size b budget at p holds.size)
+    (keeps_exception part n p long within holds.vectors)
+    (record {
+      int = same_interrupts (put_pointer part at p) part (λ k to. pointer_away part at p k (inr (omega arith)));
+      exc = exceptions_set part n p long within;
+      back = same_callbacks (put_pointer part at p) part (λ k from to. pointer_away part at p k (inl (omega arith)));
+      page = same_pageable (put_pointer part at p) part (λ k from to. pointer_away part at p k (inl (omega arith)));
+    })
+
+-- ---- a pageable page
+
+abbrev pub with_pageable : List ℕ → ℕ → Bool → List ℕ
+with_pageable b page on = slice_set b (PAGE_SIZE * VECTORS + pageable_start + page) (cond on 1 0)
+
+pub pageable_changes : (b : List ℕ) (budget page : ℕ) (on : Bool) → Holds b budget → page < DOS_VIEW_PAGES →
+    ChangesVectors b (with_pageable b page on) budget (interrupt_vectors_in (vectors_part b)) (exception_vectors_in (vectors_part b))
+    (slice_set (pageable_in (vectors_part b)) page on)
+pageable_changes b budget page on holds within =
+    let part = vectors_part b in
+    let long = vectors_size b budget holds.size in
+    changes b (with_pageable b page on) budget (put_pageable part page on) (interrupt_vectors_in part) (exception_vectors_in part) (slice_set (pageable_in part) page on) holds
+    (put_vectors b budget (PAGE_SIZE * VECTORS + pageable_start + page) (pageable_start + page) (cond on 1 0 ∷ []) holds.size (omega arith) (omega arith))
+    (size_put b budget (PAGE_SIZE * VECTORS + pageable_start + page) (cond on 1 0 ∷ []) holds.size)
+    (keeps_pageable part page on long within holds.vectors)
+    (record {
+      int = same_interrupts (put_pageable part page on) part (λ k to. pageable_away part page on k (λ z. omega arith));
+      exc = same_exceptions (put_pageable part page on) part (λ k from to. pageable_away part page on k (λ z. omega arith));
+      back = same_callbacks (put_pageable part page on) part (λ k from to. pageable_away part page on k (λ z. omega arith));
+      page = pageable_set part page on long within;
+    })
