@@ -154,12 +154,16 @@ popped_or_bad_alone : (r : Result MachineView Event) → its_world (popped_or_ba
 popped_or_bad_alone (Ok v) = refl
 popped_or_bad_alone (Err e) = refl
 
-pub popped_alone : (v : MachineView) → its_world (iret_popped v) ≡ world_popped v.world
-unfolding iret_popped world_popped
-popped_alone v =
-    let plan = planned v.world (frame_popped v.world (frame_bits v.world)) in
+-- whatever is popped
+pub pop_alone : (v : MachineView) (plan : Result Pending Event) →
+    its_world (popped_or_bad (carried_out v plan)) ≡ its_world (popped_or_bad (carried_out (bare v.world) plan))
+pop_alone v plan =
     popped_or_bad_alone (carried_out v plan) ∙ ap good_or_bad (carried_alone v plan)
     ∙ sym (popped_or_bad_alone (carried_out (bare v.world) plan))
+
+pub popped_alone : (v : MachineView) → its_world (iret_popped v) ≡ world_popped v.world
+unfolding iret_popped world_popped
+popped_alone v = pop_alone v (planned v.world (frame_popped v.world (frame_bits v.world)))
 
 -- ---- where an answer is known
 

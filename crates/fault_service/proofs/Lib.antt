@@ -1,5 +1,7 @@
-pub mod Frames
+pub mod Handlers
+pub mod KeptModes
 pub mod ReturnPlans
+pub mod ReturnStates
 pub mod Alone
 pub mod SoundAnswers
 pub mod RealFrameLaws

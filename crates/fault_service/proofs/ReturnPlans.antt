@@ -19,12 +19,12 @@ use Rattle.insn_plan.specs.Stack.{stack_item, items_popped}
 use Rattle.fault_service.specs.Delivery.{popped_or_bad, iret_popped}
 
 -- a plan without writes, where there is one
-abbrev WritesNothing : Result Pending Event → Type 0
+abbrev pub WritesNothing : Result Pending Event → Type 0
 WritesNothing (Ok p) = p.writes ≡ []
 WritesNothing (Err e) = Unit {0}
 
 -- an act whose plan has none
-abbrev IsQuiet : World → Act → Type 0
+abbrev pub IsQuiet : World → Act → Type 0
 IsQuiet w act = WritesNothing (planned w act)
 
 by_value : (w : World) (r : Result ℕ Event) (rest : ℕ → Act) → ((v : ℕ) → IsQuiet w (rest v)) →
@@ -32,14 +32,14 @@ by_value : (w : World) (r : Result ℕ Event) (rest : ℕ → Act) → ((v : ℕ
 by_value w (Ok v) rest quiet = quiet v
 by_value w (Err e) rest quiet = tt
 
-quiet_read : (w : World) (input : Input) (rest : ℕ → Act) → ((v : ℕ) → IsQuiet w (rest v)) → IsQuiet w (Read input rest)
+pub quiet_read : (w : World) (input : Input) (rest : ℕ → Act) → ((v : ℕ) → IsQuiet w (rest v)) → IsQuiet w (Read input rest)
 quiet_read w input rest quiet = by_value w (value_of w input) rest quiet
 
 quiet_unless : (w : World) (o : Option Fault) (p : Pending) → p.writes ≡ [] → IsQuiet w (unless_fault o (done p))
 quiet_unless w None p none = none
 quiet_unless w (Some f) p none = tt
 
-quiet_transfer : (w : World) (sel ip : ℕ) (return : Bool) (p : Pending) → p.writes ≡ [] → IsQuiet w (far_transfer w sel ip return p)
+pub quiet_transfer : (w : World) (sel ip : ℕ) (return : Bool) (p : Pending) → p.writes ≡ [] → IsQuiet w (far_transfer w sel ip return p)
 unfolding far_transfer
 quiet_transfer w sel ip return p none = quiet_unless w (transfer_fault w sel ip return) _ none
 
@@ -71,7 +71,7 @@ quiet_cs w bits ip cs = quiet_read w (stack_item w bits 2) (with_image w bits ip
 quiet_ip : (w : World) (bits ip : ℕ) → IsQuiet w (with_ip w bits ip)
 quiet_ip w bits ip = quiet_read w (stack_item w bits 1) (with_cs w bits ip) (quiet_cs w bits ip)
 
-quiet_frame : (w : World) (bits : ℕ) → IsQuiet w (frame_popped w bits)
+pub quiet_frame : (w : World) (bits : ℕ) → IsQuiet w (frame_popped w bits)
 unfolding frame_popped
 quiet_frame w bits = quiet_read w (stack_item w bits 0) (with_ip w bits) (quiet_ip w bits)
 

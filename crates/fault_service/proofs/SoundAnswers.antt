@@ -38,7 +38,7 @@ no_code_there false true None sel offset return none e = absurd cc
 no_code_there false true (Some row) sel offset return none e = absurd cc
 no_code_there false false row sel offset return none e = absurd cc
 
-code_is_named_by_a_word : (rows : List Row) (sel offset : ℕ) (return : Bool) → length rows ≡ DESCRIPTORS →
+pub code_is_named_by_a_word : (rows : List Row) (sel offset : ℕ) (return : Bool) → length rows ≡ DESCRIPTORS →
     load_fault rows Cs sel offset return ≡ None → sel < 0x10000
 unfolding load_fault
 code_is_named_by_a_word rows sel offset return size e = elim (cases_lt sel 0x10000) [
@@ -132,7 +132,7 @@ sound_delivery v u f s e =
 
 -- ---- a return
 
-return_was : (r : Result MachineView Event) (u : MachineView) → popped_or_bad r ≡ Ok u → r ≡ Ok u
+pub return_was : (r : Result MachineView Event) (u : MachineView) → popped_or_bad r ≡ Ok u → r ≡ Ok u
 return_was (Ok v) u e = cc
 return_was (Err g) u e = absurd cc
 
@@ -145,7 +145,7 @@ sound_popped v u s e =
 
 -- ---- of worlds
 
-sound_on_world : {E : Type 0} (r : Result MachineView E) (u : World) → ((v : MachineView) → r ≡ Ok v → IsSound v.world) →
+pub sound_on_world : {E : Type 0} (r : Result MachineView E) (u : World) → ((v : MachineView) → r ≡ Ok v → IsSound v.world) →
     its_world r ≡ Ok u → IsSound u
 sound_on_world (Ok v) u s e = let same : v.world ≡ u = cc in subst IsSound same (s v refl)
 sound_on_world (Err g) u s e = absurd cc

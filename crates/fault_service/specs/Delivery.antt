@@ -2,6 +2,7 @@
 -- Source: 80386 Programmer's Reference Manual, ch. 17, INT/INTO and IRET, and ch. 9; DPMI 0.9, "Interrupts"; which exceptions the vectors of
 -- real mode serve, and that all others end the client, is own.
 use Rattle.std.specs.Prelude.{ℕ, ◌+◌, ◌*◌, Bool, false, ◌||◌, nat_eq, if◌then◌else◌, Ok, Err, Some, None, slice_index_or}
+use Rattle.std.specs.declared.option.Option.{Option}
 use Rattle.std.specs.declared.result.Result.{Result}
 use Rattle.client_world.specs.declared.faults.Event.{Event}
 use Rattle.client_world.specs.declared.faults.Fault.{Fault}
@@ -32,6 +33,14 @@ interrupt_vector w n = elim w.mode [
   | Real ↦ real_vector w n
   | Protected ↦ slice_index_or w.interrupt_vectors n (record { sel = 0; off = 0 })
 ]
+
+-- the fault of loading the handler's address into CS
+abbrev pub vector_fault : World → ℕ → Option Fault
+vector_fault w n = transfer_fault w (interrupt_vector w n).sel (interrupt_vector w n).off false
+
+-- the same before the pushes: in real mode they may change the vector, but every vector can be loaded; in protected mode they leave it
+abbrev pub handler_fault : World → ℕ → Option Fault
+handler_fault w n = elim w.mode [ Real ↦ None | Protected ↦ vector_fault w n ]
 
 -- virtual interrupts while the handler runs: in real mode off, in protected mode as before
 abbrev pub handler_interrupts : World → Bool

@@ -1,6 +1,6 @@
 -- The same of worlds alone: what a step, an interrupt, an exception and a return make of a world. Which bytes hold it doesn't matter.
 -- Source: own.
-use Rattle.std.specs.Prelude.{ℕ, [], Ok, Err}
+use Rattle.std.specs.Prelude.{◌≡◌, ℕ, [], Ok, Err}
 use Rattle.std.specs.declared.result.Result.{Result}
 use Rattle.client_world.specs.declared.faults.Event.{Event}
 use Rattle.client_world.specs.declared.faults.Fault.{Fault}
@@ -8,6 +8,7 @@ use Rattle.client_world.specs.declared.outcome.Exit.{Exit}
 use Rattle.client_world.specs.World.{World}
 use Rattle.cpu_step.specs.Step.{client_step}
 use Rattle.host_memory.specs.View.{MachineView}
+use Rattle.insn_plan.specs.Plan.{with_state}
 use Rattle.fault_service.specs.Delivery.{iret_popped, real_delivery, software_interrupt}
 
 -- the world of an answer
@@ -38,3 +39,7 @@ world_delivery w f = on_world (λ v. real_delivery v f) w
 -- the world after the frame at the stack's top is popped, or the exit
 unfoldable pub world_popped : World → Result World Exit
 world_popped w = on_world iret_popped w
+
+-- the machine differs at most in its registers and its virtual interrupt flag: its memory is the same, and so are its bytes
+abbrev pub HasOtherState : MachineView → MachineView → Type 0
+HasOtherState v u = u ≡ with_state u.world.regs u.world.vif v

@@ -8,7 +8,7 @@ ghost use Rattle.cpu_step.specs.Step.{client_step};
 ghost use Rattle.host_memory.specs.View.{MachineView};
 ghost use Rattle.fault_service.specs.Delivery.{iret_popped, real_delivery, software_interrupt};
 ghost use Rattle.fault_service.specs.RealFrames.{frame_fits};
-ghost use Rattle.fault_service.specs.Worlds.{its_world, world_delivery, world_interrupt, world_popped, world_step};
+ghost use Rattle.fault_service.specs.Worlds.{HasOtherState, its_world, world_delivery, world_interrupt, world_popped, world_step};
 
 /// What a step, an interrupt, an exception and a return make of the world depends on the world alone, and not on the bytes that hold it.
 pub fn every_answer_depends_on_the_world_alone()
@@ -27,6 +27,12 @@ pub fn every_answer_is_sound()
     ensures world_interrupt { (w u : World) (n len : ℕ) → IsSound w → world_interrupt w n len ≡ Ok u → IsSound u }
     ensures world_delivery { (w u : World) (f : Fault) → IsSound w → world_delivery w f ≡ Ok u → IsSound u }
     ensures world_popped { (w u : World) → IsSound w → world_popped w ≡ Ok u → IsSound u }
+{}
+
+/// A return changes registers and the virtual interrupt flag alone, and no byte of the memory; the mode stays.
+pub fn a_return_changes_registers_alone()
+    ensures state { (v u : MachineView) → iret_popped v ≡ Ok u → HasOtherState v u }
+    ensures mode { (w u : World) → world_popped w ≡ Ok u → u.mode ≡ w.mode }
 {}
 
 /// In real mode a frame can be popped exactly where its three words lie inside the stack segment.

@@ -14,7 +14,7 @@ mod tests;
 pub use exceptions::deliver;
 pub use interrupts::soft_int;
 pub use laws::{
-    a_real_frame_is_popped_where_it_fits, every_answer_depends_on_the_world_alone,
-    every_answer_is_sound,
+    a_real_frame_is_popped_where_it_fits, a_return_changes_registers_alone,
+    every_answer_depends_on_the_world_alone, every_answer_is_sound,
 };
 pub use returns::{can_pop_iret, pop_iret};

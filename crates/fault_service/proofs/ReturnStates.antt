@@ -1,0 +1,35 @@
+-- A return at a trap changes registers and the virtual interrupt flag alone, and no byte.
+use Rattle.std.proofs.Common.{◌≡◌, [], ap, ◌∙◌, subst, Option, None, Some, Result, Ok, Err}
+use Rattle.client_world.specs.declared.faults.Event.{Event}
+use Rattle.client_world.specs.declared.faults.Event.TheVariants.{Fault as fault}
+use Rattle.client_world.specs.declared.faults.Fault.{Fault}
+use Rattle.exec_flow.specs.Interrupts.{frame_bits}
+use Rattle.guest_space.proofs.Writes.{all_none}
+use Rattle.guest_space.specs.Pending.{all_written, first_refusal}
+use Rattle.host_memory.specs.View.{MachineView}
+use Rattle.insn_plan.specs.Act.{Pending}
+use Rattle.insn_plan.specs.Plan.{carried_out, settled, with_state}
+use Rattle.fault_service.specs.Delivery.{iret_popped}
+use Rattle.fault_service.specs.Worlds.{HasOtherState}
+use Rattle.fault_service.proofs.ReturnPlans.{WritesNothing, quiet_frame}
+use Rattle.fault_service.proofs.SoundAnswers.{return_was}
+
+granted_state : (o : Option Fault) (v x u : MachineView) → HasOtherState v x →
+    elim o as (λ _. Result MachineView Event) [ Some f ↦ Err (fault f) | None ↦ Ok x ] ≡ Ok u → HasOtherState v u
+granted_state None v x u same e = let is : x ≡ u = cc in subst (HasOtherState v) is same
+granted_state (Some f) v x u same e = absurd cc
+
+settled_state : (v u : MachineView) (p : Pending) → p.writes ≡ [] → settled v p ≡ Ok u → HasOtherState v u
+unfolding settled
+settled_state v u p none e =
+    granted_state (first_refusal v.world p.writes) v (with_state p.regs p.vif (all_written v p.writes)) u
+    (ap (with_state p.regs p.vif) (ap (all_written v) none ∙ all_none v)) e
+
+pub quiet_state : (v u : MachineView) (r : Result Pending Event) → WritesNothing r → carried_out v r ≡ Ok u → HasOtherState v u
+unfolding carried_out
+quiet_state v u (Ok p) none e = settled_state v u p none e
+quiet_state v u (Err f) none e = absurd cc
+
+pub return_state : (v u : MachineView) → iret_popped v ≡ Ok u → HasOtherState v u
+unfolding iret_popped
+return_state v u e = quiet_state v u _ (quiet_frame v.world (frame_bits v.world)) (return_was _ u e)

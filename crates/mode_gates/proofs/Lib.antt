@@ -1,0 +1,4 @@
+pub mod EntryRows
+pub mod FarAlone
+pub mod FarStates
+pub mod SoundGates

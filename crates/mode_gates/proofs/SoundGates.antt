@@ -1,0 +1,124 @@
+-- A far return at a trap and the entry lead from a sound world to a sound one.
+use Rattle.std.proofs.Common.{◌≡◌, ◌≢◌, ℕ, ◌+◌, ◌/◌, ◌%◌, ◌<◌, ◌≤◌, ◌^◌, true, slice_set, refl, subst, arith, Option, None, Some, Result, Ok, Err}
+use Rattle.client_world.specs.declared.descriptors.Desc.{Desc}
+use Rattle.client_world.specs.declared.descriptors.Origin.{Origin}
+use Rattle.client_world.specs.declared.descriptors.Origin.TheVariants.{Entry, Psp}
+use Rattle.client_world.specs.declared.host_frames.TheConstants.{DESCRIPTORS, FIRST_FREE_DESCRIPTOR}
+use Rattle.client_world.specs.declared.outcome.Exit.{Exit}
+use Rattle.client_world.specs.declared.registers.Mode.TheVariants.{Protected}
+use Rattle.client_world.specs.declared.registers.Regs.{Regs}
+use Rattle.client_world.specs.declared.registers.Width.{Width}
+use Rattle.client_world.specs.declared.registers.Width.TheVariants.{Sixteen}
+use Rattle.client_world.specs.declared.memory_map.TheConstants.{PSP_SEGMENT}
+use Rattle.client_world.specs.declared.selectors.TheConstants.{ENTRY_CODE, ENTRY_STACK, ENTRY_DATA, ENTRY_PSP, ENTRY_ENVIRONMENT}
+use Rattle.client_world.specs.Selector.{selector_of}
+use Rattle.client_world.specs.Services.{Served}
+use Rattle.client_world.specs.Soundness.{IsSound, HasSegments, SoundMegabyte, IsPlainOrigin}
+use Rattle.client_world.specs.World.{World}
+use Rattle.client_world.proofs.SoundWrites.{IsSound-dos, IsSound-mode, IsSound-regs, SoundMegabyte-set}
+use Rattle.cpu_step.proofs.FlowSegments.{far_frame_leaves}
+use Rattle.cpu_step.proofs.SegmentWords.{words_of}
+use Rattle.cpu_step.proofs.SoundSteps.{sound_by_plan}
+use Rattle.exec_flow.specs.FarTransfers.{far_frame_popped}
+use Rattle.exec_flow.specs.Interrupts.{frame_bits}
+use Rattle.guest_ram.specs.Bytes.{with_word}
+use Rattle.guest_space.proofs.HostRows.{IsSound-width}
+use Rattle.host_memory.specs.View.{MachineView}
+use Rattle.insn_plan.specs.Plan.{planned, carried_out}
+use Rattle.fault_service.specs.Worlds.{bare}
+use Rattle.fault_service.proofs.SoundAnswers.{return_was, sound_on_world}
+use Rattle.mode_gates.specs.Entry.{asked_width, code_at, data_at, after_first_entry, entry, entry_after, entry_registers, entry_rows, entry_answer, environment, environment_word, host_rows, with_carry}
+use Rattle.mode_gates.specs.FarFrames.{after_far_return, world_after_far_return}
+use Rattle.mode_gates.specs.Rows.{AreFreeFrom}
+use Rattle.mode_gates.proofs.EntryRows.{free_at_first, free_after, may_put}
+
+-- ---- the return address
+
+pub sound_far : (v u : MachineView) → IsSound v.world → after_far_return v ≡ Ok u → IsSound u.world
+unfolding after_far_return
+sound_far v u s e =
+    let act = far_frame_popped v.world (frame_bits v.world) 0 in
+    sound_by_plan v u act (planned v.world act) refl (far_frame_leaves v.world (frame_bits v.world) 0 (words_of v.world.regs s.segments)) s
+    (return_was (carried_out v (planned v.world act)) u e)
+
+pub sound_world_far : (w u : World) → IsSound w → world_after_far_return w ≡ Ok u → IsSound u
+unfolding world_after_far_return
+sound_world_far w u s e = sound_on_world (after_far_return (bare w)) u (λ v. sound_far (bare w) v s) e
+
+-- ---- the descriptors
+
+-- a sound world with a width, which has no descriptors from an index on
+record IsReady (w : World) (index : ℕ) : Type 0 where
+  pub sound : IsSound w
+  pub width : w.width ≢ None
+  pub free : AreFreeFrom w.descriptors index
+
+next_ready : (w : World) (index : ℕ) (d : Desc) (origin : Origin) → IsReady w index → FIRST_FREE_DESCRIPTOR ≤ index → index < DESCRIPTORS →
+    d.limit < 2 ^ 20 → IsPlainOrigin origin → IsReady (record w { descriptors = slice_set w.descriptors index (Some (d, origin)) }) (index + 1)
+next_ready w index d origin ready from to limit plain = record {
+  sound = (may_put w index d origin ready.sound ready.width from to limit plain ready.free).sound;
+  width = ready.width;
+  free = free_after w.descriptors index (Some (d, origin)) ready.free;
+}
+
+-- the world with the descriptors of the host, and with each of the client's besides
+abbrev with_row : World → ℕ → Desc → Origin → World
+with_row w index d origin = record w { descriptors = slice_set w.descriptors index (Some (d, origin)) }
+
+sound_rows : (w : World) (width : Width) → IsSound w → w.width ≡ None → IsSound (record w { width = Some width; descriptors = entry_rows w width })
+unfolding entry_rows
+sound_rows w width s e =
+    let w0 : World = record w { width = Some width; descriptors = host_rows w.descriptors width } in
+    let r0 : IsReady w0 64 = record { sound = IsSound-width w width s e; width = λ none. cc; free = free_at_first w width s e } in
+    let w1 = with_row w0 ENTRY_CODE (code_at w.regs.cs) Entry in
+    let r1 : IsReady w1 65 = next_ready w0 64 (code_at w.regs.cs) Entry r0 (omega arith) (omega arith) (omega arith) tt in
+    let w2 = with_row w1 ENTRY_STACK (data_at w.regs.ss 0xFFFF width) Entry in
+    let r2 : IsReady w2 66 = next_ready w1 65 (data_at w.regs.ss 0xFFFF width) Entry r1 (omega arith) (omega arith) (omega arith) tt in
+    let w3 = with_row w2 ENTRY_DATA (data_at w.regs.ds 0xFFFF width) Entry in
+    let r3 : IsReady w3 67 = next_ready w2 66 (data_at w.regs.ds 0xFFFF width) Entry r2 (omega arith) (omega arith) (omega arith) tt in
+    let w4 = with_row w3 ENTRY_PSP (data_at PSP_SEGMENT 0xFF Sixteen) Psp in
+    let r4 : IsReady w4 68 = next_ready w3 67 (data_at PSP_SEGMENT 0xFF Sixteen) Psp r3 (omega arith) (omega arith) (omega arith) tt in
+    (next_ready w4 68 (data_at (environment w) 0xFFFF Sixteen) Psp r4 (omega arith) (omega arith) (omega arith) tt).sound
+
+-- ---- the entry
+
+entry_segments : (r : Regs) → HasSegments (entry_registers r)
+unfolding entry_registers
+entry_segments r = record {
+  es = omega arith;
+  cs = omega arith;
+  ss = omega arith;
+  ds = omega arith;
+  fs = omega arith;
+  gs = omega arith;
+}
+
+pub sound_entered : (w : World) (width : Width) → IsSound w → w.width ≡ None → IsSound (after_first_entry w width)
+unfolding after_first_entry
+sound_entered w width s e =
+    let w1 : World = record w { width = Some width; descriptors = entry_rows w width } in
+    let s1 : IsSound w1 = sound_rows w width s e in
+    let dos = with_word w.dos environment_word (selector_of ENTRY_ENVIRONMENT) in
+    let m : SoundMegabyte dos = SoundMegabyte-set _ (environment_word + 1) (selector_of ENTRY_ENVIRONMENT / 0x100)
+    (SoundMegabyte-set w.dos environment_word (selector_of ENTRY_ENVIRONMENT % 0x100) s.megabyte (omega arith) (omega arith)) (omega arith) (omega arith) in
+    let w2 : World = record w1 { dos = dos } in
+    let s2 : IsSound w2 = IsSound-dos w1 dos s1 m in
+    let w3 : World = record w2 { mode = Protected } in
+    let s3 : IsSound w3 = IsSound-mode w2 Protected width s2 refl in
+    IsSound-regs w3 (entry_registers w.regs) s3 (entry_segments w.regs)
+
+sound_served : (o : Option Width) (w : World) → w.width ≡ o → IsSound w → IsSound (entry_answer o w).world
+sound_served None w e s = sound_entered w (asked_width w) s e
+sound_served (Some width) w e s =
+    IsSound-regs w (with_carry true w.regs) s
+    (record { es = s.segments.es; cs = s.segments.cs; ss = s.segments.ss; ds = s.segments.ds; fs = s.segments.fs; gs = s.segments.gs })
+
+sound_after : (r : Result World Exit) (s : Served) → ((u : World) → r ≡ Ok u → IsSound u) → entry_after r ≡ Ok s → IsSound s.world
+sound_after (Ok w) s sound e =
+    let same : entry_answer w.width w ≡ s = cc in
+    subst (λ (t : Served). IsSound t.world) same (sound_served w.width w refl (sound w refl))
+sound_after (Err exit) s sound e = absurd cc
+
+pub sound_entry : (w : World) (s : Served) → IsSound w → entry w ≡ Ok s → IsSound s.world
+unfolding entry
+sound_entry w s sound e = sound_after (world_after_far_return w) s (λ u. sound_world_far w u sound) e

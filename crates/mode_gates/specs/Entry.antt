@@ -1,0 +1,113 @@
+-- The entry to protected mode. Source: DPMI 0.9, INT 2Fh function 1687h, and "Mode Switching"; the indices of the descriptors, and that a
+-- second call is refused, are own.
+use Rattle.std.specs.Prelude.{ℕ, ◌+◌, ◌*◌, ◌%◌, Bool, true, false, nat_eq, if◌then◌else◌, List, None, Some, Ok, Err, slice_set}
+use Rattle.std.specs.declared.option.Option.{Option}
+use Rattle.std.specs.declared.result.Result.{Result}
+use Rattle.client_world.specs.declared.descriptors.Desc.{Desc}
+use Rattle.client_world.specs.declared.descriptors.Kind.TheVariants.{Code, Data}
+use Rattle.client_world.specs.declared.descriptors.Origin.TheVariants.{Entry, Psp}
+use Rattle.client_world.specs.declared.memory_map.TheConstants.{PARAGRAPH_SIZE, PSP_SEGMENT, SEGMENT_SIZE}
+use Rattle.client_world.specs.declared.outcome.Exit.{Exit}
+use Rattle.client_world.specs.declared.registers.Mode.TheVariants.{Protected}
+use Rattle.client_world.specs.declared.registers.Regs.{Regs}
+use Rattle.client_world.specs.declared.registers.Width.{Width}
+use Rattle.client_world.specs.declared.registers.Width.TheVariants.{Sixteen, ThirtyTwo}
+use Rattle.client_world.specs.declared.selectors.TheConstants.{HOST_CODE, HOST_STACKS, ENTRY_CODE, ENTRY_STACK, ENTRY_DATA, ENTRY_PSP, ENTRY_ENVIRONMENT}
+use Rattle.client_world.specs.declared.services.Carry.TheVariants.{Clear, Set}
+use Rattle.client_world.specs.Selector.{Row, selector_of}
+use Rattle.client_world.specs.Services.{Served}
+use Rattle.client_world.specs.Soundness.{host_code, host_stacks, is_wide}
+use Rattle.client_world.specs.World.{World}
+use Rattle.guest_ram.specs.Bytes.{word_of, with_word}
+use Rattle.mode_gates.specs.FarFrames.{world_after_far_return}
+
+-- the width that bit 0 of AX asks for
+abbrev pub asked_width : World → Width
+asked_width w = if nat_eq (w.regs.eax % 2) 0 then Sixteen else ThirtyTwo
+
+-- where the prefix has the segment of the environment, and then its selector
+abbrev pub environment_word : ℕ
+environment_word = PSP_SEGMENT * PARAGRAPH_SIZE + 0x2C
+
+abbrev pub environment : World → ℕ
+environment w = word_of w.dos environment_word
+
+-- a descriptor of what starts at a real segment, with a limit in bytes
+abbrev pub code_at : ℕ → Desc
+code_at segment = record {
+  base = segment * PARAGRAPH_SIZE;
+  limit = 0xFFFF;
+  gran = false;
+  size = false;
+  avl = false;
+  present = true;
+  kind = Code;
+}
+
+abbrev pub data_at : ℕ → ℕ → Width → Desc
+data_at segment limit width = record {
+  base = segment * PARAGRAPH_SIZE;
+  limit = limit;
+  gran = false;
+  size = is_wide width;
+  avl = false;
+  present = true;
+  kind = Data true false;
+}
+
+-- the rows with another one at an index
+abbrev pub with_row : ℕ → Row → List Row → List Row
+with_row index row rows = slice_set rows index row
+
+-- the rows with the two descriptors of the host
+abbrev pub host_rows : List Row → Width → List Row
+host_rows rows width = with_row HOST_STACKS (host_stacks width) (with_row HOST_CODE host_code rows)
+
+-- and with the five of the client: code, stack and data where the real registers point, the prefix and the environment
+unfoldable pub entry_rows : World → Width → List Row
+entry_rows w width =
+    with_row ENTRY_ENVIRONMENT (Some (data_at (environment w) 0xFFFF Sixteen, Psp))
+    (with_row ENTRY_PSP (Some (data_at PSP_SEGMENT 0xFF Sixteen, Psp))
+    (with_row ENTRY_DATA (Some (data_at w.regs.ds 0xFFFF width, Entry))
+    (with_row ENTRY_STACK (Some (data_at w.regs.ss 0xFFFF width, Entry))
+    (with_row ENTRY_CODE (Some (code_at w.regs.cs, Entry))
+    (host_rows w.descriptors width)))))
+
+-- the registers with carry
+abbrev pub with_carry : Bool → Regs → Regs
+with_carry on r = record r { flags = record r.flags { cf = on } }
+
+-- the registers after the entry: the selectors of the descriptors, and SP alone
+unfoldable pub entry_registers : Regs → Regs
+entry_registers r = record (with_carry false r) {
+  cs = selector_of ENTRY_CODE;
+  ss = selector_of ENTRY_STACK;
+  ds = selector_of ENTRY_DATA;
+  es = selector_of ENTRY_PSP;
+  fs = 0;
+  gs = 0;
+  esp = r.esp % SEGMENT_SIZE;
+}
+
+-- a world of real mode after its first entry
+unfoldable pub after_first_entry : World → Width → World
+after_first_entry w width = record w {
+  mode = Protected;
+  width = Some width;
+  descriptors = entry_rows w width;
+  dos = with_word w.dos environment_word (selector_of ENTRY_ENVIRONMENT);
+  regs = entry_registers w.regs;
+}
+
+-- the first entry makes a width; a later one is refused, and stays in real mode
+abbrev pub entry_answer : Option Width → World → Served
+entry_answer None w = record { carry = Clear; world = after_first_entry w (asked_width w) }
+entry_answer (Some width) w = record { carry = Set; world = record w { regs = with_carry true w.regs } }
+
+-- first the return address is popped
+abbrev pub entry_after : Result World Exit → Result Served Exit
+entry_after (Ok w) = Ok (entry_answer w.width w)
+entry_after (Err exit) = Err exit
+
+unfoldable pub entry : World → Result Served Exit
+entry w = entry_after (world_after_far_return w)

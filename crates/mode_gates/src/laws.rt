@@ -1,0 +1,26 @@
+// What holds of every gate. Each is a function with nothing to do: its contract is the law.
+ghost use Rattle.std.specs.Prelude.{◌≡◌, Ok};
+ghost use Rattle.client_world.specs.Services.{Served};
+ghost use Rattle.client_world.specs.Soundness.{IsSound};
+ghost use Rattle.client_world.specs.World.{World};
+ghost use Rattle.fault_service.specs.Worlds.{HasOtherState, its_world};
+ghost use Rattle.host_memory.specs.View.{MachineView};
+ghost use Rattle.mode_gates.specs.Entry.{entry};
+ghost use Rattle.mode_gates.specs.FarFrames.{after_far_return, world_after_far_return};
+
+/// What a far return at a trap makes of the world depends on the world alone.
+#[tactic(auto, using(crate::proofs::FarAlone::far_alone))]
+pub fn a_far_return_depends_on_the_world_alone()
+    ensures { (v : MachineView) → its_world (after_far_return v) ≡ world_after_far_return v.world }
+{}
+
+/// A far return at a trap changes registers alone, and no byte of the memory.
+pub fn a_far_return_changes_registers_alone()
+    ensures { (v u : MachineView) → after_far_return v ≡ Ok u → HasOtherState v u }
+{}
+
+/// A far return at a trap and the entry lead from a sound world to a sound one.
+pub fn every_gate_is_sound()
+    ensures far { (w u : World) → IsSound w → world_after_far_return w ≡ Ok u → IsSound u }
+    ensures entry { (w : World) (s : Served) → IsSound w → entry w ≡ Ok s → IsSound s.world }
+{}

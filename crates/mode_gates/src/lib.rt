@@ -1,0 +1,17 @@
+//! The gates between the modes: the entry to protected mode, and the frame of a far call at a trap.
+//! It promises that each leaves the machine that its definition names, or gives its exit and changes nothing; and that a sound world leads to
+//! a sound one. It is built on the plans of instructions and on `fault_service`.
+#![tactic(auto)]
+
+mod entering;
+mod far_frames;
+mod laws;
+#[cfg(test)]
+mod tests;
+
+pub use entering::{asked_width, entry, with_carry};
+pub use far_frames::pop_far;
+pub use laws::{
+    a_far_return_changes_registers_alone, a_far_return_depends_on_the_world_alone,
+    every_gate_is_sound,
+};

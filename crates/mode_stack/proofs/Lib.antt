@@ -1,0 +1,2 @@
+pub mod PutRuns
+pub mod Trips

@@ -1,0 +1,5 @@
+use Rattle.mode_stack.proofs.Trips.{record_back}
+use Rattle.mode_stack.proofs.stack.every_record_is_read_from_its_bytes.Goals as goal
+
+pub returns : goal.returns
+returns c = record_back c.a_flags_image_gives_its_flags_back.ensures.flags

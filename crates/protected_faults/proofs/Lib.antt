@@ -1,0 +1,9 @@
+pub mod FrameBytes
+pub mod KeptRecords
+pub mod MemoryLaws
+pub mod Plans
+pub mod SoundAnswers
+pub mod FrameItems
+pub mod RoundTrip
+pub mod ByMode
+pub mod StepMemory

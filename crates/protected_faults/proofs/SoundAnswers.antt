@@ -1,0 +1,186 @@
+-- A delivery and a return lead from a sound world to a sound one, and depend on the world alone.
+use Rattle.std.proofs.Common.{◌≡◌, ◌≢◌, ℕ, zero, suc, ◌-◌, ◌<◌, ◌≤◌, inl, inr, Bool, true, false, List, [], ◌∷◌, ◌++◌, length, take, refl, ap, ◌∙◌, sym, subst, arith, if◌then◌else◌, Option, None, Some, Result, Ok, Err}
+use Rattle.std.specs.Prelude.{nat_le, slice_index}
+use Rattle.std.proofs.lemmas.Bool.{cases_lt}
+use Rattle.std.proofs.lemmas.List.{get_or_past, length-append, length-take-le}
+use Rattle.client_world.specs.declared.calls.Record.TheVariants.{Exc}
+use Rattle.client_world.specs.declared.faults.Event.{Event}
+use Rattle.client_world.specs.declared.faults.Fault.{Fault}
+use Rattle.client_world.specs.declared.limits.TheConstants.{GREATEST_DEPTH}
+use Rattle.client_world.specs.declared.outcome.Exit.{Exit}
+use Rattle.client_world.specs.declared.outcome.Exit.TheVariants as exits
+use Rattle.client_world.specs.declared.registers.Mode.TheVariants.{Protected}
+use Rattle.client_world.specs.declared.registers.Width.{Width}
+use Rattle.client_world.specs.declared.segments.FarPtr.{FarPtr}
+use Rattle.client_world.specs.declared.segments.SegReg.TheVariants.{Cs}
+use Rattle.client_world.specs.Loading.{load_fault}
+use Rattle.client_world.specs.Soundness.{IsSound, SoundWidth, HasSegments}
+use Rattle.client_world.specs.World.{World, depth}
+use Rattle.client_world.proofs.SoundWrites.{IsSound-regs, IsSound-vif}
+use Rattle.exec_flow.specs.Interrupts.{frame_bits}
+use Rattle.guest_ram.specs.Bytes.{AreBytes}
+use Rattle.guest_space.specs.Pending.{number_bytes}
+use Rattle.guest_space.proofs.FarPuts.{sound_far, far_alone}
+use Rattle.guest_space.proofs.MemoryAlone.{other_far}
+use Rattle.guest_space.specs.VectorLists.{vector_at}
+use Rattle.cpu_step.proofs.FlowSegments.{code_is_word}
+use Rattle.cpu_step.proofs.SoundWritten.{number_is_bytes}
+use Rattle.fault_service.proofs.SoundAnswers.{code_is_named_by_a_word}
+use Rattle.fault_service.specs.Delivery.{unserved}
+use Rattle.fault_service.specs.Worlds.{bare, its_world}
+use Rattle.insn_plan.specs.Act.{Pending}
+use Rattle.guest_space.proofs.RecordWrites.{IsSound-calls, has_width}
+use Rattle.host_memory.specs.View.{MachineView}
+use Rattle.insn_plan.specs.Plan.{carried_out, planned}
+use Rattle.mode_stack.specs.Stack.{top}
+use Rattle.protected_faults.specs.Delivery.{after_delivery, delivery_to, exception_frame, exception_items, frame_address, frame_size, handler_regs, items_bytes, protected_delivery}
+use Rattle.protected_faults.specs.Return.{exception_popped, exception_return, is_exception, returned_or_bad}
+use Rattle.protected_faults.specs.Worlds.{world_exception_return, world_protected_delivery}
+use Rattle.protected_faults.proofs.KeptRecords.{exception_there}
+use Rattle.protected_faults.proofs.MemoryLaws.{is_delivered, frame_written, depth_kept}
+use Rattle.protected_faults.proofs.Plans.{Restores, OfPlan, of_popped, pop_restores, settled_is}
+
+-- ---- what is written are bytes
+
+no_bytes : AreBytes []
+no_bytes at = omega arith
+
+one_byte : (byte : ℕ) (bytes : List ℕ) → byte < 0x100 → AreBytes bytes → AreBytes (byte ∷ bytes)
+one_byte byte bytes small rest zero = small
+one_byte byte bytes small rest (suc at) = rest at
+
+join_bytes : (xs ys : List ℕ) → AreBytes xs → AreBytes ys → AreBytes (xs ++ ys)
+join_bytes [] ys one other = other
+join_bytes (x ∷ xs) ys one other = one_byte x (xs ++ ys) (one 0) (join_bytes xs ys (λ at. one (suc at)) other)
+
+item_is_bytes : (bits v : ℕ) → AreBytes (number_bytes bits v)
+item_is_bytes bits v at = elim (cases_lt at (length (number_bytes bits v))) [
+  | inl inside ↦ number_is_bytes bits v at inside
+  | inr past ↦ (let none : slice_index (number_bytes bits v) at ≡ 0 = get_or_past (number_bytes bits v) at 0 past in omega arith)
+]
+
+items_are_bytes : (bits : ℕ) (items : List ℕ) → AreBytes (items_bytes bits items)
+items_are_bytes bits [] = no_bytes
+items_are_bytes bits (x ∷ xs) = join_bytes (number_bytes bits x) (items_bytes bits xs) (item_is_bytes bits x) (items_are_bytes bits xs)
+
+frame_is_bytes : (w : World) (f : Fault) → AreBytes (exception_frame w f)
+unfolding exception_frame
+frame_is_bytes w f = items_are_bytes (frame_bits w) (exception_items w f)
+
+-- ---- a delivery
+
+handler_segments : (w : World) (p : FarPtr) → HasSegments w.regs → p.sel < 0x10000 → HasSegments (handler_regs w p)
+handler_segments w p s small = record {
+  es = s.es;
+  cs = code_is_word w p.sel small;
+  ss = omega arith;
+  ds = s.ds;
+  fs = s.fs;
+  gs = s.gs;
+}
+
+pub protected_by : (width : Option Width) (w : World) → w.mode ≡ Protected → SoundWidth width w → width ≢ None
+protected_by None w is s = λ e. (let real = s.mode in cc)
+protected_by (Some width) w is s = λ e. cc
+
+width_kept : (v : MachineView) (f : Fault) → (frame_written v f).world.width ≡ v.world.width
+unfolding frame_written
+width_kept v f = ap (λ (w : World). w.width) (other_far v (frame_address v.world) (frame_size v.world) (exception_frame v.world f))
+
+sound_frame : (v : MachineView) (f : Fault) → IsSound v.world → IsSound (frame_written v f).world
+unfolding frame_written
+sound_frame v f s = sound_far v (frame_address v.world) (frame_size v.world) (exception_frame v.world f) s (frame_is_bytes v.world f)
+
+pub sound_delivered : (v : MachineView) (f : Fault) (p : FarPtr) → IsSound v.world → v.world.width ≢ None → depth v.world < GREATEST_DEPTH → p.sel < 0x10000 →
+    IsSound (after_delivery v f p).world
+unfolding after_delivery frame_written
+sound_delivered v f p s some room small =
+    let x = (frame_written v f).world in
+    let calls = x.calls ++ Exc f.number f.code ∷ [] in
+    let few : length calls ≤ GREATEST_DEPTH = omega (arith, length-append x.calls (Exc f.number f.code ∷ []), depth_kept v f, room) in
+    IsSound-vif (record x { calls = calls; regs = handler_regs v.world p }) false
+    (IsSound-regs (record x { calls = calls }) (handler_regs v.world p)
+    (IsSound-calls x calls (sound_frame v f s) (λ e. some (sym (width_kept v f) ∙ e)) few) (handler_segments v.world p s.segments small))
+
+pub sound_delivery : (v u : MachineView) (f : Fault) → IsSound v.world → v.world.mode ≡ Protected → protected_delivery v f ≡ Ok u → IsSound u.world
+sound_delivery v u f s mode e =
+    let done = is_delivered v u f e in
+    let p = vector_at v.world.exception_vectors f.number in
+    subst (λ (x : MachineView). IsSound x.world) (sym done.is)
+    (sound_delivered v f p s (protected_by v.world.width v.world mode s.width) done.room
+    (code_is_named_by_a_word v.world.descriptors p.sel p.off false s.descriptors.indices done.loads))
+
+-- ---- a return
+
+sound_returned : (r : Result MachineView Event) (v u : MachineView) → IsSound v.world → 0 < depth v.world → ((x : MachineView) → r ≡ Ok x → Restores v x) →
+    returned_or_bad r ≡ Ok u → IsSound u.world
+sound_returned (Ok x) v u s some restores e =
+    let h = restores x refl in
+    let calls = take (depth v.world - 1) v.world.calls in
+    let depths = s.depth in
+    let few : length calls ≤ GREATEST_DEPTH = omega (arith, length-take-le (depth v.world - 1) v.world.calls (omega arith), depths) in
+    let sound = IsSound-calls (record v.world { regs = h.regs; vif = h.vif }) calls
+    (IsSound-vif (record v.world { regs = h.regs }) h.vif (IsSound-regs v.world h.regs s (h.segments s.segments))) (has_width v.world s some) few in
+    subst IsSound (ap (λ (t : MachineView). record t.world { calls = take (depth t.world - 1) t.world.calls }) (sym h.is) ∙ ap world_of e) sound
+  where
+    world_of : Result MachineView Exit → World
+    world_of (Ok t) = t.world
+    world_of (Err g) = v.world
+sound_returned (Err g) v u s some restores e = absurd cc
+
+where_exception : (exception : Bool) (v u : MachineView) → IsSound v.world → is_exception (top v.world) ≡ exception →
+    (if exception then returned_or_bad (carried_out v (planned v.world (exception_popped v.world (frame_bits v.world)))) else Err exits.Stray) ≡ Ok u →
+    IsSound u.world
+where_exception true v u s is e =
+    sound_returned (carried_out v (planned v.world (exception_popped v.world (frame_bits v.world)))) v u s (exception_there v.world is)
+    (λ x was. pop_restores v x (frame_bits v.world) was) e
+where_exception false v u s is e = absurd cc
+
+pub sound_return : (v u : MachineView) → IsSound v.world → exception_return v ≡ Ok u → IsSound u.world
+unfolding exception_return
+sound_return v u s e = where_exception (is_exception (top v.world)) v u s refl e
+
+-- ---- of worlds
+
+delivered_alone : (v : MachineView) (f : Fault) (p : FarPtr) → (after_delivery v f p).world ≡ (after_delivery (bare v.world) f p).world
+unfolding after_delivery
+delivered_alone v f p =
+    ap (λ (x : World). record x { calls = x.calls ++ Exc f.number f.code ∷ []; regs = handler_regs v.world p; vif = false })
+    (far_alone v (bare v.world) (frame_address v.world) (frame_size v.world) (exception_frame v.world f) refl)
+
+by_fault : (o : Option Fault) (x y : MachineView) (g : Exit) → x.world ≡ y.world →
+    its_world (elim o as (λ _. Result MachineView Exit) [ Some h ↦ Err g | None ↦ Ok x ]) ≡ its_world (elim o as (λ _. Result MachineView Exit) [ Some h ↦ Err g | None ↦ Ok y ])
+by_fault None x y g same = ap (λ (w : World). Ok w) same
+by_fault (Some h) x y g same = refl
+
+by_depth : (deep : Bool) (r s : Result MachineView Exit) → its_world r ≡ its_world s →
+    its_world (if deep then Err exits.Deep else r) ≡ its_world (if deep then Err exits.Deep else s)
+by_depth true r s same = refl
+by_depth false r s same = same
+
+pub delivery_alone : (v : MachineView) (f : Fault) → its_world (protected_delivery v f) ≡ world_protected_delivery v.world f
+unfolding protected_delivery world_protected_delivery
+delivery_alone v f =
+    let p = vector_at v.world.exception_vectors f.number in
+    by_depth (nat_le GREATEST_DEPTH (depth v.world)) (delivery_to v f p) (delivery_to (bare v.world) f p)
+    (by_fault (load_fault v.world.descriptors Cs p.sel p.off false) (after_delivery v f p) (after_delivery (bare v.world) f p) (unserved f) (delivered_alone v f p))
+
+returned_alone : (v : MachineView) (r : Result Pending Event) → OfPlan v.world.regs r →
+    its_world (returned_or_bad (carried_out v r)) ≡ its_world (returned_or_bad (carried_out (bare v.world) r))
+unfolding carried_out
+returned_alone v (Ok p) h =
+    ap (λ (r : Result MachineView Event). its_world (returned_or_bad r)) (settled_is v p h.writes)
+    ∙ ap (λ (r : Result MachineView Event). its_world (returned_or_bad r)) (sym (settled_is (bare v.world) p h.writes))
+returned_alone v (Err g) h = refl
+
+by_exception : (exception : Bool) (r s : Result MachineView Exit) → its_world r ≡ its_world s →
+    its_world (if exception then r else Err exits.Stray) ≡ its_world (if exception then s else Err exits.Stray)
+by_exception true r s same = same
+by_exception false r s same = refl
+
+pub return_alone : (v : MachineView) → its_world (exception_return v) ≡ world_exception_return v.world
+unfolding exception_return world_exception_return
+return_alone v =
+    let plan = planned v.world (exception_popped v.world (frame_bits v.world)) in
+    by_exception (is_exception (top v.world)) (returned_or_bad (carried_out v plan)) (returned_or_bad (carried_out (bare v.world) plan))
+    (returned_alone v plan (of_popped v.world (frame_bits v.world)).plan)

@@ -1,0 +1,33 @@
+-- Which bytes of the memory a delivery and a return change. Source: own.
+use Rattle.std.specs.Prelude.{◌≡◌, ℕ, ◌+◌, ◌-◌, ◌*◌, ◌<◌, ◌≤◌, true, List, [], length, slice_index_or, Ok}
+use Rattle.client_world.specs.declared.faults.Fault.{Fault}
+use Rattle.client_world.specs.declared.memory_map.TheConstants.{PROTECTED_STACKS, PROTECTED_STACK_SIZE}
+use Rattle.client_world.specs.declared.place.Place.{Place}
+use Rattle.client_world.specs.declared.place.Place.TheVariants.{Dos, Nothing}
+use Rattle.client_world.specs.Access.{far_access}
+use Rattle.client_world.specs.World.{World, depth}
+use Rattle.guest_space.specs.Records.{OnlyAtAndRow}
+use Rattle.guest_space.specs.Transfer.{places_of_access}
+use Rattle.host_memory.specs.View.{MachineView}
+use Rattle.protected_faults.specs.Delivery.{frame_address, frame_offset, frame_size, protected_delivery}
+use Rattle.protected_faults.specs.Return.{exception_return}
+
+-- the places of the frame of an exception
+abbrev pub frame_places : World → List Place
+frame_places w = places_of_access (far_access w (frame_address w) (frame_size w) true)
+
+-- each byte of the frame lies in the megabyte, in the host's stack of the depth
+pub record LiesInStack (w : World) : Type 0 where
+  pub size : length (frame_places w) ≡ frame_size w
+  pub each : (i : ℕ) → i < frame_size w → slice_index_or (frame_places w) i Nothing ≡ Dos (PROTECTED_STACKS + frame_offset w + i)
+  pub from : PROTECTED_STACK_SIZE * depth w ≤ frame_offset w
+  pub to : frame_offset w + frame_size w ≡ PROTECTED_STACK_SIZE * (depth w + 1)
+
+-- a delivery changes at most the bytes of its frame and those of its record's row
+abbrev pub DeliveryLaw : MachineView → Type 0
+DeliveryLaw v = (f : Fault) (u : MachineView) → protected_delivery v f ≡ Ok u →
+    OnlyAtAndRow (frame_places v.world) (depth v.world) v.bytes u.bytes
+
+-- a return changes at most the bytes of the row of the record that it pops
+abbrev pub ReturnLaw : MachineView → Type 0
+ReturnLaw v = (u : MachineView) → exception_return v ≡ Ok u → OnlyAtAndRow [] (depth v.world - 1) v.bytes u.bytes
