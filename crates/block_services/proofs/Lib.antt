@@ -1,0 +1,11 @@
+mod EachService
+mod FreeLaws
+mod GapLaws
+mod GoodBlocks
+mod HandleLaws
+mod KeptServices
+mod PageLaws
+mod RoomLaws
+mod SoundServices
+mod StayLaws
+mod ViewLaws

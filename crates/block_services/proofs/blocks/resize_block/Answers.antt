@@ -1,0 +1,18 @@
+use Rattle.std.proofs.Common.{sym, arith}
+use Rattle.client_world.specs.World.{block_at}
+use Rattle.block_services.proofs.RoomLaws.{can_size, seen_held}
+use Rattle.block_services.proofs.blocks.resize_block.Goals as goal
+
+pub block_size-requires-clause-room : goal.block_size-requires-clause-room
+block_size-requires-clause-room c =
+    let w = c.args.m.now.world in
+    let handle = c.si_di-handle.result in
+    let free = c.free_pages.ensures.free in
+    let enough = c.if-free_pages-saturating_sub.false in
+    let less = c.saturating_sub.ensures in
+    let size = c.if-size-eq0.false in
+    let pages = c.pages_for-pages.ensures in
+    let count = c.in-Some.ensures.pages in
+    can_size w.blocks w.budget handle c.in_ok-base-in-Some.base c.pages_for-pages.result c.soundness.ensures.blocks
+    (seen_held (block_at w.blocks handle) (c.in-Some.at, c.in-Some.count) (sym c.in-Some.ensures.row))
+    c.in_ok-base-in-Some.ensures (omega arith) (omega arith)

@@ -1,0 +1,5 @@
+use Rattle.block_services.proofs.KeptServices.{kept_service}
+use Rattle.block_services.proofs.laws.every_block_service_keeps_the_rest.Goals as goal
+
+pub returns : goal.returns
+returns c = kept_service

@@ -1,0 +1,4 @@
+pub mod Free
+pub mod Gaps
+pub mod Pages
+pub mod Rows

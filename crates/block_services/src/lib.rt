@@ -1,0 +1,20 @@
+//! The services of INT 31h on memory blocks and their pages.
+//! It promises that each returns the carry and leaves the world of its definition, and that a refusal changes nothing.
+//! It stands on the memory blocks of `guest_space` and on `service_rows`.
+#![tactic(auto)]
+
+mod blocks;
+mod dispatch;
+mod free;
+mod gaps;
+mod laws;
+mod pages;
+mod regions;
+#[cfg(test)]
+mod tests;
+
+pub use dispatch::serve;
+pub use laws::{
+    a_block_that_shrinks_stays, every_block_service_is_sound, every_block_service_keeps_the_rest,
+    the_table_gives_the_largest_block,
+};

@@ -1,0 +1,187 @@
+// Worked calls, one after another on one machine with a budget of 8 pages: what each returns, and the registers after it.
+ghost use Rattle.std.specs.Prelude.{◌<◌};
+
+use crate::serve;
+use client_world::{Carry, Mode, Regs, Width};
+use guest_space::Machine;
+use std::test::Fail;
+
+// AX, EBX, ECX, ESI, EDI of a call, and the last four after it, or none where it is refused.
+const CALLS: [([u32; 5], Option<[u32; 4]>); 44] = [
+    ([0x0501, 0, 0, 0, 0], None),
+    ([0x0501, 0, 0x8001, 0, 0], None),
+    (
+        [0x0501, 0x9999_0000, 0x8888_0001, 0x7777_FFFF, 0x6666_FFFF],
+        Some([0x9999_0040, 0x8888_0000, 0x7777_0000, 0x6666_0001]),
+    ),
+    ([0x0501, 0, 0x2000, 9, 9], Some([0x40, 0x1000, 0, 2])),
+    ([0x0501, 0, 0x1001, 9, 9], Some([0x40, 0x3000, 0, 3])),
+    ([0x0502, 5, 5, 0, 2], Some([5, 5, 0, 2])),
+    ([0x0502, 0, 0, 0, 2], None),
+    ([0x0502, 0, 0, 0, 0], None),
+    ([0x0502, 0, 0, 1, 1], None),
+    ([0x0501, 0, 0x3000, 0, 0], Some([0x40, 0x5000, 0, 2])),
+    ([0x0503, 0, 0x1001, 0, 1], Some([0x40, 0, 0, 1])),
+    ([0x0600, 0x40, 0x3000, 0, 1], Some([0x40, 0x3000, 0, 1])),
+    ([0x0503, 0, 0x3000, 0, 3], Some([0x40, 0x8000, 0, 3])),
+    ([0x0601, 0x40, 0x8000, 0, 1], Some([0x40, 0x8000, 0, 1])),
+    ([0x0601, 0x40, 0x8000, 0, 1], None),
+    ([0x0503, 0, 0x3001, 0, 3], None),
+    ([0x0503, 0, 0, 0, 3], None),
+    ([0x0503, 0, 1, 0, 9], None),
+    ([0x0503, 0, 1, 0, 3], Some([0x40, 0x8000, 0, 3])),
+    ([0x0600, 0x10, 0xFFFF, 0, 1], Some([0x10, 0xFFFF, 0, 1])),
+    ([0x0600, 0x10, 0xFFFF, 0, 2], None),
+    ([0x0600, 0xFFFF, 0xFFFF, 0, 0], Some([0xFFFF, 0xFFFF, 0, 0])),
+    ([0x0600, 0xFFFF, 0xFFFF, 0, 2], None),
+    ([0x0600, 0x40, 0x0FFF, 0, 2], Some([0x40, 0x0FFF, 0, 2])),
+    ([0x0601, 0x40, 0x1000, 0, 1], Some([0x40, 0x1000, 0, 1])),
+    ([0x0601, 0x40, 0, 0, 0x2000], None),
+    ([0x0601, 0x40, 0, 0, 1], Some([0x40, 0, 0, 1])),
+    ([0x0601, 0x40, 0, 0, 1], None),
+    ([0x0602, 0, 0, 0, 1], Some([0, 0, 0, 1])),
+    ([0x0602, 0, 0, 0, 1], None),
+    ([0x0603, 0, 0, 0, 0x1001], None),
+    ([0x0603, 0, 0, 0, 1], Some([0, 0, 0, 1])),
+    ([0x0603, 0, 0, 0, 1], None),
+    ([0x0602, 0x10, 0xFFFF, 0, 2], None),
+    ([0x0602, 0x10, 0xFFFF, 0, 1], Some([0x10, 0xFFFF, 0, 1])),
+    (
+        [0x0604, 0xAAAA_FFFF, 0xBBBB_FFFF, 3, 4],
+        Some([0xAAAA_0000, 0xBBBB_1000, 3, 4]),
+    ),
+    ([0x0702, 0x40, 0, 0, 0x2000], Some([0x40, 0, 0, 0x2000])),
+    ([0x0702, 0, 0, 0, 1], None),
+    ([0x0703, 0x40, 0, 0, 0x2001], None),
+    ([0x0703, 0x40, 0, 0, 0x2000], Some([0x40, 0, 0, 0x2000])),
+    ([0x0500, 0, 0, 0, 0], None),
+    ([0x0504, 0, 0, 0, 0], None),
+    ([0x0800, 0, 0, 0, 0], None),
+    ([0x0A00, 0, 0, 0, 0], None),
+];
+
+fn registers(call: [u32; 5]) -> Regs {
+    let mut r = Regs::ZERO;
+    r.eax = call[0];
+    r.ebx = call[1];
+    r.ecx = call[2];
+    r.esi = call[3];
+    r.edi = call[4];
+    r
+}
+
+#[test]
+#[tactic(auto, unfolding(host_memory::specs::Blank::blank_world))]
+fn calls_answer_as_their_rows_say(rt: HostRuntime) -> Result<(), Fail> {
+    let mut m = Machine::new(rt.alloc(), 8)?;
+    m.set_width(Width::Sixteen);
+    m.set_mode(Mode::Protected);
+    for (number, &(before, after)) in CALLS.iter().enumerate() {
+        m.set_regs(registers(before));
+        let ax = (before[0] % 0x1_0000) as u16;
+        assert_eq!(rt; m.mode(), Mode::Protected);
+        let carry = if after.is_some() {
+            Carry::Clear
+        } else {
+            Carry::Set
+        };
+        assert_eq!(rt; serve(&mut m, ax), carry, "call {number}");
+        let r = m.regs();
+        assert_eq!(rt; r.eax, before[0], "call {number}");
+        assert_eq!(rt;
+            [r.ebx, r.ecx, r.esi, r.edi],
+            after.unwrap_or([before[1], before[2], before[3], before[4]]),
+            "call {number}"
+        );
+    }
+    Ok(())
+}
+
+// The numbers of the table of function 0500h at ES:DI, in the segment of the host's stacks, at 000E4000h.
+const STACKS: u16 = 0x008F;
+
+const TABLE: u32 = 0xE_4000;
+
+fn number(m: &Machine, place: u32) -> u32
+    requires { place < 12 }
+{
+    let at = TABLE + 4 * place;
+    u32::from(m.dos16(at)) + 0x1_0000 * u32::from(m.dos16(at + 2))
+}
+
+// AX, BX, CX, SI, DI of a call, and the table after it.
+const TABLES: [([u32; 5], [u32; 12]); 3] = [
+    (
+        [0x0604, 0, 0, 0, 0],
+        [
+            0x8000,
+            8,
+            8,
+            0x4000,
+            8,
+            8,
+            8,
+            0x4000,
+            0,
+            0xFFFF_FFFF,
+            0xFFFF_FFFF,
+            0xFFFF_FFFF,
+        ],
+    ),
+    (
+        [0x0501, 0, 0x3000, 0, 0],
+        [
+            0x5000,
+            5,
+            5,
+            0x4000,
+            8,
+            5,
+            8,
+            0x3FFD,
+            0,
+            0xFFFF_FFFF,
+            0xFFFF_FFFF,
+            0xFFFF_FFFF,
+        ],
+    ),
+    (
+        [0x0600, 0x40, 0x1000, 0, 1],
+        [
+            0x5000,
+            5,
+            5,
+            0x4000,
+            7,
+            5,
+            8,
+            0x3FFD,
+            0,
+            0xFFFF_FFFF,
+            0xFFFF_FFFF,
+            0xFFFF_FFFF,
+        ],
+    ),
+];
+
+#[test]
+#[tactic(auto, unfolding(host_memory::specs::Blank::blank_world))]
+fn the_table_gives_what_is_free(rt: HostRuntime) -> Result<(), Fail> {
+    let mut m = Machine::new(rt.alloc(), 8)?;
+    m.set_width(Width::Sixteen);
+    m.set_mode(Mode::Protected);
+    for &(call, table) in TABLES.iter() {
+        m.set_regs(registers(call));
+        assert_eq!(rt; m.mode(), Mode::Protected);
+        assert_eq!(rt; serve(&mut m, (call[0] % 0x1_0000) as u16), Carry::Clear);
+        let mut r = registers([0x0500, 0, 0, 0, 0]);
+        r.es = STACKS;
+        m.set_regs(r);
+        assert_eq!(rt; m.mode(), Mode::Protected);
+        assert_eq!(rt; serve(&mut m, 0x0500), Carry::Clear);
+        for (place, &wanted) in table.iter().enumerate() {
+            assert_eq!(rt; number(&m, place as u32), wanted, "number {place}");
+        }
+    }
+    Ok(())
+}

@@ -1,0 +1,10 @@
+pub mod EachService
+pub mod FarBytes
+pub mod KeptServices
+pub mod LimitLaws
+pub mod PutLaws
+pub mod RowLaws
+pub mod RunLaws
+pub mod SegmentLaws
+pub mod SoundServices
+pub mod WithRun

@@ -1,0 +1,179 @@
+-- Where a row may be put.
+use Rattle.std.proofs.Common.{◌≡◌, ◌≢◌, ◌≤◌, ◌^◌, ℕ, ◌<◌, Bool, true, false, inl, inr, List, refl, ◌∙◌, sym, subst, ap, arith, Option, None, Some}
+use Rattle.std.specs.Option.{is_some}
+use Rattle.std.proofs.lemmas.Bool.{cases_lt, true≢false}
+use Rattle.std.proofs.lemmas.List.{get_or_past}
+use Rattle.client_world.specs.declared.descriptors.Desc.{Desc}
+use Rattle.client_world.specs.declared.descriptors.Origin.{Origin}
+use Rattle.client_world.specs.declared.descriptors.Origin.TheVariants.{Own, Low, Entry, Psp, Segment, Dos, Host}
+use Rattle.client_world.specs.declared.registers.Mode.TheVariants.{Real, Protected}
+use Rattle.client_world.specs.declared.registers.Width.{Width}
+use Rattle.client_world.specs.declared.host_frames.TheConstants.{DESCRIPTORS, FIRST_FREE_DESCRIPTOR}
+use Rattle.client_world.specs.FreeRuns.{IsFreeRunOf}
+use Rattle.client_world.specs.Selector.{Row, FitsRow, row_at_index, row_of_selector, index_of, is_local}
+use Rattle.client_world.specs.Services.{is_changeable_origin}
+use Rattle.client_world.specs.Soundness.{IsSound, SoundWidth, IsOfDosBlock, IsDosOrigin, IsPlainOrigin, IsPlainRow, IsClientsIndex}
+use Rattle.client_world.specs.World.{World}
+use Rattle.desc_services.specs.MayPut.{MayPut}
+use Rattle.desc_services.proofs.RowLaws.{plain_stands, row_keeps_sound}
+use Rattle.desc_services.specs.Rows.{is_freeable_origin}
+
+none_some : (r : Desc × Origin) → None ≢ Some r
+none_some r e = cc
+
+-- an index at which a descriptor stands is below 8192
+pub row_within : (w : World) (index : ℕ) (row : Desc × Origin) → IsSound w → row_at_index w.descriptors index ≡ Some row → index < DESCRIPTORS
+row_within w index row s e = elim (cases_lt index DESCRIPTORS) [
+  | inl below ↦ below
+  | inr beyond ↦ (let size = s.descriptors.indices in
+      absurd (none_some row (sym (get_or_past w.descriptors index None (omega arith)) ∙ e)))
+]
+
+some_width : (width : Option Width) (w : World) (index : ℕ) (row : Desc × Origin) → SoundWidth width w → row_at_index w.descriptors index ≡ Some row → width ≢ None
+some_width None w index row s e none = none_some row (sym (s.descriptors index) ∙ e)
+some_width (Some width) w index row s e none = cc
+
+-- where a descriptor stands there is a width
+pub row_has_width : (w : World) (index : ℕ) (row : Desc × Origin) → IsSound w → row_at_index w.descriptors index ≡ Some row → w.width ≢ None
+row_has_width w index row s e = some_width w.width w index row s.width e
+
+not_host : (o : Origin) → IsPlainOrigin o → o ≢ Host
+not_host o plain e = subst IsPlainOrigin e plain
+
+clients : (width : Option Width) (w : World) (index : ℕ) (row : Desc × Origin) → SoundWidth width w → row_at_index w.descriptors index ≡ Some row →
+    IsPlainOrigin row.1 → IsClientsIndex index
+clients None w index row s e plain = absurd (none_some row (sym (s.descriptors index) ∙ e))
+clients (Some width) w index row s e plain = record {
+  code = λ i. not_host row.1 plain (host_of _ (sym e ∙ ap (row_at_index w.descriptors) i ∙ s.code));
+  stacks = λ i. not_host row.1 plain (host_of _ (sym e ∙ ap (row_at_index w.descriptors) i ∙ s.stacks));
+  callbacks = λ at. not_host row.1 plain (s.callbacks index row at e);
+}
+  where
+    host_of : (d : Desc) → Some row ≡ Some (d, Host) → row.1 ≡ Host
+    host_of d same = cc
+
+-- a plain descriptor stands at an index of the client
+pub plain_row_is_clients : (w : World) (index : ℕ) (row : Desc × Origin) → IsSound w → row_at_index w.descriptors index ≡ Some row →
+    IsPlainOrigin row.1 → IsClientsIndex index
+plain_row_is_clients w index row s e plain = clients w.width w index row s.width e plain
+
+plain_not_dos : (row : Row) → IsPlainRow row → ¬ IsOfDosBlock row
+plain_not_dos None p d = d
+plain_not_dos (Some row) p d = plain_dos row.1 p d
+  where
+    plain_dos : (o : Origin) → IsPlainOrigin o → ¬ IsDosOrigin o
+    plain_dos Own p d = d
+    plain_dos Low p d = d
+    plain_dos Entry p d = d
+    plain_dos Psp p d = d
+    plain_dos (Segment s) p d = p
+    plain_dos (Dos s) p d = p
+    plain_dos Host p d = p
+
+-- where a plain descriptor stands another plain row may be put, or none
+pub may_change : (w : World) (index : ℕ) (row : Desc × Origin) (new : Row) → IsSound w → row_at_index w.descriptors index ≡ Some row →
+    IsPlainOrigin row.1 → FitsRow new → IsPlainRow new → MayPut w index new
+may_change w index row new s e plain fits new_plain =
+    let old : ¬ IsOfDosBlock (row_at_index w.descriptors index) = subst (λ (r : Row). ¬ IsOfDosBlock r) (sym e) (plain_not_dos (Some row) plain) in
+    record {
+      within = row_within w index row s e;
+      width = row_has_width w index row s e;
+      old_origin = old;
+      new_origin = plain_not_dos new new_plain;
+      sound = row_keeps_sound w index new s (row_has_width w index row s e) (row_within w index row s e) fits (plain_stands w.descriptors index new new_plain) old
+          (plain_row_is_clients w index row s e plain);
+    }
+
+-- where no descriptor stands, behind the host's or in front of them, a plain row may be put
+pub may_make : (w : World) (index : ℕ) (new : Row) → IsSound w → w.width ≢ None → row_at_index w.descriptors index ≡ None →
+    index < DESCRIPTORS → IsClientsIndex index → FitsRow new → IsPlainRow new → MayPut w index new
+may_make w index new s width e small clients fits plain =
+    let old : ¬ IsOfDosBlock (row_at_index w.descriptors index) = subst (λ (r : Row). ¬ IsOfDosBlock r) (sym e) (λ d. d) in
+    record {
+      within = small;
+      width = width;
+      old_origin = old;
+      new_origin = plain_not_dos new plain;
+      sound = row_keeps_sound w index new s width small fits (plain_stands w.descriptors index new plain) old clients;
+    }
+
+-- indices from 64 on, and those below 16, are the client's
+pub high_is_clients : (index : ℕ) → FIRST_FREE_DESCRIPTOR ≤ index → IsClientsIndex index
+high_is_clients index from = record {
+  code = λ e. omega arith;
+  stacks = λ e. omega arith;
+  callbacks = λ at. omega (arith, at.1);
+}
+
+pub low_is_clients : (index : ℕ) → index < 16 → IsClientsIndex index
+low_is_clients index below = record {
+  code = λ e. omega arith;
+  stacks = λ e. omega arith;
+  callbacks = λ at. omega (arith, at.0);
+}
+
+pub changeable_plain : (o : Origin) → is_changeable_origin o ≡ true → IsPlainOrigin o
+changeable_plain Own c = tt
+changeable_plain Low c = tt
+changeable_plain Entry c = tt
+changeable_plain Psp c = tt
+changeable_plain (Segment s) c = true≢false (sym c)
+changeable_plain (Dos s) c = true≢false (sym c)
+changeable_plain Host c = true≢false (sym c)
+
+-- the descriptor of a selector
+held_at : (rows : List Row) (sel : ℕ) (row : Desc × Origin) (local : Bool) → is_local sel ≡ local → row_of_selector rows sel ≡ Some row →
+    row_at_index rows (index_of sel) ≡ Some row
+held_at rows sel row true local e = rw local at e
+held_at rows sel row false local e = absurd (none_some row (rw local at e))
+
+pub row_of_held : (rows : List Row) (sel : ℕ) (row : Desc × Origin) → row_of_selector rows sel ≡ Some row → row_at_index rows (index_of sel) ≡ Some row
+row_of_held rows sel row e = held_at rows sel row (is_local sel) refl e
+
+pub may_redescribe : (w : World) (sel : ℕ) (row : Desc × Origin) (d : Desc) → IsSound w → row_of_selector w.descriptors sel ≡ Some row →
+    is_changeable_origin row.1 ≡ true → d.limit < 2 ^ 20 → MayPut w (index_of sel) (Some (d, row.1))
+may_redescribe w sel row d s e changeable fits =
+    may_change w (index_of sel) row (Some (d, row.1)) s (row_of_held w.descriptors sel row e) (changeable_plain row.1 changeable) fits
+    (changeable_plain row.1 changeable)
+
+freeable_plain : (o : Origin) → is_freeable_origin o ≡ true → IsPlainOrigin o
+freeable_plain Own c = tt
+freeable_plain Low c = tt
+freeable_plain Entry c = tt
+freeable_plain Psp c = tt
+freeable_plain (Segment s) c = true≢false (sym c)
+freeable_plain (Dos s) c = true≢false (sym c)
+freeable_plain Host c = true≢false (sym c)
+
+pub may_free : (w : World) (sel : ℕ) (row : Desc × Origin) → IsSound w → row_of_selector w.descriptors sel ≡ Some row →
+    is_freeable_origin row.1 ≡ true → MayPut w (index_of sel) None
+may_free w sel row s e freeable =
+    may_change w (index_of sel) row None s (row_of_held w.descriptors sel row e) (freeable_plain row.1 freeable) tt tt
+
+no_row : (row : Row) → is_some row ≡ false → row ≡ None
+no_row None e = refl
+no_row (Some row) e = cc
+
+pub may_make_low : (w : World) (sel : ℕ) (d : Desc) → IsSound w → w.width ≢ None → is_local sel ≡ true → index_of sel < 16 →
+    is_some (row_of_selector w.descriptors sel) ≡ false → d.limit < 2 ^ 20 → MayPut w (index_of sel) (Some (d, Low))
+may_make_low w sel d s width local low free fits =
+    may_make w (index_of sel) (Some (d, Low)) s width (no_row (row_at_index w.descriptors (index_of sel)) (rw local at free)) (omega arith)
+    (low_is_clients (index_of sel) low) fits tt
+
+-- at the first of free rows, from 64 on, a descriptor may be made
+pub may_make_at : (w : World) (first n : ℕ) (d : Desc) → IsSound w → w.width ≢ None → FIRST_FREE_DESCRIPTOR ≤ first → 0 < n →
+    IsFreeRunOf w.descriptors first n → d.limit < 2 ^ 20 → MayPut w first (Some (d, Own))
+may_make_at w first n d s width from some run fits =
+    let within = run.within in
+    may_make w first (Some (d, Own)) s width (run.free first (omega arith) (omega arith)) (omega arith) (high_is_clients first from) fits tt
+
+in_protected : (width : Option Width) (w : World) → SoundWidth width w → w.mode ≡ Protected → width ≢ None
+in_protected None w s protected none = apart (sym s.mode ∙ protected)
+  where
+    apart : Real ≢ Protected
+    apart e = cc
+in_protected (Some width) w s protected none = cc
+
+-- in protected mode there is a width
+pub protected_width : (w : World) → IsSound w → w.mode ≡ Protected → w.width ≢ None
+protected_width w s protected = in_protected w.width w s.width protected

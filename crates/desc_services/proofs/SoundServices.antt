@@ -1,0 +1,192 @@
+-- A service leads from a sound world to a sound one.
+use Rattle.std.proofs.Common.{◌≡◌, ◌≢◌, ◌≤◌, ◌<◌, ◌+◌, ◌*◌, ◌%◌, ◌^◌, ℕ, zero, suc, Bool, true, false, not, List, refl, sym, ap, subst, arith, slice_index, slice_set, Option, None, Some, nat_lt}
+use Rattle.std.specs.Option.{is_some}
+use Rattle.std.proofs.lemmas.Bool.{ltb-false, not-false, or_parts, true≢false}
+use Rattle.client_world.specs.declared.descriptors.Desc.{Desc}
+use Rattle.client_world.specs.declared.descriptors.Origin.{Origin}
+use Rattle.client_world.specs.declared.descriptors.Origin.TheVariants.{Own, Segment}
+use Rattle.client_world.specs.declared.host_frames.TheConstants.{FIRST_FREE_DESCRIPTOR}
+use Rattle.client_world.specs.declared.registers.Mode.TheVariants.{Protected}
+use Rattle.client_world.specs.FreeRuns.{IsFreeRunOf}
+use Rattle.client_world.specs.Selector.{Row, FitsRow, index_of, is_local, row_at_index, row_of_selector}
+use Rattle.client_world.specs.Services.{bx, cx, dx, desc_of, es_di, is_changeable, is_changeable_origin, two_words}
+use Rattle.client_world.specs.Soundness.{IsSound}
+use Rattle.client_world.specs.World.{World}
+use Rattle.client_world.proofs.SoundWrites.{IsSound-regs}
+use Rattle.guest_space.specs.Far.{far_bytes}
+use Rattle.desc_services.specs.FreeRun.{first_free_run}
+use Rattle.service_rows.specs.Reasons.{Service, first_reason}
+use Rattle.desc_services.specs.Rows.{with_new_alias, alias_of, function_of, data_at, free_descriptor, fresh, get_segment_base, get_descriptor, is_freeable_origin, is_freeable_row, limited, with_new_run, allocate_descriptors, create_alias, allocate_specific, segment_to_descriptor, packed_of, redescribed, with_segment, segment_index, with_new_segment, descriptor_service, set_segment_base, set_segment_limit, set_descriptor, set_access_rights, selector_increment, with_base, with_desc, with_limit, with_rights, with_row, with_run}
+use Rattle.service_rows.specs.Rows.{unsupported, with_ax}
+use Rattle.service_rows.proofs.AnswerLaws.{no_reason, of_answer}
+use Rattle.guest_space.proofs.FarPuts.{sound_far_put}
+use Rattle.desc_services.proofs.EachService.{of_each_service}
+use Rattle.desc_services.proofs.FarBytes.{far_bytes_are_bytes, packed_bytes, unpacked_fits}
+use Rattle.desc_services.proofs.PutLaws.{changeable_plain, may_change, may_free, may_make_low, may_make_at, may_redescribe, protected_width, row_of_held}
+use Rattle.desc_services.proofs.RunLaws.{free_run_of}
+use Rattle.desc_services.proofs.SegmentLaws.{may_make_segment_at}
+use Rattle.desc_services.proofs.WithRun.{free_tail, with_none, with_more}
+
+-- ---- registers
+
+sound_general : (w : World) (a c d : ℕ) → IsSound w → IsSound (record w { regs = record w.regs { eax = a; ecx = c; edx = d } })
+sound_general w a c d s = IsSound-regs w (record w.regs { eax = a; ecx = c; edx = d }) s (record {
+  es = s.segments.es;
+  cs = s.segments.cs;
+  ss = s.segments.ss;
+  ds = s.segments.ds;
+  fs = s.segments.fs;
+  gs = s.segments.gs;
+})
+
+sound_ax : (w : World) (v : ℕ) → IsSound w → IsSound (with_ax v w)
+sound_ax w v s = sound_general w _ w.regs.ecx w.regs.edx s
+
+-- ---- a descriptor with other fields
+
+changeable_row : (row : Row) → (elim row [ None ↦ false | Some d ↦ is_changeable_origin d.1 ]) ≡ true →
+    (r : Desc × Origin) × (row ≡ Some r) × (is_changeable_origin r.1 ≡ true)
+changeable_row None e = absurd cc
+changeable_row (Some r) e = (r, refl, e)
+
+redescribed_sound : (w : World) (sel : ℕ) (row : Desc × Origin) (o : Option Desc) → IsSound w → row_of_selector w.descriptors sel ≡ Some row →
+    is_changeable_origin row.1 ≡ true → ((d : Desc) → o ≡ Some d → d.limit < 2 ^ 20) →
+    IsSound (record w { descriptors = slice_set w.descriptors (index_of sel) (redescribed (Some row) o) })
+redescribed_sound w sel row None s e c fits =
+    let at = row_of_held w.descriptors sel row e in
+    (may_change w (index_of sel) row (Some row) s at (changeable_plain row.1 c) (subst FitsRow at (s.descriptors.fits (index_of sel)))
+    (changeable_plain row.1 c)).sound
+redescribed_sound w sel row (Some d) s e c fits = (may_redescribe w sel row d s e c (fits d refl)).sound
+
+described_sound : (w : World) (sel : ℕ) (o : Option Desc) → IsSound w → not (is_changeable w sel) ≡ false →
+    ((d : Desc) → o ≡ Some d → d.limit < 2 ^ 20) → IsSound (with_desc w sel o)
+described_sound w sel o s e fits =
+    let c = changeable_row (desc_of w sel) (not-false (is_changeable w sel) e) in
+    subst (λ (r : Row). IsSound (record w { descriptors = slice_set w.descriptors (index_of sel) (redescribed r o) })) (sym c.1)
+    (redescribed_sound w sel c.0 o s c.1 c.2 fits)
+
+-- the row of a selector fits
+held_fits : (rows : List Row) (sel : ℕ) (local : Bool) → is_local sel ≡ local → ((index : ℕ) → FitsRow (row_at_index rows index)) →
+    FitsRow (row_of_selector rows sel)
+held_fits rows sel true local fits = rw local (fits (index_of sel))
+held_fits rows sel false local fits = rw local tt
+
+fits_of : (w : World) (sel : ℕ) → IsSound w → FitsRow (desc_of w sel)
+fits_of w sel s = held_fits w.descriptors sel (is_local sel) refl s.descriptors.fits
+
+base_fits : (row : Row) (base : ℕ) (d : Desc) → FitsRow row → with_base row base ≡ Some d → d.limit < 2 ^ 20
+base_fits None base d fits e = absurd cc
+base_fits (Some row) base d fits e =
+    let same : record row.0 { base = base } ≡ d = cc in
+    subst (λ (x : Desc). x.limit < 2 ^ 20) same fits
+
+limited_fits : (d : Desc) (limit : ℕ) (long : Bool) → nat_lt 0xFFFFF limit ≡ long → limit < 0x100000000 → (limited d limit).limit < 2 ^ 20
+limited_fits d limit true e small = rw e (omega arith)
+limited_fits d limit false e small =
+    let low = ltb-false 0xFFFFF limit e in
+    rw e (omega arith)
+
+limit_fits : (row : Row) (limit : ℕ) (d : Desc) → limit < 0x100000000 → with_limit row limit ≡ Some d → d.limit < 2 ^ 20
+limit_fits None limit d small e = absurd cc
+limit_fits (Some row) limit d small e =
+    let same : limited row.0 limit ≡ d = cc in
+    subst (λ (x : Desc). x.limit < 2 ^ 20) same (limited_fits row.0 limit (nat_lt 0xFFFFF limit) refl small)
+
+rights_fit : (row : Row) (access flags : ℕ) (d : Desc) → FitsRow row → with_rights row access flags ≡ Some d → d.limit < 2 ^ 20
+rights_fit None access flags d fits e = absurd cc
+rights_fit (Some row) access flags d fits e = let limit : row.0.limit ≡ d.limit = ap (λ (o : Option Desc). limit_or o) e in rw (sym limit) fits
+  where
+    limit_or : Option Desc → ℕ
+    limit_or None = 0
+    limit_or (Some d) = d.limit
+
+-- ---- runs
+
+sound_run : (w : World) (first n : ℕ) (d : Desc) → IsSound w → w.width ≢ None → FIRST_FREE_DESCRIPTOR ≤ first → IsFreeRunOf w.descriptors first n →
+    d.limit < 2 ^ 20 → IsSound (record w { descriptors = with_run w.descriptors first n (Some (d, Own)) })
+sound_run w first zero d s width from run fits =
+    subst (λ (rows : List Row). IsSound (record w { descriptors = rows })) (sym (with_none w.descriptors first (Some (d, Own)))) s
+sound_run w first (suc n) d s width from run fits =
+    subst (λ (rows : List Row). IsSound (record w { descriptors = rows })) (sym (with_more w.descriptors first n (Some (d, Own))))
+    (sound_run (record w { descriptors = slice_set w.descriptors first (Some (d, Own)) }) (first + 1) n d
+    (may_make_at w first (suc n) d s width from (omega arith) run fits).sound width (omega arith)
+    (free_tail w.descriptors first n (Some (d, Own)) run) fits)
+
+sound_made : (w : World) (o : Option ℕ) → IsSound w → w.width ≢ None → first_free_run w.descriptors (cx w) ≡ o → IsSound (with_new_run o w)
+sound_made w None s width e = s
+sound_made w (Some first) s width e =
+    let run = free_run_of w.descriptors (cx w) first e in
+    sound_ax (record w { descriptors = with_run w.descriptors first (cx w) (Some (fresh, Own)) }) _
+    (sound_run w first (cx w) fresh s width run.0 run.1 (omega arith))
+
+one_run : (w : World) (first : ℕ) (d : Desc) → IsSound w → w.width ≢ None → first_free_run w.descriptors 1 ≡ Some first → d.limit < 2 ^ 20 →
+    IsSound (with_row first (Some (d, Own)) w)
+one_run w first d s width e fits =
+    let run = free_run_of w.descriptors 1 first e in
+    (may_make_at w first 1 d s width run.0 (omega arith) run.1 fits).sound
+
+sound_alias : (w : World) (o : Option ℕ) (row : Row) → IsSound w → w.width ≢ None → first_free_run w.descriptors 1 ≡ o → FitsRow row →
+    IsSound (with_new_alias o row w)
+sound_alias w None row s width e fits = s
+sound_alias w (Some first) None s width e fits = s
+sound_alias w (Some first) (Some row) s width e fits =
+    sound_ax (with_row first (Some (alias_of row.0, Own)) w) _ (one_run w first (alias_of row.0) s width e fits)
+
+sound_segment_made : (w : World) (o : Option ℕ) → IsSound w → w.width ≢ None → first_free_run w.descriptors 1 ≡ o →
+    segment_index w.descriptors (bx w) ≡ None → IsSound (with_new_segment o w)
+sound_segment_made w None s width e none = s
+sound_segment_made w (Some first) s width e none =
+    let run = free_run_of w.descriptors 1 first e in
+    sound_ax (with_row first (Some (data_at (bx w * 16) 0xFFFF, Segment (bx w))) w) _
+    (may_make_segment_at w first (data_at (bx w * 16) 0xFFFF) (bx w) s width none run.0 run.1 (omega arith)).sound
+
+sound_segment : (w : World) (o : Option ℕ) → IsSound w → w.width ≢ None → segment_index w.descriptors (bx w) ≡ o → IsSound (with_segment o w)
+sound_segment w None s width e = sound_segment_made w (first_free_run w.descriptors 1) s width refl e
+sound_segment w (Some index) s width e = sound_ax w _ s
+
+-- ---- the rest
+
+freeable_row : (row : Row) → is_freeable_row row ≡ true → (r : Desc × Origin) × (row ≡ Some r) × (is_freeable_origin r.1 ≡ true)
+freeable_row None e = absurd cc
+freeable_row (Some r) e = (r, refl, e)
+
+sound_free : (w : World) (sel : ℕ) → IsSound w → not (is_freeable_row (desc_of w sel)) ≡ false → IsSound (with_row (index_of sel) None w)
+sound_free w sel s e =
+    let f = freeable_row (desc_of w sel) (not-false (is_freeable_row (desc_of w sel)) e) in
+    (may_free w sel f.0 s f.1 f.2).sound
+
+not_held : (row : Row) → (elim row [ None ↦ false | Some d ↦ true ]) ≡ false → is_some row ≡ false
+not_held None e = refl
+not_held (Some d) e = absurd (true≢false e)
+
+packed_of_bytes : (row : Row) → FitsRow row → (at : ℕ) → slice_index (packed_of row) at < 0x100
+packed_of_bytes None fits at = omega arith
+packed_of_bytes (Some row) fits at = packed_bytes (record row.0 { base = row.0.base % 0x100000000 }) (omega arith) fits at
+
+sound_after : (ax : ℕ) (w : World) → IsSound w → w.width ≢ None → first_reason (function_of ax w).reasons ≡ None → IsSound (function_of ax w).after
+unfolding allocate_descriptors free_descriptor segment_to_descriptor selector_increment get_segment_base set_segment_base set_segment_limit set_access_rights create_alias get_descriptor set_descriptor allocate_specific unsupported
+sound_after ax w s width = of_each_service (λ (a : Service). first_reason a.reasons ≡ None → IsSound a.after) w (record {
+  f0 = λ e. sound_made w (first_free_run w.descriptors (cx w)) s width refl;
+  f1 = λ e. sound_free w (bx w) s (no_reason (free_descriptor w).reasons e).0;
+  f2 = λ e. sound_segment w (segment_index w.descriptors (bx w)) s width refl;
+  f3 = λ e. sound_ax w 8 s;
+  f6 = λ e. sound_general w w.regs.eax _ _ s;
+  f7 = λ e. described_sound w (bx w) _ s (no_reason (set_segment_base w).reasons e).0 (λ d same. base_fits (desc_of w (bx w)) _ d (fits_of w (bx w) s) same);
+  f8 = λ e. described_sound w (bx w) _ s (no_reason (set_segment_limit w).reasons e).0 (λ d same. limit_fits (desc_of w (bx w)) (two_words (cx w) (dx w)) d (omega arith) same);
+  f9 = λ e. described_sound w (bx w) _ s (no_reason (set_access_rights w).reasons e).0 (λ d same. rights_fit (desc_of w (bx w)) _ _ d (fits_of w (bx w) s) same);
+  fA = λ e. sound_alias w (first_free_run w.descriptors 1) (desc_of w (bx w)) s width refl (fits_of w (bx w) s);
+  fB = λ e. sound_far_put w (es_di w) 8 _ s (packed_of_bytes (desc_of w (bx w)) (fits_of w (bx w) s));
+  fC = λ e. described_sound w (bx w) _ s (no_reason (set_descriptor w).reasons e).0
+      (λ d same. unpacked_fits (far_bytes w (es_di w) 8) d (far_bytes_are_bytes w (es_di w) 8 s) same);
+  fD = λ e. (let none = no_reason (allocate_specific w).reasons e in
+      let place = or_parts (not (is_local (bx w))) (nat_lt 15 (index_of (bx w))) none.0 in
+      let low = ltb-false 15 (index_of (bx w)) place.1 in
+      (may_make_low w (bx w) fresh s width (not-false (is_local (bx w)) place.0) (omega arith)
+      (not_held (desc_of w (bx w)) none.1.0) (omega arith)).sound);
+  other = λ e. s;
+}) ax
+
+pub sound_service : (ax : ℕ) (w : World) → IsSound w → w.mode ≡ Protected → IsSound (descriptor_service ax w).world
+unfolding descriptor_service
+sound_service ax w s protected =
+    of_answer IsSound (first_reason (function_of ax w).reasons) w (function_of ax w).after s (sound_after ax w s (protected_width w s protected))

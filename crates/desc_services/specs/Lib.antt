@@ -1,0 +1,3 @@
+pub mod FreeRun
+pub mod MayPut
+pub mod Rows

@@ -1,0 +1,22 @@
+//! The services of INT 31h on descriptors, 0000h to 000Dh.
+//! It promises that each answers the carry and makes the world that its definition says, and that a refusal changes nothing.
+//! It stands on `guest_space` and on the packing of `desc_table`.
+#![tactic(auto)]
+
+mod dispatch;
+mod fields;
+mod freeing;
+mod laws;
+mod low;
+mod packed;
+mod runs;
+mod segment;
+mod selector;
+#[cfg(test)]
+mod tests;
+
+pub use dispatch::serve;
+pub use laws::{
+    a_limit_that_is_set_is_the_limit, every_descriptor_service_is_sound,
+    every_descriptor_service_keeps_the_rest, the_descriptor_of_a_segment_is_found,
+};

@@ -1,0 +1,3 @@
+pub mod FirstIndex
+pub mod Reasons
+pub mod Rows

@@ -1,0 +1,3 @@
+mod EachService
+mod KeptServices
+mod SoundServices

@@ -1,0 +1,5 @@
+use Rattle.vector_services.proofs.SoundServices.{sound_service}
+use Rattle.vector_services.proofs.laws.every_vector_service_is_sound.Goals as goal
+
+pub returns : goal.returns
+returns c = sound_service

@@ -1,0 +1,14 @@
+//! The services of INT 31h on vectors, on the version and on virtual interrupts.
+//! It promises that each returns the carry and leaves the world of its definition, and that a refusal changes nothing.
+//! It stands on `guest_space` and on `service_rows`.
+#![tactic(auto)]
+
+mod dispatch;
+mod laws;
+mod state;
+#[cfg(test)]
+mod tests;
+mod vectors;
+
+pub use dispatch::serve;
+pub use laws::{every_vector_service_is_sound, every_vector_service_keeps_the_rest};
