@@ -13,7 +13,7 @@ use Rattle.fault_service.specs.Delivery.{iret_popped, popped_or_bad}
 use Rattle.fault_service.specs.RealFrames.{frame_fits}
 use Rattle.fault_service.specs.Worlds.{its_world, world_popped}
 use Rattle.host_memory.specs.View.{MachineView}
-use Rattle.host_run.specs.Turn.{Outcome, ends, vector_served, vector_reached}
+use Rattle.host_run.specs.Turn.{Outcome, ends, after_exit_call, after_protected_pop, after_protected_call, vector_served, vector_reached}
 
 same_outcome : (r : Result MachineView Exit) → is_ok (its_world r) ≡ is_ok r
 same_outcome (Ok v) = refl
@@ -40,6 +40,26 @@ reached_popped h n can = (by_frame h n _).0 can
 pub reached_bad : (h : HostWorld) (n : ℕ) → is_ok (world_popped h.machine) ≡ false → vector_reached h n ≡ ends h BadFrame
 unfolding world_popped iret_popped
 reached_bad h n fails = (by_frame h n _).1 fails
+
+-- of the default vectors of protected mode
+popped_bad : (r : Result MachineView Event) → is_ok (its_world (popped_or_bad r)) ≡ false → its_world (popped_or_bad r) ≡ Err BadFrame
+popped_bad (Ok v) e = absurd cc
+popped_bad (Err f) e = refl
+
+world_bad : (w : World) → is_ok (world_popped w) ≡ false → world_popped w ≡ Err BadFrame
+unfolding world_popped iret_popped
+world_bad w e = popped_bad _ e
+
+exit_by : (h : HostWorld) (r : Result World Exit) → is_ok r ≡ true → after_protected_pop h 0x21 r ≡ after_exit_call h
+unfolding after_protected_call
+exit_by h (Ok w) e = refl
+exit_by h (Err exit) e = absurd cc
+
+pub exit_popped : (h : HostWorld) → is_ok (world_popped h.machine) ≡ true → after_protected_pop h 0x21 (world_popped h.machine) ≡ after_exit_call h
+exit_popped h can = exit_by h (world_popped h.machine) can
+
+pub exit_bad : (h : HostWorld) → is_ok (world_popped h.machine) ≡ false → after_protected_pop h 0x21 (world_popped h.machine) ≡ ends h BadFrame
+exit_bad h fails = ap (after_protected_pop h 0x21) (world_bad h.machine fails)
 
 -- a service that leaves the mode and the place of the stack leaves a frame that can be popped one
 pub still_popped : ((w : World) → IsSound w → w.mode ≡ Real → is_ok (world_popped w) ≡ frame_fits w.regs.esp) →

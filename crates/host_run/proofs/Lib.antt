@@ -1,7 +1,7 @@
-mod Counted
 mod Frames
+mod KindModes
+mod NoTraps
 mod Runs
-mod SoundTurns
 mod Touches
-pub mod Exits
 pub mod Sound
+pub mod TurnLaws

@@ -1,8 +1,9 @@
 -- What crates above may cite of a run: from a sound world with keys that are bytes each turn leads to such a one.
-use Rattle.std.proofs.Common.{arith, ◌≡◌, ◌≤◌, ◌+◌, ◌*◌, ℕ, zero, suc, List, None, Some}
+use Rattle.std.proofs.Common.{arith, ◌≡◌, ◌≢◌, ◌≤◌, ◌+◌, ◌*◌, ℕ, zero, suc, List, None, Some, refl, sym, subst}
+use Rattle.std.specs.Prelude.{IsSome}
 use Rattle.std.specs.declared.option.Option.{Option}
 use Rattle.client_world.specs.declared.outcome.Exit.{Exit}
-use Rattle.client_world.specs.declared.outcome.Exit.TheVariants.{Bound}
+use Rattle.client_world.specs.declared.outcome.Exit.TheVariants.{Bound, ConsoleFull}
 use Rattle.client_world.specs.Soundness.{IsSound, IsSoundHost}
 use Rattle.client_world.specs.World.{HostWorld}
 use Rattle.guest_ram.specs.Bytes.{AreBytes}
@@ -12,39 +13,49 @@ use Rattle.mz_loader.proofs.SoundStart.{sound_start}
 use Rattle.host_run.specs.Keys.{HasKeys}
 use Rattle.host_run.specs.Start.{blank, started}
 use Rattle.host_run.specs.Run.{turns, run}
-use Rattle.host_run.specs.Turn.{work, settled, turn}
-use Rattle.host_run.proofs.SoundTurns.{work_sound}
-
--- a sound host with keys that are bytes
-pub record IsReached (w : HostWorld) : Type 0 where
-  pub machine : IsSound w.machine
-  pub keys : HasKeys w
+use Rattle.host_run.specs.Turn.{turn}
+use Rattle.host_run.proofs.TurnLaws.{IsReached, LeavesAll, LeavesBy, turn_keeps, turn_stays}
 
 -- the trace has two lines for each turn at most
 abbrev pub HasFewLines : HostWorld → Type 0
 HasFewLines w = w.lines ≤ 2 * w.steps
 
-turned : (w : HostWorld) (o : Option Exit) → IsReached w → IsReached (elim o [ Some _ ↦ w | None ↦ settled w (work w) ])
-turned w (Some _) s = s
-turned w None s =
-    let after = work_sound w.lines w (record { machine = s.machine; keys = s.keys; lines = omega arith }) in
-    record { machine = after.machine; keys = after.keys }
+turned : (w : HostWorld) (o : Option Exit) → w.exit ≡ o → IsReached w → IsReached (turn w)
+turned w (Some exit) is s = subst IsReached (sym (turn_stays w exit is)) s
+turned w None is s = (turn_keeps w s is).reached
 
 pub turn_sound : (w : HostWorld) → IsReached w → IsReached (turn w)
-unfolding turn
-turn_sound w s = turned w w.exit s
+turn_sound w s = turned w w.exit refl s
 
-lines_turned : (w : HostWorld) (o : Option Exit) → IsReached w → HasFewLines w →
-    HasFewLines (elim o [ Some _ ↦ w | None ↦ settled w (work w) ])
-lines_turned w (Some _) s few = few
-lines_turned w None s few =
-    let after = work_sound w.lines w (record { machine = s.machine; keys = s.keys; lines = omega arith }) in
-    let more : (work w).host.lines ≤ w.lines + 1 = after.lines in
-    omega arith
+lines_turned : (w : HostWorld) (o : Option Exit) → w.exit ≡ o → IsReached w → HasFewLines w → HasFewLines (turn w)
+lines_turned w (Some exit) is s few = subst HasFewLines (sym (turn_stays w exit is)) few
+lines_turned w None is s few = let k = turn_keeps w s is in let more = k.lines in let next = k.steps in omega arith
 
 pub turn_lines : (w : HostWorld) → IsReached w → HasFewLines w → HasFewLines (turn w)
-unfolding turn
-turn_lines w s few = lines_turned w w.exit s few
+turn_lines w s few = lines_turned w w.exit refl s few
+
+-- a turn that ends the run leaves the machine, and but for a full console the keystrokes and the console too
+leaves_turned : (w : HostWorld) (o : Option Exit) → w.exit ≡ o → IsReached w → LeavesBy w (turn w) (turn w).exit
+leaves_turned w (Some exit) is s =
+    subst (λ (u : HostWorld). LeavesBy w u u.exit) (sym (turn_stays w exit is))
+    (subst (LeavesBy w w) (sym is) (record { machine = refl; outside = λ _. (refl, refl) }))
+leaves_turned w None is s = (turn_keeps w s is).leaves
+
+pub turn_leaves : (w : HostWorld) → IsReached w → LeavesBy w (turn w) (turn w).exit
+turn_leaves w s = leaves_turned w w.exit refl s
+
+machine_by : (w after : HostWorld) (e : Option Exit) → LeavesBy w after e → IsSome e → after.machine ≡ w.machine
+machine_by w after None l is = cc
+machine_by w after (Some exit) l is = l.machine
+
+pub exit_leaves_machine : (w : HostWorld) → IsSound w.machine → HasKeys w → IsSome (turn w).exit → (turn w).machine ≡ w.machine
+exit_leaves_machine w sound keys ended =
+    machine_by w (turn w) (turn w).exit (turn_leaves w (record { machine = sound; keys = keys })) ended
+
+pub exit_leaves_outside : (w : HostWorld) (exit : Exit) → IsSound w.machine → HasKeys w → (turn w).exit ≡ Some exit → exit ≢ ConsoleFull →
+    ((turn w).keys ≡ w.keys) × ((turn w).console ≡ w.console)
+exit_leaves_outside w exit sound keys is other =
+    (let l : LeavesAll w (turn w) exit = subst (LeavesBy w (turn w)) is (turn_leaves w (record { machine = sound; keys = keys })) in l.outside) other
 
 -- so does any number of turns
 pub turns_sound : (w : HostWorld) (n : ℕ) → IsReached w → IsReached (turns w n)

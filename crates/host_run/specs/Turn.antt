@@ -1,5 +1,5 @@
 -- One turn: it serves a trap byte, or runs one client instruction with its software interrupt, or delivers its exception. Source: own.
-use Rattle.std.specs.Prelude.{ℕ, ◌+◌, Bool, [], ◌∷◌, ◌++◌, length, ◌||◌, nat_eq, nat_lt, if◌then◌else◌, None, Some, Ok, Err}
+use Rattle.std.specs.Prelude.{ℕ, ◌+◌, Bool, true, false, [], ◌∷◌, ◌++◌, length, ◌&&◌, ◌||◌, nat_eq, nat_lt, if◌then◌else◌, None, Some, Ok, Err}
 use Rattle.std.specs.declared.option.Option.{Option}
 use Rattle.std.specs.declared.result.Result.{Result}
 use Rattle.client_world.specs.declared.faults.Event.{Event}
@@ -8,18 +8,24 @@ use Rattle.client_world.specs.declared.faults.Fault.{Fault}
 use Rattle.client_world.specs.declared.faults.TheConstants.{DIVIDE_ERROR, INVALID_OPCODE, COPROCESSOR_NOT_AVAILABLE}
 use Rattle.client_world.specs.declared.outcome.Exit.{Exit}
 use Rattle.client_world.specs.declared.outcome.Exit.TheVariants as exits
+use Rattle.client_world.specs.declared.registers.Mode.{Mode}
 use Rattle.client_world.specs.declared.registers.Mode.TheVariants.{Real, Protected}
-use Rattle.client_world.specs.declared.services.DosDone.TheVariants.{Served, Ended}
+use Rattle.client_world.specs.declared.services.Carry.{Carry}
+use Rattle.client_world.specs.declared.services.Carry.TheVariants.{Clear, Set}
+use Rattle.client_world.specs.declared.services.DosDone.TheVariants as done
 use Rattle.client_world.specs.declared.trace.TraceLine.{TraceLine}
 use Rattle.client_world.specs.declared.trace.TraceLine.TheVariants as lines
-use Rattle.client_world.specs.Registers.{high_byte, low_half}
+use Rattle.client_world.specs.Registers.{high_byte, low_byte, low_half, with_low_half}
+use Rattle.client_world.specs.Services.{Served}
 use Rattle.client_world.specs.World.{World, HostWorld}
+use Rattle.desc_services.specs.Rows.{descriptor_service}
 use Rattle.dos_calls.specs.Calls.{CallState, CallResult, dos_call}
 use Rattle.dos_calls.specs.Multiplex.{multiplex_call}
 use Rattle.fault_service.specs.Worlds.{world_step, world_interrupt, world_delivery, world_popped}
+use Rattle.mode_gates.specs.Entry.{asked_width, entry, with_carry}
 use Rattle.host_run.specs.declared.traps.Trap.{Trap}
-use Rattle.host_run.specs.declared.traps.Trap.TheVariants.{Vector, Later, NoTrap}
-use Rattle.host_run.specs.Traps.{real_trap}
+use Rattle.host_run.specs.declared.traps.Trap.TheVariants.{RealVector, Entry, ProtectedVector, NoTrap}
+use Rattle.host_run.specs.Traps.{current_trap}
 
 -- what a turn does: the host after it, and the exit that ends the run, if there is one
 pub record Outcome : Type 0 where
@@ -56,8 +62,8 @@ seen h = record { world = h.machine; keys = h.keys; console = h.console }
 
 abbrev pub after_call : HostWorld → CallResult → Outcome
 after_call h r = elim r.done [
-  | Served ↦ popped (record h { machine = r.world; keys = r.keys; console = r.console })
-  | Ended exit ↦ ends (record h { keys = r.keys; console = r.console }) exit
+  | done.Served ↦ popped (record h { machine = r.world; keys = r.keys; console = r.console })
+  | done.Ended exit ↦ ends (record h { keys = r.keys; console = r.console }) exit
 ]
 
 -- INT 21h: a DOS call
@@ -85,11 +91,78 @@ vector_served h n =
 abbrev pub vector_reached : HostWorld → ℕ → Outcome
 vector_reached h n = elim (world_popped h.machine) [ Ok w ↦ vector_served h n | Err exit ↦ ends h exit ]
 
+-- ---- the entry to protected mode
+
+-- the trace line of a call of the entry, by the carry that it returns and the world after it
+abbrev pub entry_line : Carry → World → TraceLine
+entry_line Clear w = lines.Entry (asked_width w)
+entry_line Set w = lines.EntryRefused
+
+abbrev pub after_entry : HostWorld → Result Served Exit → Outcome
+after_entry h (Ok s) = goes_on (record (noted (entry_line s.carry s.world) h) { machine = s.world })
+after_entry h (Err exit) = ends h exit
+
+unfoldable pub after_entry_trap : HostWorld → Outcome
+after_entry_trap h = after_entry h (entry h.machine)
+
+-- ---- the default vectors of protected mode
+
+-- the calls that are served so far: INT 21h function 4Ch, INT 2Fh AX = 1686h, and the functions of INT 31h with AH = 0
+abbrev pub is_served : World → ℕ → Bool
+is_served w n =
+    nat_eq n 0x21 && nat_eq (high_byte w.regs.eax) 0x4C
+    || nat_eq n 0x2F && nat_eq (low_half w.regs.eax) 0x1686
+    || nat_eq n 0x31 && nat_eq (high_byte w.regs.eax) 0
+
+-- the run goes on with another machine, and one more line of the trace
+abbrev pub goes_on_with : HostWorld → TraceLine → World → Outcome
+goes_on_with h line w = goes_on (record (noted line h) { machine = w })
+
+-- INT 21h function 4Ch: the client ends itself with the code in AL
+abbrev pub after_exit_call : HostWorld → Outcome
+after_exit_call h = ends (noted (lines.Int21 (high_byte h.machine.regs.eax)) h) (exits.Exited (low_byte h.machine.regs.eax))
+
+-- INT 2Fh AX = 1686h: AX becomes 0, since the client runs in protected mode
+abbrev pub after_presence_call : HostWorld → World → Outcome
+after_presence_call h w =
+    goes_on_with h (lines.Int2f (low_half w.regs.eax)) (record w { regs = record w.regs { eax = with_low_half w.regs.eax 0 } })
+
+abbrev pub is_set : Carry → Bool
+is_set Clear = false
+is_set Set = true
+
+-- INT 31h: the carry goes into the flags that were popped
+abbrev pub after_service : HostWorld → ℕ → Served → Outcome
+after_service h ax s =
+    goes_on_with h (lines.Int31 ax s.carry) (record s.world { regs = with_carry (is_set s.carry) s.world.regs })
+
+abbrev pub after_int31 : HostWorld → World → Outcome
+after_int31 h w = after_service h (low_half w.regs.eax) (descriptor_service (low_half w.regs.eax) w)
+
+-- the default vector n of a host; w is the machine after its frame is popped
+unfoldable pub after_protected_call : HostWorld → ℕ → World → Outcome
+after_protected_call h n w =
+    if nat_eq n 0x21 then after_exit_call h else
+    if nat_eq n 0x2F then after_presence_call h w else
+    after_int31 h w
+
+-- the frame is popped first; an exit leaves the machine as it was before
+abbrev pub after_protected_pop : HostWorld → ℕ → Result World Exit → Outcome
+after_protected_pop h n (Ok w) = after_protected_call h n w
+after_protected_pop h n (Err exit) = ends h exit
+
+unfoldable pub after_protected_vector : HostWorld → ℕ → Outcome
+after_protected_vector h n = if is_served h.machine n then after_protected_pop h n (world_popped h.machine) else ends h exits.Unbuilt
+
 -- ---- client instructions
 
--- an exception delivered
+-- an exception delivered; in protected mode none is yet
+abbrev pub delivered_in : Mode → HostWorld → Fault → Outcome
+delivered_in Real h f = with_machine h (world_delivery h.machine f)
+delivered_in Protected h f = ends h exits.Unbuilt
+
 abbrev pub delivered : HostWorld → Fault → Outcome
-delivered h f = with_machine h (world_delivery h.machine f)
+delivered h f = delivered_in h.machine.mode h f
 
 -- a software interrupt, or the exception that it raises
 abbrev pub interrupted : HostWorld → Result World Fault → Outcome
@@ -108,20 +181,25 @@ stepped h = after_step h (world_step h.machine)
 
 -- ---- turns
 
--- what a turn does in real mode; a trap that isn't served yet ends the run
+-- what a turn does at a trap, or where there is none; a trap that isn't served yet ends the run
 abbrev pub trapped : HostWorld → Trap → Outcome
-trapped h (Vector n) = vector_reached h n
-trapped h Later = ends h exits.Unbuilt
+trapped h (RealVector n) = vector_reached h n
+trapped h Entry = after_entry_trap h
+trapped h (ProtectedVector n) = after_protected_vector h n
 trapped h NoTrap = stepped h
+trapped h _ = ends h exits.Unbuilt
 
--- and by the mode: protected mode isn't served yet
 unfoldable pub work : HostWorld → Outcome
-work h = elim h.machine.mode [ Real ↦ trapped h (real_trap h.machine) | Protected ↦ ends h exits.Unbuilt ]
+work h = trapped h (current_trap h.machine)
 
--- the turn is counted
-abbrev pub settled : HostWorld → Outcome → HostWorld
-settled h o = record o.host { steps = h.steps + 1; exit = o.exit }
+-- the turn is counted first
+abbrev pub with_turn_counted : HostWorld → HostWorld
+with_turn_counted h = record h { steps = h.steps + 1 }
+
+-- the host after what a turn did
+abbrev pub settled : Outcome → HostWorld
+settled o = record o.host { exit = o.exit }
 
 -- one turn; a world with an exit stays as it is
 unfoldable pub turn : HostWorld → HostWorld
-turn w = elim w.exit [ Some _ ↦ w | None ↦ settled w (work w) ]
+turn w = elim w.exit [ Some _ ↦ w | None ↦ settled (work (with_turn_counted w)) ]

@@ -10,7 +10,9 @@ pub record HostView : Type 0 where
   pub world : HostWorld
   pub bytes : List ℕ
 
--- the answer of some work, and the host after it, are what was expected: the run goes on; or it ends, and the memory is as it was
+-- the answer of some work in a turn, and the host after it, are what was expected: the run goes on; or it ends, and the memory is as it was.
+-- It counts no turn
 abbrev pub ComesTo : HostView → HostView → Result (Unit {0}) Exit → Outcome → Type 0
 ComesTo old new result expected =
-    MatchResult result (λ _. expected ≡ goes_on new.world) (λ exit. (expected ≡ ends new.world exit) × (new.bytes ≡ old.bytes))
+    (new.world.steps ≡ old.world.steps)
+    × MatchResult result (λ _. expected ≡ goes_on new.world) (λ exit. (expected ≡ ends new.world exit) × (new.bytes ≡ old.bytes))

@@ -1,18 +1,17 @@
 // The host and its turns.
 ghost use Rattle.std.specs.Prelude.{◌≡◌, ◌≤◌, ◌<◌, ◌+◌, ◌*◌, IfOk, OnOk, IfErr, IfSome, Ok, Err, Some, None, length, vec_capacity};
 ghost use Rattle.client_world.specs.declared.limits.TheConstants.{CONSOLE_ROOM, MAX_STEPS};
-ghost use Rattle.client_world.specs.declared.registers.Mode.TheVariants.{Real as real};
 ghost use Rattle.client_world.specs.Soundness.{IsSound};
 ghost use Rattle.fault_service.specs.Worlds.{world_interrupt};
 ghost use Rattle.mz_loader.specs.Refusal.{refusal};
 ghost use Rattle.host_run.specs.Run.{run};
 ghost use Rattle.host_run.specs.Start.{blank, IsBlank, started};
-ghost use Rattle.host_run.specs.Traps.{real_trap};
+ghost use Rattle.host_run.specs.Traps.{current_trap};
 ghost use Rattle.host_run.specs.View.{ComesTo, HostView};
 ghost use Rattle.host_run.specs.Turn.{delivered, interrupted, stepped, trapped, work, turn};
 
 use crate::serving::step_machine;
-use crate::traps::{Trap, real_trap};
+use crate::traps::{Trap, current_trap};
 use client_world::limits::{MAX_KEYS, MAX_PAGES, MAX_STEPS, MAX_TRACE};
 use client_world::{Event, Exit, Fault, LoadFault, Mode, TraceLine};
 use dos_calls::{Console, Keys};
@@ -132,6 +131,7 @@ impl Host {
 
     /// One turn: it serves a trap byte, or runs one client instruction with its software interrupt, or delivers its
     /// exception. After an exit it answers that exit again and changes nothing.
+    #[inline(always)]
     #[tactic(auto, unfolding(crate::specs::Turn::turn))]
     pub fn turn(&mut self) -> Result<(), Exit>
         requires { self.old.world.exit ≡ None → self.old.world.steps < MAX_STEPS }
@@ -180,17 +180,18 @@ impl Host {
         }
     }
 
-    // An exception is delivered.
+    // An exception is delivered; in protected mode none is yet.
     fn delivered(&mut self, f: Fault) -> Result<(), Exit>
-        requires real { self.old.world.machine.mode ≡ real }
         ensures { ComesTo self.old self.new result (delivered self.old.world f) }
     {
-        deliver(&mut self.machine, f)
+        match self.machine.mode() {
+            Mode::Real => deliver(&mut self.machine, f),
+            Mode::Protected => Err(Exit::Unbuilt),
+        }
     }
 
     // A software interrupt, or the exception that it raises.
     fn interrupted(&mut self, number: u8, len: u8) -> Result<(), Exit>
-        requires real { self.old.world.machine.mode ≡ real }
         ensures { ComesTo self.old self.new result (interrupted self.old.world (world_interrupt self.old.world.machine number len)) }
     {
         match soft_int(&mut self.machine, number, len) {
@@ -200,9 +201,9 @@ impl Host {
     }
 
     // The next instruction.
+    #[inline(always)]
     #[tactic(auto, unfolding(crate::specs::Turn::stepped))]
     fn stepped(&mut self) -> Result<(), Exit>
-        requires real { self.old.world.machine.mode ≡ real }
         ensures { ComesTo self.old self.new result (stepped self.old.world) }
     {
         match step_machine(&mut self.machine, &mut self.memo) {
@@ -212,28 +213,30 @@ impl Host {
         }
     }
 
-    // What a turn does in real mode.
-    fn trapped(&mut self) -> Result<(), Exit>
-        requires real { self.old.world.machine.mode ≡ real }
-        requires room { self.old.world.lines < 2 * self.old.world.steps }
-        ensures { ComesTo self.old self.new result (trapped self.old.world (real_trap self.old.world.machine)) }
+    // What a turn does at a trap, or where there is none.
+    #[inline(always)]
+    fn trapped(&mut self, t: Trap) -> Result<(), Exit>
+        requires trap { t ≡ current_trap self.old.world.machine }
+        requires room { self.old.world.lines + 2 ≤ 2 * self.old.world.steps }
+        ensures { ComesTo self.old self.new result (trapped self.old.world t) }
     {
-        match real_trap(&self.machine) {
-            Trap::Vector(n) => self.vector_reached(n),
-            Trap::Later => Err(Exit::Unbuilt),
+        match t {
+            Trap::RealVector(n) => self.vector_reached(n),
+            Trap::Entry => self.serve_entry(),
+            Trap::ProtectedVector(n) => self.serve_protected_vector(n),
             Trap::NoTrap => self.stepped(),
+            _ => Err(Exit::Unbuilt),
         }
     }
 
-    // What a turn does. It is counted already, so that there is room for a line of the trace.
+    // What a turn does. It is counted already, so that there is room for two lines of the trace.
+    #[inline(always)]
     #[tactic(auto, unfolding(crate::specs::Turn::work))]
     fn work(&mut self) -> Result<(), Exit>
-        requires room { self.old.world.lines < 2 * self.old.world.steps }
+        requires room { self.old.world.lines + 2 ≤ 2 * self.old.world.steps }
         ensures { ComesTo self.old self.new result (work self.old.world) }
     {
-        match self.machine.mode() {
-            Mode::Real => self.trapped(),
-            Mode::Protected => Err(Exit::Unbuilt),
-        }
+        let t = current_trap(&self.machine);
+        self.trapped(t)
     }
 }

@@ -2,11 +2,12 @@
 //! It promises that a new host is the blank world, that a load leads from it to the file's first world or is refused
 //! for the first reason, that each turn is the model's turn, and that a run is the model's run; that every world so reached
 //! is sound, that its turns touch what the client holds, and that an exit leaves the machine.
-//! It stands on `mz_loader`, `dos_calls` and `fault_service`, which stand on the machine; `dpmi_cli` stands on it.
+//! It is built on `mz_loader`, `dos_calls`, `fault_service`, `mode_gates` and `desc_services`, all of which are built on the machine.
 #![tactic(auto)]
 
 mod host;
 mod laws;
+mod protected;
 mod serving;
 #[cfg(test)]
 mod tests;

@@ -6,16 +6,18 @@ ghost use Rattle.dos_calls.specs.Calls.{dos_call};
 ghost use Rattle.dos_calls.specs.Multiplex.{multiplex_call};
 ghost use Rattle.fault_service.specs.Worlds.{world_step, world_popped};
 
-use client_world::{DosDone, Event};
+use client_world::{DosDone, Event, Exit};
 use cpu_step::step_with_memo;
 use dos_calls::{Console, Keys, every_dos_call_leaves_the_stack, int2f, int21};
 use fault_service::{
     a_real_frame_is_popped_where_it_fits, can_pop_iret, every_answer_depends_on_the_world_alone,
+    pop_iret,
 };
 use guest_space::Machine;
 use insn_decode::Memo;
 
 /// The client's next instruction, or its event, which leaves the machine.
+#[inline(always)]
 pub(crate) fn step_machine(m: &mut Machine, memo: &mut Memo) -> Result<(), Event>
     ensures { MatchResult result (λ _. world_step m.old.world ≡ Ok m.new.world)
         (λ e. (world_step m.old.world ≡ Err e) × (m.new ≡ m.old)) }
@@ -31,6 +33,18 @@ pub(crate) fn can_pop(m: &Machine) -> bool
 {
     every_answer_depends_on_the_world_alone();
     can_pop_iret(m)
+}
+
+/// The frame of an interrupt popped: the mode stays.
+pub(crate) fn pop_in_mode(m: &mut Machine) -> Result<(), Exit>
+    ensures world { MatchResult result (λ _. world_popped m.old.world ≡ Ok m.new.world)
+        (λ e. (world_popped m.old.world ≡ Err e) × (m.new ≡ m.old)) }
+    ensures mode { m.new.world.mode ≡ m.old.world.mode }
+{
+    match pop_iret(m) {
+        Ok(()) => Ok(()),
+        Err(exit) => Err(exit),
+    }
 }
 
 /// INT 21h, whose frame can be popped after it as before it. Where it ends the client, the machine is as it was.

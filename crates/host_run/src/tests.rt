@@ -2,7 +2,7 @@
 use crate::Host;
 use client_world::host_frames::DESCRIPTORS;
 use client_world::limits::{DEFAULT_PAGES, DEFAULT_TRACE};
-use client_world::{Exit, Flags, LoadFault, Mode, Regs, TraceLine};
+use client_world::{Carry, Exit, Flags, LoadFault, Mode, Regs, TraceLine, Width};
 use std::alloc::{AllocError, Global};
 use std::process::Abort;
 use std::test::Fail;
@@ -90,8 +90,8 @@ const CASES: [Case; 13] = [
     // A division by 0, whose vector ends the client; so does that of the coprocessor.
     case!(&[0xB1, 0x00, 0xF6, 0xF1], [esp: 0xFA, cs: 0xF000], exit: Exit::Fault(0, 0), steps: 3),
     case!(&[0xCD, 0x07], [esp: 0xFA, eip: 7, cs: 0xF000], exit: Exit::Fault(7, 0), steps: 2),
-    // The entry isn't served yet. Its far call has pushed CS and IP, 4 bytes.
-    case!(&[0x9A, 0x00, 0x01, 0x00, 0xF0], [esp: 0xFC, eip: 0x100, cs: 0xF000], exit: Exit::Unbuilt, steps: 2, flags: 0x0202),
+    // The raw switch to protected mode isn't served yet. Its far call has pushed CS and IP, 4 bytes.
+    case!(&[0x9A, 0x01, 0x01, 0x00, 0xF0], [esp: 0xFC, eip: 0x101, cs: 0xF000], exit: Exit::Unbuilt, steps: 2, flags: 0x0202),
     // A client that goes in a circle.
     case!(&[0xEB, 0xFE], [], bound: 1000, exit: Exit::Bound, steps: 1000, flags: 0x0202),
 ];
@@ -252,6 +252,143 @@ fn a_program_has_33_paragraphs(rt: HostRuntime) -> Result<(), Fail> {
         let header = [(0x0C, 0x10), (0x06, relocations), (0x1C, offset)];
         let memory = [(0x633, 33), (0x642, 0x85), (0x84E, last), (0x853, 0x9F7A)];
         expect_load(&rt, rt.alloc(), LETTER, &header, answer, &memory)?;
+    }
+    Ok(())
+}
+
+// Asks INT 2Fh for the entry, puts its address on the stack, and calls it for a client of 16 bits.
+const ENTER_16: [u8; 14] = [
+    0xB8, 0x87, 0x16, 0xCD, 0x2F, 0x06, 0x57, 0x89, 0xE5, 0x31, 0xC0, 0xFF, 0x5E, 0x00,
+];
+
+// The same for a client of 32 bits: AX is 1.
+const ENTER_32: [u8; 15] = [
+    0xB8, 0x87, 0x16, 0xCD, 0x2F, 0x06, 0x57, 0x89, 0xE5, 0xB8, 0x01, 0x00, 0xFF, 0x5E, 0x00,
+];
+
+// Loads a client that enters protected mode and then runs some code.
+fn entered_by(
+    rt: &impl Abort,
+    alloc: Global,
+    enter: &[u8],
+    code: &[u8],
+) -> Result<Host, AllocError> {
+    assert!(rt; enter.len() <= 20 && code.len() <= 400);
+    let mut whole = enter.to_vec(alloc)?;
+    whole.extend_from_slice(code)?;
+    let file = file(rt, alloc, &whole)?;
+    let (host, answer) = loaded(rt, alloc, &file, &[])?;
+    assert_eq!(rt; answer, Ok(()));
+    Ok(host)
+}
+
+// Runs a host that has made no turn.
+fn run_out(rt: &impl Abort, host: &mut Host) -> Exit {
+    assert_eq!(rt; host.steps(), 0);
+    host.run(100)
+}
+
+fn entered(rt: &impl Abort, alloc: Global, code: &[u8]) -> Result<Host, AllocError> {
+    entered_by(rt, alloc, &ENTER_16, code)
+}
+
+// A client of 32 bits pushes doublewords: its frame has 12 bytes.
+#[test]
+fn a_wide_client_enters_and_ends(rt: HostRuntime) -> Result<(), Fail> {
+    let mut host = entered_by(&rt, rt.alloc(), &ENTER_32, &[0xB8, 0x00, 0x4C, 0xCD, 0x21])?;
+    assert_eq!(rt; run_out(&rt, &mut host), Exit::Exited(0));
+    assert_eq!(rt; host.steps(), 12);
+    assert_eq!(rt; host.line(1), Some(TraceLine::Entry(Width::ThirtyTwo)));
+    let r = host.machine().regs();
+    assert_eq!(rt; (r.cs, r.eip, r.ss, r.esp), (0x0087, 0x221, 0x020F, 0xF0));
+    for (index, wide) in [
+        (17, true),
+        (64, false),
+        (65, true),
+        (66, true),
+        (67, false),
+        (68, false),
+    ] {
+        let size = match host.machine().desc(index) {
+            Some((d, _)) => Some(d.size),
+            None => None,
+        };
+        assert_eq!(rt; size, Some(wide), "descriptor {index}");
+    }
+    Ok(())
+}
+
+// No descriptors are refused; 1FBBh fill the table from index 69 on; then one more is refused.
+#[test]
+fn descriptors_run_out(rt: HostRuntime) -> Result<(), Fail> {
+    let code = [
+        0xB8, 0x00, 0x00, 0x31, 0xC9, 0xCD, 0x31, 0xB9, 0xBB, 0x1F, 0xCD, 0x31, 0x89, 0xC3, 0xB8,
+        0x00, 0x00, 0xB9, 0x01, 0x00, 0xCD, 0x31, 0xB8, 0x00, 0x4C, 0xCD, 0x21,
+    ];
+    let mut host = entered(&rt, rt.alloc(), &code)?;
+    assert_eq!(rt; run_out(&rt, &mut host), Exit::Exited(0));
+    for (i, carry) in [(2, Carry::Set), (3, Carry::Clear), (4, Carry::Set)] {
+        assert_eq!(rt;
+            host.line(i),
+            Some(TraceLine::Int31 { ax: 0, carry }),
+            "line {i}"
+        );
+    }
+    assert_eq!(rt; host.machine().regs().ebx, 0x022F);
+    Ok(())
+}
+
+// A client that enters protected mode and ends with AX = 4C00h: nine turns up to the entry's, then the move, INT 21h and its vector. At the
+// vector its frame lies on the entry's stack: 100h less 4 bytes of the pushed pointer, less 6.
+#[test]
+fn a_client_enters_and_ends(rt: HostRuntime) -> Result<(), Fail> {
+    let mut host = entered(&rt, rt.alloc(), &[0xB8, 0x00, 0x4C, 0xCD, 0x21])?;
+    assert_eq!(rt; run_out(&rt, &mut host), Exit::Exited(0));
+    assert_eq!(rt; host.steps(), 12);
+    assert!(rt; host.console().is_empty());
+    assert_eq!(rt; host.lines(), 3);
+    assert_eq!(rt; host.line(0), Some(TraceLine::Int2f(0x1687)));
+    assert_eq!(rt; host.line(1), Some(TraceLine::Entry(Width::Sixteen)));
+    assert_eq!(rt; host.line(2), Some(TraceLine::Int21(0x4C)));
+    let machine = host.machine();
+    assert_eq!(rt; machine.mode(), Mode::Protected);
+    let r = machine.regs();
+    assert_eq!(rt; (r.cs, r.eip, r.ss, r.esp), (0x0087, 0x221, 0x020F, 0xF6));
+    assert_eq!(rt; (r.ds, r.es, r.fs, r.gs), (0x0217, 0x021F, 0, 0));
+    assert_eq!(rt; r.flags.image(machine.vif()), 0x0246);
+    Ok(())
+}
+
+// AX = 1686h returns AX = 0. Function 0000h with CX = 0 sets carry: the jump on carry is taken, over HLT, and the client ends.
+#[test]
+fn services_answer_in_the_popped_flags(rt: HostRuntime) -> Result<(), Fail> {
+    let code = [
+        0xB8, 0x86, 0x16, 0xCD, 0x2F, 0x89, 0xC1, 0xCD, 0x31, 0x72, 0x01, 0xF4, 0xB5, 0x4C, 0x89,
+        0xC8, 0xCD, 0x21,
+    ];
+    let mut host = entered(&rt, rt.alloc(), &code)?;
+    assert_eq!(rt; run_out(&rt, &mut host), Exit::Exited(0));
+    assert_eq!(rt; host.line(2), Some(TraceLine::Int2f(0x1686)));
+    let ax = 0;
+    let carry = Carry::Set;
+    assert_eq!(rt; host.line(3), Some(TraceLine::Int31 { ax, carry }));
+    Ok(())
+}
+
+// What isn't served yet ends the run and leaves the machine: a reflected call, a service of another family, HLT's exception.
+#[test]
+fn other_calls_of_protected_mode_are_unbuilt(rt: HostRuntime) -> Result<(), Fail> {
+    for (code, steps, ip) in [
+        ([0xB4, 0x02, 0xCD, 0x21], 12, 0x221),
+        ([0xB4, 0x05, 0xCD, 0x31], 12, 0x231),
+        ([0xCD, 0x60, 0x90, 0x90], 11, 0x260),
+        ([0xF4, 0x90, 0x90, 0x90], 10, 14),
+    ] {
+        let mut host = entered(&rt, rt.alloc(), &code)?;
+        assert_eq!(rt; run_out(&rt, &mut host), Exit::Unbuilt, "exit of {code:?}");
+        assert_eq!(rt; host.steps(), steps, "turns of {code:?}");
+        assert_eq!(rt; host.machine().regs().eip, ip, "EIP of {code:?}");
+        assert_eq!(rt; host.lines(), 2, "lines of {code:?}");
     }
     Ok(())
 }

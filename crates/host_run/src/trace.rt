@@ -1,5 +1,5 @@
 // The trace.
-ghost use Rattle.std.specs.Prelude.{◌≡◌, ◌≤◌, ◌<◌, ◌*◌, slice_get};
+ghost use Rattle.std.specs.Prelude.{◌≡◌, ◌≤◌, ◌<◌, ◌*◌, length, slice_get};
 ghost use Rattle.host_run.specs.Turn.{noted};
 
 use crate::host::Host;
@@ -11,6 +11,15 @@ impl Host {
         ensures { result ≡ slice_get self.now.world.kept i }
     {
         self.kept.get(i as usize).copied()
+    }
+
+    /// The number of lines of the trace that are kept.
+    pub fn kept(&self) -> u32
+        ensures { result ≡ length self.now.world.kept }
+    {
+        // The number fits, since it is at most this.
+        let _keep = self.keep;
+        self.kept.len() as u32
     }
 
     /// The number of lines of the trace, with those that aren't kept.

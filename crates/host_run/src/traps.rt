@@ -1,67 +1,165 @@
-// What the machine stands at in real mode.
+// The trap bytes.
 ghost use Rattle.std.specs.Prelude.{◌≡◌};
-ghost use Rattle.host_run.specs.Traps.{is_among, is_later, trap_of, real_trap};
+ghost use Rattle.host_run.specs.Traps.{address_in, base_of, code_address, is_among, protected_trap_at, real_trap_at, current_trap, trap_at};
+ghost use Rattle.client_world.specs.Selector.{row_of_selector};
+ghost use Rattle.client_world.specs.declared.registers.Mode.TheVariants.{Protected as protected};
 
-use client_world::limits::{CALLBACKS, INTERRUPT_VECTORS};
+use client_world::Mode;
+use client_world::limits::{CALLBACKS, EXCEPTION_VECTORS, INTERRUPT_VECTORS};
 use client_world::memory_map::{PARAGRAPH_SIZE, ROM_START};
 use client_world::traps::{
-    CALL_RETURN_TRAP, CALLBACK_TRAPS, ENTRY_TRAP, REAL_STATE_TRAP, REAL_VECTOR_TRAPS,
-    SWITCH_TO_PROTECTED_TRAP,
+    CALL_RETURN_TRAP, CALLBACK_RETURN_TRAP, CALLBACK_TRAPS, ENTRY_TRAP, EXCEPTION_RETURN_TRAP,
+    EXCEPTION_TRAPS, PROTECTED_STATE_TRAP, PROTECTED_VECTOR_TRAPS, REAL_STATE_TRAP,
+    REAL_VECTOR_TRAPS, SWITCH_TO_PROTECTED_TRAP, SWITCH_TO_REAL_TRAP,
 };
 use guest_space::Machine;
 
-/// What the machine stands at: a default vector, a trap that isn't served yet, or none. Source: own.
+/// The trap byte of the mode at CS:EIP, or none. Source: own.
 #[derive(Clone, Copy, Debug, PartialEq, Eq)]
 pub enum Trap {
-    Vector(u8),
-    Later,
+    /// A default vector of real mode.
+    RealVector(u8),
+    /// The entry to protected mode.
+    Entry,
+    /// The raw switch to protected mode.
+    ToProtected,
+    /// The save and restore call of real mode.
+    RealState,
+    /// The return of a simulated call or of a reflection.
+    CallReturn,
+    /// A real-mode callback.
+    Callback(u8),
+    /// A default vector of protected mode.
+    ProtectedVector(u8),
+    /// A default exception handler.
+    ExceptionHandler(u8),
+    /// The raw switch to real mode.
+    ToReal,
+    /// The save and restore call of protected mode.
+    ProtectedState,
+    /// The return of an exception handler.
+    ExceptionReturn,
+    /// The return of a callback's procedure.
+    CallbackReturn,
+    /// No trap of the mode.
     NoTrap,
 }
 
-// Whether an address is one of so many from one on.
+// Whether an address is one of the n from another on.
 fn is_among(from: u32, n: u32, at: u64) -> bool
     ensures { result ≡ is_among from n at }
 {
     u64::from(from) <= at && at < u64::from(from) + u64::from(n)
 }
 
-// Whether it is a trap that isn't served yet.
-fn is_later(at: u64) -> bool
-    ensures { result ≡ is_later at }
-{
-    at == u64::from(ENTRY_TRAP)
-        || at == u64::from(SWITCH_TO_PROTECTED_TRAP)
-        || at == u64::from(REAL_STATE_TRAP)
-        || at == u64::from(CALL_RETURN_TRAP)
-        || is_among(CALLBACK_TRAPS, CALLBACKS, at)
-}
-
-// The trap of a linear address.
-fn trap_of(at: u64) -> Trap
-    ensures { result ≡ trap_of at }
+// The trap of real mode at a linear address.
+#[tactic(auto, unfolding(crate::specs::Traps::real_trap_at))]
+fn real_trap_at(at: u64) -> Trap
+    ensures { result ≡ real_trap_at at }
 {
     if is_among(REAL_VECTOR_TRAPS, INTERRUPT_VECTORS, at) {
-        Trap::Vector((at - u64::from(REAL_VECTOR_TRAPS)) as u8)
-    } else if is_later(at) {
-        Trap::Later
+        Trap::RealVector((at - u64::from(REAL_VECTOR_TRAPS)) as u8)
+    } else if at == u64::from(ENTRY_TRAP) {
+        Trap::Entry
+    } else if at == u64::from(SWITCH_TO_PROTECTED_TRAP) {
+        Trap::ToProtected
+    } else if at == u64::from(REAL_STATE_TRAP) {
+        Trap::RealState
+    } else if at == u64::from(CALL_RETURN_TRAP) {
+        Trap::CallReturn
+    } else if is_among(CALLBACK_TRAPS, CALLBACKS, at) {
+        Trap::Callback((at - u64::from(CALLBACK_TRAPS)) as u8)
     } else {
         Trap::NoTrap
     }
 }
 
-/// The trap of CS:EIP. Below read-only memory there is none, and nothing is fetched.
-#[tactic(auto, unfolding(crate::specs::Traps::real_trap))]
-pub(crate) fn real_trap(m: &Machine) -> Trap
-    ensures { result ≡ real_trap m.now.world }
+// The trap of protected mode at a linear address.
+#[tactic(auto, unfolding(crate::specs::Traps::protected_trap_at))]
+fn protected_trap_at(at: u64) -> Trap
+    ensures { result ≡ protected_trap_at at }
+{
+    if is_among(PROTECTED_VECTOR_TRAPS, INTERRUPT_VECTORS, at) {
+        Trap::ProtectedVector((at - u64::from(PROTECTED_VECTOR_TRAPS)) as u8)
+    } else if is_among(EXCEPTION_TRAPS, EXCEPTION_VECTORS, at) {
+        Trap::ExceptionHandler((at - u64::from(EXCEPTION_TRAPS)) as u8)
+    } else if at == u64::from(SWITCH_TO_REAL_TRAP) {
+        Trap::ToReal
+    } else if at == u64::from(PROTECTED_STATE_TRAP) {
+        Trap::ProtectedState
+    } else if at == u64::from(EXCEPTION_RETURN_TRAP) {
+        Trap::ExceptionReturn
+    } else if at == u64::from(CALLBACK_RETURN_TRAP) {
+        Trap::CallbackReturn
+    } else {
+        Trap::NoTrap
+    }
+}
+
+// The trap of a mode at a linear address.
+fn trap_at(mode: Mode, at: u64) -> Trap
+    ensures { result ≡ trap_at mode at }
+{
+    match mode {
+        Mode::Real => real_trap_at(at),
+        Mode::Protected => protected_trap_at(at),
+    }
+}
+
+// The base of the segment in CS.
+fn code_base(m: &Machine) -> u32
+    ensures { result ≡ base_of (row_of_selector m.now.world.descriptors m.now.world.regs.cs) }
+{
+    match m.desc_of(m.registers().cs) {
+        None => 0,
+        Some((d, _)) => d.base,
+    }
+}
+
+// The linear address of CS:EIP in protected mode.
+#[inline(never)]
+fn protected_code_address(m: &Machine) -> u64
+    ensures { result ≡ address_in protected m.now.world }
+{
+    u64::from(code_base(m).wrapping_add(m.registers().eip))
+}
+
+// The linear address of CS:EIP.
+#[inline(always)]
+fn code_address(m: &Machine) -> u64
+    ensures { result ≡ code_address m.now.world }
 {
     let cs = m.registers().cs;
     let eip = m.registers().eip;
-    let at = u64::from(cs) * u64::from(PARAGRAPH_SIZE) + u64::from(eip);
-    if at < u64::from(ROM_START) {
-        return Trap::NoTrap;
+    match m.mode() {
+        Mode::Real => u64::from(cs) * u64::from(PARAGRAPH_SIZE) + u64::from(eip),
+        Mode::Protected => protected_code_address(m),
     }
+}
+
+// The trap of CS:EIP, which has this linear address.
+#[inline(never)]
+#[tactic(auto, unfolding(crate::specs::Traps::current_trap, crate::specs::Traps::code_linear))]
+fn trap_in_rom(m: &Machine, at: u64) -> Trap
+    requires { at ≡ code_address m.now.world }
+    ensures { result ≡ current_trap m.now.world }
+{
     match m.fetch(0) {
-        Ok(_) => trap_of(at),
+        Ok(_) => trap_at(m.mode(), at),
         Err(_) => Trap::NoTrap,
+    }
+}
+
+/// The trap of CS:EIP. Below read-only memory there is none, and nothing is fetched.
+#[inline(always)]
+#[tactic(auto, using(crate::proofs::NoTraps::none_below))]
+pub(crate) fn current_trap(m: &Machine) -> Trap
+    ensures { result ≡ current_trap m.now.world }
+{
+    let at = code_address(m);
+    if at < u64::from(ROM_START) {
+        Trap::NoTrap
+    } else {
+        trap_in_rom(m, at)
     }
 }

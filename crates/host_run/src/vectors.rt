@@ -1,5 +1,5 @@
 // The default vectors of real mode.
-ghost use Rattle.std.specs.Prelude.{◌≡◌, ◌<◌, ◌*◌, true, is_ok};
+ghost use Rattle.std.specs.Prelude.{◌≡◌, ◌≤◌, ◌+◌, ◌*◌, true, is_ok};
 ghost use Rattle.client_world.specs.declared.registers.Mode.TheVariants.{Real};
 ghost use Rattle.fault_service.specs.Worlds.{world_popped};
 ghost use Rattle.host_run.specs.View.{ComesTo};
@@ -25,7 +25,7 @@ impl Host {
     fn dos_served(&mut self) -> Result<(), Exit>
         requires real { self.old.world.machine.mode ≡ Real }
         requires frame { is_ok (world_popped self.old.world.machine) ≡ true }
-        requires room { self.old.world.lines < 2 * self.old.world.steps }
+        requires room { self.old.world.lines + 2 ≤ 2 * self.old.world.steps }
         ensures { ComesTo self.old self.new result (dos_served self.old.world) }
     {
         let function = part8(self.machine.regs().eax, true);
@@ -40,7 +40,7 @@ impl Host {
     fn multiplex_served(&mut self) -> Result<(), Exit>
         requires real { self.old.world.machine.mode ≡ Real }
         requires frame { is_ok (world_popped self.old.world.machine) ≡ true }
-        requires room { self.old.world.lines < 2 * self.old.world.steps }
+        requires room { self.old.world.lines + 2 ≤ 2 * self.old.world.steps }
         ensures { ComesTo self.old self.new result (multiplex_served self.old.world) }
     {
         let function = (self.machine.regs().eax % 0x1_0000) as u16;
@@ -54,7 +54,7 @@ impl Host {
     fn vector_served(&mut self, n: u8) -> Result<(), Exit>
         requires real { self.old.world.machine.mode ≡ Real }
         requires frame { is_ok (world_popped self.old.world.machine) ≡ true }
-        requires room { self.old.world.lines < 2 * self.old.world.steps }
+        requires room { self.old.world.lines + 2 ≤ 2 * self.old.world.steps }
         ensures { ComesTo self.old self.new result (vector_served self.old.world n) }
     {
         if ends_client(n) {
@@ -74,10 +74,11 @@ impl Host {
     }
 
     // The default vector of a number, where the frame can be popped.
+    #[inline(never)]
     #[tactic(auto, using(crate::proofs::Frames::reached_popped, crate::proofs::Frames::reached_bad))]
     pub(crate) fn vector_reached(&mut self, n: u8) -> Result<(), Exit>
         requires real { self.old.world.machine.mode ≡ Real }
-        requires room { self.old.world.lines < 2 * self.old.world.steps }
+        requires room { self.old.world.lines + 2 ≤ 2 * self.old.world.steps }
         ensures { ComesTo self.old self.new result (vector_reached self.old.world n) }
     {
         if can_pop(&self.machine) {

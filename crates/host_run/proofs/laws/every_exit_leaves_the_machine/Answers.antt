@@ -1,4 +1,4 @@
-use Rattle.host_run.proofs.Exits.{exit_leaves_machine, exit_leaves_outside}
+use Rattle.host_run.proofs.Sound.{exit_leaves_machine, exit_leaves_outside}
 use Rattle.host_run.proofs.laws.every_exit_leaves_the_machine.Goals as goal
 
 pub returns-clause-machine : goal.returns-clause-machine

@@ -1,0 +1,4 @@
+mod Counts
+mod Decimal
+mod Pieces
+mod Sequence

@@ -1,0 +1,10 @@
+use Rattle.std.proofs.Common.{arith, ◌%◌, ◌+◌, ◌++◌, ◌∷◌, [], ap, ◌∙◌, sym, append_assoc}
+use Rattle.dpmi_report.proofs.Decimal.{decimal_more}
+use Rattle.dpmi_report.proofs.line.+add_decimal.Goals as goal
+
+pub returns-then-n-ge10-clause-added : goal.returns-then-n-ge10-clause-added
+returns-then-n-ge10-clause-added t c =
+    c.add.ensures.added
+    ∙ ap (λ l. l ++ (48 + c.args.n % 10) ∷ []) c.add_decimal.ensures.added
+    ∙ append_assoc c.args.line.now.items _ _
+    ∙ ap (λ l. c.args.line.now.items ++ l) (sym (decimal_more c.args.n (omega arith) (omega arith)))

@@ -1,0 +1,6 @@
+pub mod Digits
+pub mod Lines
+pub mod Rows
+pub mod Summary
+pub mod Text
+pub mod Trace

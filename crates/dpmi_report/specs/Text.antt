@@ -1,0 +1,70 @@
+-- The text of a run that has ended. Source: own.
+use Rattle.std.specs.Prelude.{ℕ, ◌++◌, List, [], Bool, length, codes, Some, None, count_by, is_some}
+use Rattle.std.specs.Fmt.{decimal}
+use Rattle.client_world.specs.declared.host_frames.TheConstants.{DESCRIPTORS}
+use Rattle.client_world.specs.declared.limits.TheConstants.{MAX_BLOCKS}
+use Rattle.client_world.specs.declared.outcome.Exit.{Exit}
+use Rattle.client_world.specs.declared.registers.Mode.{Mode}
+use Rattle.client_world.specs.declared.registers.Regs.{Regs}
+use Rattle.client_world.specs.World.{World, HostWorld, depth}
+use Rattle.dpmi_report.specs.Lines.{line_end, exit_text, mode_text, regs_text, desc_row, block_row, dos_line}
+use Rattle.dpmi_report.specs.Rows.{up_to}
+use Rattle.dpmi_report.specs.Trace.{trace_row}
+
+-- the line before the console's bytes: their number
+abbrev pub console_head : ℕ → List ℕ
+console_head count = codes "console " ++ decimal count ++ line_end
+
+-- the console's bytes, between that line and the end of their own
+abbrev pub console_part : HostWorld → List ℕ
+console_part w = (console_head (length w.console) ++ w.console) ++ line_end
+
+-- the line before the trace: how many lines were kept, and how many there were
+abbrev pub trace_head : ℕ → ℕ → List ℕ
+trace_head kept lines = codes "trace " ++ decimal kept ++ codes " of " ++ decimal lines ++ line_end
+
+-- the lines of the trace that were kept, the first ones
+abbrev pub trace_part : HostWorld → List ℕ
+trace_part w = trace_head (length w.kept) w.lines ++ up_to (trace_row w.kept) (length w.kept)
+
+-- how the run ended, and after how many turns
+abbrev pub end_part : Exit → ℕ → List ℕ
+end_part exit steps =
+    codes "report" ++ line_end ++ codes "exit " ++ exit_text exit ++ line_end ++ codes "steps " ++ decimal steps ++ line_end
+
+-- the mode, the depth n and the registers
+abbrev pub processor_text : Mode → ℕ → Regs → Bool → List ℕ
+processor_text mode n r vif =
+    codes "mode " ++ mode_text mode ++ line_end ++ codes "depth " ++ decimal n ++ line_end
+    ++ codes "regs " ++ regs_text r vif ++ line_end
+
+abbrev pub processor_part : ℕ → World → List ℕ
+processor_part n w = processor_text w.mode n w.regs w.vif
+
+-- the line before the descriptors: their number
+abbrev pub descs_head : ℕ → List ℕ
+descs_head count = codes "descs " ++ decimal count ++ line_end
+
+-- the descriptors by their indices
+abbrev pub descs_part : World → List ℕ
+descs_part w = descs_head (count_by is_some w.descriptors) ++ up_to (desc_row w.descriptors) DESCRIPTORS
+
+-- the memory blocks by their handles
+abbrev pub blocks_part : World → List ℕ
+blocks_part w = codes "blocks " ++ decimal (count_by is_some w.blocks) ++ line_end ++ up_to (block_row w.blocks) MAX_BLOCKS
+
+-- what the run did
+abbrev pub run_part : HostWorld → Exit → List ℕ
+run_part w exit = (console_part w ++ trace_part w) ++ end_part exit w.steps
+
+-- the state that it left, at this depth: the processor and the descriptors
+abbrev pub state_part : ℕ → World → List ℕ
+state_part n w = processor_part n w ++ descs_part w
+
+-- the text of a run that ended so
+abbrev pub text_at : HostWorld → Exit → List ℕ
+text_at w exit = (run_part w exit ++ state_part (depth w.machine) w.machine) ++ (blocks_part w.machine ++ dos_line w.machine.dos)
+
+-- the text of a run
+abbrev pub text : HostWorld → List ℕ
+text w = elim w.exit [ None ↦ [] | Some exit ↦ text_at w exit ]

@@ -1,0 +1,18 @@
+//! The text of a run that has ended: the console, the trace and the report.
+//! It promises that each part is the model's text, whole or cut off where the output failed, and that it fails only where the output's
+//! count of faults rose. It stands on `host_run`, whose hosts it shows, and on `dpmi_io`.
+#![tactic(auto)]
+
+mod digest;
+mod line;
+mod lines;
+mod parts;
+mod report;
+mod summary;
+#[cfg(test)]
+mod tests;
+mod trace;
+
+pub use parts::put_dos;
+pub use report::{write_run, write_state};
+pub use summary::write_summary;

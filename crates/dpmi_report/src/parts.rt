@@ -1,0 +1,297 @@
+// The parts of the text. None takes memory; where one fails, a first part of its text was put, and the count of faults rose.
+ghost use Rattle.std.specs.Prelude.{◌≡◌, ◌≤◌, ◌<◌, ◌+◌, ◌++◌, OnOk, OnErr, Some, length, count_by, is_some};
+ghost use Rattle.client_world.specs.declared.host_frames.TheConstants.{DESCRIPTORS};
+ghost use Rattle.dpmi_io.specs.Causes.{Rose};
+ghost use Rattle.dpmi_io.specs.Content.{Gains, GainsPart};
+ghost use Rattle.dpmi_report.specs.Lines.{line_end, desc_row, dos_line};
+ghost use Rattle.dpmi_report.specs.Rows.{up_to};
+ghost use Rattle.dpmi_report.specs.Text.{console_head, console_part, trace_head, trace_part, end_part, processor_text, processor_part, descs_head, descs_part};
+ghost use Rattle.dpmi_report.specs.Trace.{trace_row};
+
+use crate::digest::dos_digest;
+use crate::line::Line;
+use crate::lines::{
+    console_line, descriptor_line, descriptors_line, dos_line, end_lines, processor_lines,
+    trace_line,
+};
+use crate::trace::event_line;
+use client_world::Exit;
+use client_world::host_frames::DESCRIPTORS;
+use client_world::selectors::selector_of;
+use dpmi_io::{Sink, SinkFail, put_all};
+use guest_space::Machine;
+use host_run::Host;
+
+// The line before the console's bytes.
+fn console_line_of(host: &Host) -> Line
+    ensures { result.items ≡ console_head (length host.now.world.console) }
+{
+    console_line(host.console().len() as u32)
+}
+
+// Puts the line before the console's bytes.
+fn put_console_head<O: Sink>(host: &Host, out: &mut O) -> Result<(), SinkFail>
+    ensures whole { OnOk result (Gains (O.taken out.old) (O.taken out.new) (console_head (length host.now.world.console))) }
+    ensures part { OnErr result (GainsPart (O.taken out.old) (O.taken out.new) (console_head (length host.now.world.console))) }
+    ensures quiet { OnOk result (O.faults out.new ≡ O.faults out.old) }
+    ensures failed { OnErr result (Rose (O.faults out.old) (O.faults out.new)) }
+{
+    let line = console_line_of(host);
+    put_all(out, line.as_slice())
+}
+
+// Puts the end of a line.
+fn put_line_end<O: Sink>(out: &mut O) -> Result<(), SinkFail>
+    ensures whole { OnOk result (Gains (O.taken out.old) (O.taken out.new) (line_end)) }
+    ensures part { OnErr result (GainsPart (O.taken out.old) (O.taken out.new) (line_end)) }
+    ensures quiet { OnOk result (O.faults out.new ≡ O.faults out.old) }
+    ensures failed { OnErr result (Rose (O.faults out.old) (O.faults out.new)) }
+{
+    put_all(out, b"\n".as_slice())
+}
+
+// Puts the console's bytes.
+fn put_console_bytes<O: Sink>(host: &Host, out: &mut O) -> Result<(), SinkFail>
+    ensures whole { OnOk result (Gains (O.taken out.old) (O.taken out.new) (host.now.world.console)) }
+    ensures part { OnErr result (GainsPart (O.taken out.old) (O.taken out.new) (host.now.world.console)) }
+    ensures quiet { OnOk result (O.faults out.new ≡ O.faults out.old) }
+    ensures failed { OnErr result (Rose (O.faults out.old) (O.faults out.new)) }
+{
+    let console = host.console();
+    put_all(out, console)
+}
+
+/// Puts the console's part.
+pub fn put_console<O: Sink>(host: &Host, out: &mut O) -> Result<(), SinkFail>
+    ensures whole { OnOk result (Gains (O.taken out.old) (O.taken out.new) (console_part host.now.world)) }
+    ensures part { OnErr result (GainsPart (O.taken out.old) (O.taken out.new) (console_part host.now.world)) }
+    ensures quiet { OnOk result (O.faults out.new ≡ O.faults out.old) }
+    ensures failed { OnErr result (Rose (O.faults out.old) (O.faults out.new)) }
+{
+    match put_console_head(host, out) {
+        Ok(()) => {}
+        Err(fail) => return Err(fail),
+    }
+    match put_console_bytes(host, out) {
+        Ok(()) => {}
+        Err(fail) => return Err(fail),
+    }
+    match put_line_end(out) {
+        Ok(()) => Ok(()),
+        Err(fail) => Err(fail),
+    }
+}
+
+// The line before the trace.
+fn trace_line_of(host: &Host) -> Line
+    ensures { result.items ≡ trace_head (length host.now.world.kept) host.now.world.lines }
+{
+    trace_line(host.kept(), host.lines())
+}
+
+// Puts the line before the trace.
+fn put_trace_head<O: Sink>(host: &Host, out: &mut O) -> Result<(), SinkFail>
+    ensures whole { OnOk result (Gains (O.taken out.old) (O.taken out.new) (trace_head (length host.now.world.kept) host.now.world.lines)) }
+    ensures part { OnErr result (GainsPart (O.taken out.old) (O.taken out.new) (trace_head (length host.now.world.kept) host.now.world.lines)) }
+    ensures quiet { OnOk result (O.faults out.new ≡ O.faults out.old) }
+    ensures failed { OnErr result (Rose (O.faults out.old) (O.faults out.new)) }
+{
+    let line = trace_line_of(host);
+    put_all(out, line.as_slice())
+}
+
+// Puts the line of the trace of that number.
+fn put_event<O: Sink>(host: &Host, i: u32, out: &mut O) -> Result<(), SinkFail>
+    ensures whole { OnOk result (Gains (O.taken out.old) (O.taken out.new) (trace_row host.now.world.kept i)) }
+    ensures part { OnErr result (GainsPart (O.taken out.old) (O.taken out.new) (trace_row host.now.world.kept i)) }
+    ensures quiet { OnOk result (O.faults out.new ≡ O.faults out.old) }
+    ensures failed { OnErr result (Rose (O.faults out.old) (O.faults out.new)) }
+{
+    match host.line(i) {
+        Some(event) => {
+            let line = event_line(&event);
+            put_all(out, line.as_slice())
+        }
+        None => put_all(out, b"".as_slice()),
+    }
+}
+
+// Puts the first lines of the trace.
+fn put_first_events<O: Sink>(host: &Host, kept: u32, out: &mut O) -> Result<(), SinkFail>
+    ensures whole { OnOk result (Gains (O.taken out.old) (O.taken out.new) (up_to (trace_row host.now.world.kept) kept)) }
+    ensures part { OnErr result (GainsPart (O.taken out.old) (O.taken out.new) (up_to (trace_row host.now.world.kept) kept)) }
+    ensures quiet { OnOk result (O.faults out.new ≡ O.faults out.old) }
+    ensures failed { OnErr result (Rose (O.faults out.old) (O.faults out.new)) }
+{
+    for i in 0..kept {
+        match put_event(host, i, out) {
+            Ok(()) => {}
+            Err(fail) => return Err(fail),
+        }
+    }
+    Ok(())
+}
+
+// Puts the lines of the trace that are kept.
+fn put_events<O: Sink>(host: &Host, out: &mut O) -> Result<(), SinkFail>
+    ensures whole { OnOk result (Gains (O.taken out.old) (O.taken out.new) (up_to (trace_row host.now.world.kept) (length host.now.world.kept))) }
+    ensures part { OnErr result (GainsPart (O.taken out.old) (O.taken out.new) (up_to (trace_row host.now.world.kept) (length host.now.world.kept))) }
+    ensures quiet { OnOk result (O.faults out.new ≡ O.faults out.old) }
+    ensures failed { OnErr result (Rose (O.faults out.old) (O.faults out.new)) }
+{
+    put_first_events(host, host.kept(), out)
+}
+
+/// Puts the trace's part.
+pub fn put_trace<O: Sink>(host: &Host, out: &mut O) -> Result<(), SinkFail>
+    ensures whole { OnOk result (Gains (O.taken out.old) (O.taken out.new) (trace_part host.now.world)) }
+    ensures part { OnErr result (GainsPart (O.taken out.old) (O.taken out.new) (trace_part host.now.world)) }
+    ensures quiet { OnOk result (O.faults out.new ≡ O.faults out.old) }
+    ensures failed { OnErr result (Rose (O.faults out.old) (O.faults out.new)) }
+{
+    match put_trace_head(host, out) {
+        Ok(()) => {}
+        Err(fail) => return Err(fail),
+    }
+    match put_events(host, out) {
+        Ok(()) => Ok(()),
+        Err(fail) => Err(fail),
+    }
+}
+
+// The lines of the report's head, of the exit and of the turns.
+fn end_lines_of(host: &Host, exit: Exit) -> Line
+    ensures { result.items ≡ end_part exit host.now.world.steps }
+{
+    end_lines(exit, host.steps())
+}
+
+/// Puts how the run ended, and after how many turns.
+pub fn put_end<O: Sink>(host: &Host, exit: Exit, out: &mut O) -> Result<(), SinkFail>
+    ensures whole { OnOk result (Gains (O.taken out.old) (O.taken out.new) (end_part exit host.now.world.steps)) }
+    ensures part { OnErr result (GainsPart (O.taken out.old) (O.taken out.new) (end_part exit host.now.world.steps)) }
+    ensures quiet { OnOk result (O.faults out.new ≡ O.faults out.old) }
+    ensures failed { OnErr result (Rose (O.faults out.old) (O.faults out.new)) }
+{
+    let lines = end_lines_of(host, exit);
+    put_all(out, lines.as_slice())
+}
+
+// The lines of the mode, the depth and the registers.
+fn processor_lines_of(machine: &Machine, depth: u8) -> Line
+    ensures { result.items ≡ processor_part depth machine.now.world }
+{
+    let regs = machine.regs();
+    processor_lines(machine.mode(), depth, &regs, machine.vif())
+}
+
+/// Puts the mode, the depth and the registers.
+pub fn put_processor<O: Sink>(machine: &Machine, depth: u8, out: &mut O) -> Result<(), SinkFail>
+    ensures whole { OnOk result (Gains (O.taken out.old) (O.taken out.new) (processor_part depth machine.now.world)) }
+    ensures part { OnErr result (GainsPart (O.taken out.old) (O.taken out.new) (processor_part depth machine.now.world)) }
+    ensures quiet { OnOk result (O.faults out.new ≡ O.faults out.old) }
+    ensures failed { OnErr result (Rose (O.faults out.old) (O.faults out.new)) }
+{
+    let lines = processor_lines_of(machine, depth);
+    put_all(out, lines.as_slice())
+}
+
+// The number of descriptors.
+fn count_descriptors(machine: &Machine) -> u32
+    ensures { result ≡ count_by is_some machine.now.world.descriptors }
+{
+    machine.soundness();
+    let mut count = 0;
+    for index in 0..DESCRIPTORS as u16 {
+        if machine.desc(index).is_some() {
+            count += 1;
+        }
+    }
+    count
+}
+
+// The line before the descriptors.
+fn descriptors_line_of(machine: &Machine) -> Line
+    ensures { result.items ≡ descs_head (count_by is_some machine.now.world.descriptors) }
+{
+    descriptors_line(count_descriptors(machine))
+}
+
+// Puts the line before the descriptors.
+fn put_descriptors_head<O: Sink>(machine: &Machine, out: &mut O) -> Result<(), SinkFail>
+    ensures whole { OnOk result (Gains (O.taken out.old) (O.taken out.new) (descs_head (count_by is_some machine.now.world.descriptors))) }
+    ensures part { OnErr result (GainsPart (O.taken out.old) (O.taken out.new) (descs_head (count_by is_some machine.now.world.descriptors))) }
+    ensures quiet { OnOk result (O.faults out.new ≡ O.faults out.old) }
+    ensures failed { OnErr result (Rose (O.faults out.old) (O.faults out.new)) }
+{
+    let line = descriptors_line_of(machine);
+    put_all(out, line.as_slice())
+}
+
+// Puts the line of a row, where it holds a descriptor.
+fn put_row<O: Sink>(machine: &Machine, index: u16, out: &mut O) -> Result<(), SinkFail>
+    requires { index < DESCRIPTORS }
+    ensures whole { OnOk result (Gains (O.taken out.old) (O.taken out.new) (desc_row machine.now.world.descriptors index)) }
+    ensures part { OnErr result (GainsPart (O.taken out.old) (O.taken out.new) (desc_row machine.now.world.descriptors index)) }
+    ensures quiet { OnOk result (O.faults out.new ≡ O.faults out.old) }
+    ensures failed { OnErr result (Rose (O.faults out.old) (O.faults out.new)) }
+{
+    match machine.desc(index) {
+        Some((desc, origin)) => {
+            let line = descriptor_line(selector_of(index), &desc, origin);
+            put_all(out, line.as_slice())
+        }
+        None => put_all(out, b"".as_slice()),
+    }
+}
+
+// Puts the lines of the descriptors.
+fn put_rows<O: Sink>(machine: &Machine, out: &mut O) -> Result<(), SinkFail>
+    ensures whole { OnOk result (Gains (O.taken out.old) (O.taken out.new) (up_to (desc_row machine.now.world.descriptors) DESCRIPTORS)) }
+    ensures part { OnErr result (GainsPart (O.taken out.old) (O.taken out.new) (up_to (desc_row machine.now.world.descriptors) DESCRIPTORS)) }
+    ensures quiet { OnOk result (O.faults out.new ≡ O.faults out.old) }
+    ensures failed { OnErr result (Rose (O.faults out.old) (O.faults out.new)) }
+{
+    for index in 0..DESCRIPTORS as u16 {
+        match put_row(machine, index, out) {
+            Ok(()) => {}
+            Err(fail) => return Err(fail),
+        }
+    }
+    Ok(())
+}
+
+/// Puts the descriptors' part.
+pub fn put_descriptors<O: Sink>(machine: &Machine, out: &mut O) -> Result<(), SinkFail>
+    ensures whole { OnOk result (Gains (O.taken out.old) (O.taken out.new) (descs_part machine.now.world)) }
+    ensures part { OnErr result (GainsPart (O.taken out.old) (O.taken out.new) (descs_part machine.now.world)) }
+    ensures quiet { OnOk result (O.faults out.new ≡ O.faults out.old) }
+    ensures failed { OnErr result (Rose (O.faults out.old) (O.faults out.new)) }
+{
+    match put_descriptors_head(machine, out) {
+        Ok(()) => {}
+        Err(fail) => return Err(fail),
+    }
+    match put_rows(machine, out) {
+        Ok(()) => Ok(()),
+        Err(fail) => Err(fail),
+    }
+}
+
+// The line of the DOS megabyte.
+fn dos_line_of(machine: &Machine) -> Line
+    ensures { result.items ≡ dos_line machine.now.world.dos }
+{
+    dos_line(&dos_digest(machine))
+}
+
+/// Puts the line of the DOS megabyte.
+pub fn put_dos<O: Sink>(machine: &Machine, out: &mut O) -> Result<(), SinkFail>
+    ensures whole { OnOk result (Gains (O.taken out.old) (O.taken out.new) (dos_line machine.now.world.dos)) }
+    ensures part { OnErr result (GainsPart (O.taken out.old) (O.taken out.new) (dos_line machine.now.world.dos)) }
+    ensures quiet { OnOk result (O.faults out.new ≡ O.faults out.old) }
+    ensures failed { OnErr result (Rose (O.faults out.old) (O.faults out.new)) }
+{
+    let line = dos_line_of(machine);
+    put_all(out, line.as_slice())
+}

@@ -1,0 +1,148 @@
+-- The command of some words takes the words that break no rule, and assigns the values that they give.
+use Rattle.std.proofs.Common.{◌≡◌, ◌∙◌, ◌||◌, Bool, cond, true, false, refl, ap, List, [], ◌∷◌, map, true≢false, sym, inl, inr, subst}
+use Rattle.std.specs.Prelude.{IfSome, option_and_then, option_map, slice_get, find, Some, None, ◌⊎◌}
+use Rattle.std.specs.declared.option.Option.{Option}
+use Rattle.std.specs.List.{fold, AllByRecursion}
+use Rattle.std.specs.Str.{bytes_eq}
+use Rattle.std.proofs.lemmas.Slice.Eq.{bytes_eq-Decides}
+use Rattle.clap.specs.Simple.{App, built, is_simple, matches_of}
+use Rattle.clap.specs.Takes.{takes, level_passes, walk_passes}
+use Rattle.clap.specs.Walk.{Rule, Row, Walk, Held, nothing_held, walk, walk_from, with_default, first_of, idle, has_row, rows_of}
+use Rattle.clap.specs.Walk.{finished as rows_finished}
+use Rattle.clap.proofs.OnLiterals.{clap_on_literals}
+use Rattle.clap.proofs.TakesLemmas.{leaf_takes}
+use Rattle.clap.specs.declared.parser.matches.Found.{Found}
+use Rattle.clap.proofs.WalkLemmas.{first_value-rows}
+use Rattle.dpmi_words.specs.Reading.{Text, Reading, nothing_read, operand, has_given, is_listed, reads, finished, finished_by, given_by, value_of, run_options, soak_options}
+use Rattle.dpmi_words.specs.Command.{run_app, soak_app, Assigns}
+use Rattle.dpmi_words.proofs.Walks.{Rules, Tied, Idle, row, walk_at, all_steps, when_Some}
+
+-- ---- the command of `run`
+
+or_true : (a b : Bool) → (a || b) ≡ true → (a ≡ true) ⊎ (b ≡ true)
+or_true true b h = inl refl
+or_true false b h = inr h
+
+-- what holds of each listed name
+each_name : (P : Text → Type 0) (names : List Text) → AllByRecursion P names → (n : Text) → is_listed names n ≡ true → P n
+each_name P [] all n h = absurd (true≢false (sym h))
+each_name P (x ∷ xs) all n h = elim (or_true (bytes_eq x n) (is_listed xs n) h) [
+  | inl same ↦ subst P ((bytes_eq-Decides x n).0 same) all.0
+  | inr later ↦ each_name P xs all.1 n later
+]
+
+pub run_simple : is_simple run_app ≡ true
+unfolding clap_on_literals
+run_simple = refl
+
+run_rules : Rules run_options (built run_app).top.rules
+run_rules = record {
+  long = each_name _ run_options (refl, (refl, (refl, (refl, (refl, tt)))));
+  by_id = each_name _ run_options (refl, (refl, (refl, (refl, (refl, tt)))));
+  index = refl;
+  operand_by_id = refl;
+  other = each_name _ run_options (refl, (refl, (refl, (refl, (refl, tt)))));
+}
+
+-- ---- the command of `soak`
+
+pub soak_simple : is_simple soak_app ≡ true
+unfolding clap_on_literals
+soak_simple = refl
+
+soak_rules : Rules soak_options (built soak_app).top.rules
+soak_rules = record {
+  long = each_name _ soak_options tt;
+  by_id = each_name _ soak_options tt;
+  index = refl;
+  operand_by_id = refl;
+  other = each_name _ soak_options tt;
+}
+
+-- ---- the end of the walk
+
+finished_is : (o : Option Reading) (given : List (Text × Text)) → option_and_then finished o ≡ Some given →
+    (r : Reading) × (o ≡ Some r) × (r.waiting ≡ None) × (r.given ≡ given)
+finished_is None given e = cc
+finished_is (Some r) given e = go r.waiting refl e
+  where
+    go : (w : Option Text) → r.waiting ≡ w → finished_by w r.given ≡ Some given → (x : Reading) × (Some r ≡ Some x) × (x.waiting ≡ None) × (x.given ≡ given)
+    go (Some n) is h = cc
+    go None is h =
+        let both = when_Some (has_given operand r.given) (Some r.given) given h in
+        let same : r.given ≡ given = let s = both.1 in cc in
+        (r, refl, is, same)
+
+no_default : (rows : List Row) (a : Rule) → a.defaults ≡ [] → with_default rows a ≡ rows
+no_default rows a none = rw none (same (has_row a.id rows))
+  where
+    same : (b : Bool) → cond b rows rows ≡ rows
+    same true = refl
+    same false = refl
+
+no_defaults : (c : List Rule) (rows : List Row) → AllByRecursion (λ a. a.defaults ≡ []) c → fold with_default rows c ≡ rows
+no_defaults [] rows none = refl
+no_defaults (a ∷ rest) rows none = rw (no_default rows a none.0) (no_defaults rest rows none.1)
+
+-- where the walk over the words ends
+abbrev Ends : App → List Text → List (Text × Text) → Type 0
+Ends app words given = (walk_passes (built app).top [] (walk_from nothing_held) words ≡ true)
+    × (h : Held) × Idle (built app).top.rules given h × (walk (built app).top.rules [] nothing_held words ≡ walk_at given idle h)
+
+walk_ends : (names : List Text) (app : App) → Rules names (built app).top.rules → (built app).top.args_override_self ≡ false →
+    (words : List Text) (given : List (Text × Text)) → given_by names words ≡ Some given → Ends app words given
+walk_ends names app rules again words given e =
+    let r = finished_is (reads names words nothing_read) given e in
+    let started : Tied names (built app).top.rules None [] (walk_from nothing_held) =
+    (nothing_held, record { rows = refl; skip = refl; passes = refl }, refl) in
+    let both = all_steps names (built app).top rules again words nothing_read r.0 (walk_from nothing_held) started r.1 in
+    let tied : Tied names (built app).top.rules None given (walk (built app).top.rules [] nothing_held words) = rw (r.2, r.3) at both.1 in
+    (both.0, tied.0, tied.1, tied.2)
+
+-- ---- what the commands take and assign
+
+pub run_takes : (words : List Text) (given : List (Text × Text)) → given_by run_options words ≡ Some given → takes run_app words ≡ true
+run_takes words given e =
+    let ends = walk_ends run_options run_app run_rules refl words given e in
+    let level : level_passes (built run_app).top [] nothing_held words false ≡ true = rw (ends.0, ends.3, ends.2.passes) refl in
+    rw run_simple (leaf_takes (built run_app) nothing_held words refl level)
+
+pub run_matches : (words : List Text) (given : List (Text × Text)) → given_by run_options words ≡ Some given → matches_of run_app words ≡ map row given
+run_matches words given e =
+    let ends = walk_ends run_options run_app run_rules refl words given e in
+    ap (λ (w : Walk). rows_finished (built run_app).top.rules w.held) ends.3
+    ∙ no_defaults (built run_app).top.rules _ (refl, (refl, (refl, (refl, (refl, (refl, tt))))))
+    ∙ ends.2.rows
+
+pub soak_takes : (words : List Text) (given : List (Text × Text)) → given_by soak_options words ≡ Some given → takes soak_app words ≡ true
+soak_takes words given e =
+    let ends = walk_ends soak_options soak_app soak_rules refl words given e in
+    let level : level_passes (built soak_app).top [] nothing_held words false ≡ true = rw (ends.0, ends.3, ends.2.passes) refl in
+    rw soak_simple (leaf_takes (built soak_app) nothing_held words refl level)
+
+pub soak_matches : (words : List Text) (given : List (Text × Text)) → given_by soak_options words ≡ Some given → matches_of soak_app words ≡ map row given
+soak_matches words given e =
+    let ends = walk_ends soak_options soak_app soak_rules refl words given e in
+    ap (λ (w : Walk). rows_finished (built soak_app).top.rules w.held) ends.3
+    ∙ no_defaults (built soak_app).top.rules _ (refl, tt)
+    ∙ ends.2.rows
+
+-- the first value of a name in the rows
+pub first_given : (name : Text) (given : List (Text × Text)) → first_of name (map row given) ≡ value_of name given
+first_given name [] = refl
+first_given name (p ∷ ps) = go (bytes_eq p.0 name) (first_given name ps)
+  where
+    go : (b : Bool) → first_of name (map row ps) ≡ value_of name ps →
+        option_and_then (λ (r : Row). slice_get r.values 0) (cond b (Some (row p)) (find (λ (r : Row). bytes_eq r.id name) (map row ps)))
+        ≡ option_map (λ (q : Text × Text). q.1) (cond b (Some p) (find (λ (q : Text × Text). bytes_eq q.0 name) ps))
+    go true h = refl
+    go false h = h
+
+-- each value that is given
+pub if_given : (o : Option (List (Text × Text))) (P : List (Text × Text) → Type 0) → ((given : List (Text × Text)) → o ≡ Some given → P given) → IfSome o P
+if_given None P h = tt
+if_given (Some given) P h = h given refl
+
+-- a parse that found these rows assigns these values
+pub rows_assign : (found : Found) (given : List (Text × Text)) → rows_of found ≡ map row given → Assigns given found
+rows_assign found given rows name = first_value-rows found name ∙ ap (first_of name) rows ∙ first_given name given

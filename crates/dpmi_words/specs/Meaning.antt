@@ -1,0 +1,89 @@
+-- What the words after the program's name mean. Source: own.
+use Rattle.std.specs.Prelude.{ℕ, ◌-◌, ◌^◌, List, [], ◌∷◌, codes, Some, None, if◌then◌else◌, option_map, option_and_then, Result, Ok, Err}
+use Rattle.std.specs.declared.option.Option.{Option}
+use Rattle.std.specs.Str.{bytes_eq}
+use Rattle.hex.specs.Hex.{decode_of}
+use Rattle.client_world.specs.declared.limits.TheConstants.{MAX_STEPS, DEFAULT_BOUND, MAX_PAGES, DEFAULT_PAGES, MAX_TRACE, DEFAULT_TRACE}
+use Rattle.dpmi_words.specs.Reading.{Text, operand, given_by, run_options, soak_options, value_of}
+use Rattle.dpmi_words.specs.Numbers.{number_of, number_or}
+use Rattle.dpmi_words.specs.declared.meaning.KeySource.{KeySource}
+use Rattle.dpmi_words.specs.declared.meaning.KeySource.TheVariants as source
+use Rattle.dpmi_words.specs.declared.meaning.Run.{Run}
+use Rattle.dpmi_words.specs.declared.meaning.Words.{Words}
+use Rattle.dpmi_words.specs.declared.meaning.Words.TheVariants as words
+
+-- where a run's keystrokes come from: these bytes, or the file of this name
+pub data Keys : Type 0 where
+  Pressed : List ℕ → Keys
+  Stored : Text → Keys
+
+-- a run: its file's name, its keystrokes, its most turns, its pages of memory, and its trace lines that are kept
+pub record RunMeaning : Type 0 where
+  pub file : Text
+  pub keys : Keys
+  pub bound : ℕ
+  pub pages : ℕ
+  pub trace : ℕ
+
+-- a run, or the run of the client that is made from a number
+pub data Meaning : Type 0 where
+  Runs : RunMeaning → Meaning
+  Soaks : ℕ → Meaning
+
+-- the bytes that were decoded
+abbrev pub decoded : {E : Type 0} → Result (List ℕ) E → Option Keys
+decoded (Ok bytes) = Some (Pressed bytes)
+decoded (Err e) = None
+
+-- the keystrokes of the values of `keys` and `keys-file`, which don't come together: an even number of hexadecimal digits, a name, or none
+abbrev pub keys_of : Option Text → Option Text → Option Keys
+keys_of None None = Some (Pressed [])
+keys_of None (Some name) = Some (Stored name)
+keys_of (Some digits) None = decoded (decode_of digits)
+keys_of (Some digits) (Some name) = None
+
+-- the run of these values
+abbrev pub run_with : Option Text → Option Keys → Option ℕ → Option ℕ → Option ℕ → Option RunMeaning
+run_with file keys bound pages trace =
+    option_and_then (λ f. option_and_then (λ k. option_and_then (λ b. option_and_then (λ p.
+    option_map (λ t. record { file = f; keys = k; bound = b; pages = p; trace = t }) trace) pages) bound) keys) file
+
+-- the run of the value of each name, each number in its range
+abbrev pub run_of_values : (Text → Option Text) → Option RunMeaning
+run_of_values value = run_with
+    (value operand)
+    (keys_of (value (codes "keys")) (value (codes "keys-file")))
+    (number_or DEFAULT_BOUND 1 MAX_STEPS (value (codes "bound")))
+    (number_or DEFAULT_PAGES 1 MAX_PAGES (value (codes "pages")))
+    (number_or DEFAULT_TRACE 0 MAX_TRACE (value (codes "trace")))
+
+-- the number of the made client: any number of 64 bits
+abbrev pub soak_of_values : (Text → Option Text) → Option ℕ
+soak_of_values value = option_and_then (number_of 20 0 (2 ^ 64 - 1)) (value operand)
+
+-- the words after `run`, and after `soak`
+abbrev pub run_meaning : List Text → Option RunMeaning
+run_meaning words = option_and_then (λ given. run_of_values (λ name. value_of name given)) (given_by run_options words)
+
+abbrev pub soak_meaning : List Text → Option ℕ
+soak_meaning words = option_and_then (λ given. soak_of_values (λ name. value_of name given)) (given_by soak_options words)
+
+-- the meaning of the words, by the first; none where they mean nothing
+abbrev pub meaning : List Text → Option Meaning
+meaning [] = None
+meaning (first ∷ rest) =
+    if bytes_eq first (codes "run") then option_map Runs (run_meaning rest) else
+    if bytes_eq first (codes "soak") then option_map Soaks (soak_meaning rest) else
+    None
+
+-- the same of the types of the code
+abbrev pub keys_in : KeySource → Keys
+keys_in (source.Pressed bytes) = Pressed bytes.items
+keys_in (source.Stored name) = Stored name.now
+
+abbrev pub run_in : Run → RunMeaning
+run_in r = record { file = r.file.now; keys = keys_in r.keys; bound = r.bound; pages = r.pages; trace = r.trace }
+
+abbrev pub meaning_in : Words → Meaning
+meaning_in (words.Run r) = Runs (run_in r)
+meaning_in (words.Soak seed) = Soaks seed

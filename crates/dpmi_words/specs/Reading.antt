@@ -1,0 +1,121 @@
+-- What the words after the first one give: each option its value, and the one word that is no option, the operand.
+-- The words are read one by one. Source: own.
+use Rattle.std.specs.Prelude.{◌==◌, ◌&&◌, ◌||◌, not, Bool, true, false, ℕ, List, [], ◌∷◌, ◌++◌, codes, Some, None, if◌then◌else◌, option_map, option_and_then, find}
+use Rattle.std.specs.declared.option.Option.{Option}
+use Rattle.std.specs.List.{list_any, before_first, after_first}
+use Rattle.std.specs.Str.{bytes_eq}
+
+-- a text, as its bytes
+abbrev pub Text : Type 0
+Text = List ℕ
+
+-- the name under which the operand, FILE or N, is kept; no option has it
+abbrev pub operand : Text
+operand = codes "operand"
+
+-- what the words so far gave: the option that waits for its value, and each value with its name
+pub record Reading : Type 0 where
+  pub waiting : Option Text
+  pub given : List (Text × Text)
+
+-- nothing was read
+abbrev pub nothing_read : Reading
+nothing_read = record { waiting = None; given = [] }
+
+-- the word begins with a hyphen
+abbrev pub is_hyphened : Text → Bool
+is_hyphened [] = false
+is_hyphened (c ∷ cs) = c == 0x2D
+
+-- the text is empty
+abbrev pub is_blank : Text → Bool
+is_blank [] = true
+is_blank (c ∷ cs) = false
+
+-- the text after a hyphen
+abbrev pub after_hyphen : Text → Option Text
+after_hyphen [] = None
+after_hyphen (c ∷ cs) = if c == 0x2D then Some cs else None
+
+-- the name before the first `=`, and the value after it; without `=` the whole text is the name
+abbrev pub name_and_value : Text → Text × Option Text
+name_and_value text = (
+  before_first (λ c. c == 0x3D) text,
+  if list_any (λ c. c == 0x3D) text then Some (after_first (λ c. c == 0x3D) text) else None,
+)
+
+-- the same of what follows two hyphens; nothing may not follow
+abbrev pub option_after : Text → Option (Text × Option Text)
+option_after [] = None
+option_after (c ∷ cs) = Some (name_and_value (c ∷ cs))
+
+-- the name and the value of `--name` or `--name=value`
+abbrev pub option_of : Text → Option (Text × Option Text)
+option_of word = option_and_then option_after (option_and_then after_hyphen (after_hyphen word))
+
+-- a value was given under this name
+abbrev pub has_given : Text → List (Text × Text) → Bool
+has_given name = list_any (λ p. bytes_eq p.0 name)
+
+-- the name is one of these
+abbrev pub is_listed : List Text → Text → Bool
+is_listed names name = list_any (λ n. bytes_eq n name) names
+
+-- one value more; it isn't empty, and its name has none yet
+abbrev pub gives : Text → Text → Reading → Option Reading
+gives name value r =
+    if has_given name r.given || is_blank value then None
+    else Some (record { waiting = None; given = r.given ++ (name, value) ∷ [] })
+
+-- an option with its value, or an option that waits for it
+abbrev pub with_value : Text → Option Text → Reading → Option Reading
+with_value name None r = Some (record { waiting = Some name; given = r.given })
+with_value name (Some value) r = gives name value r
+
+-- the option is listed, and wasn't given before
+abbrev pub names_option : List Text → Text → Option Text → Reading → Option Reading
+names_option names name value r =
+    if is_listed names name && not (has_given name r.given) then with_value name value r else None
+
+-- a word with a hyphen is an option
+abbrev pub option_word : List Text → Option (Text × Option Text) → Reading → Option Reading
+option_word names None r = None
+option_word names (Some p) r = names_option names p.0 p.1 r
+
+-- a word is the value of the option that waits, which begins with no hyphen; or it is an option; or the operand
+abbrev pub step_by : List Text → Option Text → Text → Reading → Option Reading
+step_by names (Some name) word r = if is_hyphened word then None else gives name word r
+step_by names None word r = if is_hyphened word then option_word names (option_of word) r else gives operand word r
+
+-- one word more; none where it breaks a rule
+abbrev pub step : List Text → Text → Reading → Option Reading
+step names word r = step_by names r.waiting word r
+
+-- the words in turn
+unfoldable pub reads : List Text → List Text → Reading → Option Reading
+reads names [] r = Some r
+reads names (word ∷ rest) r = option_and_then (reads names rest) (step names word r)
+
+-- at the end no option waits, and the operand is there
+abbrev pub finished_by : Option Text → List (Text × Text) → Option (List (Text × Text))
+finished_by (Some name) given = None
+finished_by None given = if has_given operand given then Some given else None
+
+abbrev pub finished : Reading → Option (List (Text × Text))
+finished r = finished_by r.waiting r.given
+
+-- the values that the words give, each with its name, where the options have these names; none where the words break a rule
+abbrev pub given_by : List Text → List Text → Option (List (Text × Text))
+given_by names words = option_and_then finished (reads names words nothing_read)
+
+-- the value of a name
+abbrev pub value_of : Text → List (Text × Text) → Option Text
+value_of name given = option_map (λ p. p.1) (find (λ p. bytes_eq p.0 name) given)
+
+-- the options of `run`
+abbrev pub run_options : List Text
+run_options = codes "keys" ∷ codes "keys-file" ∷ codes "bound" ∷ codes "pages" ∷ codes "trace" ∷ []
+
+-- `soak` has none
+abbrev pub soak_options : List Text
+soak_options = []

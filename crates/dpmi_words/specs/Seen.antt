@@ -1,0 +1,18 @@
+-- What the check of the words has seen, as a reading. Source: own.
+use Rattle.std.specs.Prelude.{List, map, option_map}
+use Rattle.std.specs.Borrow.{Bor}
+use Rattle.dpmi_words.specs.Reading.{Reading, Text}
+use Rattle.dpmi_words.specs.declared.check.Given.{Given}
+use Rattle.dpmi_words.specs.declared.check.Seen.{Seen}
+
+-- the values with their names
+abbrev pub pairs : List Given → List (Text × Text)
+pairs = map (λ g. (g.name.now, g.value.now))
+
+-- the texts that are lent
+abbrev pub texts : List (Bor Text) → List Text
+texts = map (λ s. s.now)
+
+-- the reading
+abbrev pub reading_of : Seen → Reading
+reading_of s = record { waiting = option_map (λ n. n.now) s.waiting; given = pairs s.given.items }

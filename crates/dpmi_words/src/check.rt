@@ -1,0 +1,178 @@
+// The check of the words: what is an option, what is its value, and what is the operand.
+ghost use Rattle.std.specs.Prelude.{◌≡◌, IfOk, map, option_map, Some, None, is_some, cond};
+ghost use Rattle.std.specs.String.{string_bytes};
+ghost use Rattle.dpmi_words.specs.Reading.{
+  after_hyphen,
+  name_and_value,
+  option_of,
+  has_given,
+  gives,
+  is_hyphened,
+  is_listed,
+  option_word,
+  step,
+  finished,
+  given_by,
+};
+ghost use Rattle.dpmi_words.specs.Seen.{pairs, reading_of, texts};
+
+use std::alloc::{AllocError, Global};
+
+/// The name under which the operand, FILE or N, is kept.
+pub const OPERAND: &str = "operand";
+
+/// The options of `run`.
+pub const RUN_OPTIONS: [&str; 5] = ["keys", "keys-file", "bound", "pages", "trace"];
+
+/// A value with its name.
+#[derive(Drop)]
+pub struct Given<'a> {
+    pub name: &'a str,
+    pub value: &'a str,
+}
+
+/// What the words so far gave: the option that waits for its value, and the values.
+#[derive(Drop)]
+pub struct Seen<'a> {
+    pub waiting: Option<&'a str>,
+    pub given: Vec<Given<'a>>,
+}
+
+// Whether a value was given under the name.
+fn has(given: &[Given<'_>], name: &str) -> bool
+    ensures { result ≡ has_given name.now (pairs given.now) }
+{
+    for g in given {
+        if g.name == name {
+            return true;
+        }
+    }
+    false
+}
+
+// Whether the name is one of these.
+fn is_among(names: &[&str], name: &str) -> bool
+    ensures { result ≡ is_listed (texts names.now) name.now }
+{
+    for n in names {
+        if *n == name {
+            return true;
+        }
+    }
+    false
+}
+
+// Whether the word begins with a hyphen.
+fn begins_with_hyphen(word: &str) -> bool
+    ensures { result ≡ is_hyphened word.now }
+{
+    word.starts_with('-')
+}
+
+// The text after a hyphen.
+fn strip_hyphen(text: &str) -> Option<&str>
+    ensures { option_map (λ s. s.now) result ≡ after_hyphen text.now }
+{
+    text.strip_prefix('-')
+}
+
+// The name before the first `=`, and the value after it.
+fn split_value(text: &str) -> (&str, Option<&str>)
+    ensures { (result.0.now, option_map (λ s. s.now) result.1) ≡ name_and_value text.now }
+{
+    match text.split_once('=') {
+        Some((name, value)) => (name, Some(value)),
+        None => (text, None),
+    }
+}
+
+// The name and the value of `--name` or `--name=value`.
+fn split_option(word: &str) -> Option<(&str, Option<&str>)>
+    ensures { option_map (λ p. (p.0.now, option_map (λ s. s.now) p.1)) result ≡ option_of word.now }
+{
+    let rest = strip_hyphen(strip_hyphen(word)?)?;
+    if rest.is_empty() {
+        return None;
+    }
+    Some(split_value(rest))
+}
+
+// Takes a value under a name, unless it is empty or the name has one. Returns whether it did.
+fn give<'a>(seen: &mut Seen<'a>, name: &'a str, value: &'a str) -> Result<bool, AllocError>
+    ensures { IfOk result (λ is_taken.
+        gives name.now value.now (reading_of seen.old) ≡ cond is_taken (Some (reading_of seen.new)) None) }
+{
+    if has(seen.given.as_slice(), name) || value.is_empty() {
+        return Ok(false);
+    }
+    seen.given.push(Given { name, value })?;
+    seen.waiting = None;
+    Ok(true)
+}
+
+// Takes an option, with its value or without. Returns whether it did.
+fn take_option<'a>(seen: &mut Seen<'a>, names: &[&str], word: &'a str) -> Result<bool, AllocError>
+    ensures { IfOk result (λ is_taken.
+        option_word (texts names.now) (option_of word.now) (reading_of seen.old) ≡ cond is_taken (Some (reading_of seen.new)) None) }
+{
+    let Some((name, value)) = split_option(word) else {
+        return Ok(false);
+    };
+    if !is_among(names, name) || has(seen.given.as_slice(), name) {
+        return Ok(false);
+    }
+    match value {
+        Some(text) => give(seen, name, text),
+        None => {
+            seen.waiting = Some(name);
+            Ok(true)
+        }
+    }
+}
+
+// Takes one word. Returns whether it did.
+fn take_word<'a>(seen: &mut Seen<'a>, names: &[&str], word: &'a str) -> Result<bool, AllocError>
+    ensures { IfOk result (λ is_taken.
+        step (texts names.now) word.now (reading_of seen.old) ≡ cond is_taken (Some (reading_of seen.new)) None) }
+{
+    let is_option = begins_with_hyphen(word);
+    match seen.waiting {
+        Some(name) => {
+            if is_option {
+                return Ok(false);
+            }
+            give(seen, name, word)
+        }
+        None => {
+            if is_option {
+                return take_option(seen, names, word);
+            }
+            give(seen, OPERAND, word)
+        }
+    }
+}
+
+// Whether no option waits, and the operand is there.
+fn is_finished(seen: &Seen<'_>) -> bool
+    ensures { result ≡ is_some (finished (reading_of seen.now)) }
+{
+    seen.waiting.is_none() && has(seen.given.as_slice(), OPERAND)
+}
+
+/// Whether the words give values as the rules ask, where the options have these names.
+/// Fails where memory is out.
+#[tactic(auto, using(crate::proofs::InTurn::reads_none, crate::proofs::InTurn::reads_more))]
+pub fn passes(alloc: Global, names: &[&str], words: &[String]) -> Result<bool, AllocError>
+    ensures { IfOk result (λ passes. passes ≡ is_some (given_by (texts names.now) (map string_bytes words.now))) }
+{
+    let mut seen = Seen {
+        waiting: None,
+        given: Vec::new(alloc),
+    };
+    for word in words {
+        if !take_word(&mut seen, names, word.as_str())? {
+            return Ok(false);
+        }
+    }
+    Ok(is_finished(&seen))
+}

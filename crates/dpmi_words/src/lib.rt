@@ -1,0 +1,15 @@
+//! The words of the command line, and what they mean.
+//! It promises that words mean what `meaning` of `specs/` says, and that they mean nothing exactly where it says so.
+//! Words that pass its own check are assigned by `clap`; keystrokes are decoded by `hex`.
+#![tactic(auto)]
+
+mod check;
+mod command;
+mod laws;
+mod meaning;
+mod number;
+#[cfg(test)]
+mod tests;
+
+pub use laws::an_option_is_spelled_either_way;
+pub use meaning::{KeySource, Run, Words, read_words};

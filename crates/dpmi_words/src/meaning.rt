@@ -1,0 +1,167 @@
+// What the words after the program's name mean.
+ghost use Rattle.std.specs.Prelude.{◌≡◌, IfOk, map, option_map};
+ghost use Rattle.std.specs.String.{string_bytes};
+ghost use Rattle.clap.specs.Matches.{found_of, first_value};
+ghost use Rattle.dpmi_words.specs.Meaning.{
+  keys_of,
+  keys_in,
+  run_of_values,
+  soak_of_values,
+  run_in,
+  run_meaning,
+  soak_meaning,
+  meaning,
+  meaning_in,
+};
+
+use crate::check::{OPERAND, RUN_OPTIONS, passes};
+use crate::command::{assign_run, assign_soak};
+use crate::number::{optional_number, seed};
+use clap::ArgMatches;
+use client_world::limits::{
+    DEFAULT_BOUND, DEFAULT_PAGES, DEFAULT_TRACE, MAX_PAGES, MAX_STEPS, MAX_TRACE,
+};
+use hex::FromHexError;
+use std::alloc::{AllocError, Global};
+
+/// Where the keystrokes of a run come from.
+#[derive(Drop)]
+pub enum KeySource<'a> {
+    /// These bytes; none where the words say nothing of keys.
+    Pressed(Vec<u8>),
+    /// The file of this name.
+    Stored(&'a str),
+}
+
+/// A run.
+#[derive(Drop)]
+pub struct Run<'a> {
+    /// The name of the client's file.
+    pub file: &'a str,
+    /// The keystrokes.
+    pub keys: KeySource<'a>,
+    /// The most turns.
+    pub bound: u32,
+    /// The most pages, of 4096 bytes, that the client's memory blocks take together.
+    pub pages: u32,
+    /// The most lines of the trace that are kept.
+    pub trace: u32,
+}
+
+/// What words mean.
+#[derive(Drop)]
+pub enum Words<'a> {
+    /// The run of a client's file.
+    Run(Run<'a>),
+    /// The run of the client that is made from this number.
+    Soak(u64),
+}
+
+// The keystrokes of the values of `keys` and `keys-file`.
+fn read_keys<'a>(
+    alloc: Global,
+    keys: Option<&'a str>,
+    keys_file: Option<&'a str>,
+) -> Result<Option<KeySource<'a>>, AllocError>
+    ensures { IfOk result (λ r. option_map keys_in r
+        ≡ keys_of (option_map (λ s. s.now) keys.entry) (option_map (λ s. s.now) keys_file.entry)) }
+{
+    match (keys, keys_file) {
+        (None, None) => Ok(Some(KeySource::Pressed(Vec::new(alloc)))),
+        (None, Some(name)) => Ok(Some(KeySource::Stored(name))),
+        (Some(digits), None) => match hex::decode(alloc, digits.as_bytes()) {
+            Ok(bytes) => Ok(Some(KeySource::Pressed(bytes))),
+            Err(FromHexError::OutOfMemory) => Err(AllocError),
+            Err(_) => Ok(None),
+        },
+        (Some(_), Some(_)) => Ok(None),
+    }
+}
+
+// The run of the values that were assigned.
+fn run_of<'a>(alloc: Global, values: &ArgMatches<'a>) -> Result<Option<Run<'a>>, AllocError>
+    ensures { IfOk result (λ r. option_map run_in r ≡ run_of_values (first_value (found_of values.now))) }
+{
+    let Some(file) = values.get_str(OPERAND) else {
+        return Ok(None);
+    };
+    let Some(keys) = read_keys(alloc, values.get_str("keys"), values.get_str("keys-file"))? else {
+        return Ok(None);
+    };
+    let Some(bound) = optional_number(values.get_str("bound"), DEFAULT_BOUND, 1, MAX_STEPS) else {
+        return Ok(None);
+    };
+    let Some(pages) = optional_number(values.get_str("pages"), DEFAULT_PAGES, 1, MAX_PAGES) else {
+        return Ok(None);
+    };
+    let Some(trace) = optional_number(values.get_str("trace"), DEFAULT_TRACE, 0, MAX_TRACE) else {
+        return Ok(None);
+    };
+    Ok(Some(Run {
+        file,
+        keys,
+        bound,
+        pages,
+        trace,
+    }))
+}
+
+// The number of the values that were assigned.
+fn soak_of(values: &ArgMatches<'_>) -> Option<u64>
+    ensures { result ≡ soak_of_values (first_value (found_of values.now)) }
+{
+    match values.get_str(OPERAND) {
+        Some(text) => seed(text),
+        None => None,
+    }
+}
+
+// What the words after `run` mean.
+fn read_run<'a>(alloc: Global, words: &'a [String]) -> Result<Option<Run<'a>>, AllocError>
+    ensures { IfOk result (λ r. option_map run_in r ≡ run_meaning (map string_bytes words.now)) }
+{
+    if !passes(alloc, &RUN_OPTIONS, words)? {
+        return Ok(None);
+    }
+    match assign_run(alloc, words) {
+        Ok(values) => run_of(alloc, &values),
+        Err(_) => Err(AllocError),
+    }
+}
+
+// What the words after `soak` mean.
+fn read_soak(alloc: Global, words: &[String]) -> Result<Option<u64>, AllocError>
+    ensures { IfOk result (λ r. r ≡ soak_meaning (map string_bytes words.now)) }
+{
+    if !passes(alloc, &[], words)? {
+        return Ok(None);
+    }
+    match assign_soak(alloc, words) {
+        Ok(values) => Ok(soak_of(&values)),
+        Err(_) => Err(AllocError),
+    }
+}
+
+/// Reads the words after the program's name: `run FILE` with `--keys HEX`, `--keys-file NAME`, `--bound N`, `--pages N` and
+/// `--trace N`, or `soak N`. Returns `None` exactly where they mean nothing.
+/// Fails where memory is out. Source: own.
+pub fn read_words<'a>(alloc: Global, words: &'a [String]) -> Result<Option<Words<'a>>, AllocError>
+    ensures { IfOk result (λ r. option_map meaning_in r ≡ meaning (map string_bytes words.now)) }
+{
+    let [first, rest @ ..] = words else {
+        return Ok(None);
+    };
+    if first.as_str() == "run" {
+        return match read_run(alloc, rest)? {
+            Some(run) => Ok(Some(Words::Run(run))),
+            None => Ok(None),
+        };
+    }
+    if first.as_str() == "soak" {
+        return match read_soak(alloc, rest)? {
+            Some(number) => Ok(Some(Words::Soak(number))),
+            None => Ok(None),
+        };
+    }
+    Ok(None)
+}

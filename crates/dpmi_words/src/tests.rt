@@ -1,0 +1,164 @@
+// Words and what they mean.
+use crate::{KeySource, Words, read_words};
+use std::process::Abort;
+use std::test::Fail;
+
+// The words of a text, which single spaces part: two spaces have an empty word between them.
+fn words_of(rt: &impl AllocGlobal, text: &str) -> Result<Vec<String>, Fail> {
+    let mut words = Vec::new(rt.alloc());
+    for word in text.split(' ') {
+        words.push(String::from_str(rt.alloc(), word)?)?;
+    }
+    Ok(words)
+}
+
+// A run: its words, the file, the keystrokes, the name of their file, and the bound, the pages and the trace number.
+const RUNS: [(&str, &str, &[u8], &str, [u32; 3]); 9] = [
+    ("run A.EXE", "A.EXE", b"", "", [10_000_000, 1024, 1000]),
+    ("run A.EXE --bound=010", "A.EXE", b"", "", [10, 1024, 1000]),
+    (
+        "run --pages 16 A.EXE --bound 1 --keys=58",
+        "A.EXE",
+        b"X",
+        "",
+        [1, 16, 1000],
+    ),
+    (
+        "run --trace 0 --pages=1 --bound=1000000000 --keys-file K.TXT A.EXE",
+        "A.EXE",
+        b"",
+        "K.TXT",
+        [1_000_000_000, 1, 0],
+    ),
+    (
+        "run A.EXE --pages 4096 --trace=10000",
+        "A.EXE",
+        b"",
+        "",
+        [10_000_000, 4096, 10_000],
+    ),
+    (
+        "run A.EXE --pages 0000004096 --trace=0000000001",
+        "A.EXE",
+        b"",
+        "",
+        [10_000_000, 4096, 1],
+    ),
+    (
+        "run A.EXE --keys aFA0",
+        "A.EXE",
+        b"\xAF\xA0",
+        "",
+        [10_000_000, 1024, 1000],
+    ),
+    (
+        "run --keys-file=A=B soak",
+        "soak",
+        b"",
+        "A=B",
+        [10_000_000, 1024, 1000],
+    ),
+    ("run bound=1", "bound=1", b"", "", [10_000_000, 1024, 1000]),
+];
+
+#[test]
+fn words_mean_a_run(rt: HostRuntime) -> Result<(), Fail> {
+    for (text, file, pressed, stored, numbers) in RUNS {
+        let words = words_of(&rt, text)?;
+        match read_words(rt.alloc(), words.as_slice())? {
+            Some(Words::Run(run)) => {
+                assert_eq!(rt; run.file, file, "{text}");
+                assert_eq!(rt; [run.bound, run.pages, run.trace], numbers, "{text}");
+                match &run.keys {
+                    KeySource::Pressed(bytes) => assert!(rt;
+                        bytes.as_slice() == pressed && stored == ""
+                    ),
+                    KeySource::Stored(name) => assert_eq!(rt; *name, stored, "{text}"),
+                }
+            }
+            _ => assert!(rt; false, "{text}"),
+        }
+    }
+    Ok(())
+}
+
+// The words after `soak`, and their number.
+const SOAKS: [(&str, u64); 4] = [
+    ("soak 7", 7),
+    ("soak 0", 0),
+    ("soak 18446744073709551615", 18_446_744_073_709_551_615),
+    ("soak 00000000000000000007", 7),
+];
+
+#[test]
+fn words_mean_a_soak(rt: HostRuntime) -> Result<(), Fail> {
+    for (text, number) in SOAKS {
+        let words = words_of(&rt, text)?;
+        match read_words(rt.alloc(), words.as_slice())? {
+            Some(Words::Soak(n)) => assert_eq!(rt; n, number, "{text}"),
+            _ => assert!(rt; false, "{text}"),
+        }
+    }
+    Ok(())
+}
+
+// Words that mean nothing.
+const NOTHING: [&str; 44] = [
+    "",
+    "run",
+    "run ",
+    "walk A.EXE",
+    "RUN A.EXE",
+    "A.EXE",
+    "run A.EXE B.EXE",
+    "run -A.EXE",
+    "run A.EXE -",
+    "run A.EXE --",
+    "run A.EXE -- B.EXE",
+    "run A.EXE --help",
+    "run A.EXE -h",
+    "run A.EXE --version",
+    "run A.EXE --=1",
+    "run A.EXE --operand=B",
+    "run A.EXE --boun 1",
+    "run A.EXE -b 1",
+    "run --bound 1",
+    "run A.EXE --bound",
+    "run A.EXE --bound=",
+    "run A.EXE --bound ",
+    "run A.EXE --bound 0",
+    "run A.EXE --bound 1000000001",
+    "run A.EXE --bound 00000000001",
+    "run A.EXE --bound 9999999999",
+    "run A.EXE --bound +5",
+    "run A.EXE --bound -5",
+    "run A.EXE --bound 5h",
+    "run A.EXE --bound --pages 1",
+    "run A.EXE --pages 1 --pages 1",
+    "run A.EXE --pages 1 --pages=1",
+    "run A.EXE --pages 0",
+    "run A.EXE --pages 4097",
+    "run A.EXE --trace 10001",
+    "run A.EXE --keys 4",
+    "run A.EXE --keys 4G",
+    "run A.EXE --keys 41 --keys-file K",
+    "soak",
+    "soak 7 8",
+    "soak 7 --bound 1",
+    "soak 18446744073709551616",
+    "soak 000000000000000000007",
+    "soak x",
+];
+
+#[test]
+fn words_mean_nothing(rt: HostRuntime) -> Result<(), Fail> {
+    for text in NOTHING {
+        let words = words_of(&rt, text)?;
+        assert!(rt;
+            read_words(rt.alloc(), words.as_slice())?.is_none(),
+            "{text}"
+        );
+    }
+    assert!(rt; read_words(rt.alloc(), &[])?.is_none());
+    Ok(())
+}

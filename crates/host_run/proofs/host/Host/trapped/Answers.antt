@@ -1,0 +1,13 @@
+use Rattle.host_run.proofs.KindModes.{entry_is_real, vector_is_protected, vector_is_real}
+use Rattle.host_run.proofs.host.Host.trapped.Goals as goal
+
+pub vector_reached-requires-clause-real : goal.vector_reached-requires-clause-real
+vector_reached-requires-clause-real c =
+    vector_is_real c.args.self.now.world.machine c.args.t c.in-RealVector.n c.requires.trap c.in-RealVector.is
+
+pub serve_entry-requires-clause-real : goal.serve_entry-requires-clause-real
+serve_entry-requires-clause-real c = entry_is_real c.args.self.now.world.machine c.args.t c.requires.trap c.in-Entry.is
+
+pub serve_protected_vector-requires-clause-mode : goal.serve_protected_vector-requires-clause-mode
+serve_protected_vector-requires-clause-mode c =
+    vector_is_protected c.args.self.now.world.machine c.args.t c.in-ProtectedVector.n c.requires.trap c.in-ProtectedVector.is

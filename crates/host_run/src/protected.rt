@@ -1,0 +1,163 @@
+// The entry to protected mode, and the default vectors of protected mode.
+ghost use Rattle.std.specs.Prelude.{◌≡◌, ◌≤◌, ◌+◌, ◌*◌, false, nat_eq};
+ghost use Rattle.client_world.specs.declared.registers.Mode.TheVariants.{Protected as protected, Real as real};
+ghost use Rattle.client_world.specs.Registers.{low_half};
+ghost use Rattle.fault_service.specs.Worlds.{world_popped};
+ghost use Rattle.host_run.specs.View.{ComesTo};
+ghost use Rattle.host_run.specs.Turn.{
+  entry_line,
+  after_entry_trap,
+  goes_on,
+  after_int31,
+  is_served,
+  is_set,
+  after_presence_call,
+  after_protected_pop,
+  after_protected_vector,
+};
+
+use crate::host::Host;
+use crate::serving::{can_pop, pop_in_mode};
+use client_world::{Carry, Exit, Regs, TraceLine};
+use cpu_values::{part8, put16};
+use desc_services::serve;
+use guest_space::Machine;
+use mode_gates::{asked_width, entry, with_carry};
+
+// The low half of EAX.
+fn ax(m: &Machine) -> u16
+    ensures { result ≡ low_half m.now.world.regs.eax }
+{
+    (m.regs().eax % 0x1_0000) as u16
+}
+
+// The calls of protected mode that are served so far.
+fn is_served(m: &Machine, n: u8) -> bool
+    ensures { result ≡ is_served m.now.world n }
+{
+    let ah = part8(m.regs().eax, true);
+    n == 0x21 && ah == 0x4C || n == 0x2F && ax(m) == 0x1686 || n == 0x31 && ah == 0
+}
+
+// The line of the trace of a call of the entry.
+fn entry_line(carry: Carry, m: &Machine) -> TraceLine
+    ensures { result ≡ entry_line carry m.now.world }
+{
+    match carry {
+        Carry::Clear => TraceLine::Entry(asked_width(m)),
+        Carry::Set => TraceLine::EntryRefused,
+    }
+}
+
+// Whether the carry is set.
+fn is_set(carry: Carry) -> bool
+    ensures { result ≡ is_set carry }
+{
+    match carry {
+        Carry::Clear => false,
+        Carry::Set => true,
+    }
+}
+
+impl Host {
+    // A call of the entry to protected mode.
+    #[inline(never)]
+    #[tactic(auto, unfolding(crate::specs::Turn::after_entry_trap))]
+    pub(crate) fn serve_entry(&mut self) -> Result<(), Exit>
+        requires real { self.old.world.machine.mode ≡ real }
+        requires room { self.old.world.lines + 2 ≤ 2 * self.old.world.steps }
+        ensures { ComesTo self.old self.new result (after_entry_trap self.old.world) }
+    {
+        match entry(&mut self.machine) {
+            Ok(carry) => {
+                let line = entry_line(carry, &self.machine);
+                self.note(line);
+                Ok(())
+            }
+            Err(exit) => Err(exit),
+        }
+    }
+
+    // INT 21h function 4Ch: the client ends itself, if its frame can be popped.
+    #[tactic(auto, using(crate::proofs::Frames::exit_popped, crate::proofs::Frames::exit_bad))]
+    fn end_client(&mut self) -> Result<(), Exit>
+        requires room { self.old.world.lines + 2 ≤ 2 * self.old.world.steps }
+        ensures { ComesTo self.old self.new result
+            (after_protected_pop self.old.world 0x21 (world_popped self.old.world.machine)) }
+    {
+        if !can_pop(&self.machine) {
+            return Err(Exit::BadFrame);
+        }
+        let eax = self.machine.regs().eax;
+        self.note(TraceLine::Int21(part8(eax, true)));
+        Err(Exit::Exited(part8(eax, false)))
+    }
+
+    // INT 2Fh AX = 1686h, with its frame popped: AX becomes 0, since the client runs in protected mode.
+    fn answer_presence(&mut self)
+        requires room { self.old.world.lines + 2 ≤ 2 * self.old.world.steps }
+        ensures answer { after_presence_call self.old.world self.old.world.machine ≡ goes_on self.new.world }
+        ensures steps { self.new.world.steps ≡ self.old.world.steps }
+    {
+        let r = self.machine.regs();
+        let number = ax(&self.machine);
+        self.note(TraceLine::Int2f(number));
+        self.machine.set_regs(Regs {
+            eax: put16(r.eax, 0),
+            ..r
+        });
+    }
+
+    // INT 31h, with its frame popped: the carry goes into the flags that were popped.
+    fn serve_int31(&mut self)
+        requires mode { self.old.world.machine.mode ≡ protected }
+        requires room { self.old.world.lines + 2 ≤ 2 * self.old.world.steps }
+        ensures answer { after_int31 self.old.world self.old.world.machine ≡ goes_on self.new.world }
+        ensures steps { self.new.world.steps ≡ self.old.world.steps }
+    {
+        let number = ax(&self.machine);
+        let carry = serve(&mut self.machine, number);
+        self.note(TraceLine::Int31 { ax: number, carry });
+        let r = self.machine.regs();
+        self.machine.set_regs(with_carry(is_set(carry), r));
+    }
+
+    // A default vector of protected mode: its frame is popped first.
+    #[tactic(auto, unfolding(crate::specs::Turn::after_protected_call))]
+    fn pop_and_serve(&mut self, n: u8) -> Result<(), Exit>
+        requires mode { self.old.world.machine.mode ≡ protected }
+        requires other { nat_eq n 0x21 ≡ false }
+        requires room { self.old.world.lines + 2 ≤ 2 * self.old.world.steps }
+        ensures { ComesTo self.old self.new result
+            (after_protected_pop self.old.world n (world_popped self.old.world.machine)) }
+    {
+        match pop_in_mode(&mut self.machine) {
+            Ok(()) => {}
+            Err(exit) => return Err(exit),
+        }
+        if n == 0x2F {
+            self.answer_presence();
+        } else {
+            self.serve_int31();
+        }
+        Ok(())
+    }
+
+    // A default vector of protected mode, where its call is served.
+    #[inline(never)]
+    #[tactic(auto, unfolding(crate::specs::Turn::after_protected_vector))]
+    pub(crate) fn serve_protected_vector(&mut self, n: u8) -> Result<(), Exit>
+        requires mode { self.old.world.machine.mode ≡ protected }
+        requires room { self.old.world.lines + 2 ≤ 2 * self.old.world.steps }
+        ensures { ComesTo self.old self.new result (after_protected_vector self.old.world n) }
+    {
+        if !is_served(&self.machine, n) {
+            return Err(Exit::Unbuilt);
+        }
+        if n == 0x21 {
+            self.end_client()
+        } else {
+            self.pop_and_serve(n)
+        }
+    }
+}
