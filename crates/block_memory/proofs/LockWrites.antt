@@ -24,8 +24,7 @@ use Rattle.block_memory.specs.BlockChanges.{blocks_held}
 use Rattle.block_memory.proofs.PageChanges.{world_after}
 use Rattle.block_memory.proofs.PageWrites.{host_of, sizes_of}
 use Rattle.host_memory.proofs.Parts.{MemoryParts, parts_of, holds_by, holds_parts, addresses_by}
-use Rattle.host_memory.proofs.PutBlockParts.{put_locks}
-use Rattle.host_memory.proofs.PutParts.{size_put}
+use Rattle.host_memory.proofs.PutParts.{put_locks, size_put}
 use Rattle.block_memory.proofs.RegionPages.{InRegion, page_at}
 
 -- reading

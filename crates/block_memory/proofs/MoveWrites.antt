@@ -24,8 +24,7 @@ use Rattle.block_memory.proofs.PageMore.{BlockParts, first_page}
 use Rattle.block_memory.proofs.PageParts.{block_parts, HasSizes, with_row, row_pages, row_base, other_pages, other_base, keeps_handles}
 use Rattle.block_memory.proofs.PageWrites.{with_block_row, row_are, row_size, host_of, host_by, sizes_of}
 use Rattle.host_memory.proofs.Parts.{MemoryParts, HoldsParts, parts_of, holds_by, holds_parts, HasSize}
-use Rattle.host_memory.proofs.PutBlockParts.{put_tables, put_locks}
-use Rattle.host_memory.proofs.PutParts.{size_put}
+use Rattle.host_memory.proofs.PutParts.{put_tables, put_locks, size_put}
 use Rattle.block_memory.proofs.RegionPages.{HasHost}
 use Rattle.block_memory.proofs.SlideLaws.{length-slid, entries_go, locks_go}
 

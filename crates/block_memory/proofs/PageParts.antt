@@ -34,9 +34,6 @@ pub record HasSizes (p : MemoryParts) (budget : ℕ) : Type 0 where
 abbrev pub with_row : List ℕ → ℕ → ℕ → ℕ → List ℕ
 with_row handles place base pages = put (put handles (16 * place) (dword_bytes base)) (16 * place + 4) (dword_bytes pages)
 
-length-with_row : (handles : List ℕ) (place base pages : ℕ) → length (with_row handles place base pages) ≡ length handles
-length-with_row handles place base pages = length-put (put handles (16 * place) (dword_bytes base)) (16 * place + 4) (dword_bytes pages) ∙ length-put handles (16 * place) (dword_bytes base)
-
 pub row_pages : (handles : List ℕ) (place base pages : ℕ) → length handles ≡ PAGE_SIZE → place < MAX_BLOCKS →
     pages_of (with_row handles place base pages) place ≡ pages
 row_pages handles place base pages long within =

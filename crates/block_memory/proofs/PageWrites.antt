@@ -17,8 +17,7 @@ use Rattle.host_memory.proofs.BlockRows.{IsRange}
 use Rattle.block_memory.proofs.PageMore.{region_page, budget_entry}
 use Rattle.block_memory.proofs.PageParts.{HasSizes, grown_parts, shrunk_parts, with_row, without_lock, base_in_row}
 use Rattle.host_memory.proofs.Parts.{MemoryParts, parts_of, HasSize}
-use Rattle.host_memory.proofs.PutBlockParts.{put_tables, put_handles, put_locks, put_taken}
-use Rattle.host_memory.proofs.PutParts.{put_frames, size_put}
+use Rattle.host_memory.proofs.PutParts.{put_tables, put_handles, put_locks, put_taken, put_frames, size_put}
 use Rattle.block_memory.proofs.RegionPages.{HasHost, InRegion, page_at, region_place}
 
 -- the parts have their sizes

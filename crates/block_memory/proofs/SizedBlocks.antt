@@ -1,6 +1,5 @@
 -- Blocks that grow and shrink page by page: what they are in the end, and which places the client holds on the way.
 use Rattle.std.proofs.Common.{◌≡◌, ◌≢◌, ℕ, suc, ◌+◌, ◌-◌, ◌*◌, ◌<◌, ◌≤◌, ◌⊎◌, inl, inr, List, [], ◌++◌, length, take, slice_index_or, slice_set, refl, ap, ◌∙◌, sym, arith, Option, None, Some, get_or-set_same, append_assoc}
-use Rattle.std.specs.Prelude.{nat_lt, if◌then◌else◌}
 use Rattle.std.proofs.lemmas.Bool.{cases_eq, cases_lt, eq-eqb, ne_eqb}
 use Rattle.std.proofs.lemmas.Grind.{same_number_lists}
 use Rattle.std.proofs.lemmas.List.{length-append, length-take, get_or-take, get_or_append_left, get_or-append_right, take_all, set-set, set-get_or, append-nil}
@@ -130,9 +129,6 @@ step_shorter blocks place n o within =
     (ap (λ (x : Option MemoryBlock). shorter x n) (get_or-set_same blocks place (shorter o (n + 1)) None within) ∙ shorter_next o n)
 
 -- cut, moved and extended a block is resized
-
-abbrev kept_pages : ℕ → ℕ → ℕ
-kept_pages old pages = if nat_lt pages old then pages else old
 
 front : (xs : List ℕ) (size few : ℕ) → few ≡ size → take few xs ≡ take size xs
 front xs size few e = ap (λ (k : ℕ). take k xs) e

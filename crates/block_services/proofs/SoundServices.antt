@@ -12,7 +12,7 @@ use Rattle.client_world.proofs.SoundWrites.{IsSound-regs}
 use Rattle.guest_ram.specs.Bytes.{AreBytes, dword_bytes, put}
 use Rattle.guest_ram.specs.Listed.{copies}
 use Rattle.guest_ram.proofs.ListedLaws.{at_copies, length-copies}
-use Rattle.guest_space.proofs.VectorCalls.{sound_vectors}
+use Rattle.guest_space.proofs.SoundLists.{IsSound-vectors}
 use Rattle.block_memory.proofs.SizedSound.{sound_blocks}
 use Rattle.service_rows.specs.Reasons.{Service, first_reason}
 use Rattle.service_rows.specs.Rows.{unsupported}
@@ -145,7 +145,7 @@ length-with_pages on pages page zero = refl
 length-with_pages on pages page (suc n) = length-with_pages on (slice_set pages page on) (page + 1) n ∙ length-set pages page on
 
 sound_pageable : (w : World) (on : Bool) → IsSound w → IsSound (record w { pageable = with_pages on w.pageable (first_page w) (page_count w) })
-sound_pageable w on s = sound_vectors w w.interrupt_vectors w.exception_vectors (with_pages on w.pageable (first_page w) (page_count w)) s
+sound_pageable w on s = IsSound-vectors w w.interrupt_vectors w.exception_vectors (with_pages on w.pageable (first_page w) (page_count w)) s
     s.interrupt_vectors s.exception_vectors (length-with_pages on w.pageable (first_page w) (page_count w) ∙ s.pageable)
 
 sound_after : (ax : ℕ) (w : World) → IsSound w → w.width ≢ None → first_reason (function_of ax w).reasons ≡ None → IsSound (function_of ax w).after

@@ -13,10 +13,10 @@ use Rattle.host_memory.specs.Holds.{Holds}
 use Rattle.host_memory.specs.Layout.{address_of, handles_part, tables_part, locks_part, budget_part}
 use Rattle.host_memory.specs.View.{MachineView}
 use Rattle.host_memory.proofs.BlockRows.{block_there}
-use Rattle.block_memory.proofs.LockWrites.{lock_reads, no_lock, block_byte, in_region_of, locked, locks_page}
+use Rattle.block_memory.proofs.LockWrites.{lock_reads, no_lock, block_byte, locked, locks_page}
 use Rattle.block_memory.specs.BlockChanges.{blocks_held}
 use Rattle.host_memory.proofs.PartBytes.{part_word}
-use Rattle.block_memory.proofs.RegionPages.{InRegion, page_at}
+use Rattle.block_memory.proofs.RegionPages.{page_at}
 use Rattle.block_memory.proofs.SizedSound.{sound_blocks, locked_sound, locked_fits, held_width}
 use Rattle.guest_space.specs.Machines.{Processor, held_world}
 use Rattle.guest_space.proofs.BlockViews.{IsView, held_blocks, held_budget, memory_blocks, memory_bytes, memory_ranges}
@@ -69,7 +69,3 @@ locked_machine k b v is holds sound lin n few blocks_is c e =
           (subst (λ (m : ℕ). SoundBlocks (with_lock blocks (place_in blocks lin) n) m) (sym (held_budget k b)) sound_now) fits);
       addresses = ch.addresses;
     })
-
--- a block covers it only in the block region
-pub covered_region : (v : MachineView) (lin : ℕ) → IsBlocks (place_of v.world lin) → InRegion lin
-covered_region v lin is = in_region_of v.world.blocks lin is

@@ -28,12 +28,6 @@ use Rattle.guest_space.proofs.BlockCalls.{at_handle}
 pub no_row : (w : World) (handle : ℕ) → handle ≡ 0 → None ≡ row_seen (block_at w.blocks handle)
 no_row w handle none = sym (ap (λ (h : ℕ). row_seen (block_at w.blocks h)) none)
 
-pub past_row : (w : World) (handle : ℕ) → IsSound w → MAX_BLOCKS < handle → None ≡ row_seen (block_at w.blocks handle)
-past_row w zero sound past = refl
-past_row w (suc place) sound past =
-    let long = sound.blocks.handles in
-    sym (ap row_seen (get_or_past w.blocks place None (omega arith)))
-
 row_at_place : (k : Processor) (b : List ℕ) (v : MachineView) → IsView k b v → Holds b k.budget → IsSound (held_world k b) → (handle place base pages : ℕ) →
     handle ≡ suc place → place < MAX_BLOCKS → pages_of (handles_part b) place ≢ 0 → base ≡ base_of (handles_part b) place → pages ≡ pages_of (handles_part b) place →
     Some (base, pages) ≡ row_seen (block_at v.world.blocks handle)

@@ -35,6 +35,7 @@ pub mod RecordRuns
 pub mod RecordWrites
 pub mod RowCalls
 pub mod Runs
+pub mod SoundLists
 pub mod VectorCalls
 pub mod WriteRuns
 pub mod Writes

@@ -4,65 +4,30 @@ use Rattle.std.specs.List.{slice_get}
 use Rattle.std.proofs.lemmas.Bool.{cases_lt}
 use Rattle.std.proofs.lemmas.Option.{slice_get-get_or}
 use Rattle.client_world.specs.declared.calls.Record.{Record}
-use Rattle.client_world.specs.declared.host_frames.TheConstants.{PAGE_SIZE, RECORDS, VECTORS}
-use Rattle.client_world.specs.declared.limits.TheConstants.{GREATEST_DEPTH, EXCEPTION_VECTORS}
-use Rattle.client_world.specs.declared.segments.FarPtr.{FarPtr}
+use Rattle.client_world.specs.declared.host_frames.TheConstants.{PAGE_SIZE, RECORDS}
+use Rattle.client_world.specs.declared.limits.TheConstants.{GREATEST_DEPTH}
 use Rattle.client_world.specs.declared.place.Place.{Place}
 use Rattle.client_world.specs.declared.registers.Mode.{Mode}
 use Rattle.client_world.specs.declared.registers.Regs.{Regs}
 use Rattle.client_world.specs.declared.registers.Width.{Width}
 use Rattle.client_world.specs.Soundness.{IsSound, SoundWidth}
 use Rattle.client_world.specs.World.{World}
-use Rattle.guest_ram.specs.Bytes.{put, region, word_of, dword}
+use Rattle.guest_ram.specs.Bytes.{put, region}
 use Rattle.guest_ram.specs.Listed.{zeros, copies}
-use Rattle.guest_ram.proofs.ListedLaws.{length-zeros, at_listed}
-use Rattle.guest_ram.proofs.PutLaws.{length-put, length-region, at_region, region-put, put_away}
+use Rattle.guest_ram.proofs.ListedLaws.{length-zeros}
+use Rattle.guest_ram.proofs.PutLaws.{length-put, length-region, at_region, put_away}
 use Rattle.host_memory.specs.Holds.{Holds}
-use Rattle.host_memory.specs.Layout.{address_of, records_part, vectors_part, world_of}
-use Rattle.host_memory.specs.Records.{record_at, record_bytes, record_count, record_size, calls_in, KeepsRecords}
-use Rattle.host_memory.specs.Vectors.{pointer_at, exceptions_start}
+use Rattle.host_memory.specs.Layout.{address_of, records_part, world_of}
+use Rattle.host_memory.specs.Records.{record_at, record_bytes, record_count, record_size, calls_in}
 use Rattle.host_memory.specs.View.{MachineView, OnlyAt}
-use Rattle.host_memory.proofs.Parts.{MemoryParts, HoldsParts, parts_of, HasSize, addresses_by, world_by, holds_by, holds_parts}
-use Rattle.host_memory.proofs.PutParts.{put_beside, size_put}
-use Rattle.host_memory.proofs.PartBytes.{part_word, part_dword}
-use Rattle.host_memory.proofs.WorldParts.{calls_is, exception_vectors_is}
+use Rattle.host_memory.proofs.Parts.{MemoryParts, parts_of, HasSize, addresses_by, world_by, holds_by, holds_parts, holds_with_records}
+use Rattle.host_memory.proofs.PutParts.{put_records, size_put}
+use Rattle.host_memory.proofs.WorldParts.{calls_is}
 use Rattle.guest_space.specs.Machines.{Processor, held_world}
 use Rattle.guest_space.specs.Records.{record_place, with_record, without_record, IsInRow, OnlyAtAndRow}
 use Rattle.guest_space.proofs.RecordLists.{IsRecordPart, kind_some, count_of_part, part_of_keeps, calls_of_part, keeps_of_part, one_more, one_less, counted}
 use Rattle.guest_space.proofs.RecordRuns.{same_record}
-
--- a run of bytes into the frame of the records leaves all other parts
-pub put_records : (b : List ℕ) (budget address at : ℕ) (xs : List ℕ) → HasSize b budget → address ≡ PAGE_SIZE * RECORDS + at → at + length xs ≤ PAGE_SIZE * 1 →
-    parts_of (put b address xs) budget ≡ record (parts_of b budget) { records = put (records_part b) at xs }
-put_records b budget address at xs size e room =
-    let beside = put_beside b budget address xs size in
-    rw (
-      beside.dos (inr (omega (arith, e))),
-      beside.fixed (inr (omega (arith, e))),
-      beside.tables (inr (omega (arith, e))),
-      beside.rows (inr (omega (arith, e))),
-      beside.vectors (inr (omega (arith, e))),
-      region-put b address xs (PAGE_SIZE * RECORDS) (PAGE_SIZE * 1) at (omega (arith, e)) room,
-      beside.handles (inl (omega (arith, e))),
-      beside.locks (inl (omega (arith, e))),
-      beside.arena (inl (omega (arith, e))),
-      beside.taken (inl (omega (arith, e))),
-      beside.frames (inl (omega (arith, e))),
-    ) refl
-
-holds_with_records : (parts : MemoryParts) (budget : ℕ) (records : List ℕ) → KeepsRecords records → HoldsParts parts budget →
-    HoldsParts (record parts { records = records }) budget
-holds_with_records parts budget records keeps h = record {
-  fixed = h.fixed;
-  rows = h.rows;
-  vectors = h.vectors;
-  records = keeps;
-  handles = h.handles;
-  blocks = h.blocks;
-  count = h.count;
-  locks = h.locks;
-  arena = h.arena;
-}
+use Rattle.guest_space.proofs.SoundLists.{IsSound-calls}
 
 length-records_part : (b : List ℕ) (budget : ℕ) → HasSize b budget → length (records_part b) ≡ PAGE_SIZE
 length-records_part b budget size = length-region b (PAGE_SIZE * RECORDS) (PAGE_SIZE * 1) (omega (arith, size))
@@ -86,28 +51,6 @@ row_world b budget holds place xs rs small long part mode regs vif width =
     (put_records b budget (record_place place) (record_size * place) xs holds.size refl (omega arith)) mode regs vif width
     ∙ ap (λ (calls : List Record). record (world_of b budget mode regs vif width) { calls = calls })
     (calls_of_part (put (records_part b) (record_size * place) xs) rs part)
-
--- a sound world with other records, which are few, is sound once there is a width
-keeps_width : (width : Option Width) (w : World) (calls : List Record) → width ≢ None → SoundWidth width w → SoundWidth width (record w { calls = calls })
-keeps_width None w calls some s = absurd (some refl)
-keeps_width (Some width) w calls some s = s
-
-pub IsSound-calls : (w : World) (calls : List Record) → IsSound w → w.width ≢ None → length calls ≤ GREATEST_DEPTH → IsSound (record w { calls = calls })
-IsSound-calls w calls s some few = record {
-  segments = s.segments;
-  megabyte = s.megabyte;
-  arena = s.arena;
-  blocks = s.blocks;
-  block_bytes = s.block_bytes;
-  pageable = s.pageable;
-  descriptors = s.descriptors;
-  runs = s.runs;
-  interrupt_vectors = s.interrupt_vectors;
-  exception_vectors = s.exception_vectors;
-  callbacks = s.callbacks;
-  depth = few;
-  width = keeps_width w.width w calls some s.width;
-}
 
 -- where there is a record there is a width
 none_before : (width : Option Width) (w : World) → 0 < length w.calls → SoundWidth width w → width ≢ None
@@ -224,19 +167,6 @@ pub zeros_are : (n : ℕ) → copies n 0 ≡ zeros n
 unfolding zeros copies
 zeros_are n = refl
 
--- an exception vector is read from the frame of the vectors
-pub vector_read : (k : Processor) (b : List ℕ) (v : MachineView) → record { world = held_world k b; bytes = b } ≡ v → (n : ℕ) (d : FarPtr) → n < EXCEPTION_VECTORS →
-    record { sel = word_of b (PAGE_SIZE * VECTORS + 0x800 + 8 * n + 4); off = dword b (PAGE_SIZE * VECTORS + 0x800 + 8 * n) } ≡ get_or v.world.exception_vectors n d
-vector_read k b v is n d small =
-    let place : PAGE_SIZE * VECTORS + (0x800 + 8 * n + 4) ≡ PAGE_SIZE * VECTORS + 0x800 + 8 * n + 4 = omega arith in
-    let start : PAGE_SIZE * VECTORS + (0x800 + 8 * n) ≡ PAGE_SIZE * VECTORS + 0x800 + 8 * n = omega arith in
-    let pointer : ℕ → ℕ → FarPtr = λ s o. record { sel = s; off = o } in
-    ap (λ (s : ℕ). pointer s (dword b (PAGE_SIZE * VECTORS + 0x800 + 8 * n))) (ap (word_of b) (sym place) ∙ part_word b VECTORS 1 (0x800 + 8 * n + 4) (omega arith))
-    ∙ ap (pointer (word_of (vectors_part b) (0x800 + 8 * n + 4))) (ap (dword b) (sym start) ∙ part_dword b VECTORS 1 (0x800 + 8 * n) (omega arith))
-    ∙ sym (at_listed EXCEPTION_VECTORS (λ m. pointer_at (vectors_part b) (exceptions_start + 8 * m)) n d small)
-    ∙ ap (λ (vs : List FarPtr). get_or vs n d) (sym (exception_vectors_is b k.budget k.mode k.regs k.vif k.width))
-    ∙ ap (λ (x : MachineView). get_or x.world.exception_vectors n d) is
-
 -- the view of a machine after a row was written
 abbrev view_of : World → List ℕ → MachineView
 view_of w b = record { world = w; bytes = b }
@@ -274,8 +204,8 @@ beside_row row at out = elim (cases_lt at (record_place row)) [
 row_addresses : (b : List ℕ) (budget row : ℕ) (xs : List ℕ) → HasSize b budget → row < GREATEST_DEPTH → length xs ≡ record_size → (place : Place) →
     address_of (put b (record_place row) xs) place ≡ address_of b place
 row_addresses b budget row xs size small long =
-    let beside = put_beside b budget (record_place row) xs size in
-    addresses_by b (put b (record_place row) xs) (beside.handles (inl (omega arith))) (beside.tables (inr (omega arith)))
+    let parts = put_records b budget (record_place row) (record_size * row) xs size refl (omega arith) in
+    addresses_by b (put b (record_place row) xs) (ap (λ (x : MemoryParts). x.handles) parts) (ap (λ (x : MemoryParts). x.tables) parts)
 
 pub only_row : (places : List Place) (b c : List ℕ) (budget row : ℕ) (xs : List ℕ) → OnlyAt places b c → HasSize b budget → row < GREATEST_DEPTH →
     length xs ≡ record_size → OnlyAtAndRow places row b (put c (record_place row) xs)

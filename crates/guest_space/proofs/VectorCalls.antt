@@ -1,13 +1,11 @@
 -- The vectors and the pageable pages of a machine, read and written.
-use Rattle.std.proofs.Common.{◌≡◌, ℕ, ◌+◌, ◌*◌, ◌<◌, ◌≤◌, Bool, false, List, length, slice_index, slice_set, length-set, ap, ◌∙◌, sym, subst, arith, Option, None, Some, nat_eq}
+use Rattle.std.proofs.Common.{◌≡◌, ℕ, ◌+◌, ◌*◌, ◌<◌, ◌≤◌, Bool, false, List, length, slice_index, slice_set, length-set, ap, ◌∙◌, sym, subst, arith, nat_eq}
 use Rattle.client_world.specs.declared.host_frames.TheConstants.{PAGE_SIZE, VECTORS}
 use Rattle.client_world.specs.declared.limits.TheConstants.{INTERRUPT_VECTORS, EXCEPTION_VECTORS}
 use Rattle.client_world.specs.declared.memory_map.TheConstants.{DOS_VIEW_PAGES}
 use Rattle.client_world.specs.declared.place.Place.{Place}
-use Rattle.client_world.specs.declared.registers.Width.{Width}
 use Rattle.client_world.specs.declared.segments.FarPtr.{FarPtr}
-use Rattle.client_world.specs.Soundness.{IsSound, SoundWidth}
-use Rattle.client_world.specs.World.{World}
+use Rattle.client_world.specs.Soundness.{IsSound}
 use Rattle.guest_ram.specs.Bytes.{word_of}
 use Rattle.guest_ram.proofs.ListedLaws.{at_listed, length-listed}
 use Rattle.host_memory.specs.Holds.{Holds}
@@ -21,6 +19,7 @@ use Rattle.host_memory.proofs.WorldParts.{exception_vectors_is, interrupt_vector
 use Rattle.guest_space.specs.Machines.{Processor, held_world}
 use Rattle.guest_space.specs.VectorLists.{is_pageable, vector_at}
 use Rattle.guest_space.proofs.BlockViews.{IsView}
+use Rattle.guest_space.proofs.SoundLists.{IsSound-vectors}
 
 -- ---- reading
 
@@ -65,30 +64,6 @@ pageable_read k b v is page within =
 
 -- ---- writing
 
-vectors_width : (width : Option Width) (w : World) (interrupts exceptions : List FarPtr) (pageable : List Bool) → SoundWidth width w →
-    SoundWidth width (with_vectors w interrupts exceptions pageable)
-vectors_width None w interrupts exceptions pageable s =
-    record { mode = s.mode; descriptors = s.descriptors; blocks = s.blocks; callbacks = s.callbacks; calls = s.calls }
-vectors_width (Some width) w interrupts exceptions pageable s = s
-
-pub sound_vectors : (w : World) (interrupts exceptions : List FarPtr) (pageable : List Bool) → IsSound w → length interrupts ≡ INTERRUPT_VECTORS →
-    length exceptions ≡ EXCEPTION_VECTORS → length pageable ≡ DOS_VIEW_PAGES → IsSound (with_vectors w interrupts exceptions pageable)
-sound_vectors w interrupts exceptions pageable s int exc page = record {
-  segments = s.segments;
-  megabyte = s.megabyte;
-  arena = s.arena;
-  blocks = s.blocks;
-  block_bytes = s.block_bytes;
-  pageable = page;
-  descriptors = s.descriptors;
-  runs = s.runs;
-  interrupt_vectors = int;
-  exception_vectors = exc;
-  callbacks = s.callbacks;
-  depth = s.depth;
-  width = vectors_width w.width w interrupts exceptions pageable s.width;
-}
-
 -- the machine with other lists
 pub record VectorsMachine (k : Processor) (b c : List ℕ) (interrupts exceptions : List FarPtr) (pageable : List Bool) : Type 0 where
   pub holds : Holds c k.budget
@@ -104,7 +79,7 @@ vectors_machine k b c interrupts exceptions pageable sound ch int exc page =
     record {
       holds = ch.holds;
       world = world;
-      sound = subst IsSound (sym world) (sound_vectors (held_world k b) interrupts exceptions pageable sound int exc page);
+      sound = subst IsSound (sym world) (IsSound-vectors (held_world k b) interrupts exceptions pageable sound int exc page);
       addresses = ch.addresses;
     }
 

@@ -20,7 +20,6 @@ pub mod OnlyAtLaws
 pub mod PartBytes
 pub mod Parts
 pub mod PlaceRanges
-pub mod PutBlockParts
 pub mod PutParts
 pub mod RowWrites
 pub mod TablesClaim

@@ -139,58 +139,40 @@ addresses_by b c handles tables (Block (suc place) at) = rw (handles, tables)
 addresses_by b c handles tables Host = refl
 addresses_by b c handles tables Nothing = refl
 
--- one part after another may change; each has its own condition
+-- the parts that no other has to agree with may change; each has its own condition
+holds_with : (parts : MemoryParts) (budget : ℕ) (dos rows vectors records arena frames : List ℕ) → KeepsRows rows → KeepsVectors vectors →
+    KeepsRecords records → KeepsArena arena → HoldsParts parts budget →
+    HoldsParts (record parts { dos = dos; rows = rows; vectors = vectors; records = records; arena = arena; frames = frames }) budget
+holds_with parts budget dos rows vectors records arena frames keeps_rows keeps_vectors keeps_records keeps_arena h = record {
+  fixed = h.fixed;
+  rows = keeps_rows;
+  vectors = keeps_vectors;
+  records = keeps_records;
+  handles = h.handles;
+  blocks = h.blocks;
+  count = h.count;
+  locks = h.locks;
+  arena = keeps_arena;
+}
 
 pub holds_with_dos : (parts : MemoryParts) (budget : ℕ) (dos : List ℕ) → HoldsParts parts budget → HoldsParts (record parts { dos = dos }) budget
-holds_with_dos parts budget dos h = record {
-  fixed = h.fixed;
-  rows = h.rows;
-  vectors = h.vectors;
-  records = h.records;
-  handles = h.handles;
-  blocks = h.blocks;
-  count = h.count;
-  locks = h.locks;
-  arena = h.arena;
-}
-
-pub holds_with_frames : (parts : MemoryParts) (budget : ℕ) (frames : List ℕ) → HoldsParts parts budget → HoldsParts (record parts { frames = frames }) budget
-holds_with_frames parts budget frames h = record {
-  fixed = h.fixed;
-  rows = h.rows;
-  vectors = h.vectors;
-  records = h.records;
-  handles = h.handles;
-  blocks = h.blocks;
-  count = h.count;
-  locks = h.locks;
-  arena = h.arena;
-}
+holds_with_dos p budget dos h = holds_with p budget dos p.rows p.vectors p.records p.arena p.frames h.rows h.vectors h.records h.arena h
 
 pub holds_with_rows : (parts : MemoryParts) (budget : ℕ) (rows : List ℕ) → KeepsRows rows → HoldsParts parts budget →
     HoldsParts (record parts { rows = rows }) budget
-holds_with_rows parts budget rows keeps h = record {
-  fixed = h.fixed;
-  rows = keeps;
-  vectors = h.vectors;
-  records = h.records;
-  handles = h.handles;
-  blocks = h.blocks;
-  count = h.count;
-  locks = h.locks;
-  arena = h.arena;
-}
+holds_with_rows p budget rows keeps h = holds_with p budget p.dos rows p.vectors p.records p.arena p.frames keeps h.vectors h.records h.arena h
+
+pub holds_with_vectors : (parts : MemoryParts) (budget : ℕ) (vectors : List ℕ) → KeepsVectors vectors → HoldsParts parts budget →
+    HoldsParts (record parts { vectors = vectors }) budget
+holds_with_vectors p budget vectors keeps h = holds_with p budget p.dos p.rows vectors p.records p.arena p.frames h.rows keeps h.records h.arena h
+
+pub holds_with_records : (parts : MemoryParts) (budget : ℕ) (records : List ℕ) → KeepsRecords records → HoldsParts parts budget →
+    HoldsParts (record parts { records = records }) budget
+holds_with_records p budget records keeps h = holds_with p budget p.dos p.rows p.vectors records p.arena p.frames h.rows h.vectors keeps h.arena h
 
 pub holds_with_arena : (parts : MemoryParts) (budget : ℕ) (arena : List ℕ) → KeepsArena arena → HoldsParts parts budget →
     HoldsParts (record parts { arena = arena }) budget
-holds_with_arena parts budget arena keeps h = record {
-  fixed = h.fixed;
-  rows = h.rows;
-  vectors = h.vectors;
-  records = h.records;
-  handles = h.handles;
-  blocks = h.blocks;
-  count = h.count;
-  locks = h.locks;
-  arena = keeps;
-}
+holds_with_arena p budget arena keeps h = holds_with p budget p.dos p.rows p.vectors p.records arena p.frames h.rows h.vectors h.records keeps h
+
+pub holds_with_frames : (parts : MemoryParts) (budget : ℕ) (frames : List ℕ) → HoldsParts parts budget → HoldsParts (record parts { frames = frames }) budget
+holds_with_frames p budget frames h = holds_with p budget p.dos p.rows p.vectors p.records p.arena frames h.rows h.vectors h.records h.arena h

@@ -14,9 +14,8 @@ use Rattle.guest_ram.proofs.PutLaws.{length-region}
 use Rattle.host_memory.specs.Holds.{Holds}
 use Rattle.host_memory.specs.Layout.{address_of, rows_part, vectors_part, world_of}
 use Rattle.host_memory.specs.Vectors.{KeepsVectors, callbacks_in, exception_vectors_in, exceptions_start, interrupt_vectors_in, pageable_in, pageable_start, word_bytes}
-use Rattle.host_memory.proofs.Parts.{HasSize, HoldsParts, MemoryParts, addresses_by, holds_by, holds_parts, parts_of, world_by}
-use Rattle.host_memory.proofs.PutBlockParts.{put_vectors}
-use Rattle.host_memory.proofs.PutParts.{size_put}
+use Rattle.host_memory.proofs.Parts.{HasSize, MemoryParts, addresses_by, holds_by, holds_parts, holds_with_vectors, parts_of, world_by}
+use Rattle.host_memory.proofs.PutParts.{put_vectors, size_put}
 use Rattle.host_memory.proofs.VectorParts.{exceptions_set, interrupts_set, keeps_pageable, keeps_pointer, pageable_away, pageable_set, pointer_away, put_pageable, put_pointer, same_callbacks, same_exceptions, same_interrupts, same_pageable}
 
 -- a world with other vectors and other pageable pages
@@ -59,20 +58,6 @@ same_lists w part interrupts exceptions callbacks pageable l =
     ∙ ap (λ (xs : List FarPtr). with_lists w interrupts xs (callbacks_in part) (pageable_in part)) l.exc
     ∙ ap (λ (xs : List (Option Callback)). with_lists w interrupts exceptions xs (pageable_in part)) l.back
     ∙ ap (λ (xs : List Bool). with_lists w interrupts exceptions callbacks xs) l.page
-
-holds_with_vectors : (parts : MemoryParts) (budget : ℕ) (vectors : List ℕ) → KeepsVectors vectors → HoldsParts parts budget →
-    HoldsParts (record parts { vectors = vectors }) budget
-holds_with_vectors parts budget vectors keeps h = record {
-  fixed = h.fixed;
-  rows = h.rows;
-  vectors = keeps;
-  records = h.records;
-  handles = h.handles;
-  blocks = h.blocks;
-  count = h.count;
-  locks = h.locks;
-  arena = h.arena;
-}
 
 changes : (b c : List ℕ) (budget : ℕ) (part : List ℕ) (interrupts exceptions : List FarPtr) (pageable : List Bool) → Holds b budget →
     parts_of c budget ≡ record (parts_of b budget) { vectors = part } → HasSize c budget → KeepsVectors part →

@@ -11,7 +11,7 @@ use Rattle.client_world.specs.Registers.{flags_image, flags_of_image}
 use Rattle.guest_ram.specs.Bytes.{dword}
 use Rattle.guest_ram.specs.Listed.{zeros}
 use Rattle.guest_ram.proofs.ListedLaws.{length-zeros}
-use Rattle.host_memory.specs.Records.{call_kind, call_number, call_of, record_at, record_bytes, record_head, record_size, regs_at, regs_bytes}
+use Rattle.host_memory.specs.Records.{record_at, record_bytes, record_head, record_size, regs_at, regs_bytes}
 
 abbrev pub FlagsTrip : Type 0
 FlagsTrip = (f : Flags) (interrupt : Bool) → flags_of_image (flags_image f interrupt) ≡ f
@@ -50,12 +50,6 @@ regs_back trip kind number code vif at r rest =
       word_back r.gs,
       trip r.flags false,
     ) refl
-
-call_back : (call : Call) → call_of (call_kind call) (call_number call) ≡ call
-call_back (Int n) = refl
-call_back Far = refl
-call_back Iret = refl
-call_back (Reflect n) = refl
 
 -- so is the whole record
 sim_back : FlagsTrip → (call : Call) (saved : Regs) (vif : Bool) (at : FarPtr) → record_at (record_bytes (Sim call saved vif at)) 0 ≡ Sim call saved vif at

@@ -29,7 +29,8 @@ use Rattle.fault_service.proofs.SoundAnswers.{code_is_named_by_a_word}
 use Rattle.fault_service.specs.Delivery.{unserved}
 use Rattle.fault_service.specs.Worlds.{bare, its_world}
 use Rattle.insn_plan.specs.Act.{Pending}
-use Rattle.guest_space.proofs.RecordWrites.{IsSound-calls, has_width}
+use Rattle.guest_space.proofs.RecordWrites.{has_width}
+use Rattle.guest_space.proofs.SoundLists.{IsSound-calls}
 use Rattle.host_memory.specs.View.{MachineView}
 use Rattle.insn_plan.specs.Plan.{carried_out, planned}
 use Rattle.mode_stack.specs.Stack.{top}

@@ -7,7 +7,7 @@ use Rattle.client_world.specs.Soundness.{IsSound, SoundMegabyte}
 use Rattle.client_world.specs.World.{World}
 use Rattle.client_world.proofs.SoundWrites.{IsSound-dos, IsSound-regs, IsSound-vif, SoundMegabyte-set}
 use Rattle.guest_ram.specs.Bytes.{with_word}
-use Rattle.guest_space.proofs.VectorCalls.{sound_vectors}
+use Rattle.guest_space.proofs.SoundLists.{IsSound-vectors}
 use Rattle.service_rows.specs.Reasons.{Service, first_reason}
 use Rattle.service_rows.specs.Rows.{unsupported}
 use Rattle.service_rows.proofs.AnswerLaws.{of_answer}
@@ -35,11 +35,11 @@ sound_real w s = IsSound-dos w (with_word (with_word w.dos (real_vector w) (dx w
     (sound_word w.dos (real_vector w) (dx w) s.megabyte (omega arith) (omega arith)) (omega arith) (omega arith))
 
 sound_exception : (w : World) (n : ℕ) (p : FarPtr) → IsSound w → IsSound (record w { exception_vectors = slice_set w.exception_vectors n p })
-sound_exception w n p s = sound_vectors w w.interrupt_vectors (slice_set w.exception_vectors n p) w.pageable s
+sound_exception w n p s = IsSound-vectors w w.interrupt_vectors (slice_set w.exception_vectors n p) w.pageable s
     s.interrupt_vectors (length-set w.exception_vectors n p ∙ s.exception_vectors) s.pageable
 
 sound_interrupt : (w : World) (n : ℕ) (p : FarPtr) → IsSound w → IsSound (record w { interrupt_vectors = slice_set w.interrupt_vectors n p })
-sound_interrupt w n p s = sound_vectors w (slice_set w.interrupt_vectors n p) w.exception_vectors w.pageable s
+sound_interrupt w n p s = IsSound-vectors w (slice_set w.interrupt_vectors n p) w.exception_vectors w.pageable s
     (length-set w.interrupt_vectors n p ∙ s.interrupt_vectors) s.exception_vectors s.pageable
 
 sound_after : (ax : ℕ) (w : World) → IsSound w → IsSound (function_of ax w).after
