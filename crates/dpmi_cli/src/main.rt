@@ -13,22 +13,54 @@ mod tests;
 mod words;
 
 use dpmi_io::{FileShelf, StdoutSink};
+use std::alloc::Global;
+use std::env::{Env, FillError};
 use std::io::ErrorKind;
 use std::process::ExitCode;
 use std::{env, io};
 
-// The words behind the program's name. Words that aren't text mean nothing, as no words do.
+// The system's words after the program's own name, which may be no text.
+#[derive(Drop)]
+struct GivenWords<'a>(&'a HostRuntime);
+
+impl Alloc for GivenWords<'_> {
+    type A = Global;
+
+    fn alloc(&self) -> Global {
+        self.0.alloc()
+    }
+}
+
+impl Env for GivenWords<'_> {
+    fn arg(&self, i: usize, buf: &mut [u8]) -> Result<usize, FillError> {
+        match i.checked_add(1) {
+            Some(next) => self.0.arg(next, buf),
+            None => Err(FillError::NotPresent),
+        }
+    }
+
+    fn var(&self, name: &str, buf: &mut [u8]) -> Result<usize, FillError> {
+        self.0.var(name, buf)
+    }
+
+    fn var_at(&self, i: usize, buf: &mut [u8]) -> Result<usize, FillError> {
+        self.0.var_at(i, buf)
+    }
+}
+
+// Those words. Where one of them isn't text they mean nothing, as no words do.
 fn collect_words(rt: &HostRuntime) -> io::Result<Vec<String>> {
     let mut words = Vec::new(rt.alloc());
-    let args = match env::args(rt) {
-        Ok(args) => args,
-        Err(error) if error.kind() == ErrorKind::InvalidData => return Ok(words),
-        Err(error) => return Err(error),
-    };
-    for word in args.skip(1) {
-        words.push(word)?;
+    match env::args(&GivenWords(rt)) {
+        Ok(args) => {
+            for word in args {
+                words.push(word)?;
+            }
+            Ok(words)
+        }
+        Err(error) if error.kind() == ErrorKind::InvalidData => Ok(words),
+        Err(error) => Err(error),
     }
-    Ok(words)
 }
 
 fn main(rt: HostRuntime) -> ExitCode {
