@@ -1,3 +1,4 @@
 pub mod Relocating
 pub mod DosBytes
 pub mod SoundStart
+pub mod HeaderWord

@@ -4,6 +4,7 @@ ghost use Rattle.guest_ram.specs.Bytes.{word_of};
 ghost use Rattle.mz_loader.specs.Header.{last_page, pages, relocations, minimum, maximum, relocation_table, header_length, told_length, image_length, image_paras, needed_paras, block_paras, most_paras, psp_paras};
 ghost use Rattle.mz_loader.specs.Refusal.{header_bytes};
 
+use byteorder::{ByteOrder, LittleEndian};
 use client_world::memory_map::{ARENA_END, PARAGRAPH_SIZE, PSP_SEGMENT};
 
 /// The bytes of a header.
@@ -22,11 +23,12 @@ pub(crate) const MOST_PARAS: u32 = ARENA_END - PSP_SEGMENT as u32;
 pub(crate) const MOST_BYTES: u32 = PARAGRAPH_SIZE * (MOST_PARAS - PSP_PARAS);
 
 /// The word at an address of the file.
+#[tactic(auto, using(crate::proofs::HeaderWord::little_word))]
 pub(crate) fn word_of(file: &[u8], at: usize) -> u16
     requires { at + 2 ≤ length file.now }
     ensures { result ≡ word_of file.now at }
 {
-    u16::from(file[at]) + 0x100 * u16::from(file[at + 1])
+    LittleEndian::read_u16(&file[at..])
 }
 
 /// The bytes of the last page, 0 where it is whole.
