@@ -1,5 +1,6 @@
 // Worked rows: code bytes, and what a step makes of registers, stack and virtual interrupt flag, or its event.
 use crate::step;
+use bytes::{BYTES, Bytes};
 use cases::{Done, Raises};
 use client_world::{
     Desc, Kind, Mode, Origin, Regs, SegReg, Width, a_plain_descriptor_keeps_a_world_sound,
@@ -11,6 +12,7 @@ use std::alloc::{AllocError, Global};
 use std::process::Abort;
 use std::test::Fail;
 
+mod bytes;
 mod cases;
 mod protected;
 mod real;
@@ -79,6 +81,24 @@ fn expect_all(rt: &impl Abort, m: &mut Machine, done: &[Done], raises: &[Raises]
 fn steps_in_real_mode(rt: HostRuntime) -> Result<(), Fail> {
     let mut m = Machine::new(rt.alloc(), 1)?;
     expect_all(&rt, &mut m, &REAL_DONE, &REAL_RAISES);
+    Ok(())
+}
+
+fn expect_memory(rt: &impl Abort, m: &mut Machine, number: usize, case: &Bytes) {
+    put(rt, m, CODE + case.before.eip % 0x2_0000, case.code);
+    put(rt, m, case.at, case.bytes_before);
+    m.set_regs(case.before);
+    assert_eq!(rt; step(m), case.answer, "answer of case {number}");
+    assert_eq!(rt; m.regs(), case.after, "registers of case {number}");
+    expect_bytes(rt, m, case.at, case.bytes_after, number);
+}
+
+#[test]
+fn steps_that_write_many_bytes(rt: HostRuntime) -> Result<(), Fail> {
+    let mut m = Machine::new(rt.alloc(), 1)?;
+    for (number, case) in BYTES.iter().enumerate() {
+        expect_memory(&rt, &mut m, number, case);
+    }
     Ok(())
 }
 
