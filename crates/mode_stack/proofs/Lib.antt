@@ -1,2 +1,3 @@
 pub mod PutRuns
 pub mod Trips
+pub mod RowNumbers

@@ -4,6 +4,7 @@ ghost use Rattle.guest_ram.specs.Bytes.{put, dword, dword_bytes, word_of};
 ghost use Rattle.host_memory.specs.Records.{call_kind, call_number, call_of, no_pointer, record_at, record_bytes, record_head, regs_at, regs_bytes};
 ghost use Rattle.host_memory.specs.Vectors.{pointer_at, word_bytes};
 
+use byteorder::{ByteOrder, LittleEndian};
 use client_world::{Call, FarPtr, Flags, Record, Regs};
 
 /// Puts bytes in place of those of a slice from an offset on.
@@ -118,20 +119,20 @@ pub(crate) fn packed(r: &Record) -> [u8; 128]
 }
 
 // The word, the doubleword and the far pointer at an offset of a row.
+#[tactic(auto, using(crate::proofs::RowNumbers::little_word))]
 fn word_at(bytes: &[u8; 128], at: usize) -> u16
     requires { at + 2 ≤ 128 }
     ensures { result ≡ word_of bytes.now at }
 {
-    u16::from(bytes[at]) + 0x100 * u16::from(bytes[at + 1])
+    LittleEndian::read_u16(&bytes[at..])
 }
 
-#[tactic(auto, unfolding(guest_ram::specs::Bytes::dword))]
+#[tactic(auto, using(crate::proofs::RowNumbers::little_dword), unfolding(guest_ram::specs::Bytes::dword))]
 fn dword_at(bytes: &[u8; 128], at: usize) -> u32
     requires { at + 4 ≤ 128 }
     ensures { result ≡ dword bytes.now at }
 {
-    let low = u32::from(bytes[at]) + 0x100 * u32::from(bytes[at + 1]);
-    low + 0x1_0000 * u32::from(bytes[at + 2]) + 0x100_0000 * u32::from(bytes[at + 3])
+    LittleEndian::read_u32(&bytes[at..])
 }
 
 fn pointer_at(bytes: &[u8; 128], at: usize) -> FarPtr
