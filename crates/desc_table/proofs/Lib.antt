@@ -1,3 +1,4 @@
 pub mod PackedLaws
 pub mod RowLaws
 pub mod RunLaws
+pub mod RowWords

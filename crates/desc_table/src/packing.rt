@@ -5,6 +5,7 @@ ghost use Rattle.client_world.specs.Registers.{has_bit};
 ghost use Rattle.client_world.specs.Descriptor.{access_byte, flags_byte, kind_bits, packed, FitsDescriptor, Packs};
 ghost use Rattle.desc_table.specs.Unpacked.{is_access_byte, kind_of, is_packed, described, unpacked, with_accessed};
 
+use byteorder::{ByteOrder, LittleEndian};
 use client_world::{Desc, Kind};
 
 // The bits of the access byte. Bits 1 and 2 mean writable and expand-down in data, readable and conforming in code.
@@ -120,16 +121,15 @@ fn kind(byte: u8) -> Kind
 }
 
 // The fields that eight bytes spell.
-#[tactic(auto, unfolding(crate::specs::Unpacked::described))]
+#[tactic(auto, using(crate::proofs::RowWords::third_word), unfolding(crate::specs::Unpacked::described))]
 fn describe(b: &[u8; 8]) -> Desc
     ensures { result ≡ described b.now 0 }
 {
     Desc {
-        base: u32::from(b[2])
-            + 0x100 * u32::from(b[3])
+        base: u32::from(LittleEndian::read_u16(&b[2..]))
             + 0x10000 * u32::from(b[4])
             + 0x1000000 * u32::from(b[7]),
-        limit: u32::from(b[0]) + 0x100 * u32::from(b[1]) + 0x10000 * u32::from(b[6] % 0x10),
+        limit: u32::from(LittleEndian::read_u16(b)) + 0x10000 * u32::from(b[6] % 0x10),
         gran: is_set(b[6], GRANULARITY),
         size: is_set(b[6], SIZE),
         avl: is_set(b[6], AVAILABLE),
