@@ -23,6 +23,7 @@ pub mod Fills
 pub mod HostRows
 pub mod HostStacks
 pub mod KeptAccess
+pub mod MachineLaws
 pub mod Machines
 pub mod MemoryAlone
 pub mod OnlyWritten

@@ -1,12 +1,16 @@
 // The machine: what the processor keeps, and the memory that holds all else.
-ghost use Rattle.std.specs.Prelude.{◌≡◌, ◌≢◌, ◌≤◌, ◌<◌, IfOk, None, Some};
+ghost use Rattle.std.specs.Prelude.{◌≡◌, ◌≢◌, ◌≤◌, ◌<◌, ◌^◌, ℕ, Bool, true, IfOk, None, Some};
+ghost use Rattle.client_world.specs.declared.host_frames.TheConstants.{PAGE_DIRECTORY};
 ghost use Rattle.client_world.specs.declared.limits.TheConstants.{MAX_PAGES};
 ghost use Rattle.client_world.specs.declared.registers.Mode.TheVariants.{Protected as protected};
+ghost use Rattle.client_world.specs.Access.{may_touch, place_of};
 ghost use Rattle.client_world.specs.General.{with_general};
 ghost use Rattle.client_world.specs.Segments.{with_selector};
 ghost use Rattle.client_world.specs.Soundness.{HasSegments, IsSound};
 ghost use Rattle.host_memory.specs.Blank.{blank_world};
 ghost use Rattle.host_memory.specs.HoldsWorld.{HoldsWorld};
+ghost use Rattle.host_memory.specs.Law.{told, StandsAt};
+ghost use Rattle.page_tables.specs.Walk.{walked};
 ghost use Rattle.guest_space.specs.Registers.{with_registers};
 
 use client_world::limits::MAX_PAGES;
@@ -59,11 +63,17 @@ impl Machine {
         })
     }
 
-    /// The memory, which holds the world. Every world of a machine is sound.
+    /// The memory, which holds the world. Every world of a machine is sound. A walk of the page tables ends exactly where the client may
+    /// touch, at the address of the place, and otherwise fails as the place says; the world's byte at a place that the client may touch
+    /// lies at that address, in none of the host's frames.
     pub fn ram(&self) -> &Ram
         ensures bytes { result.now ≡ self.now.bytes }
         ensures holds { HoldsWorld self.now.bytes self.now.world }
         ensures sound { IsSound self.now.world }
+        ensures walks { (lin : ℕ) (write : Bool) → lin < 2 ^ 32 →
+            walked self.now.bytes PAGE_DIRECTORY lin write ≡ told self.now.bytes (place_of self.now.world lin) write }
+        ensures places { (lin : ℕ) (write : Bool) → may_touch (place_of self.now.world lin) write ≡ true →
+            StandsAt self.now.bytes self.now.world (place_of self.now.world lin) }
     {
         &self.ram
     }

@@ -1,10 +1,11 @@
 -- A memory that holds a sound world has exactly the bytes that the world asks for.
-use Rattle.std.proofs.Common.{◌≡◌, ℕ, ◌+◌, ◌*◌, ◌<◌, Bool, List, slice_index, None, ap, ◌∙◌, sym, subst, arith, zero-add}
+use Rattle.std.proofs.Common.{◌≡◌, ℕ, ◌+◌, ◌*◌, ◌<◌, ◌≤◌, Bool, List, slice_index, None, ap, ◌∙◌, sym, subst, arith, zero-add}
 use Rattle.std.specs.declared.option.Option.{Option}
 use Rattle.client_world.specs.declared.registers.Mode.{Mode}
 use Rattle.client_world.specs.declared.registers.Regs.{Regs}
 use Rattle.client_world.specs.declared.registers.Width.{Width}
 use Rattle.client_world.specs.declared.host_frames.TheConstants.{PAGE_SIZE, DESCRIPTOR_ROWS, BUDGET_FRAMES, DESCRIPTORS, DESCRIPTOR_ROW_SIZE}
+use Rattle.client_world.specs.declared.limits.TheConstants.{MAX_PAGES}
 use Rattle.client_world.specs.declared.memory_map.TheConstants.{DOS_SIZE}
 use Rattle.client_world.specs.Selector.{Row, row_at_index}
 use Rattle.client_world.specs.Soundness.{IsSound, SoundBlocks}
@@ -51,6 +52,7 @@ holds_world b budget mode regs vif width holds sound =
     let in_ranges = ranges_of b budget w has sound.blocks in
     record {
       size = holds.size ∙ ap (λ (n : ℕ). PAGE_SIZE * (BUDGET_FRAMES + n)) (sym budgets);
+      budget = subst (λ (n : ℕ). n ≤ MAX_PAGES) (sym budgets) holds.most;
       megabyte = megabyte_claim b w (dos_is b budget mode regs vif width);
       tables = tables_claim b budget w holds in_ranges has budgets;
       taken = taken_claim b budget w holds budgets;

@@ -105,6 +105,7 @@ pub record HoldsLists (b : List ℕ) (w : World) : Type 0 where
 -- the bytes hold the world
 pub record HoldsWorld (b : List ℕ) (w : World) : Type 0 where
   pub size : length b ≡ PAGE_SIZE * (BUDGET_FRAMES + w.budget)
+  pub budget : w.budget ≤ MAX_PAGES
   pub megabyte : (at : ℕ) → at < DOS_SIZE → slice_index b at ≡ slice_index w.dos at
   pub tables : HoldsTables b w
   pub taken : HoldsTaken b w

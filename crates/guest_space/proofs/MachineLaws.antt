@@ -1,0 +1,86 @@
+-- The laws of walks and of writes, of the view of a machine.
+use Rattle.std.proofs.Common.{◌≡◌, ℕ, ◌<◌, ◌^◌, Bool, true, List, [], OnOk, IfErr, MatchResult, refl, ap, ◌∙◌, sym, subst, arith, Result, Ok, Err}
+use Rattle.client_world.specs.declared.faults.Fault.{Fault}
+use Rattle.client_world.specs.declared.host_frames.TheConstants.{PAGE_DIRECTORY}
+use Rattle.client_world.specs.declared.place.Place.{Place}
+use Rattle.client_world.specs.declared.segments.FarPtr.{FarPtr}
+use Rattle.client_world.specs.declared.segments.SegReg.{SegReg}
+use Rattle.client_world.specs.Access.{access, far_access, may_touch, place_of}
+use Rattle.client_world.specs.Soundness.{IsSound, SoundBlocks}
+use Rattle.client_world.specs.World.{World}
+use Rattle.page_tables.specs.Walk.{walked}
+use Rattle.host_memory.specs.Law.{told, StandsAt}
+use Rattle.host_memory.specs.View.{MachineView, OnlyAt}
+use Rattle.host_memory.proofs.OnlyAtLaws.{only_start}
+use Rattle.host_memory.proofs.WalkLaw.{walk_agrees}
+use Rattle.guest_space.specs.declared.pending.Write.{Write}
+use Rattle.guest_space.specs.Far.{far_written}
+use Rattle.guest_space.specs.Machines.{Processor, IsMachine, HoldsItsWorld}
+use Rattle.guest_space.specs.Pending.{all_written, places_of_writes}
+use Rattle.guest_space.specs.Transfer.{places_of_access, stored, with_places}
+use Rattle.guest_space.proofs.HostStacks.{only_far}
+use Rattle.guest_space.proofs.Machines.{CanWriteAll, sound_blocks, stands_there}
+use Rattle.guest_space.proofs.OnlyWritten.{HoldsBlocks, only_places, write_places}
+use Rattle.guest_space.proofs.WritesOnly.{only_writes}
+
+-- a walk of the page tables ends where the client may touch, and else fails as the place says
+pub machine_walks : (v : MachineView) → HoldsItsWorld v → (lin : ℕ) (write : Bool) → lin < 2 ^ 32 →
+    walked v.bytes PAGE_DIRECTORY lin write ≡ told v.bytes (place_of v.world lin) write
+machine_walks v h lin write small =
+    let k = h.processor in
+    let m = h.machine in
+    walk_agrees v.bytes k.budget m.holds k.mode k.regs k.vif k.width (sound_blocks k v m) lin write small
+    ∙ ap (λ (w : World). told v.bytes (place_of w lin) write) (sym m.is)
+
+-- and the byte at a place that the client may touch lies at its address
+pub machine_stands : (v : MachineView) → HoldsItsWorld v → (lin : ℕ) (write : Bool) → may_touch (place_of v.world lin) write ≡ true →
+    StandsAt v.bytes v.world (place_of v.world lin)
+machine_stands v h lin write may = stands_there h.processor v lin write h.machine may
+
+-- a write through a segment register
+holds_blocks : (k : Processor) (v : MachineView) → IsMachine k v → HoldsBlocks k v
+holds_blocks k v m = record {
+  holds = m.holds;
+  is = m.is;
+  blocks = subst (λ (w : World). SoundBlocks w.blocks k.budget) (sym m.is) (sound_blocks k v m);
+}
+
+only_where : (k : Processor) (v : MachineView) (r : Result (List Place) Fault) (bytes : List ℕ) → HoldsBlocks k v →
+    ((places : List Place) → r ≡ Ok places → CanWriteAll v.world places) → OnlyAt (places_of_access r) v.bytes (with_places v (places_of_access r) bytes).bytes
+only_where k v (Ok places) bytes h can = only_places k v places bytes h (can places refl)
+only_where k v (Err f) bytes h can = only_places k v [] bytes h (λ i within. absurd (omega arith))
+
+pub machine_near : (v : MachineView) → HoldsItsWorld v → (seg : SegReg) (offset n : ℕ) (bytes : List ℕ) →
+    OnlyAt (places_of_access (access v.world seg offset n true)) v.bytes (stored v seg offset n bytes).bytes
+unfolding stored
+machine_near v h seg offset n bytes =
+    only_where h.processor v (access v.world seg offset n true) bytes (holds_blocks h.processor v h.machine) (write_places v.world seg offset n)
+
+-- a write at a far pointer
+pub machine_far : (v : MachineView) → HoldsItsWorld v → (p : FarPtr) (n : ℕ) (bytes : List ℕ) →
+    OnlyAt (places_of_access (far_access v.world p n true)) v.bytes (far_written v p n bytes).bytes
+machine_far v h p n bytes =
+    let k = h.processor in
+    let m = h.machine in
+    subst (λ (w : World). OnlyAt (places_of_access (far_access w p n true)) v.bytes (far_written (record { world = w; bytes = v.bytes }) p n bytes).bytes)
+    (sym m.is) (only_far v.bytes k.budget k.mode k.regs k.vif k.width m.holds (subst IsSound m.is m.sound) p n bytes)
+
+-- writes one after another
+pub machine_all : (v : MachineView) → HoldsItsWorld v → (writes : List Write) →
+    OnlyAt (places_of_writes v.world writes) v.bytes (all_written v writes).bytes
+machine_all v h writes =
+    let k = h.processor in
+    let m = h.machine in
+    subst (λ (w : World). OnlyAt (places_of_writes w writes) v.bytes (all_written (record { world = w; bytes = v.bytes }) writes).bytes)
+    (sym m.is) (only_writes v.bytes k.budget k.mode k.regs k.vif k.width m.holds (subst IsSound m.is m.sound) writes)
+
+-- a call that made them, or changed nothing
+pub only_matched : (v u new : MachineView) (places : List Place) (A : Type 0) (B : Fault → Type 0) (r : Result (Unit {0}) Fault) →
+    OnlyAt places v.bytes new.bytes → MatchResult r (λ _. A × (u ≡ new)) (λ fault. B fault × (u ≡ v)) → OnlyAt places v.bytes u.bytes
+only_matched v u new places A B (Ok x) only made = subst (λ (w : MachineView). OnlyAt places v.bytes w.bytes) (sym made.1) only
+only_matched v u new places A B (Err f) only kept = subst (λ (w : MachineView). OnlyAt places v.bytes w.bytes) (sym kept.1) (only_start places v.bytes)
+
+pub only_answered : (v u new : MachineView) (places : List Place) (A : Type 0) (B : Fault → Type 0) (r : Result (Unit {0}) Fault) →
+    OnlyAt places v.bytes new.bytes → OnOk r (A × (u ≡ new)) → IfErr r (λ fault. B fault × (u ≡ v)) → OnlyAt places v.bytes u.bytes
+only_answered v u new places A B (Ok x) only made kept = subst (λ (w : MachineView). OnlyAt places v.bytes w.bytes) (sym made.1) only
+only_answered v u new places A B (Err f) only made kept = subst (λ (w : MachineView). OnlyAt places v.bytes w.bytes) (sym kept.1) (only_start places v.bytes)
