@@ -1,5 +1,5 @@
 -- The laws of walks and of writes, of the view of a machine.
-use Rattle.std.proofs.Common.{◌≡◌, ℕ, ◌<◌, ◌^◌, Bool, true, List, [], OnOk, IfErr, MatchResult, refl, ap, ◌∙◌, sym, subst, arith, Result, Ok, Err}
+use Rattle.std.proofs.Common.{◌≡◌, ℕ, ◌<◌, ◌^◌, Bool, true, List, [], None, Some, OnOk, IfErr, refl, ap, ◌∙◌, sym, subst, arith, Result, Ok, Err}
 use Rattle.client_world.specs.declared.faults.Fault.{Fault}
 use Rattle.client_world.specs.declared.host_frames.TheConstants.{PAGE_DIRECTORY}
 use Rattle.client_world.specs.declared.place.Place.{Place}
@@ -16,11 +16,12 @@ use Rattle.host_memory.proofs.WalkLaw.{walk_agrees}
 use Rattle.guest_space.specs.declared.pending.Write.{Write}
 use Rattle.guest_space.specs.Far.{far_written}
 use Rattle.guest_space.specs.Machines.{Processor, IsMachine, HoldsItsWorld}
-use Rattle.guest_space.specs.Pending.{all_written, places_of_writes}
-use Rattle.guest_space.specs.Transfer.{places_of_access, stored, with_places}
+use Rattle.guest_space.specs.Pending.{all_written, byte_count, first_refusal, number_bytes, places_of_writes, write_refusal, written}
+use Rattle.guest_space.specs.Transfer.{places_of_access, refusal, stored, with_places}
 use Rattle.guest_space.proofs.HostStacks.{only_far}
 use Rattle.guest_space.proofs.Machines.{CanWriteAll, sound_blocks, stands_there}
 use Rattle.guest_space.proofs.OnlyWritten.{HoldsBlocks, only_places, write_places}
+use Rattle.guest_space.proofs.Writes.{Answered}
 use Rattle.guest_space.proofs.WritesOnly.{only_writes}
 
 -- a walk of the page tables ends where the client may touch, and else fails as the place says
@@ -74,13 +75,42 @@ machine_all v h writes =
     subst (λ (w : World). OnlyAt (places_of_writes w writes) v.bytes (all_written (record { world = w; bytes = v.bytes }) writes).bytes)
     (sym m.is) (only_writes v.bytes k.budget k.mode k.regs k.vif k.width m.holds (subst IsSound m.is m.sound) writes)
 
--- a call that made them, or changed nothing
-pub only_matched : (v u new : MachineView) (places : List Place) (A : Type 0) (B : Fault → Type 0) (r : Result (Unit {0}) Fault) →
-    OnlyAt places v.bytes new.bytes → MatchResult r (λ _. A × (u ≡ new)) (λ fault. B fault × (u ≡ v)) → OnlyAt places v.bytes u.bytes
-only_matched v u new places A B (Ok x) only made = subst (λ (w : MachineView). OnlyAt places v.bytes w.bytes) (sym made.1) only
-only_matched v u new places A B (Err f) only kept = subst (λ (w : MachineView). OnlyAt places v.bytes w.bytes) (sym kept.1) (only_start places v.bytes)
-
-pub only_answered : (v u new : MachineView) (places : List Place) (A : Type 0) (B : Fault → Type 0) (r : Result (Unit {0}) Fault) →
+-- a call that made the write or the writes, or changed nothing
+made_or_kept : (v u new : MachineView) (places : List Place) (A : Type 0) (B : Fault → Type 0) (r : Result (Unit {0}) Fault) →
     OnlyAt places v.bytes new.bytes → OnOk r (A × (u ≡ new)) → IfErr r (λ fault. B fault × (u ≡ v)) → OnlyAt places v.bytes u.bytes
-only_answered v u new places A B (Ok x) only made kept = subst (λ (w : MachineView). OnlyAt places v.bytes w.bytes) (sym made.1) only
-only_answered v u new places A B (Err f) only made kept = subst (λ (w : MachineView). OnlyAt places v.bytes w.bytes) (sym kept.1) (only_start places v.bytes)
+made_or_kept v u new places A B (Ok x) only made kept = subst (λ (w : MachineView). OnlyAt places v.bytes w.bytes) (sym made.1) only
+made_or_kept v u new places A B (Err f) only made kept = subst (λ (w : MachineView). OnlyAt places v.bytes w.bytes) (sym kept.1) (only_start places v.bytes)
+
+pub stored_or_kept : (v u : MachineView) → HoldsItsWorld v → (seg : SegReg) (offset n : ℕ) (bytes : List ℕ) (r : Result (Unit {0}) Fault) →
+    OnOk r ((refusal v.world seg offset n true ≡ None) × (u ≡ stored v seg offset n bytes)) →
+    IfErr r (λ fault. (refusal v.world seg offset n true ≡ Some fault) × (u ≡ v)) →
+    OnlyAt (places_of_access (access v.world seg offset n true)) v.bytes u.bytes
+stored_or_kept v u h seg offset n bytes r =
+    made_or_kept v u (stored v seg offset n bytes) (places_of_access (access v.world seg offset n true)) (refusal v.world seg offset n true ≡ None)
+    (λ fault. refusal v.world seg offset n true ≡ Some fault) r (machine_near v h seg offset n bytes)
+
+pub written_or_kept : (v u : MachineView) → HoldsItsWorld v → (x : Write) (r : Result (Unit {0}) Fault) → Answered v u x r →
+    OnlyAt (places_of_access (access v.world x.seg x.off (byte_count x.width) true)) v.bytes u.bytes
+unfolding written
+written_or_kept v u h x (Ok y) made =
+    made_or_kept v u (written v x) (places_of_access (access v.world x.seg x.off (byte_count x.width) true)) (write_refusal v.world x ≡ None)
+    (λ fault. ⊥) (Ok y) (machine_near v h x.seg x.off (byte_count x.width) (number_bytes x.width x.value)) made tt
+written_or_kept v u h x (Err f) kept =
+    subst (λ (w : MachineView). OnlyAt (places_of_access (access v.world x.seg x.off (byte_count x.width) true)) v.bytes w.bytes) (sym kept.1)
+    (only_start (places_of_access (access v.world x.seg x.off (byte_count x.width) true)) v.bytes)
+
+pub all_or_kept : (v u : MachineView) → HoldsItsWorld v → (writes : List Write) (r : Result (Unit {0}) Fault) →
+    OnOk r ((first_refusal v.world writes ≡ None) × (u ≡ all_written v writes)) →
+    IfErr r (λ fault. (first_refusal v.world writes ≡ Some fault) × (u ≡ v)) → OnlyAt (places_of_writes v.world writes) v.bytes u.bytes
+all_or_kept v u h writes r =
+    made_or_kept v u (all_written v writes) (places_of_writes v.world writes) (first_refusal v.world writes ≡ None)
+    (λ fault. first_refusal v.world writes ≡ Some fault) r (machine_all v h writes)
+
+pub all_made : (v u : MachineView) → HoldsItsWorld v → (writes : List Write) → u ≡ all_written v writes →
+    OnlyAt (places_of_writes v.world writes) v.bytes u.bytes
+all_made v u h writes e = subst (λ (w : MachineView). OnlyAt (places_of_writes v.world writes) v.bytes w.bytes) (sym e) (machine_all v h writes)
+
+pub far_made : (v u : MachineView) → HoldsItsWorld v → (p : FarPtr) (n : ℕ) (bytes : List ℕ) → u ≡ far_written v p n bytes →
+    OnlyAt (places_of_access (far_access v.world p n true)) v.bytes u.bytes
+far_made v u h p n bytes e =
+    subst (λ (w : MachineView). OnlyAt (places_of_access (far_access v.world p n true)) v.bytes w.bytes) (sym e) (machine_far v h p n bytes)

@@ -1,8 +1,10 @@
 // Bytes at far pointers, by the rules of protected mode, whatever the mode is.
 ghost use Rattle.std.specs.Prelude.{◌≡◌, ◌≤◌, ◌<◌, IsTrue, true, false, [], ◌∷◌, length};
 ghost use Rattle.client_world.specs.declared.host_frames.TheConstants.{PAGE_SIZE};
-ghost use Rattle.client_world.specs.Access.{is_reachable};
+ghost use Rattle.client_world.specs.Access.{far_access, is_reachable};
+ghost use Rattle.host_memory.specs.View.{OnlyAt};
 ghost use Rattle.guest_space.specs.Far.{far_bytes, far_written};
+ghost use Rattle.guest_space.specs.Transfer.{places_of_access};
 
 use crate::machine::Machine;
 use client_world::{FarPtr, SegReg};
@@ -32,13 +34,17 @@ impl Machine {
         }
     }
 
-    /// Writes bytes at a far pointer, 1 to 4096 of them, which are reachable for writing.
+    /// Writes bytes at a far pointer, 1 to 4096 of them, which are reachable for writing. Of the memory only the bytes of their places change,
+    /// and none of the host's frames.
     pub fn write_bytes(&mut self, p: FarPtr, bytes: &[u8])
         requires some { 0 < length bytes.now }
         requires few { length bytes.now ≤ PAGE_SIZE }
         requires reachable { IsTrue (is_reachable self.old.world p (length bytes.now) true) }
-        ensures { self.new ≡ far_written self.old p (length bytes.now) bytes.now }
+        ensures written { self.new ≡ far_written self.old p (length bytes.now) bytes.now }
+        ensures only { OnlyAt (places_of_access (far_access self.old.world p (length bytes.now) true))
+            self.old.bytes self.new.bytes }
     {
+        self.holds_world();
         if let Ok(base) = self.protected_base(SegReg::Es, p.sel, p.off, bytes.len() as u32, true) {
             self.put(base.wrapping_add(p.off), bytes);
         }
@@ -54,10 +60,11 @@ impl Machine {
         byte[0]
     }
 
-    /// Puts a byte at a far pointer, which is reachable for writing.
+    /// Puts a byte at a far pointer, which is reachable for writing. Of the memory only that byte changes.
     pub fn far_set8(&mut self, p: FarPtr, v: u8)
         requires { IsTrue (is_reachable self.old.world p 1 true) }
-        ensures { self.new ≡ far_written self.old p 1 (v ∷ []) }
+        ensures written { self.new ≡ far_written self.old p 1 (v ∷ []) }
+        ensures only { OnlyAt (places_of_access (far_access self.old.world p 1 true)) self.old.bytes self.new.bytes }
     {
         self.write_bytes(p, &[v]);
     }

@@ -1,9 +1,10 @@
 // Reading and writing through the page tables, and through segment registers.
 ghost use Rattle.std.specs.Prelude.{ℕ, slice_index, ◌≡◌, ◌≤◌, ◌<◌, ◌+◌, ◌%◌, OnOk, IfErr, MatchResult, nat_le, Ok, Err, None, Some, true, false, length, [], ◌∷◌};
 ghost use Rattle.client_world.specs.declared.host_frames.TheConstants.{PAGE_SIZE};
-ghost use Rattle.client_world.specs.Access.{byte_of, bytes_of, may_touch, page_fault, place_of, places_from};
+ghost use Rattle.client_world.specs.Access.{access, byte_of, bytes_of, may_touch, page_fault, place_of, places_from};
+ghost use Rattle.host_memory.specs.View.{OnlyAt};
 ghost use Rattle.guest_space.specs.Machines.{HoldsItsWorld};
-ghost use Rattle.guest_space.specs.Transfer.{loaded, refusal, stored, translated, linear_access, bytes_at, fault_of, with_places};
+ghost use Rattle.guest_space.specs.Transfer.{loaded, places_of_access, refusal, stored, translated, linear_access, bytes_at, fault_of, with_places};
 
 use crate::machine::Machine;
 use crate::segments::fault_with;
@@ -37,6 +38,7 @@ pub(crate) fn is_in_page(lin: u32, n: u32) -> bool
 
 impl Machine {
     // The memory holds the machine's world.
+    #[inline(always)]
     pub(crate) fn holds_world(&self)
         ensures { HoldsItsWorld self.now }
     {
@@ -213,7 +215,8 @@ impl Machine {
         Ok(())
     }
 
-    /// Puts N bytes at an offset of a segment register, 1 to 4096 of them; a fault changes nothing.
+    /// Puts N bytes at an offset of a segment register, 1 to 4096 of them; a fault changes nothing. Of the memory only the bytes of the
+    /// write's places change, and none of the host's frames.
     /// Source: 80386 Programmer's Reference Manual, ch. 5 and 6.
     #[inline(always)]
     pub fn write<const N: usize>(&mut self, seg: SegReg, off: u32, v: [u8; N]) -> Result<(), Fault>
@@ -223,7 +226,9 @@ impl Machine {
             × (self.new ≡ stored self.old seg off N v.entry)) }
         ensures refused { IfErr result (λ fault.
             (refusal self.old.world seg off N true ≡ Some fault) × (self.new ≡ self.old)) }
+        ensures only { OnlyAt (places_of_access (access self.old.world seg off N true)) self.old.bytes self.new.bytes }
     {
+        self.holds_world();
         match self.quick_base(seg, off, N as u32) {
             Some(base) => self.store(base.wrapping_add(off), &v),
             None => self.write_checked(seg, off, v),

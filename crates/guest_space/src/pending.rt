@@ -1,6 +1,9 @@
 // Writes that are probed all together before the first is made.
-ghost use Rattle.std.specs.Prelude.{◌≡◌, OnOk, IfErr, MatchResult, None, Some};
-ghost use Rattle.guest_space.specs.Pending.{IsCountOfWidth, byte_count, number_bytes, write_refusal, written, first_refusal, all_written};
+ghost use Rattle.std.specs.Prelude.{◌≡◌, OnOk, IfErr, MatchResult, None, Some, true};
+ghost use Rattle.client_world.specs.Access.{access};
+ghost use Rattle.host_memory.specs.View.{OnlyAt};
+ghost use Rattle.guest_space.specs.Pending.{IsCountOfWidth, byte_count, number_bytes, write_refusal, written, first_refusal, all_written, places_of_writes};
+ghost use Rattle.guest_space.specs.Transfer.{places_of_access};
 
 use crate::machine::Machine;
 use client_world::{Fault, SegReg};
@@ -53,13 +56,18 @@ impl Machine {
             .err()
     }
 
-    /// Makes a write, or gives its fault, which changes nothing.
+    /// Makes a write, or gives its fault, which changes nothing. Of the memory only the bytes of the write's places change, and none of the
+    /// host's frames.
     #[inline(always)]
     pub fn write_one(&mut self, x: &Write) -> Result<(), Fault>
-        ensures { MatchResult result
+        ensures made { MatchResult result
             (λ _. (write_refusal self.old.world x.now ≡ None) × (self.new ≡ written self.old x.now))
             (λ fault. (write_refusal self.old.world x.now ≡ Some fault) × (self.new ≡ self.old)) }
+        ensures only { OnlyAt
+            (places_of_access (access self.old.world x.now.seg x.now.off (byte_count x.now.width) true))
+            self.old.bytes self.new.bytes }
     {
+        self.holds_world();
         if x.width == 8 {
             self.write(x.seg, x.off, [(x.value % 0x100) as u8])
         } else if x.width == 16 {
@@ -108,13 +116,16 @@ impl Machine {
         Ok(())
     }
 
-    /// Makes all of some writes in their order, or, where one of them has a fault, none of them: the first such fault is the answer.
+    /// Makes all of some writes in their order, or, where one of them has a fault, none of them: the first such fault is the answer. Of the
+    /// memory only the bytes of the writes' places change, and none of the host's frames.
     pub fn write_all(&mut self, writes: &[Write]) -> Result<(), Fault>
         ensures done { OnOk result ((first_refusal self.old.world writes.now ≡ None)
             × (self.new ≡ all_written self.old writes.now)) }
         ensures refused { IfErr result (λ fault.
             (first_refusal self.old.world writes.now ≡ Some fault) × (self.new ≡ self.old)) }
+        ensures only { OnlyAt (places_of_writes self.old.world writes.now) self.old.bytes self.new.bytes }
     {
+        self.holds_world();
         if writes.len() == 1 {
             self.write_one(&writes[0])
         } else if let Some(shift) = self.shift_of(writes) {

@@ -1,10 +1,25 @@
+use Rattle.guest_space.proofs.MachineLaws.{all_or_kept, all_made}
 use Rattle.guest_space.proofs.Writes.{one_made, one_refused}
 use Rattle.guest_space.proofs.machine.Machine.write_all.Goals as goal
 
 pub returns-then-writes-eq1-clause-done : goal.returns-then-writes-eq1-clause-done
 returns-then-writes-eq1-clause-done c =
-    one_made c.args.self.now c.write_one.new.self c.args.writes.now _ c.write_one.result c.if-writes-eq1.true c.write_one.ensures
+    one_made c.args.self.now c.write_one.new.self c.args.writes.now _ c.write_one.result c.if-writes-eq1.true c.write_one.ensures.made
 
 pub returns-then-writes-eq1-clause-refused : goal.returns-then-writes-eq1-clause-refused
 returns-then-writes-eq1-clause-refused c =
-    one_refused c.args.self.now c.write_one.new.self c.args.writes.now _ c.write_one.result c.if-writes-eq1.true c.write_one.ensures
+    one_refused c.args.self.now c.write_one.new.self c.args.writes.now _ c.write_one.result c.if-writes-eq1.true c.write_one.ensures.made
+
+pub returns-then-writes-eq1-clause-only : goal.returns-then-writes-eq1-clause-only
+returns-then-writes-eq1-clause-only c =
+    all_or_kept c.args.self.now c.write_one.new.self c.holds_world.ensures c.args.writes.now c.write_one.result
+    (returns-then-writes-eq1-clause-done c) (returns-then-writes-eq1-clause-refused c)
+
+pub returns-in-Some-clause-only : goal.returns-in-Some-clause-only
+returns-in-Some-clause-only c =
+    all_made c.args.self.now c.make_runs.new.self c.holds_world.ensures c.args.writes.now c.make_runs.ensures
+
+pub returns-in_default-clause-only : goal.returns-in_default-clause-only
+returns-in_default-clause-only c =
+    all_or_kept c.args.self.now c.write_probed.new.self c.holds_world.ensures c.args.writes.now c.write_probed.result
+    c.write_probed.ensures.done c.write_probed.ensures.refused
