@@ -1,5 +1,5 @@
 -- The word and the doubleword at an offset of a row.
-use Rattle.std.proofs.Common.{◌≡◌, ℕ, ◌+◌, ◌*◌, List, drop, add-zero, arith}
+use Rattle.std.proofs.Common.{◌≡◌, ℕ, List, drop, add-zero, arith}
 use Rattle.std.proofs.lemmas.List.{get_or-drop}
 use Rattle.byteorder.specs.Endian.{little_number}
 use Rattle.guest_ram.specs.Bytes.{dword, word_of}
