@@ -1,5 +1,8 @@
 //! The memory map of the client: linear addresses in bytes, segments in paragraphs. Source: own.
 
+use crate::host_frames::{BUDGET_FRAMES, PAGE_DIRECTORY, PAGE_SIZE};
+use crate::limits::GREATEST_DEPTH;
+
 /// The bytes of a paragraph, in which segments are counted.
 pub const PARAGRAPH_SIZE: u32 = 16;
 
@@ -31,13 +34,13 @@ pub const IMAGE_START: u32 = 0x740;
 pub const REAL_STACKS: u32 = 0xE_0000;
 
 /// The segment of the host's real-mode stacks.
-pub const REAL_STACK_SEGMENT: u16 = 0xE000;
+pub const REAL_STACK_SEGMENT: u16 = (REAL_STACKS / PARAGRAPH_SIZE) as u16;
 
 /// The bytes of a real-mode stack of the host.
 pub const REAL_STACK_SIZE: u32 = 0x400;
 
 /// The first of the host's protected-mode stacks, one for each depth.
-pub const PROTECTED_STACKS: u32 = 0xE_4000;
+pub const PROTECTED_STACKS: u32 = REAL_STACKS + GREATEST_DEPTH * REAL_STACK_SIZE;
 
 /// The bytes of a protected-mode stack of the host.
 pub const PROTECTED_STACK_SIZE: u32 = 0x800;
@@ -46,22 +49,22 @@ pub const PROTECTED_STACK_SIZE: u32 = 0x800;
 pub const ROM_START: u32 = 0xF_0000;
 
 /// The segment of read-only memory, in which each real vector starts.
-pub const ROM_SEGMENT: u16 = 0xF000;
+pub const ROM_SEGMENT: u16 = (ROM_START / PARAGRAPH_SIZE) as u16;
 
 /// The byte of read-only memory: the opcode of HLT.
 pub const ROM_BYTE: u8 = 0xF4;
 
 /// The end of what shows the DOS megabyte: 100000h to 10FFFFh shows its first 64 KB again.
-pub const DOS_VIEW_END: u32 = 0x11_0000;
+pub const DOS_VIEW_END: u32 = DOS_SIZE + SEGMENT_SIZE;
 
 /// The pages of that view.
-pub const DOS_VIEW_PAGES: u32 = 272;
+pub const DOS_VIEW_PAGES: u32 = DOS_VIEW_END / PAGE_SIZE;
 
 /// Where memory blocks stand.
 pub const BLOCK_REGION: u32 = 0x40_0000;
 
 /// The end of where memory blocks stand.
-pub const BLOCK_REGION_END: u32 = 0x440_0000;
+pub const BLOCK_REGION_END: u32 = BLOCK_REGION + BLOCK_REGION_PAGES * PAGE_SIZE;
 
 /// The pages of where memory blocks stand.
 pub const BLOCK_REGION_PAGES: u32 = 0x4000;
@@ -69,5 +72,5 @@ pub const BLOCK_REGION_PAGES: u32 = 0x4000;
 /// Where the host's own frames stand, which no client may touch.
 pub const HOST_WINDOW: u32 = 0xC000_0000;
 
-/// The end of the host's own frames: 143 pages.
-pub const HOST_WINDOW_END: u32 = 0xC008_F000;
+/// The end of the host's own frames.
+pub const HOST_WINDOW_END: u32 = HOST_WINDOW + (BUDGET_FRAMES - PAGE_DIRECTORY) * PAGE_SIZE;
