@@ -1,10 +1,11 @@
 -- The tables of a memory in which one doubleword of the directory stands, or none.
 use Rattle.std.proofs.Common.{◌≡◌, ◌≢◌, ℕ, ◌+◌, ◌*◌, ◌/◌, ◌<◌, ◌≤◌, inl, inr, List, length, get_or, true, false, refl, ◌∙◌, arith, add-zero, set, get_or-set_other}
 use Rattle.std.proofs.lemmas.Bool.{cases_eq}
+use Rattle.client_world.specs.declared.host_frames.TheConstants.{TABLE_ENTRIES}
 use Rattle.guest_ram.specs.Bytes.{dword}
 use Rattle.page_tables.specs.Mapping.{HasTables, NamesTable, directory_word}
 use Rattle.page_tables.specs.Budget.{IsNamedNowhere}
-use Rattle.page_tables.specs.declared.entry.TheConstants.{TABLE_ENTRIES, TABLE_SPAN}
+use Rattle.page_tables.specs.declared.entry.TheConstants.{TABLE_SPAN}
 
 -- four zero bytes are a zero doubleword
 pub dword_zero : (b : List ℕ) (p : ℕ) → ((i : ℕ) → i < 4 → get_or b (p + i) 0 ≡ 0) → dword b p ≡ 0

@@ -3,11 +3,11 @@ use Rattle.std.proofs.Common.{◌≡◌, ℕ, ◌+◌, ◌*◌, ◌/◌, ◌%◌
 use Rattle.std.proofs.lemmas.Bool.{cases_Bool}
 use Rattle.client_world.specs.Access.{linear}
 use Rattle.client_world.specs.Registers.{has_bit}
-use Rattle.client_world.specs.declared.host_frames.TheConstants.{PAGE_SIZE}
+use Rattle.client_world.specs.declared.host_frames.TheConstants.{PAGE_SIZE, TABLE_ENTRIES}
 use Rattle.guest_ram.specs.Bytes.{dword}
 use Rattle.page_tables.specs.Entry.{allows}
 use Rattle.page_tables.specs.Walk.{walked, ended, frame_of, page_of, entry_place, directory_entry, table_entry}
-use Rattle.page_tables.specs.declared.entry.TheConstants.{PRESENT, TABLE_ENTRIES, TABLE_SPAN}
+use Rattle.page_tables.specs.declared.entry.TheConstants.{PRESENT, TABLE_SPAN}
 
 -- two addresses of one page meet the same entries
 pub same_entries : (b : List ℕ) (root lin other : ℕ) (write : Bool) → page_of other ≡ page_of lin →

@@ -3,10 +3,10 @@
 use Rattle.std.specs.Prelude.{ℕ, ◌+◌, ◌*◌, ◌/◌, ◌%◌, ◌<◌, ◌≤◌, Bool, true, false, ◌&&◌, ◌||◌, not, if◌then◌else◌, Result, Ok, Err, List, length}
 use Rattle.client_world.specs.Registers.{has_bit}
 use Rattle.client_world.specs.declared.faults.PageFault.{PageFault}
-use Rattle.client_world.specs.declared.host_frames.TheConstants.{PAGE_SIZE}
+use Rattle.client_world.specs.declared.host_frames.TheConstants.{PAGE_SIZE, PAGE_ENTRY_SIZE, TABLE_ENTRIES}
 use Rattle.guest_ram.specs.Bytes.{dword}
 use Rattle.page_tables.specs.Entry.{allows}
-use Rattle.page_tables.specs.declared.entry.TheConstants.{ENTRY_SIZE, TABLE_ENTRIES, TABLE_SPAN, PRESENT}
+use Rattle.page_tables.specs.declared.entry.TheConstants.{TABLE_SPAN, PRESENT}
 
 -- the frame lies inside the memory
 abbrev pub IsFrame : List ℕ → ℕ → Type 0
@@ -22,7 +22,7 @@ page_of lin = lin / PAGE_SIZE
 
 -- the address of an entry of the table in a frame
 abbrev pub entry_place : ℕ → ℕ → ℕ
-entry_place frame index = PAGE_SIZE * frame + ENTRY_SIZE * index
+entry_place frame index = PAGE_SIZE * frame + PAGE_ENTRY_SIZE * index
 
 -- the directory entry of a linear address: bits 31 to 22 are its index
 abbrev pub directory_entry : List ℕ → ℕ → ℕ → ℕ

@@ -4,15 +4,10 @@ ghost use Rattle.client_world.specs.Registers.{has_bit};
 ghost use Rattle.client_world.specs.declared.host_frames.TheConstants.{PAGE_SIZE};
 ghost use Rattle.page_tables.specs.Entry.{allows, page_entry};
 
-use client_world::host_frames::PAGE_SIZE;
+use client_world::host_frames::{PAGE_SIZE, TABLE_ENTRIES};
 
-/// The bytes of an entry. Source: 80386 Programmer's Reference Manual, ch. 5, "Page Tables".
-pub const ENTRY_SIZE: u32 = 4;
-
-/// The entries of a page table, and of the page directory. Source: as above.
-pub const TABLE_ENTRIES: u32 = 1024;
-
-/// The bytes of linear addresses that a page table covers. Source: as above.
+/// The bytes of linear addresses that a page table covers.
+/// Source: 80386 Programmer's Reference Manual, ch. 5, "Page Translation".
 pub const TABLE_SPAN: u32 = PAGE_SIZE * TABLE_ENTRIES;
 
 /// The bit of an entry that names a frame. Source: 80386 Programmer's Reference Manual, ch. 5, "Page-Table Entries".

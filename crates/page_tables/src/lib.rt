@@ -12,8 +12,8 @@ mod translation;
 
 pub use budget::{give_frame, take_frame};
 pub use entry::{
-    ACCESSED, DIRTY, ENTRY_SIZE, PRESENT, SUPERVISOR_WRITABLE, TABLE_ENTRIES, TABLE_SPAN, USER,
-    USER_READ_ONLY, USER_WRITABLE, WRITABLE,
+    ACCESSED, DIRTY, PRESENT, SUPERVISOR_WRITABLE, TABLE_SPAN, USER, USER_READ_ONLY, USER_WRITABLE,
+    WRITABLE,
 };
 pub use mapping::{map, unmap};
 pub use translation::walk;

@@ -5,7 +5,7 @@ ghost use Rattle.page_tables.specs.Mapping.{HasTables, IsCovered, IsUnmapped};
 
 use crate::{give_frame, map, take_frame, unmap, walk};
 use client_world::PageFault;
-use client_world::host_frames::PAGE_DIRECTORY;
+use client_world::host_frames::{BUDGET_FRAMES, PAGE_DIRECTORY};
 use guest_ram::Ram;
 use std::alloc::{AllocError, Global};
 use std::test::Fail;
@@ -52,13 +52,13 @@ fn a_page_is_mapped_and_no_longer(rt: HostRuntime) -> Result<(), Fail> {
 fn the_lowest_free_frame_is_taken(rt: HostRuntime) -> Result<(), Fail> {
     let mut ram = Ram::new(rt.alloc(), 401)?;
     let first = take_frame(&mut ram);
-    assert_eq!(rt; first, Some(399));
+    assert_eq!(rt; first, Some(BUDGET_FRAMES));
     assert_eq!(rt; ram.get8(0x18_E000), 1);
     if let Some(frame) = first {
         give_frame(&mut ram, frame);
     }
     assert_eq!(rt; ram.get8(0x18_E000), 0);
-    assert_eq!(rt; take_frame(&mut ram), Some(399));
+    assert_eq!(rt; take_frame(&mut ram), Some(BUDGET_FRAMES));
     assert_eq!(rt; take_frame(&mut ram), Some(400));
     assert_eq!(rt; take_frame(&mut ram), None);
     Ok(())

@@ -4,9 +4,9 @@ ghost use Rattle.client_world.specs.declared.host_frames.TheConstants.{PAGE_SIZE
 ghost use Rattle.guest_ram.specs.Bytes.{dword};
 ghost use Rattle.page_tables.specs.Walk.{IsFrame, TablesInside, ended, entry_place, directory_entry, table_place, walked};
 
-use crate::entry::{ENTRY_SIZE, PRESENT, TABLE_ENTRIES, TABLE_SPAN, is_allowed, is_set};
+use crate::entry::{PRESENT, TABLE_SPAN, is_allowed, is_set};
 use client_world::PageFault;
-use client_world::host_frames::PAGE_SIZE;
+use client_world::host_frames::{PAGE_ENTRY_SIZE, PAGE_SIZE, TABLE_ENTRIES};
 use guest_ram::Ram;
 
 // Where an access ends that meets these two entries.
@@ -31,7 +31,7 @@ pub(crate) fn directory_of(ram: &Ram, root: u32, lin: u32) -> u32
     ensures { result ≡ directory_entry ram.now root lin }
 {
     let _size = ram.len();
-    ram.get32(PAGE_SIZE * root + ENTRY_SIZE * (lin / TABLE_SPAN))
+    ram.get32(PAGE_SIZE * root + PAGE_ENTRY_SIZE * (lin / TABLE_SPAN))
 }
 
 // The address of the table entry of a linear address.
@@ -44,7 +44,7 @@ pub(crate) fn place_of(ram: &Ram, root: u32, lin: u32) -> u32
 {
     let _size = ram.len();
     let table = directory_of(ram, root, lin) / PAGE_SIZE;
-    PAGE_SIZE * table + ENTRY_SIZE * (lin / PAGE_SIZE % TABLE_ENTRIES)
+    PAGE_SIZE * table + PAGE_ENTRY_SIZE * (lin / PAGE_SIZE % TABLE_ENTRIES)
 }
 
 /// Where in the memory a user's access to a linear address ends, by the page directory in frame `root`.
