@@ -1,9 +1,10 @@
 -- The definitions on numbers that were worked by hand from the manual and the memory map: each line is evaluated.
-use Rattle.std.proofs.Common.{◌≡◌, ℕ, true, false, List, [], ◌∷◌, Some, None, Err, refl}
+use Rattle.std.proofs.Common.{◌≡◌, ℕ, ◌-◌, true, false, List, [], ◌∷◌, Some, None, Err, refl}
 use Rattle.client_world.specs.declared.descriptors.Desc.{Desc}
 use Rattle.client_world.specs.declared.descriptors.Kind.{Kind}
 use Rattle.client_world.specs.declared.descriptors.Kind.TheVariants.{Data, Code}
 use Rattle.client_world.specs.declared.descriptors.Origin.TheVariants.{Own}
+use Rattle.client_world.specs.declared.memory_map.TheConstants.{HOST_WINDOW_END}
 use Rattle.client_world.specs.declared.place.Place.TheVariants.{Dos, Block, Host, Nothing}
 use Rattle.client_world.specs.declared.segments.SegReg.TheVariants.{Cs, Ss, Ds}
 use Rattle.client_world.specs.Access.{place_in, page_fault, fault_with, protected_base, real_base}
@@ -83,11 +84,11 @@ behind_block : place_in (Some block ∷ []) 0x400002 ≡ Nothing
 unfolding place_in
 behind_block = refl
 
-last_of_host : place_in (Some block ∷ []) 0xC008EFFF ≡ Host
+last_of_host : place_in (Some block ∷ []) (HOST_WINDOW_END - 1) ≡ Host
 unfolding place_in
 last_of_host = refl
 
-behind_host : place_in (Some block ∷ []) 0xC008F000 ≡ Nothing
+behind_host : place_in (Some block ∷ []) HOST_WINDOW_END ≡ Nothing
 unfolding place_in
 behind_host = refl
 

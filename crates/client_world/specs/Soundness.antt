@@ -56,7 +56,7 @@ abbrev pub pages_of_blocks : List (Option MemoryBlock) → ℕ
 pages_of_blocks [] = 0
 pages_of_blocks (block ∷ blocks) = pages_of_block block + pages_of_blocks blocks
 
--- handles are 1 to 256; the blocks don't meet, and fit the budget
+-- handles are 1 to `MAX_BLOCKS`; the blocks don't meet, and fit the budget
 pub record SoundBlocks (blocks : List (Option MemoryBlock)) (budget : ℕ) : Type 0 where
   pub handles : length blocks ≡ MAX_BLOCKS
   pub each : (handle : ℕ) (block : MemoryBlock) → block_at blocks handle ≡ Some block → IsBlock block

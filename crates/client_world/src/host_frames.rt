@@ -1,7 +1,7 @@
 //! The frames of physical memory, and what stands in those of the host. Source: own.
 
-use crate::limits::{MAX_BLOCKS, MAX_PAGES};
-use crate::memory_map::{BLOCK_REGION_PAGES, DOS_SIZE};
+use crate::limits::{GREATEST_DEPTH, MAX_BLOCKS, MAX_PAGES};
+use crate::memory_map::{ARENA_END, ARENA_START, BLOCK_REGION_PAGES, DOS_SIZE};
 
 /// The bytes of a frame and of a page. Source: 80386 Programmer's Reference Manual, ch. 5, "Page Translation".
 pub const PAGE_SIZE: u32 = 4096;
@@ -49,14 +49,23 @@ pub const DESCRIPTOR_ROW_FRAMES: u32 = DESCRIPTORS * DESCRIPTOR_ROW_SIZE / PAGE_
 /// The frame of the protected-mode vectors, the exception vectors, the callbacks and the pageable pages.
 pub const VECTORS: u32 = DESCRIPTOR_ROWS + DESCRIPTOR_ROW_FRAMES;
 
-/// The frames of these lists.
+/// The bytes of a protected-mode vector and of an exception vector: a far pointer, and a word 0.
+pub const VECTOR_SIZE: u32 = 8;
+
+/// The bytes of a callback: the far pointers to its procedure and to its structure, whether it is held, and zeros.
+pub const CALLBACK_SIZE: u32 = 16;
+
+/// The frames of these four lists.
 pub const VECTOR_FRAMES: u32 = 1;
 
-/// The frame of the records of calls.
+/// The first frame of the records of calls.
 pub const RECORDS: u32 = VECTORS + VECTOR_FRAMES;
 
-/// The frames of the records of calls.
-pub const RECORD_FRAMES: u32 = 1;
+/// The bytes of a record of a call.
+pub const RECORD_SIZE: u32 = 128;
+
+/// The frames of the records of calls: a record for each depth.
+pub const RECORD_FRAMES: u32 = (GREATEST_DEPTH * RECORD_SIZE + PAGE_SIZE - 1) / PAGE_SIZE;
 
 /// The first frame of the block rows.
 pub const BLOCK_ROWS: u32 = RECORDS + RECORD_FRAMES;
@@ -79,14 +88,18 @@ pub const LOCK_COUNT_FRAMES: u32 = BLOCK_REGION_PAGES * LOCK_COUNT_SIZE / PAGE_S
 /// The first frame of the list of DOS memory.
 pub const DOS_LIST: u32 = LOCK_COUNTS + LOCK_COUNT_FRAMES;
 
-/// The frames of the list of DOS memory: eight bytes for each entry.
-pub const DOS_LIST_FRAMES: u32 = 80;
+/// The bytes of an entry of that list.
+pub const DOS_ENTRY_SIZE: u32 = 8;
+
+/// The frames of the list of DOS memory: room for an entry for each paragraph of the arena.
+pub const DOS_LIST_FRAMES: u32 = ((ARENA_END - ARENA_START) * DOS_ENTRY_SIZE + PAGE_SIZE - 1)
+    / PAGE_SIZE;
 
 /// The first frame of the taken bytes.
 pub const TAKEN_FRAMES: u32 = DOS_LIST + DOS_LIST_FRAMES;
 
 /// The frames of the taken bytes: a byte for each budget frame.
-pub const TAKEN_BYTE_FRAMES: u32 = MAX_PAGES / PAGE_SIZE;
+pub const TAKEN_BYTE_FRAMES: u32 = (MAX_PAGES + PAGE_SIZE - 1) / PAGE_SIZE;
 
 /// The first budget frame, after the host's.
 pub const BUDGET_FRAMES: u32 = TAKEN_FRAMES + TAKEN_BYTE_FRAMES;
