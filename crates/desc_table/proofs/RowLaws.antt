@@ -31,7 +31,7 @@ same_unpacked b c p q same =
     rw (e0, e1, e2, e3, e4, e5, e6, e7)
 
 -- sixteen bytes that are the same are the same row
-pub same_row : (b c : List ℕ) (p q : ℕ) → ((i : ℕ) → i < 16 → slice_index b (p + i) ≡ slice_index c (q + i)) →
+pub same_row : (b c : List ℕ) (p q : ℕ) → ((i : ℕ) → i < DESCRIPTOR_ROW_SIZE → slice_index b (p + i) ≡ slice_index c (q + i)) →
     row_at b p ≡ row_at c q
 unfolding row_at
 same_row b c p q same =
@@ -87,13 +87,13 @@ unfolding row_bytes
 row_at-row_bytes None fits = none_back
 row_at-row_bytes (Some r) fits = some_back r.0 r.1 fits
 
-pub length-row_bytes : (row : Row) → length (row_bytes row) ≡ 16
+pub length-row_bytes : (row : Row) → length (row_bytes row) ≡ DESCRIPTOR_ROW_SIZE
 unfolding row_bytes packed
 length-row_bytes None = refl
 length-row_bytes (Some r) = refl
 
 -- a row that was put is there
-pub row_at-put : (b : List ℕ) (at : ℕ) (row : Row) → FitsRow row → at + 16 ≤ length b →
+pub row_at-put : (b : List ℕ) (at : ℕ) (row : Row) → FitsRow row → at + DESCRIPTOR_ROW_SIZE ≤ length b →
     row_at (put b at (row_bytes row)) at ≡ row
 row_at-put b at row fits room =
     let long = length-row_bytes row in
@@ -103,7 +103,7 @@ row_at-put b at row fits room =
     ∙ row_at-row_bytes row fits
 
 -- a row beside it is as it was
-pub row_at-put_away : (b : List ℕ) (at other : ℕ) (row : Row) → (at + 16 ≤ other) ⊎ (other + 16 ≤ at) →
+pub row_at-put_away : (b : List ℕ) (at other : ℕ) (row : Row) → (at + DESCRIPTOR_ROW_SIZE ≤ other) ⊎ (other + DESCRIPTOR_ROW_SIZE ≤ at) →
     row_at (put b at (row_bytes row)) other ≡ row_at b other
 row_at-put_away b at other row away =
     let long = length-row_bytes row in
@@ -121,7 +121,7 @@ row_at-put_other b index other row ne = row_at-put_away b (row_address index) (r
 ])
 
 -- a row of a region
-pub row_at-region : (b : List ℕ) (from n at : ℕ) → at + 16 ≤ n → row_at (region b from n) at ≡ row_at b (from + at)
+pub row_at-region : (b : List ℕ) (from n at : ℕ) → at + DESCRIPTOR_ROW_SIZE ≤ n → row_at (region b from n) at ≡ row_at b (from + at)
 row_at-region b from n at small = same_row (region b from n) b at (from + at) (λ i within.
     at_region b from n (at + i) (omega arith) ∙ ap (λ (k : ℕ). get_or b k 0) (sym (add_assoc from at i)))
 
