@@ -16,7 +16,7 @@ abbrev pub with_entry : List ℕ → ℕ → ℕ → List ℕ
 with_entry b lin v = put b (table_place b PAGE_DIRECTORY lin) (dword_bytes v)
 
 -- entries of tables in two frames don't meet
-apart_frames : (f g i j : ℕ) → i < 1024 → j < 1024 → f ≢ g →
+apart_frames : (f g i j : ℕ) → i < TABLE_ENTRIES → j < TABLE_ENTRIES → f ≢ g →
     (entry_place f i + 4 ≤ entry_place g j) ⊎ (entry_place g j + 4 ≤ entry_place f i)
 apart_frames f g i j hi hj ne = elim (cases_lt f g) [
   | inl below ↦ inl (omega arith)

@@ -1,11 +1,11 @@
 // Page tables of a memory with two budget frames.
-ghost use Rattle.std.specs.Prelude.{◌≡◌, ◌*◌, IfOk, length};
+ghost use Rattle.std.specs.Prelude.{◌≡◌, ◌+◌, ◌*◌, IfOk, length};
 ghost use Rattle.page_tables.specs.declared.tests.TheConstants.{PAGE};
 ghost use Rattle.page_tables.specs.Mapping.{HasTables, IsCovered, IsUnmapped};
 
 use crate::{give_frame, map, take_frame, unmap, walk};
 use client_world::PageFault;
-use client_world::host_frames::{BUDGET_FRAMES, PAGE_DIRECTORY};
+use client_world::host_frames::{BUDGET_FRAMES, PAGE_DIRECTORY, PAGE_SIZE, TAKEN_FRAMES};
 use guest_ram::Ram;
 use std::alloc::{AllocError, Global};
 use std::test::Fail;
@@ -17,9 +17,9 @@ fn memory(alloc: Global) -> Result<Ram, AllocError>
     ensures tables { IfOk result HasTables }
     ensures covered { IfOk result (λ ram. IsCovered ram PAGE) }
     ensures unmapped { IfOk result (λ ram. IsUnmapped ram PAGE) }
-    ensures size { IfOk result (λ ram. length ram ≡ 401 * 4096) }
+    ensures size { IfOk result (λ ram. length ram ≡ PAGE_SIZE * (BUDGET_FRAMES + 2)) }
 {
-    let mut ram = Ram::new(alloc, 401)?;
+    let mut ram = Ram::new(alloc, BUDGET_FRAMES + 2)?;
     ram.set32(0x10_0000, 0x10_1067);
     Ok(ram)
 }
@@ -50,16 +50,16 @@ fn a_page_is_mapped_and_no_longer(rt: HostRuntime) -> Result<(), Fail> {
 
 #[test]
 fn the_lowest_free_frame_is_taken(rt: HostRuntime) -> Result<(), Fail> {
-    let mut ram = Ram::new(rt.alloc(), 401)?;
+    let mut ram = Ram::new(rt.alloc(), BUDGET_FRAMES + 2)?;
     let first = take_frame(&mut ram);
     assert_eq!(rt; first, Some(BUDGET_FRAMES));
-    assert_eq!(rt; ram.get8(0x18_E000), 1);
+    assert_eq!(rt; ram.get8(PAGE_SIZE * TAKEN_FRAMES), 1);
     if let Some(frame) = first {
         give_frame(&mut ram, frame);
     }
-    assert_eq!(rt; ram.get8(0x18_E000), 0);
+    assert_eq!(rt; ram.get8(PAGE_SIZE * TAKEN_FRAMES), 0);
     assert_eq!(rt; take_frame(&mut ram), Some(BUDGET_FRAMES));
-    assert_eq!(rt; take_frame(&mut ram), Some(400));
+    assert_eq!(rt; take_frame(&mut ram), Some(BUDGET_FRAMES + 1));
     assert_eq!(rt; take_frame(&mut ram), None);
     Ok(())
 }

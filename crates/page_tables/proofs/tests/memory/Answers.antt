@@ -1,4 +1,5 @@
 use Rattle.std.proofs.Common.{◌≡◌, ℕ, ◌+◌, ◌*◌, ◌≤◌, inl, List, length, get_or, refl, ◌∙◌, arith}
+use Rattle.client_world.specs.declared.host_frames.TheConstants.{PAGE_SIZE, BUDGET_FRAMES}
 use Rattle.guest_ram.specs.Bytes.{put, dword, dword_bytes}
 use Rattle.guest_ram.proofs.PutLaws.{length-put, dword_put, dword_put_other}
 use Rattle.page_tables.specs.Mapping.{HasTables, IsCovered, IsUnmapped}
@@ -8,7 +9,7 @@ use Rattle.page_tables.proofs.tests.memory.Goals as goal
 
 -- a zero memory with that directory entry
 record Blank (b c : List ℕ) : Type 0 where
-  long : length b ≡ 1642496
+  long : length b ≡ PAGE_SIZE * (BUDGET_FRAMES + 2)
   blank : (at : ℕ) → get_or b at 0 ≡ 0
   new : c ≡ put b 0x100000 (dword_bytes 0x101067)
 
