@@ -41,8 +41,8 @@ one_entry part n e f = let none : entries_from part 1 n ≡ 0 = no_entry_more pa
 
 -- the bytes of a list with the one entry of a new memory, and zeros behind it
 pub record OneEntry (part : List ℕ) : Type 0 where
-  pub each : (at : ℕ) → at < 8 → slice_index part at ≡ slice_index (entry_bytes whole_arena) at
-  pub zeros : (at : ℕ) → 8 ≤ at → slice_index part at ≡ 0
+  pub each : (at : ℕ) → at < entry_size → slice_index part at ≡ slice_index (entry_bytes whole_arena) at
+  pub zeros : (at : ℕ) → entry_size ≤ at → slice_index part at ≡ 0
 
 pub count_is : (part : List ℕ) → OneEntry part → entry_count part ≡ 1
 count_is part h = one_entry part 40959 (h.each 4 (omega arith)) (h.zeros 12 (omega arith))
@@ -73,13 +73,13 @@ keeps_one_entry part h = record {
   rest = λ at behind within. h.zeros at (let count = count_is part h in omega arith);
 }
   where
-    each : (place at : ℕ) → place ≡ 0 → at < 8 →
+    each : (place at : ℕ) → place ≡ 0 → at < entry_size →
         slice_index part (entry_size * place + at) ≡ slice_index (entry_bytes (entry_at part (entry_size * place))) at
     each place at first small =
-        ap (λ (k : ℕ). slice_index part k) (let e : 8 * place + at ≡ at = omega arith in e)
+        ap (λ (k : ℕ). slice_index part k) (let e : entry_size * place + at ≡ at = omega arith in e)
         ∙ h.each at small
         ∙ ap (λ (entry : DosEntry). slice_index (entry_bytes entry) at)
-        (sym (ap (λ (k : ℕ). entry_at part k) (let e : 8 * place ≡ 0 = omega arith in e) ∙ entry_is part h))
+        (sym (ap (λ (k : ℕ). entry_at part k) (let e : entry_size * place ≡ 0 = omega arith in e) ∙ entry_is part h))
 
 -- where all are 0 none is used, and they are 0 together
 pub none_used : (xs : List ℕ) → ((k : ℕ) → slice_index xs k ≡ 0) → used xs ≡ 0

@@ -2,8 +2,9 @@
 use Rattle.std.proofs.Common.{◌≡◌, ℕ, ◌+◌, ◌-◌, ◌*◌, ◌/◌, ◌%◌, ◌<◌, ◌≤◌, inl, inr, zero, suc, List, length, slice_index, None, refl, ap, ◌∙◌, sym, arith, zero-add}
 use Rattle.std.proofs.lemmas.Bool.{cases_lt}
 use Rattle.std.proofs.lemmas.List.{get_or_past}
+use Rattle.client_world.specs.declared.limits.TheConstants.{EXCEPTION_VECTORS, INTERRUPT_VECTORS}
 use Rattle.client_world.specs.declared.segments.FarPtr.{FarPtr}
-use Rattle.client_world.specs.declared.host_frames.TheConstants.{PAGE_SIZE, BLOCK_TABLES, DESCRIPTOR_ROWS, VECTORS, RECORDS, BLOCK_ROWS, LOCK_COUNTS, DOS_LIST, TAKEN_FRAMES}
+use Rattle.client_world.specs.declared.host_frames.TheConstants.{PAGE_SIZE, BLOCK_TABLES, DESCRIPTOR_ROWS, VECTORS, RECORDS, BLOCK_ROWS, LOCK_COUNTS, DOS_LIST, TAKEN_FRAMES, BLOCK_ROW_FRAMES, BLOCK_ROW_SIZE, BLOCK_TABLE_FRAMES, DESCRIPTOR_ROW_FRAMES, DOS_LIST_FRAMES, LOCK_COUNT_FRAMES, LOCK_COUNT_SIZE, PAGE_ENTRY_SIZE, RECORD_FRAMES, TAKEN_BYTE_FRAMES, VECTOR_FRAMES, VECTOR_SIZE, CALLBACK_SIZE, DESCRIPTOR_ROW_SIZE}
 use Rattle.client_world.specs.declared.selectors.TheConstants.{HOST_CODE}
 use Rattle.client_world.specs.Selector.{selector_of}
 use Rattle.guest_ram.specs.Bytes.{dword, dword_bytes, region, word_of}
@@ -14,7 +15,7 @@ use Rattle.page_tables.proofs.BlankTables.{dword_zero}
 use Rattle.desc_table.specs.Rows.{row_at, row_bytes}
 use Rattle.desc_table.proofs.RowLaws.{same_row, row_at-row_bytes}
 use Rattle.host_memory.specs.declared.blank.TheConstants.{VECTOR_HALVES}
-use Rattle.host_memory.specs.DosList.{entry_bytes}
+use Rattle.host_memory.specs.DosList.{entry_bytes, entry_size}
 use Rattle.host_memory.specs.Filling.{vector_half_at}
 use Rattle.host_memory.specs.Layout.{tables_part, rows_part, vectors_part, records_part, handles_part, locks_part, arena_part, taken_part, entry_of, pages_of, lock_of}
 use Rattle.host_memory.specs.Vectors.{pointer_at, vector_bytes, callback_at, callback_bytes, callbacks_start}
@@ -30,48 +31,48 @@ zero_part b from n room h at = elim (cases_lt at n) [
 ]
 
 pub tables_zero : (b : List ℕ) (budget : ℕ) → IsBlank b budget → (at : ℕ) → slice_index (tables_part b) at ≡ 0
-tables_zero b budget h = zero_part b (PAGE_SIZE * BLOCK_TABLES) (PAGE_SIZE * 16) (let size = h.size in omega arith)
+tables_zero b budget h = zero_part b (PAGE_SIZE * BLOCK_TABLES) (PAGE_SIZE * BLOCK_TABLE_FRAMES) (let size = h.size in omega arith)
     (λ at from to. h.zeros at (omega arith) (inl (omega arith)) (inl (omega arith)))
 
 pub rows_zero : (b : List ℕ) (budget : ℕ) → IsBlank b budget → (at : ℕ) → slice_index (rows_part b) at ≡ 0
-rows_zero b budget h = zero_part b (PAGE_SIZE * DESCRIPTOR_ROWS) (PAGE_SIZE * 32) (let size = h.size in omega arith)
+rows_zero b budget h = zero_part b (PAGE_SIZE * DESCRIPTOR_ROWS) (PAGE_SIZE * DESCRIPTOR_ROW_FRAMES) (let size = h.size in omega arith)
     (λ at from to. h.zeros at (omega arith) (inl (omega arith)) (inl (omega arith)))
 
 pub records_zero : (b : List ℕ) (budget : ℕ) → IsBlank b budget → (at : ℕ) → slice_index (records_part b) at ≡ 0
-records_zero b budget h = zero_part b (PAGE_SIZE * RECORDS) (PAGE_SIZE * 1) (let size = h.size in omega arith)
+records_zero b budget h = zero_part b (PAGE_SIZE * RECORDS) (PAGE_SIZE * RECORD_FRAMES) (let size = h.size in omega arith)
     (λ at from to. h.zeros at (omega arith) (inr (omega arith)) (inl (omega arith)))
 
 pub handles_zero : (b : List ℕ) (budget : ℕ) → IsBlank b budget → (at : ℕ) → slice_index (handles_part b) at ≡ 0
-handles_zero b budget h = zero_part b (PAGE_SIZE * BLOCK_ROWS) (PAGE_SIZE * 1) (let size = h.size in omega arith)
+handles_zero b budget h = zero_part b (PAGE_SIZE * BLOCK_ROWS) (PAGE_SIZE * BLOCK_ROW_FRAMES) (let size = h.size in omega arith)
     (λ at from to. h.zeros at (omega arith) (inr (omega arith)) (inl (omega arith)))
 
 pub locks_zero : (b : List ℕ) (budget : ℕ) → IsBlank b budget → (at : ℕ) → slice_index (locks_part b) at ≡ 0
-locks_zero b budget h = zero_part b (PAGE_SIZE * LOCK_COUNTS) (PAGE_SIZE * 8) (let size = h.size in omega arith)
+locks_zero b budget h = zero_part b (PAGE_SIZE * LOCK_COUNTS) (PAGE_SIZE * LOCK_COUNT_FRAMES) (let size = h.size in omega arith)
     (λ at from to. h.zeros at (omega arith) (inr (omega arith)) (inl (omega arith)))
 
 pub taken_zero : (b : List ℕ) (budget : ℕ) → IsBlank b budget → (at : ℕ) → slice_index (taken_part b) at ≡ 0
-taken_zero b budget h = zero_part b (PAGE_SIZE * TAKEN_FRAMES) (PAGE_SIZE * 1) (let size = h.size in omega arith)
+taken_zero b budget h = zero_part b (PAGE_SIZE * TAKEN_FRAMES) (PAGE_SIZE * TAKEN_BYTE_FRAMES) (let size = h.size in omega arith)
     (λ at from to. h.zeros at (omega arith) (inr (omega arith)) (inr (omega arith)))
 
 pub no_entry : (b : List ℕ) (budget : ℕ) → IsBlank b budget → (page : ℕ) → entry_of (tables_part b) page ≡ 0
-no_entry b budget h page = dword_zero (tables_part b) (4 * page) (λ at small. tables_zero b budget h (4 * page + at))
+no_entry b budget h page = dword_zero (tables_part b) (PAGE_ENTRY_SIZE * page) (λ at small. tables_zero b budget h (PAGE_ENTRY_SIZE * page + at))
 
 pub no_pages : (b : List ℕ) (budget : ℕ) → IsBlank b budget → (place : ℕ) → pages_of (handles_part b) place ≡ 0
-no_pages b budget h place = dword_zero (handles_part b) (16 * place + 4) (λ at small. handles_zero b budget h (16 * place + 4 + at))
+no_pages b budget h place = dword_zero (handles_part b) (BLOCK_ROW_SIZE * place + 4) (λ at small. handles_zero b budget h (BLOCK_ROW_SIZE * place + 4 + at))
 
 pub no_lock : (b : List ℕ) (budget : ℕ) → IsBlank b budget → (page : ℕ) → lock_of (locks_part b) page ≡ 0
 no_lock b budget h page =
-    let low = locks_zero b budget h (2 * page) in
-    let high = locks_zero b budget h (2 * page + 1) in
+    let low = locks_zero b budget h (LOCK_COUNT_SIZE * page) in
+    let high = locks_zero b budget h (LOCK_COUNT_SIZE * page + 1) in
     omega arith
 
 -- the bytes of a free row
-none_is_zeros : row_bytes None ≡ zeros 16
+none_is_zeros : row_bytes None ≡ zeros DESCRIPTOR_ROW_SIZE
 unfolding row_bytes zeros
 none_is_zeros = refl
 
-pub free_row_byte : (at : ℕ) → at < 16 → slice_index (row_bytes None) at ≡ 0
-free_row_byte at small = ap (λ (run : List ℕ). slice_index run at) none_is_zeros ∙ at_zeros 16 at small
+pub free_row_byte : (at : ℕ) → at < DESCRIPTOR_ROW_SIZE → slice_index (row_bytes None) at ≡ 0
+free_row_byte at small = ap (λ (run : List ℕ). slice_index run at) none_is_zeros ∙ at_zeros DESCRIPTOR_ROW_SIZE at small
 
 pub no_row : (b : List ℕ) (budget : ℕ) → IsBlank b budget → (at : ℕ) → row_at (rows_part b) at ≡ None
 no_row b budget h at =
@@ -95,16 +96,16 @@ odd_half n = let odd : (2 * n + 1) % 2 ≡ 1 = omega arith in rw odd refl
 half_byte : (b : List ℕ) (budget : ℕ) → IsBlank b budget → (k at : ℕ) → k < VECTOR_HALVES → at < 4 →
     slice_index (vectors_part b) (4 * k + at) ≡ slice_index (dword_bytes (vector_half_at k)) at
 half_byte b budget h k at small within =
-    at_region b (PAGE_SIZE * VECTORS) (PAGE_SIZE * 1) (4 * k + at) (omega arith) ∙ h.vectors k at small within
+    at_region b (PAGE_SIZE * VECTORS) (PAGE_SIZE * VECTOR_FRAMES) (4 * k + at) (omega arith) ∙ h.vectors k at small within
 
-offset_byte : (b : List ℕ) (budget : ℕ) → IsBlank b budget → (n at : ℕ) → n < 288 → at < 4 →
-    slice_index (vectors_part b) (8 * n + at) ≡ slice_index (dword_bytes (0x200 + n)) at
+offset_byte : (b : List ℕ) (budget : ℕ) → IsBlank b budget → (n at : ℕ) → n < INTERRUPT_VECTORS + EXCEPTION_VECTORS → at < 4 →
+    slice_index (vectors_part b) (VECTOR_SIZE * n + at) ≡ slice_index (dword_bytes (0x200 + n)) at
 offset_byte b budget h n at small within =
-    ap (λ (p : ℕ). slice_index (vectors_part b) p) (let e : 8 * n + at ≡ 4 * (2 * n) + at = omega arith in e)
+    ap (λ (p : ℕ). slice_index (vectors_part b) p) (let e : VECTOR_SIZE * n + at ≡ 4 * (2 * n) + at = omega arith in e)
     ∙ half_byte b budget h (2 * n) at (omega arith) within
     ∙ ap (λ (v : ℕ). slice_index (dword_bytes v) at) (even_half n)
 
-selector_byte : (b : List ℕ) (budget : ℕ) → IsBlank b budget → (n at p : ℕ) → n < 288 → at < 4 → p ≡ 8 * n + 4 + at →
+selector_byte : (b : List ℕ) (budget : ℕ) → IsBlank b budget → (n at p : ℕ) → n < INTERRUPT_VECTORS + EXCEPTION_VECTORS → at < 4 → p ≡ VECTOR_SIZE * n + 4 + at →
     slice_index (vectors_part b) p ≡ slice_index (dword_bytes (selector_of HOST_CODE)) at
 selector_byte b budget h n at p small within e =
     ap (λ (q : ℕ). slice_index (vectors_part b) q) (let f : p ≡ 4 * (2 * n + 1) + at = omega arith in f)
@@ -115,13 +116,13 @@ same_pointer : (part : List ℕ) (at offset : ℕ) → dword part at ≡ offset 
     pointer_at part at ≡ vector_of offset
 same_pointer part at offset e f = rw (e, f) refl
 
-pub vector_is : (b : List ℕ) (budget : ℕ) → IsBlank b budget → (n : ℕ) → n < 288 →
-    pointer_at (vectors_part b) (8 * n) ≡ vector_of (0x200 + n)
+pub vector_is : (b : List ℕ) (budget : ℕ) → IsBlank b budget → (n : ℕ) → n < INTERRUPT_VECTORS + EXCEPTION_VECTORS →
+    pointer_at (vectors_part b) (VECTOR_SIZE * n) ≡ vector_of (0x200 + n)
 vector_is b budget h n small =
-    same_pointer (vectors_part b) (8 * n) (0x200 + n)
-    (dword_is (vectors_part b) (8 * n) (0x200 + n) (λ at within. offset_byte b budget h n at small within))
-    (let low = selector_byte b budget h n 0 (8 * n + 4) small (omega arith) (omega arith) in
-    let high = selector_byte b budget h n 1 (8 * n + 4 + 1) small (omega arith) (omega arith) in omega arith)
+    same_pointer (vectors_part b) (VECTOR_SIZE * n) (0x200 + n)
+    (dword_is (vectors_part b) (VECTOR_SIZE * n) (0x200 + n) (λ at within. offset_byte b budget h n at small within))
+    (let low = selector_byte b budget h n 0 (VECTOR_SIZE * n + 4) small (omega arith) (omega arith) in
+    let high = selector_byte b budget h n 1 (VECTOR_SIZE * n + 4 + 1) small (omega arith) (omega arith) in omega arith)
 
 -- the first four bytes of a vector are its offset's, the others the selector's
 front_bytes : (offset at : ℕ) → at < 4 → slice_index (dword_bytes offset) at ≡ slice_index (vector_bytes (vector_of offset)) at
@@ -138,13 +139,13 @@ back_bytes offset (suc (suc zero)) small = refl
 back_bytes offset (suc (suc (suc zero))) small = refl
 back_bytes offset (suc (suc (suc (suc at)))) small = absurd (omega arith)
 
-pub vector_byte_is : (b : List ℕ) (budget : ℕ) → IsBlank b budget → (n at : ℕ) → n < 288 → at < 8 →
-    slice_index (vectors_part b) (8 * n + at) ≡ slice_index (vector_bytes (pointer_at (vectors_part b) (8 * n))) at
+pub vector_byte_is : (b : List ℕ) (budget : ℕ) → IsBlank b budget → (n at : ℕ) → n < INTERRUPT_VECTORS + EXCEPTION_VECTORS → at < VECTOR_SIZE →
+    slice_index (vectors_part b) (VECTOR_SIZE * n + at) ≡ slice_index (vector_bytes (pointer_at (vectors_part b) (VECTOR_SIZE * n))) at
 vector_byte_is b budget h n at small within =
     elim (cases_lt at 4) [
       | inl low ↦ offset_byte b budget h n at small low ∙ front_bytes (0x200 + n) at low
       | inr high ↦
-          selector_byte b budget h n (at - 4) (8 * n + at) small (omega arith) (omega arith)
+          selector_byte b budget h n (at - 4) (VECTOR_SIZE * n + at) small (omega arith) (omega arith)
           ∙ back_bytes (0x200 + n) (at - 4) (omega arith)
           ∙ ap (λ (k : ℕ). slice_index (vector_bytes (vector_of (0x200 + n))) k) (let e : 4 + (at - 4) ≡ at = omega arith in e)
     ]
@@ -152,13 +153,13 @@ vector_byte_is b budget h n at small within =
 
 -- behind the vectors their frame is zero
 pub rest_zero : (b : List ℕ) (budget : ℕ) → IsBlank b budget → (at : ℕ) → callbacks_start ≤ at → slice_index (vectors_part b) at ≡ 0
-rest_zero b budget h at from = elim (cases_lt at PAGE_SIZE) [
+rest_zero b budget h at from = elim (cases_lt at (PAGE_SIZE * VECTOR_FRAMES)) [
   | inl within ↦
-      at_region b (PAGE_SIZE * VECTORS) (PAGE_SIZE * 1) at within
+      at_region b (PAGE_SIZE * VECTORS) (PAGE_SIZE * VECTOR_FRAMES) at within
       ∙ h.zeros (PAGE_SIZE * VECTORS + at) (omega arith) (inr (omega arith)) (inl (omega arith))
   | inr past ↦
       get_or_past (vectors_part b) at 0
-      (let long = length-region b (PAGE_SIZE * VECTORS) (PAGE_SIZE * 1) (let size = h.size in omega arith) in omega arith)
+      (let long = length-region b (PAGE_SIZE * VECTORS) (PAGE_SIZE * VECTOR_FRAMES) (let size = h.size in omega arith) in omega arith)
 ]
 
 free_callback : (part : List ℕ) (at : ℕ) → slice_index part (at + 12) ≡ 0 → callback_at part at ≡ None
@@ -168,24 +169,24 @@ free_callback part at e = rw e refl
 pub no_callback : (b : List ℕ) (budget : ℕ) → IsBlank b budget → (at : ℕ) → callbacks_start ≤ at → callback_at (vectors_part b) at ≡ None
 no_callback b budget h at from = free_callback (vectors_part b) at (rest_zero b budget h (at + 12) (omega arith))
 
-no_callback_is_zeros : callback_bytes None ≡ zeros 16
+no_callback_is_zeros : callback_bytes None ≡ zeros CALLBACK_SIZE
 unfolding callback_bytes zeros
 no_callback_is_zeros = refl
 
-pub free_callback_byte : (at : ℕ) → at < 16 → slice_index (callback_bytes None) at ≡ 0
-free_callback_byte at small = ap (λ (run : List ℕ). slice_index run at) no_callback_is_zeros ∙ at_zeros 16 at small
+pub free_callback_byte : (at : ℕ) → at < CALLBACK_SIZE → slice_index (callback_bytes None) at ≡ 0
+free_callback_byte at small = ap (λ (run : List ℕ). slice_index run at) no_callback_is_zeros ∙ at_zeros CALLBACK_SIZE at small
 
 -- the list of DOS memory
-pub arena_byte : (b : List ℕ) (budget : ℕ) → IsBlank b budget → (at : ℕ) → at < 8 →
+pub arena_byte : (b : List ℕ) (budget : ℕ) → IsBlank b budget → (at : ℕ) → at < entry_size →
     slice_index (arena_part b) at ≡ slice_index (entry_bytes whole_arena) at
-arena_byte b budget h at small = at_region b (PAGE_SIZE * DOS_LIST) (PAGE_SIZE * 80) at (omega arith) ∙ h.list at small
+arena_byte b budget h at small = at_region b (PAGE_SIZE * DOS_LIST) (PAGE_SIZE * DOS_LIST_FRAMES) at (omega arith) ∙ h.list at small
 
-pub arena_zero : (b : List ℕ) (budget : ℕ) → IsBlank b budget → (at : ℕ) → 8 ≤ at → slice_index (arena_part b) at ≡ 0
-arena_zero b budget h at from = elim (cases_lt at (PAGE_SIZE * 80)) [
+pub arena_zero : (b : List ℕ) (budget : ℕ) → IsBlank b budget → (at : ℕ) → entry_size ≤ at → slice_index (arena_part b) at ≡ 0
+arena_zero b budget h at from = elim (cases_lt at (PAGE_SIZE * DOS_LIST_FRAMES)) [
   | inl within ↦
-      at_region b (PAGE_SIZE * DOS_LIST) (PAGE_SIZE * 80) at within
+      at_region b (PAGE_SIZE * DOS_LIST) (PAGE_SIZE * DOS_LIST_FRAMES) at within
       ∙ h.zeros (PAGE_SIZE * DOS_LIST + at) (omega arith) (inr (omega arith)) (inr (omega arith))
   | inr past ↦
       get_or_past (arena_part b) at 0
-      (let long = length-region b (PAGE_SIZE * DOS_LIST) (PAGE_SIZE * 80) (let size = h.size in omega arith) in omega arith)
+      (let long = length-region b (PAGE_SIZE * DOS_LIST) (PAGE_SIZE * DOS_LIST_FRAMES) (let size = h.size in omega arith) in omega arith)
 ]

@@ -2,7 +2,7 @@
 use Rattle.std.proofs.Common.{◌≡◌, ℕ, zero, suc, ◌+◌, ◌-◌, ◌*◌, ◌/◌, ◌%◌, ◌<◌, ◌≤◌, inl, inr, List, length, slice_index, None, Some, ap, ◌∙◌, sym, subst, arith, add-zero}
 use Rattle.std.proofs.lemmas.Bool.{cases_eq}
 use Rattle.std.specs.declared.option.Option.{Option}
-use Rattle.client_world.specs.declared.host_frames.TheConstants.{PAGE_SIZE, BLOCK_ROWS, LOCK_COUNTS, BUDGET_FRAMES}
+use Rattle.client_world.specs.declared.host_frames.TheConstants.{PAGE_SIZE, BLOCK_ROWS, LOCK_COUNTS, BUDGET_FRAMES, BLOCK_ROW_FRAMES, BLOCK_ROW_SIZE, LOCK_COUNT_FRAMES, LOCK_COUNT_SIZE}
 use Rattle.client_world.specs.declared.limits.TheConstants.{MAX_BLOCKS}
 use Rattle.client_world.specs.Soundness.{pages_of_block}
 use Rattle.client_world.specs.World.{World, MemoryBlock, block_at}
@@ -54,20 +54,20 @@ dword_zero b at e f g h = omega arith
 -- the row of a free handle has the linear address 0
 pub base_free : (b : List ℕ) (budget : ℕ) → Holds b budget → (place : ℕ) → place < MAX_BLOCKS → pages_of (handles_part b) place ≡ 0 →
     base_of (handles_part b) place ≡ 0
-base_free b budget holds place within none = dword_zero (handles_part b) (16 * place)
-    (ap (slice_index (handles_part b)) (sym (add-zero (16 * place))) ∙ zeros 0 (omega arith)) (zeros 1 (omega arith)) (zeros 2 (omega arith)) (zeros 3 (omega arith))
+base_free b budget holds place within none = dword_zero (handles_part b) (BLOCK_ROW_SIZE * place)
+    (ap (slice_index (handles_part b)) (sym (add-zero (BLOCK_ROW_SIZE * place))) ∙ zeros 0 (omega arith)) (zeros 1 (omega arith)) (zeros 2 (omega arith)) (zeros 3 (omega arith))
   where
-    zeros : (at : ℕ) → at < 16 → slice_index (handles_part b) (16 * place + at) ≡ 0
+    zeros : (at : ℕ) → at < BLOCK_ROW_SIZE → slice_index (handles_part b) (BLOCK_ROW_SIZE * place + at) ≡ 0
     zeros at less = holds.handles.free place at within none less
 
 row_claim : (b : List ℕ) (budget : ℕ) (w : World) → Holds b budget → HasBlocks b budget w → (place : ℕ) → place < MAX_BLOCKS →
-    IsBlockRow b (frame_place BLOCK_ROWS (16 * place)) (block_at w.blocks (suc place))
+    IsBlockRow b (frame_place BLOCK_ROWS (BLOCK_ROW_SIZE * place)) (block_at w.blocks (suc place))
 row_claim b budget w holds has place within = record {
-  base = part_dword b BLOCK_ROWS 1 (16 * place) (omega arith) ∙ fields.0;
-  pages = ap (dword b) (let e : frame_place BLOCK_ROWS (16 * place) + 4 ≡ frame_place BLOCK_ROWS (16 * place + 4) = omega arith in e)
-      ∙ part_dword b BLOCK_ROWS 1 (16 * place + 4) (omega arith) ∙ fields.1;
-  rest = λ at from less. ap (slice_index b) (let e : frame_place BLOCK_ROWS (16 * place) + at ≡ frame_place BLOCK_ROWS (16 * place + at) = omega arith in e)
-      ∙ part_byte b BLOCK_ROWS 1 (16 * place + at) (omega arith) ∙ holds.handles.rest place at within from less;
+  base = part_dword b BLOCK_ROWS BLOCK_ROW_FRAMES (BLOCK_ROW_SIZE * place) (omega arith) ∙ fields.0;
+  pages = ap (dword b) (let e : frame_place BLOCK_ROWS (BLOCK_ROW_SIZE * place) + 4 ≡ frame_place BLOCK_ROWS (BLOCK_ROW_SIZE * place + 4) = omega arith in e)
+      ∙ part_dword b BLOCK_ROWS BLOCK_ROW_FRAMES (BLOCK_ROW_SIZE * place + 4) (omega arith) ∙ fields.1;
+  rest = λ at from less. ap (slice_index b) (let e : frame_place BLOCK_ROWS (BLOCK_ROW_SIZE * place) + at ≡ frame_place BLOCK_ROWS (BLOCK_ROW_SIZE * place + at) = omega arith in e)
+      ∙ part_byte b BLOCK_ROWS BLOCK_ROW_FRAMES (BLOCK_ROW_SIZE * place + at) (omega arith) ∙ holds.handles.rest place at within from less;
 }
   where
     block : Option MemoryBlock
@@ -92,24 +92,24 @@ row_claim b budget w holds has place within = record {
 
 -- the row of each handle
 pub rows_claim : (b : List ℕ) (budget : ℕ) (w : World) → Holds b budget → HasBlocks b budget w → (handle : ℕ) → 0 < handle → handle ≤ MAX_BLOCKS →
-    IsBlockRow b (frame_place BLOCK_ROWS (16 * (handle - 1))) (block_at w.blocks handle)
+    IsBlockRow b (frame_place BLOCK_ROWS (BLOCK_ROW_SIZE * (handle - 1))) (block_at w.blocks handle)
 rows_claim b budget w holds has zero some most = absurd (omega arith)
 rows_claim b budget w holds has (suc place) some most =
-    subst (λ (at : ℕ). IsBlockRow b (frame_place BLOCK_ROWS (16 * at)) (block_at w.blocks (suc place)))
+    subst (λ (at : ℕ). IsBlockRow b (frame_place BLOCK_ROWS (BLOCK_ROW_SIZE * at)) (block_at w.blocks (suc place)))
     (let e : place ≡ suc place - 1 = omega arith in e) (row_claim b budget w holds has place (omega arith))
 
 -- the lock count of each page of a block
 pub lock_claim : (b : List ℕ) (budget : ℕ) (w : World) → Holds b budget → HasRanges (handles_part b) → HasBlocks b budget w →
     (handle page : ℕ) (block : MemoryBlock) → block_at w.blocks handle ≡ Some block → page < length block.locks →
-    word_of b (frame_place LOCK_COUNTS (2 * block_page block page)) ≡ slice_index block.locks page
+    word_of b (frame_place LOCK_COUNTS (LOCK_COUNT_SIZE * block_page block page)) ≡ slice_index block.locks page
 lock_claim b budget w holds ranges has handle page block e inside =
     let row = row_of_block b budget w has handle block e in
     let pages = row.gives.pages in
     let place = row.place in
     let less : page < pages_of (handles_part b) place = omega arith in
     let small = page_small (handles_part b) ranges place page row.within less in
-    ap (λ (p : ℕ). word_of b (frame_place LOCK_COUNTS (2 * p))) (page_of_row b budget handle block row page)
-    ∙ part_word b LOCK_COUNTS 8 (2 * (first_page_of (handles_part b) place + page)) (omega arith)
+    ap (λ (p : ℕ). word_of b (frame_place LOCK_COUNTS (LOCK_COUNT_SIZE * p))) (page_of_row b budget handle block row page)
+    ∙ part_word b LOCK_COUNTS LOCK_COUNT_FRAMES (LOCK_COUNT_SIZE * (first_page_of (handles_part b) place + page)) (omega arith)
     ∙ sym (ap (λ (x : MemoryBlock). slice_index x.locks page) row.gives.is
     ∙ held_lock (handles_part b) (tables_part b) (locks_part b) (budget_part b budget) place page less)
 
@@ -119,6 +119,6 @@ blocks_claim b budget w holds ranges has = record {
   bytes = byte_claim b budget w holds ranges has;
   rows = rows_claim b budget w holds has;
   locks = lock_claim b budget w holds ranges has;
-  unlocked = λ page small none. part_word b LOCK_COUNTS 8 (2 * page) (omega arith)
+  unlocked = λ page small none. part_word b LOCK_COUNTS LOCK_COUNT_FRAMES (LOCK_COUNT_SIZE * page) (omega arith)
       ∙ holds.locks.outside page small (outside_rows b budget w has page none);
 }

@@ -5,7 +5,7 @@ use Rattle.client_world.specs.declared.host_frames.TheConstants.{PAGE_SIZE}
 use Rattle.page_tables.specs.Entry.{page_entry}
 use Rattle.page_tables.specs.Walk.{ended, fault}
 use Rattle.page_tables.specs.Mapping.{ended_in_frame}
-use Rattle.page_tables.specs.declared.entry.TheConstants.{PRESENT, USER}
+use Rattle.page_tables.specs.declared.entry.TheConstants.{PRESENT, USER, SUPERVISOR_WRITABLE}
 use Rattle.page_tables.proofs.EntryLaws.{page_entry_present, page_entry_user, page_entry_writable, ended-page_entry, ended-absent}
 use Rattle.host_memory.specs.Tables.{supervisor_entry}
 
@@ -44,10 +44,10 @@ unfolding ended
 finds_no_table entry lin write = refl
 
 supervisor_present : (frame : ℕ) → has_bit (supervisor_entry frame) PRESENT ≡ true
-supervisor_present frame = let one : (4096 * frame + 0x63) / 1 % 2 ≡ 1 = omega arith in ap (λ (n : ℕ). nat_eq n 1) one
+supervisor_present frame = let one : (PAGE_SIZE * frame + SUPERVISOR_WRITABLE) / 1 % 2 ≡ 1 = omega arith in ap (λ (n : ℕ). nat_eq n 1) one
 
 supervisor_user : (frame : ℕ) → has_bit (supervisor_entry frame) USER ≡ false
-supervisor_user frame = let none : (4096 * frame + 0x63) / 4 % 2 ≡ 0 = omega arith in ap (λ (n : ℕ). nat_eq n 1) none
+supervisor_user frame = let none : (PAGE_SIZE * frame + SUPERVISOR_WRITABLE) / 4 % 2 ≡ 0 = omega arith in ap (λ (n : ℕ). nat_eq n 1) none
 
 -- a page of the host's window, and none there
 pub forbids_client : (table frame lin : ℕ) (write : Bool) → ended (supervisor_entry table) (supervisor_entry frame) lin write ≡ fault true

@@ -4,7 +4,7 @@ use Rattle.std.proofs.lemmas.Bool.{cases_lt, lt-ltb, le-ltb}
 use Rattle.std.proofs.lemmas.Grind.{same_number_lists}
 use Rattle.client_world.specs.declared.dos_memory.DosEntry.{DosEntry}
 use Rattle.client_world.specs.declared.dos_memory.DosState.TheVariants.{Free}
-use Rattle.client_world.specs.declared.host_frames.TheConstants.{PAGE_SIZE, PAGE_DIRECTORY, LOW_TABLE, WINDOW_TABLE, BLOCK_TABLES, VECTORS, DOS_LIST, BUDGET_FRAMES}
+use Rattle.client_world.specs.declared.host_frames.TheConstants.{PAGE_SIZE, PAGE_DIRECTORY, LOW_TABLE, WINDOW_TABLE, BLOCK_TABLES, VECTORS, DOS_LIST, BUDGET_FRAMES, PAGE_ENTRY_SIZE, TABLE_ENTRIES}
 use Rattle.client_world.specs.declared.limits.TheConstants.{INTERRUPT_VECTORS}
 use Rattle.client_world.specs.declared.memory_map.TheConstants.{PARAGRAPH_SIZE, DOS_SIZE, VECTOR_TABLE_SIZE, ROM_START, ROM_BYTE, ARENA_START, ARENA_END}
 use Rattle.guest_ram.specs.Bytes.{put, region, dword, dword_bytes}
@@ -12,10 +12,9 @@ use Rattle.guest_ram.specs.Listed.{listed, copies}
 use Rattle.guest_ram.specs.declared.ram.TheConstants.{FRAME_SIZE}
 use Rattle.guest_ram.proofs.PutLaws.{length-put, put_below, put_above, put_within, put_away, length-region, at_region, same_region, region-put, same_dword}
 use Rattle.guest_ram.proofs.ListedLaws.{length-listed, at_listed, length-copies, at_copies}
-use Rattle.page_tables.specs.declared.entry.TheConstants.{TABLE_ENTRIES}
 use Rattle.host_memory.specs.declared.blank.TheConstants.{VECTOR_HALVES}
 use Rattle.host_memory.specs.Blank.{plain_byte, vector_byte, blank_megabyte}
-use Rattle.host_memory.specs.DosList.{entry_bytes}
+use Rattle.host_memory.specs.DosList.{entry_bytes, entry_size}
 use Rattle.host_memory.specs.Filling.{Written, real_vector_at, vector_half_at}
 use Rattle.host_memory.specs.Headers.{header_bytes}
 use Rattle.host_memory.specs.Layout.{dos_part}
@@ -45,22 +44,22 @@ pub record Fresh (budget : ℕ) (header row b0 b1 b2 b3 b4 b5 b6 b7 b8 : List �
 pub record IsBlank (b : List ℕ) (budget : ℕ) : Type 0 where
   pub size : length b ≡ PAGE_SIZE * (BUDGET_FRAMES + budget)
   pub megabyte : dos_part b ≡ blank_megabyte
-  pub directory : (k : ℕ) → k < TABLE_ENTRIES → dword b (PAGE_SIZE * PAGE_DIRECTORY + 4 * k) ≡ directory_entry_at k
-  pub low : (k : ℕ) → k < TABLE_ENTRIES → dword b (PAGE_SIZE * LOW_TABLE + 4 * k) ≡ low_entry_at k
-  pub window : (k : ℕ) → k < TABLE_ENTRIES → dword b (PAGE_SIZE * WINDOW_TABLE + 4 * k) ≡ window_entry_at k
-  pub list : (at : ℕ) → at < 8 → slice_index b (PAGE_SIZE * DOS_LIST + at) ≡ slice_index (entry_bytes whole_arena) at
+  pub directory : (k : ℕ) → k < TABLE_ENTRIES → dword b (PAGE_SIZE * PAGE_DIRECTORY + PAGE_ENTRY_SIZE * k) ≡ directory_entry_at k
+  pub low : (k : ℕ) → k < TABLE_ENTRIES → dword b (PAGE_SIZE * LOW_TABLE + PAGE_ENTRY_SIZE * k) ≡ low_entry_at k
+  pub window : (k : ℕ) → k < TABLE_ENTRIES → dword b (PAGE_SIZE * WINDOW_TABLE + PAGE_ENTRY_SIZE * k) ≡ window_entry_at k
+  pub list : (at : ℕ) → at < entry_size → slice_index b (PAGE_SIZE * DOS_LIST + at) ≡ slice_index (entry_bytes whole_arena) at
   pub vectors : (k at : ℕ) → k < VECTOR_HALVES → at < 4 →
       slice_index b (PAGE_SIZE * VECTORS + (4 * k + at)) ≡ slice_index (dword_bytes (vector_half_at k)) at
   pub zeros : (at : ℕ) → PAGE_SIZE * BLOCK_TABLES ≤ at →
       (at < PAGE_SIZE * VECTORS) ⊎ (PAGE_SIZE * VECTORS + 4 * VECTOR_HALVES ≤ at) →
-      (at < PAGE_SIZE * DOS_LIST) ⊎ (PAGE_SIZE * DOS_LIST + 8 ≤ at) → slice_index b at ≡ 0
+      (at < PAGE_SIZE * DOS_LIST) ⊎ (PAGE_SIZE * DOS_LIST + entry_size ≤ at) → slice_index b at ≡ 0
 
 length-header : (header : List ℕ) → header ≡ header_bytes 0x5A whole_arena → length header ≡ 16
 unfolding header_bytes
 length-header header e = ap length e
 
 -- the real vectors, byte by byte
-real_byte : (n r : ℕ) → n < 256 → r < 4 →
+real_byte : (n r : ℕ) → n < INTERRUPT_VECTORS → r < 4 →
     slice_index (dword_bytes (real_vector_at n)) r ≡ (if nat_eq r 0 then n else if nat_eq r 3 then 0xF0 else 0)
 real_byte n zero small within = omega arith
 real_byte n (suc zero) small within = omega arith
@@ -70,13 +69,13 @@ real_byte n (suc (suc (suc (suc r)))) small within = absurd (omega arith)
 
 -- the three ranges of a plain byte
 pub plain_vector : (k : ℕ) → k < VECTOR_TABLE_SIZE → plain_byte k ≡ vector_byte k
-plain_vector k small = rw (lt-ltb k 1024 small)
+plain_vector k small = rw (lt-ltb k VECTOR_TABLE_SIZE small)
 
 pub plain_zero : (k : ℕ) → VECTOR_TABLE_SIZE ≤ k → k < ROM_START → plain_byte k ≡ 0
-plain_zero k from to = rw (le-ltb k 1024 from, lt-ltb k 983040 to)
+plain_zero k from to = rw (le-ltb k VECTOR_TABLE_SIZE from, lt-ltb k ROM_START to)
 
 pub plain_rom : (k : ℕ) → ROM_START ≤ k → plain_byte k ≡ ROM_BYTE
-plain_rom k from = let past : 1024 ≤ k = omega arith in rw (le-ltb k 1024 past, le-ltb k 983040 from)
+plain_rom k from = let past : VECTOR_TABLE_SIZE ≤ k = omega arith in rw (le-ltb k VECTOR_TABLE_SIZE past, le-ltb k ROM_START from)
 
 -- a memory of zeros with read-only memory and the real vectors
 vectors_and_rom : (b0 b1 b2 : List ℕ) → DOS_SIZE ≤ length b0 → ((at : ℕ) → slice_index b0 at ≡ 0) →
@@ -178,7 +177,7 @@ is_blank budget header row b0 b1 b2 b3 b4 b5 b6 b7 b8 w = record {
 
     -- what the last two writes leave
     late : (at : ℕ) → (at < PAGE_SIZE * VECTORS) ⊎ (PAGE_SIZE * VECTORS + 4 * VECTOR_HALVES ≤ at) →
-        (at < PAGE_SIZE * DOS_LIST) ⊎ (PAGE_SIZE * DOS_LIST + 8 ≤ at) → slice_index b8 at ≡ slice_index b6 at
+        (at < PAGE_SIZE * DOS_LIST) ⊎ (PAGE_SIZE * DOS_LIST + entry_size ≤ at) → slice_index b8 at ≡ slice_index b6 at
     late at no_vector no_list =
         w.vectors.others at no_vector ∙ ap (λ (b : List ℕ). slice_index b at) w.list
         ∙ put_away b6 (PAGE_SIZE * DOS_LIST) row at (elim no_list [

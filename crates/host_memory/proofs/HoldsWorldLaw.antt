@@ -4,7 +4,7 @@ use Rattle.std.specs.declared.option.Option.{Option}
 use Rattle.client_world.specs.declared.registers.Mode.{Mode}
 use Rattle.client_world.specs.declared.registers.Regs.{Regs}
 use Rattle.client_world.specs.declared.registers.Width.{Width}
-use Rattle.client_world.specs.declared.host_frames.TheConstants.{PAGE_SIZE, DESCRIPTOR_ROWS, BUDGET_FRAMES, DESCRIPTORS, DESCRIPTOR_ROW_SIZE}
+use Rattle.client_world.specs.declared.host_frames.TheConstants.{PAGE_SIZE, DESCRIPTOR_ROWS, BUDGET_FRAMES, DESCRIPTORS, DESCRIPTOR_ROW_SIZE, DESCRIPTOR_ROW_FRAMES}
 use Rattle.client_world.specs.declared.limits.TheConstants.{MAX_PAGES}
 use Rattle.client_world.specs.declared.memory_map.TheConstants.{DOS_SIZE}
 use Rattle.client_world.specs.Selector.{Row, row_at_index}
@@ -32,7 +32,7 @@ descriptor_claim : (b : List ℕ) (budget : ℕ) (w : World) → Holds b budget 
     (index at : ℕ) → index < DESCRIPTORS → at < DESCRIPTOR_ROW_SIZE →
     slice_index b (frame_place DESCRIPTOR_ROWS (DESCRIPTOR_ROW_SIZE * index + at)) ≡ slice_index (row_bytes (row_at_index w.descriptors index)) at
 descriptor_claim b budget w holds descriptors index at within less =
-    part_byte b DESCRIPTOR_ROWS 32 (DESCRIPTOR_ROW_SIZE * index + at) (omega arith) ∙ holds.rows.each index at within less
+    part_byte b DESCRIPTOR_ROWS DESCRIPTOR_ROW_FRAMES (DESCRIPTOR_ROW_SIZE * index + at) (omega arith) ∙ holds.rows.each index at within less
     ∙ sym (ap (λ (row : Row). slice_index (row_bytes row) at)
     (ap (λ (rows : List Row). row_at_index rows index) descriptors ∙ at_rows_from (rows_part b) 0 index None within
     ∙ ap (row_at (rows_part b)) (zero-add (DESCRIPTOR_ROW_SIZE * index))))

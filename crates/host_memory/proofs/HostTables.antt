@@ -1,5 +1,6 @@
 -- The directory of a memory that holds a world: what the walk and the mapping ask for.
-use Rattle.std.proofs.Common.{◌≡◌, ℕ, ◌+◌, ◌-◌, List, true, ap, ◌∙◌, arith}
+use Rattle.std.proofs.Common.{◌≡◌, ℕ, ◌+◌, ◌-◌, ◌/◌, List, true, ap, ◌∙◌, arith}
+use Rattle.client_world.specs.declared.memory_map.TheConstants.{HOST_WINDOW}
 use Rattle.client_world.specs.declared.host_frames.TheConstants.{PAGE_DIRECTORY, BLOCK_TABLES}
 use Rattle.page_tables.specs.Entry.{page_entry}
 use Rattle.page_tables.specs.Walk.{TablesInside}
@@ -9,6 +10,7 @@ use Rattle.host_memory.specs.Holds.{Holds}
 use Rattle.host_memory.specs.Layout.{fixed_part}
 use Rattle.host_memory.specs.Tables.{HasFixedEntries}
 use Rattle.host_memory.proofs.FixedWalks.{directory_is, directory_of_block, directory_of_none}
+use Rattle.page_tables.specs.declared.entry.TheConstants.{TABLE_SPAN}
 
 -- the entries of the directory are those of the host
 pub host_directory : (b : List ℕ) → HasFixedEntries (fixed_part b) → HasHostDirectory b
@@ -16,7 +18,7 @@ host_directory b fixed = record {
   low = directory_is b 0 fixed (omega arith);
   blocks = λ i within. directory_is b (i + 1) fixed (omega arith) ∙ directory_of_block (i + 1) (omega arith) (omega arith)
       ∙ ap (λ (k : ℕ). page_entry (BLOCK_TABLES + k) true) (let e : i + 1 - 1 ≡ i = omega arith in e);
-  window = directory_is b 768 fixed (omega arith);
+  window = directory_is b (HOST_WINDOW / TABLE_SPAN) fixed (omega arith);
   others = λ i above within other. directory_is b i fixed within ∙ directory_of_none i above other;
 }
 

@@ -4,7 +4,7 @@ use Rattle.std.specs.List.{slice_get}
 use Rattle.std.proofs.lemmas.Bool.{cases_Bool}
 use Rattle.client_world.specs.declared.calls.Record.{Record}
 use Rattle.client_world.specs.declared.dos_memory.DosEntry.{DosEntry}
-use Rattle.client_world.specs.declared.host_frames.TheConstants.{RECORDS, DOS_LIST}
+use Rattle.client_world.specs.declared.host_frames.TheConstants.{RECORDS, DOS_LIST, DOS_LIST_FRAMES, RECORD_FRAMES}
 use Rattle.client_world.specs.declared.limits.TheConstants.{GREATEST_DEPTH}
 use Rattle.client_world.specs.World.{World}
 use Rattle.guest_ram.proofs.ListedLaws.{length-listed}
@@ -58,7 +58,7 @@ record_claim b budget w holds calls place at r e less =
     let item = call_item (records_part b) place r (sym (ap (λ (xs : List Record). slice_get xs place) calls) ∙ e) in
     let within = item.within in
     let few = records_few (records_part b) 0 GREATEST_DEPTH in
-    part_byte b RECORDS 1 (record_size * place + at) (omega arith) ∙ holds.records.each place at within less
+    part_byte b RECORDS RECORD_FRAMES (record_size * place + at) (omega arith) ∙ holds.records.each place at within less
     ∙ sym (ap (λ (x : Record). slice_index (record_bytes x) at) item.is)
 
 pub entry_claim : (b : List ℕ) (budget : ℕ) (w : World) → Holds b budget → w.arena ≡ arena_in (arena_part b) →
@@ -68,16 +68,16 @@ entry_claim b budget w holds arena place at entry e less =
     let item = arena_item (arena_part b) place entry (sym (ap (λ (xs : List DosEntry). slice_get xs place) arena) ∙ e) in
     let within = item.within in
     let few = entries_few (arena_part b) 0 entry_room in
-    part_byte b DOS_LIST 80 (entry_size * place + at) (omega arith) ∙ holds.arena.each place at within less
+    part_byte b DOS_LIST DOS_LIST_FRAMES (entry_size * place + at) (omega arith) ∙ holds.arena.each place at within less
     ∙ sym (ap (λ (x : DosEntry). slice_index (entry_bytes x) at) item.is)
 
 pub lists_claim : (b : List ℕ) (budget : ℕ) (w : World) → Holds b budget → w.calls ≡ calls_in (records_part b) → w.arena ≡ arena_in (arena_part b) →
     HoldsLists b w
 lists_claim b budget w holds calls arena = record {
   records = record_claim b budget w holds calls;
-  no_more_records = λ at from less. part_byte b RECORDS 1 at (omega arith) ∙ holds.records.rest at (omega (arith, depth)) less;
+  no_more_records = λ at from less. part_byte b RECORDS RECORD_FRAMES at (omega arith) ∙ holds.records.rest at (omega (arith, depth)) less;
   entries = entry_claim b budget w holds arena;
-  no_more_entries = λ at from less. part_byte b DOS_LIST 80 at (omega arith) ∙ holds.arena.rest at (omega (arith, number)) less;
+  no_more_entries = λ at from less. part_byte b DOS_LIST DOS_LIST_FRAMES at (omega arith) ∙ holds.arena.rest at (omega (arith, number)) less;
 }
   where
     depth : length w.calls ≡ record_count (records_part b)

@@ -4,7 +4,7 @@ use Rattle.std.proofs.lemmas.Bool.{cases_order}
 use Rattle.client_world.specs.declared.registers.Mode.{Mode}
 use Rattle.client_world.specs.declared.registers.Regs.{Regs}
 use Rattle.client_world.specs.declared.registers.Width.{Width}
-use Rattle.client_world.specs.declared.host_frames.TheConstants.{PAGE_SIZE, DESCRIPTOR_ROWS, DESCRIPTORS, DESCRIPTOR_ROW_SIZE, FIRST_FREE_DESCRIPTOR}
+use Rattle.client_world.specs.declared.host_frames.TheConstants.{PAGE_SIZE, DESCRIPTOR_ROWS, DESCRIPTORS, DESCRIPTOR_ROW_SIZE, FIRST_FREE_DESCRIPTOR, DESCRIPTOR_ROW_FRAMES}
 use Rattle.client_world.specs.FreeRuns.{IsFreeRunOf, IsFirstFreeRunOf}
 use Rattle.client_world.specs.Selector.{Row, FitsRow, row_at_index}
 use Rattle.guest_ram.specs.Bytes.{put}
@@ -18,7 +18,7 @@ use Rattle.host_memory.proofs.PutParts.{put_rows, size_put}
 use Rattle.host_memory.proofs.WorldParts.{descriptors_is}
 
 length-rows_part : (b : List ℕ) (budget : ℕ) → Holds b budget → length (rows_part b) ≡ DESCRIPTOR_ROW_SIZE * DESCRIPTORS
-length-rows_part b budget holds = length-region b (PAGE_SIZE * DESCRIPTOR_ROWS) (PAGE_SIZE * 32) (omega (arith, holds.size))
+length-rows_part b budget holds = length-region b (PAGE_SIZE * DESCRIPTOR_ROWS) (PAGE_SIZE * DESCRIPTOR_ROW_FRAMES) (omega (arith, holds.size))
 
 -- a row in the part of the rows
 abbrev with_row : List ℕ → ℕ → Row → List ℕ
@@ -26,7 +26,7 @@ with_row rows index row = put rows (DESCRIPTOR_ROW_SIZE * index) (row_bytes row)
 
 -- another row is beside it
 beside_row : (index other : ℕ) → other ≢ index →
-    (DESCRIPTOR_ROW_SIZE * index + 16 ≤ DESCRIPTOR_ROW_SIZE * other) ⊎ (DESCRIPTOR_ROW_SIZE * other + 16 ≤ DESCRIPTOR_ROW_SIZE * index)
+    (DESCRIPTOR_ROW_SIZE * index + DESCRIPTOR_ROW_SIZE ≤ DESCRIPTOR_ROW_SIZE * other) ⊎ (DESCRIPTOR_ROW_SIZE * other + DESCRIPTOR_ROW_SIZE ≤ DESCRIPTOR_ROW_SIZE * index)
 beside_row index other ne = elim (cases_order other index) [
   | inl same ↦ absurd (ne same)
   | inr o ↦ elim o [
@@ -90,7 +90,7 @@ row_holds b budget holds index row small fits =
 pub rows_are : (b : List ℕ) (budget : ℕ) (mode : Mode) (regs : Regs) (vif : Bool) (width : Option Width) →
     rows_from b rows_start ≡ (world_of b budget mode regs vif width).descriptors
 rows_are b budget mode regs vif width =
-    sym (descriptors_is b budget mode regs vif width ∙ rows_from-region b (PAGE_SIZE * DESCRIPTOR_ROWS) (PAGE_SIZE * 32) 0 (omega arith))
+    sym (descriptors_is b budget mode regs vif width ∙ rows_from-region b (PAGE_SIZE * DESCRIPTOR_ROWS) (PAGE_SIZE * DESCRIPTOR_ROW_FRAMES) 0 (omega arith))
 
 pub row_reads : (b : List ℕ) (budget : ℕ) (mode : Mode) (regs : Regs) (vif : Bool) (width : Option Width) (index : ℕ) → index < DESCRIPTORS →
     row_at b (row_address index) ≡ row_at_index (world_of b budget mode regs vif width).descriptors index

@@ -1,7 +1,7 @@
 -- A far pointer, or a byte of a pageable page, put into the frame of the vectors: its lists, and what it must keep.
 use Rattle.std.proofs.Common.{◌≡◌, ◌≢◌, ℕ, zero, suc, ◌+◌, ◌*◌, ◌/◌, ◌%◌, ◌<◌, ◌≤◌, ◌⊎◌, inl, inr, Bool, true, false, List, [], ◌∷◌, length, slice_index, slice_set, refl, ap, ◌∙◌, sym, subst, arith, Option, nat_eq, cond}
 use Rattle.std.proofs.lemmas.Bool.{cases_eq, cases_lt}
-use Rattle.client_world.specs.declared.host_frames.TheConstants.{PAGE_SIZE}
+use Rattle.client_world.specs.declared.host_frames.TheConstants.{PAGE_SIZE, CALLBACK_SIZE, VECTOR_FRAMES, VECTOR_SIZE}
 use Rattle.client_world.specs.declared.limits.TheConstants.{CALLBACKS, INTERRUPT_VECTORS, EXCEPTION_VECTORS}
 use Rattle.client_world.specs.declared.memory_map.TheConstants.{DOS_VIEW_PAGES}
 use Rattle.client_world.specs.declared.segments.FarPtr.{FarPtr}
@@ -72,8 +72,8 @@ same_pointer b c at same = same_parts (pointer_at c at) _ _ selector offset
         rw (same 4 (omega arith), five) refl
 
 -- the bytes of a vector, of which the last two are 0
-stored : (part : List ℕ) (at : ℕ) (p : FarPtr) → at + 8 ≤ length part → slice_index part (at + 6) ≡ 0 → slice_index part (at + 7) ≡ 0 →
-    (i : ℕ) → i < 8 → slice_index (put_pointer part at p) (at + i) ≡ slice_index (vector_bytes p) i
+stored : (part : List ℕ) (at : ℕ) (p : FarPtr) → at + VECTOR_SIZE ≤ length part → slice_index part (at + 6) ≡ 0 → slice_index part (at + 7) ≡ 0 →
+    (i : ℕ) → i < VECTOR_SIZE → slice_index (put_pointer part at p) (at + i) ≡ slice_index (vector_bytes p) i
 stored part at p room six seven zero less = low_bytes part at p 0 (at + 0) (omega arith) (omega arith) (omega arith)
 stored part at p room six seven (suc zero) less = low_bytes part at p 1 (at + 1) (omega arith) (omega arith) (omega arith)
 stored part at p room six seven (suc (suc zero)) less = low_bytes part at p 2 (at + 2) (omega arith) (omega arith) (omega arith)
@@ -86,7 +86,7 @@ stored part at p room six seven (suc (suc (suc (suc (suc (suc (suc (suc i)))))))
 
 -- ---- the lists of the frame where some bytes are the same
 
-same_callback : (b c : List ℕ) (at : ℕ) → ((i : ℕ) → i < 16 → slice_index b (at + i) ≡ slice_index c (at + i)) → callback_at b at ≡ callback_at c at
+same_callback : (b c : List ℕ) (at : ℕ) → ((i : ℕ) → i < CALLBACK_SIZE → slice_index b (at + i) ≡ slice_index c (at + i)) → callback_at b at ≡ callback_at c at
 unfolding callback_at
 same_callback b c at same =
     let procedure = same_pointer b c at (λ i less. same i (omega arith)) in
@@ -96,79 +96,79 @@ same_callback b c at same =
 
 -- the bytes are the same from the callbacks on
 pub same_callbacks : (b c : List ℕ) → ((k : ℕ) → callbacks_start ≤ k → k < pageable_start → slice_index b k ≡ slice_index c k) → callbacks_in b ≡ callbacks_in c
-same_callbacks b c same = same_listed CALLBACKS (λ slot. callback_at b (callbacks_start + 16 * slot)) (λ slot. callback_at c (callbacks_start + 16 * slot))
-    (λ slot less. same_callback b c (callbacks_start + 16 * slot) (λ i small. same (callbacks_start + 16 * slot + i) (omega arith) (omega arith)))
+same_callbacks b c same = same_listed CALLBACKS (λ slot. callback_at b (callbacks_start + CALLBACK_SIZE * slot)) (λ slot. callback_at c (callbacks_start + CALLBACK_SIZE * slot))
+    (λ slot less. same_callback b c (callbacks_start + CALLBACK_SIZE * slot) (λ i small. same (callbacks_start + CALLBACK_SIZE * slot + i) (omega arith) (omega arith)))
 
-pub same_pageable : (b c : List ℕ) → ((k : ℕ) → pageable_start ≤ k → k < PAGE_SIZE → slice_index b k ≡ slice_index c k) → pageable_in b ≡ pageable_in c
+pub same_pageable : (b c : List ℕ) → ((k : ℕ) → pageable_start ≤ k → k < PAGE_SIZE * VECTOR_FRAMES → slice_index b k ≡ slice_index c k) → pageable_in b ≡ pageable_in c
 same_pageable b c same = same_listed DOS_VIEW_PAGES (λ page. nat_eq (slice_index b (pageable_start + page)) 1) (λ page. nat_eq (slice_index c (pageable_start + page)) 1)
     (λ page less. ap (λ (x : ℕ). nat_eq x 1) (same (pageable_start + page) (omega arith) (omega arith)))
 
 pub same_interrupts : (b c : List ℕ) → ((k : ℕ) → k < exceptions_start → slice_index b k ≡ slice_index c k) → interrupt_vectors_in b ≡ interrupt_vectors_in c
-same_interrupts b c same = same_listed INTERRUPT_VECTORS (λ n. pointer_at b (8 * n)) (λ n. pointer_at c (8 * n))
-    (λ n less. same_pointer b c (8 * n) (λ i small. same (8 * n + i) (omega arith)))
+same_interrupts b c same = same_listed INTERRUPT_VECTORS (λ n. pointer_at b (VECTOR_SIZE * n)) (λ n. pointer_at c (VECTOR_SIZE * n))
+    (λ n less. same_pointer b c (VECTOR_SIZE * n) (λ i small. same (VECTOR_SIZE * n + i) (omega arith)))
 
 pub same_exceptions : (b c : List ℕ) → ((k : ℕ) → exceptions_start ≤ k → k < callbacks_start → slice_index b k ≡ slice_index c k) →
     exception_vectors_in b ≡ exception_vectors_in c
-same_exceptions b c same = same_listed EXCEPTION_VECTORS (λ n. pointer_at b (exceptions_start + 8 * n)) (λ n. pointer_at c (exceptions_start + 8 * n))
-    (λ n less. same_pointer b c (exceptions_start + 8 * n) (λ i small. same (exceptions_start + 8 * n + i) (omega arith) (omega arith)))
+same_exceptions b c same = same_listed EXCEPTION_VECTORS (λ n. pointer_at b (exceptions_start + VECTOR_SIZE * n)) (λ n. pointer_at c (exceptions_start + VECTOR_SIZE * n))
+    (λ n less. same_pointer b c (exceptions_start + VECTOR_SIZE * n) (λ i small. same (exceptions_start + VECTOR_SIZE * n + i) (omega arith) (omega arith)))
 
 -- what the callbacks and the bytes behind them must keep
 keeps_callbacks : (part other : List ℕ) → KeepsVectors part → ((k : ℕ) → callbacks_start ≤ k → k < pageable_start → slice_index other k ≡ slice_index part k) →
-    (slot at : ℕ) → slot < CALLBACKS → at < 16 →
-    slice_index other (callbacks_start + (16 * slot + at)) ≡ slice_index (callback_bytes (callback_at other (callbacks_start + 16 * slot))) at
+    (slot at : ℕ) → slot < CALLBACKS → at < CALLBACK_SIZE →
+    slice_index other (callbacks_start + (CALLBACK_SIZE * slot + at)) ≡ slice_index (callback_bytes (callback_at other (callbacks_start + CALLBACK_SIZE * slot))) at
 keeps_callbacks part other keeps same slot at less small =
-    same (callbacks_start + (16 * slot + at)) (omega arith) (omega arith)
+    same (callbacks_start + (CALLBACK_SIZE * slot + at)) (omega arith) (omega arith)
     ∙ keeps.callbacks slot at less small
     ∙ sym (ap (λ (o : Option Callback). slice_index (callback_bytes o) at)
-    (same_callback other part (callbacks_start + 16 * slot) (λ i s. same (callbacks_start + 16 * slot + i) (omega arith) (omega arith))))
+    (same_callback other part (callbacks_start + CALLBACK_SIZE * slot) (λ i s. same (callbacks_start + CALLBACK_SIZE * slot + i) (omega arith) (omega arith))))
 
 -- ---- a vector, of one of the two lists
 
-pub keeps_pointer : (part : List ℕ) (v : ℕ) (p : FarPtr) → length part ≡ PAGE_SIZE → v < INTERRUPT_VECTORS + EXCEPTION_VECTORS → KeepsVectors part →
-    KeepsVectors (put_pointer part (8 * v) p)
+pub keeps_pointer : (part : List ℕ) (v : ℕ) (p : FarPtr) → length part ≡ PAGE_SIZE * VECTOR_FRAMES → v < INTERRUPT_VECTORS + EXCEPTION_VECTORS → KeepsVectors part →
+    KeepsVectors (put_pointer part (VECTOR_SIZE * v) p)
 keeps_pointer part v p long within keeps = record {
   vectors = vectors;
-  callbacks = keeps_callbacks part (put_pointer part (8 * v) p) keeps (λ k from to. pointer_away part (8 * v) p k (inl (omega arith)));
-  pageable = λ page less. subst (λ (x : ℕ). x < 2) (sym (pointer_away part (8 * v) p (pageable_start + page) (inl (omega arith)))) (keeps.pageable page less);
-  rest = λ at from to. pointer_away part (8 * v) p at (inl (omega arith)) ∙ keeps.rest at from to;
+  callbacks = keeps_callbacks part (put_pointer part (VECTOR_SIZE * v) p) keeps (λ k from to. pointer_away part (VECTOR_SIZE * v) p k (inl (omega arith)));
+  pageable = λ page less. subst (λ (x : ℕ). x < 2) (sym (pointer_away part (VECTOR_SIZE * v) p (pageable_start + page) (inl (omega arith)))) (keeps.pageable page less);
+  rest = λ at from to. pointer_away part (VECTOR_SIZE * v) p at (inl (omega arith)) ∙ keeps.rest at from to;
 }
   where
-    vectors : (n at : ℕ) → n < INTERRUPT_VECTORS + EXCEPTION_VECTORS → at < 8 →
-        slice_index (put_pointer part (8 * v) p) (8 * n + at) ≡ slice_index (vector_bytes (pointer_at (put_pointer part (8 * v) p) (8 * n))) at
+    vectors : (n at : ℕ) → n < INTERRUPT_VECTORS + EXCEPTION_VECTORS → at < VECTOR_SIZE →
+        slice_index (put_pointer part (VECTOR_SIZE * v) p) (VECTOR_SIZE * n + at) ≡ slice_index (vector_bytes (pointer_at (put_pointer part (VECTOR_SIZE * v) p) (VECTOR_SIZE * n))) at
     vectors n at small less = elim (cases_eq n v) [
-      | inl same ↦ (let k : 8 * n ≡ 8 * v = omega arith in
-          ap (λ (x : ℕ). slice_index (put_pointer part (8 * v) p) (x + at)) k
-          ∙ stored part (8 * v) p (omega arith) (keeps.vectors v 6 within (omega arith)) (keeps.vectors v 7 within (omega arith)) at less
+      | inl same ↦ (let k : VECTOR_SIZE * n ≡ VECTOR_SIZE * v = omega arith in
+          ap (λ (x : ℕ). slice_index (put_pointer part (VECTOR_SIZE * v) p) (x + at)) k
+          ∙ stored part (VECTOR_SIZE * v) p (omega arith) (keeps.vectors v 6 within (omega arith)) (keeps.vectors v 7 within (omega arith)) at less
           ∙ sym (ap (λ (q : FarPtr). slice_index (vector_bytes q) at)
-          (ap (pointer_at (put_pointer part (8 * v) p)) k ∙ pointer_there part (8 * v) p (omega arith))))
-      | inr ne ↦ (pointer_away part (8 * v) p (8 * n + at) (beside n at ne less)
+          (ap (pointer_at (put_pointer part (VECTOR_SIZE * v) p)) k ∙ pointer_there part (VECTOR_SIZE * v) p (omega arith))))
+      | inr ne ↦ (pointer_away part (VECTOR_SIZE * v) p (VECTOR_SIZE * n + at) (beside n at ne less)
           ∙ keeps.vectors n at small less
-          ∙ sym (ap (λ (q : FarPtr). slice_index (vector_bytes q) at) (same_pointer (put_pointer part (8 * v) p) part (8 * n)
-          (λ i s. pointer_away part (8 * v) p (8 * n + i) (beside n i ne (omega arith))))))
+          ∙ sym (ap (λ (q : FarPtr). slice_index (vector_bytes q) at) (same_pointer (put_pointer part (VECTOR_SIZE * v) p) part (VECTOR_SIZE * n)
+          (λ i s. pointer_away part (VECTOR_SIZE * v) p (VECTOR_SIZE * n + i) (beside n i ne (omega arith))))))
     ]
       where
-        beside : (n at : ℕ) → n ≢ v → at < 8 → (8 * v + 6 ≤ 8 * n + at) ⊎ (8 * n + at < 8 * v)
+        beside : (n at : ℕ) → n ≢ v → at < VECTOR_SIZE → (VECTOR_SIZE * v + 6 ≤ VECTOR_SIZE * n + at) ⊎ (VECTOR_SIZE * n + at < VECTOR_SIZE * v)
         beside n at ne less = elim (cases_lt n v) [ inl below ↦ inr (omega arith) | inr above ↦ inl (omega arith) ]
 
-pub interrupts_set : (part : List ℕ) (n : ℕ) (p : FarPtr) → length part ≡ PAGE_SIZE → n < INTERRUPT_VECTORS →
-    interrupt_vectors_in (put_pointer part (8 * n) p) ≡ slice_set (interrupt_vectors_in part) n p
+pub interrupts_set : (part : List ℕ) (n : ℕ) (p : FarPtr) → length part ≡ PAGE_SIZE * VECTOR_FRAMES → n < INTERRUPT_VECTORS →
+    interrupt_vectors_in (put_pointer part (VECTOR_SIZE * n) p) ≡ slice_set (interrupt_vectors_in part) n p
 interrupts_set part n p long within =
-    listed-set INTERRUPT_VECTORS (λ k. pointer_at part (8 * k)) (λ k. pointer_at (put_pointer part (8 * n) p) (8 * k)) n p within
-    (pointer_there part (8 * n) p (omega arith))
-    (λ k less ne. same_pointer (put_pointer part (8 * n) p) part (8 * k) (λ i small. pointer_away part (8 * n) p (8 * k + i) (beside k i ne small)))
+    listed-set INTERRUPT_VECTORS (λ k. pointer_at part (VECTOR_SIZE * k)) (λ k. pointer_at (put_pointer part (VECTOR_SIZE * n) p) (VECTOR_SIZE * k)) n p within
+    (pointer_there part (VECTOR_SIZE * n) p (omega arith))
+    (λ k less ne. same_pointer (put_pointer part (VECTOR_SIZE * n) p) part (VECTOR_SIZE * k) (λ i small. pointer_away part (VECTOR_SIZE * n) p (VECTOR_SIZE * k + i) (beside k i ne small)))
   where
-    beside : (k i : ℕ) → k ≢ n → i < 6 → (8 * n + 6 ≤ 8 * k + i) ⊎ (8 * k + i < 8 * n)
+    beside : (k i : ℕ) → k ≢ n → i < 6 → (VECTOR_SIZE * n + 6 ≤ VECTOR_SIZE * k + i) ⊎ (VECTOR_SIZE * k + i < VECTOR_SIZE * n)
     beside k i ne small = elim (cases_lt k n) [ inl below ↦ inr (omega arith) | inr above ↦ inl (omega arith) ]
 
-pub exceptions_set : (part : List ℕ) (n : ℕ) (p : FarPtr) → length part ≡ PAGE_SIZE → n < EXCEPTION_VECTORS →
-    exception_vectors_in (put_pointer part (exceptions_start + 8 * n) p) ≡ slice_set (exception_vectors_in part) n p
+pub exceptions_set : (part : List ℕ) (n : ℕ) (p : FarPtr) → length part ≡ PAGE_SIZE * VECTOR_FRAMES → n < EXCEPTION_VECTORS →
+    exception_vectors_in (put_pointer part (exceptions_start + VECTOR_SIZE * n) p) ≡ slice_set (exception_vectors_in part) n p
 exceptions_set part n p long within =
-    listed-set EXCEPTION_VECTORS (λ k. pointer_at part (exceptions_start + 8 * k)) (λ k. pointer_at (put_pointer part (exceptions_start + 8 * n) p) (exceptions_start + 8 * k)) n p within
-    (pointer_there part (exceptions_start + 8 * n) p (omega arith))
-    (λ k less ne. same_pointer (put_pointer part (exceptions_start + 8 * n) p) part (exceptions_start + 8 * k)
-    (λ i small. pointer_away part (exceptions_start + 8 * n) p (exceptions_start + 8 * k + i) (beside k i ne small)))
+    listed-set EXCEPTION_VECTORS (λ k. pointer_at part (exceptions_start + VECTOR_SIZE * k)) (λ k. pointer_at (put_pointer part (exceptions_start + VECTOR_SIZE * n) p) (exceptions_start + VECTOR_SIZE * k)) n p within
+    (pointer_there part (exceptions_start + VECTOR_SIZE * n) p (omega arith))
+    (λ k less ne. same_pointer (put_pointer part (exceptions_start + VECTOR_SIZE * n) p) part (exceptions_start + VECTOR_SIZE * k)
+    (λ i small. pointer_away part (exceptions_start + VECTOR_SIZE * n) p (exceptions_start + VECTOR_SIZE * k + i) (beside k i ne small)))
   where
-    beside : (k i : ℕ) → k ≢ n → i < 6 → (exceptions_start + 8 * n + 6 ≤ exceptions_start + 8 * k + i) ⊎ (exceptions_start + 8 * k + i < exceptions_start + 8 * n)
+    beside : (k i : ℕ) → k ≢ n → i < 6 → (exceptions_start + VECTOR_SIZE * n + 6 ≤ exceptions_start + VECTOR_SIZE * k + i) ⊎ (exceptions_start + VECTOR_SIZE * k + i < exceptions_start + VECTOR_SIZE * n)
     beside k i ne small = elim (cases_lt k n) [ inl below ↦ inr (omega arith) | inr above ↦ inl (omega arith) ]
 
 -- ---- the byte of a pageable page
@@ -182,7 +182,7 @@ pageable_away part page on k ne = put_away part (pageable_start + page) (cond on
   | inr above ↦ inl (omega arith)
 ])
 
-pageable_there : (part : List ℕ) (page : ℕ) (on : Bool) → length part ≡ PAGE_SIZE → page < DOS_VIEW_PAGES →
+pageable_there : (part : List ℕ) (page : ℕ) (on : Bool) → length part ≡ PAGE_SIZE * VECTOR_FRAMES → page < DOS_VIEW_PAGES →
     slice_index (put_pageable part page on) (pageable_start + page) ≡ cond on 1 0
 pageable_there part page on long within =
     put_within part (pageable_start + page) (cond on 1 0 ∷ []) 0 (pageable_start + page) (omega arith) (omega arith) (omega arith)
@@ -195,13 +195,13 @@ bit_small : (on : Bool) → cond on 1 0 < 2
 bit_small true = omega arith
 bit_small false = omega arith
 
-pub keeps_pageable : (part : List ℕ) (page : ℕ) (on : Bool) → length part ≡ PAGE_SIZE → page < DOS_VIEW_PAGES → KeepsVectors part →
+pub keeps_pageable : (part : List ℕ) (page : ℕ) (on : Bool) → length part ≡ PAGE_SIZE * VECTOR_FRAMES → page < DOS_VIEW_PAGES → KeepsVectors part →
     KeepsVectors (put_pageable part page on)
 keeps_pageable part page on long within keeps = record {
-  vectors = λ n at small less. pageable_away part page on (8 * n + at) (λ z. omega arith)
+  vectors = λ n at small less. pageable_away part page on (VECTOR_SIZE * n + at) (λ z. omega arith)
       ∙ keeps.vectors n at small less
-      ∙ sym (ap (λ (q : FarPtr). slice_index (vector_bytes q) at) (same_pointer (put_pageable part page on) part (8 * n)
-      (λ i s. pageable_away part page on (8 * n + i) (λ z. omega arith))));
+      ∙ sym (ap (λ (q : FarPtr). slice_index (vector_bytes q) at) (same_pointer (put_pageable part page on) part (VECTOR_SIZE * n)
+      (λ i s. pageable_away part page on (VECTOR_SIZE * n + i) (λ z. omega arith))));
   callbacks = keeps_callbacks part (put_pageable part page on) keeps (λ k from to. pageable_away part page on k (λ z. omega arith));
   pageable = λ other less. elim (cases_eq other page) [
     | inl same ↦ subst (λ (x : ℕ). x < 2) (sym (ap (λ (k : ℕ). slice_index (put_pageable part page on) (pageable_start + k)) same ∙ pageable_there part page on long within)) (bit_small on)
@@ -210,7 +210,7 @@ keeps_pageable part page on long within keeps = record {
   rest = λ at from to. pageable_away part page on at (λ z. omega arith) ∙ keeps.rest at from to;
 }
 
-pub pageable_set : (part : List ℕ) (page : ℕ) (on : Bool) → length part ≡ PAGE_SIZE → page < DOS_VIEW_PAGES →
+pub pageable_set : (part : List ℕ) (page : ℕ) (on : Bool) → length part ≡ PAGE_SIZE * VECTOR_FRAMES → page < DOS_VIEW_PAGES →
     pageable_in (put_pageable part page on) ≡ slice_set (pageable_in part) page on
 pageable_set part page on long within =
     listed-set DOS_VIEW_PAGES (λ k. nat_eq (slice_index part (pageable_start + k)) 1) (λ k. nat_eq (slice_index (put_pageable part page on) (pageable_start + k)) 1) page on within

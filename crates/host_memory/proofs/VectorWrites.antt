@@ -1,6 +1,6 @@
 -- The memory after a write of a vector or of a pageable page.
 use Rattle.std.proofs.Common.{◌≡◌, ℕ, ◌+◌, ◌*◌, ◌<◌, ◌≤◌, inl, inr, Bool, List, [], ◌∷◌, length, slice_set, refl, ap, ◌∙◌, subst, arith, Option, cond}
-use Rattle.client_world.specs.declared.host_frames.TheConstants.{PAGE_SIZE, VECTORS}
+use Rattle.client_world.specs.declared.host_frames.TheConstants.{PAGE_SIZE, VECTORS, VECTOR_FRAMES, VECTOR_SIZE}
 use Rattle.client_world.specs.declared.limits.TheConstants.{INTERRUPT_VECTORS, EXCEPTION_VECTORS}
 use Rattle.client_world.specs.declared.memory_map.TheConstants.{DOS_VIEW_PAGES}
 use Rattle.client_world.specs.declared.place.Place.{Place}
@@ -72,8 +72,8 @@ changes b c budget part interrupts exceptions pageable holds e size keeps lists 
   addresses = addresses_by b c (ap (λ (x : MemoryParts). x.handles) e) (ap (λ (x : MemoryParts). x.tables) e);
 }
 
-pub vectors_size : (b : List ℕ) (budget : ℕ) → HasSize b budget → length (vectors_part b) ≡ PAGE_SIZE
-vectors_size b budget size = length-region b (PAGE_SIZE * VECTORS) (PAGE_SIZE * 1) (omega (arith, size))
+pub vectors_size : (b : List ℕ) (budget : ℕ) → HasSize b budget → length (vectors_part b) ≡ PAGE_SIZE * VECTOR_FRAMES
+vectors_size b budget size = length-region b (PAGE_SIZE * VECTORS) (PAGE_SIZE * VECTOR_FRAMES) (omega (arith, size))
 
 -- ---- a vector
 
@@ -85,7 +85,7 @@ pointer_size b budget at p size =
     size_put (put b (PAGE_SIZE * VECTORS + at) (dword_bytes p.off)) budget (PAGE_SIZE * VECTORS + at + 4) (word_bytes p.sel)
     (size_put b budget (PAGE_SIZE * VECTORS + at) (dword_bytes p.off) size)
 
-pointer_parts : (b : List ℕ) (budget at : ℕ) (p : FarPtr) → HasSize b budget → at + 8 ≤ PAGE_SIZE →
+pointer_parts : (b : List ℕ) (budget at : ℕ) (p : FarPtr) → HasSize b budget → at + VECTOR_SIZE ≤ PAGE_SIZE * VECTOR_FRAMES →
     parts_of (with_pointer b at p) budget ≡ record (parts_of b budget) { vectors = put_pointer (vectors_part b) at p }
 pointer_parts b budget at p size room =
     let c = put b (PAGE_SIZE * VECTORS + at) (dword_bytes p.off) in
@@ -94,34 +94,34 @@ pointer_parts b budget at p size room =
     ∙ ap (λ (x : MemoryParts). record x { vectors = put x.vectors (at + 4) (word_bytes p.sel) }) first
 
 pub interrupt_changes : (b : List ℕ) (budget n : ℕ) (p : FarPtr) → Holds b budget → n < INTERRUPT_VECTORS →
-    ChangesVectors b (with_pointer b (8 * n) p) budget (slice_set (interrupt_vectors_in (vectors_part b)) n p)
+    ChangesVectors b (with_pointer b (VECTOR_SIZE * n) p) budget (slice_set (interrupt_vectors_in (vectors_part b)) n p)
     (exception_vectors_in (vectors_part b)) (pageable_in (vectors_part b))
 interrupt_changes b budget n p holds within =
     let part = vectors_part b in
     let long = vectors_size b budget holds.size in
-    changes b (with_pointer b (8 * n) p) budget (put_pointer part (8 * n) p) (slice_set (interrupt_vectors_in part) n p) (exception_vectors_in part) (pageable_in part) holds
-    (pointer_parts b budget (8 * n) p holds.size (omega arith)) (pointer_size b budget (8 * n) p holds.size)
+    changes b (with_pointer b (VECTOR_SIZE * n) p) budget (put_pointer part (VECTOR_SIZE * n) p) (slice_set (interrupt_vectors_in part) n p) (exception_vectors_in part) (pageable_in part) holds
+    (pointer_parts b budget (VECTOR_SIZE * n) p holds.size (omega arith)) (pointer_size b budget (VECTOR_SIZE * n) p holds.size)
     (keeps_pointer part n p long (omega arith) holds.vectors)
     (record {
       int = interrupts_set part n p long within;
-      exc = same_exceptions (put_pointer part (8 * n) p) part (λ k from to. pointer_away part (8 * n) p k (inl (omega arith)));
-      back = same_callbacks (put_pointer part (8 * n) p) part (λ k from to. pointer_away part (8 * n) p k (inl (omega arith)));
-      page = same_pageable (put_pointer part (8 * n) p) part (λ k from to. pointer_away part (8 * n) p k (inl (omega arith)));
+      exc = same_exceptions (put_pointer part (VECTOR_SIZE * n) p) part (λ k from to. pointer_away part (VECTOR_SIZE * n) p k (inl (omega arith)));
+      back = same_callbacks (put_pointer part (VECTOR_SIZE * n) p) part (λ k from to. pointer_away part (VECTOR_SIZE * n) p k (inl (omega arith)));
+      page = same_pageable (put_pointer part (VECTOR_SIZE * n) p) part (λ k from to. pointer_away part (VECTOR_SIZE * n) p k (inl (omega arith)));
     })
 
-keeps_exception : (part : List ℕ) (n : ℕ) (p : FarPtr) → length part ≡ PAGE_SIZE → n < EXCEPTION_VECTORS → KeepsVectors part →
-    KeepsVectors (put_pointer part (exceptions_start + 8 * n) p)
+keeps_exception : (part : List ℕ) (n : ℕ) (p : FarPtr) → length part ≡ PAGE_SIZE * VECTOR_FRAMES → n < EXCEPTION_VECTORS → KeepsVectors part →
+    KeepsVectors (put_pointer part (exceptions_start + VECTOR_SIZE * n) p)
 keeps_exception part n p long within keeps =
-    let at : 8 * (INTERRUPT_VECTORS + n) ≡ exceptions_start + 8 * n = omega arith in
+    let at : VECTOR_SIZE * (INTERRUPT_VECTORS + n) ≡ exceptions_start + VECTOR_SIZE * n = omega arith in
     subst (λ (k : ℕ). KeepsVectors (put_pointer part k p)) at (keeps_pointer part (INTERRUPT_VECTORS + n) p long (omega arith) keeps)
 
 pub exception_changes : (b : List ℕ) (budget n : ℕ) (p : FarPtr) → Holds b budget → n < EXCEPTION_VECTORS →
-    ChangesVectors b (with_pointer b (exceptions_start + 8 * n) p) budget (interrupt_vectors_in (vectors_part b))
+    ChangesVectors b (with_pointer b (exceptions_start + VECTOR_SIZE * n) p) budget (interrupt_vectors_in (vectors_part b))
     (slice_set (exception_vectors_in (vectors_part b)) n p) (pageable_in (vectors_part b))
 exception_changes b budget n p holds within =
     let part = vectors_part b in
     let long = vectors_size b budget holds.size in
-    let at = exceptions_start + 8 * n in
+    let at = exceptions_start + VECTOR_SIZE * n in
     changes b (with_pointer b at p) budget (put_pointer part at p) (interrupt_vectors_in part) (slice_set (exception_vectors_in part) n p) (pageable_in part) holds
     (pointer_parts b budget at p holds.size (omega arith)) (pointer_size b budget at p holds.size)
     (keeps_exception part n p long within holds.vectors)

@@ -5,7 +5,7 @@ use Rattle.std.proofs.lemmas.Bool.{cases_eq, eq-eqb, ne_eqb}
 use Rattle.std.proofs.lemmas.Option.{slice_get_within, get_or_from_slice_get}
 use Rattle.std.specs.declared.option.Option.{Option}
 use Rattle.client_world.specs.declared.segments.FarPtr.{FarPtr}
-use Rattle.client_world.specs.declared.host_frames.TheConstants.{PAGE_SIZE, VECTORS}
+use Rattle.client_world.specs.declared.host_frames.TheConstants.{PAGE_SIZE, VECTORS, CALLBACK_SIZE, VECTOR_FRAMES, VECTOR_SIZE}
 use Rattle.client_world.specs.declared.limits.TheConstants.{CALLBACKS, INTERRUPT_VECTORS, EXCEPTION_VECTORS}
 use Rattle.client_world.specs.declared.memory_map.TheConstants.{DOS_VIEW_PAGES}
 use Rattle.client_world.specs.World.{World, Callback}
@@ -30,8 +30,8 @@ item_is n f place x e =
     record { within = within; is = sym (get_or_from_slice_get (listed n f) place x x e) ∙ at_listed n f place x within }
 
 -- a byte of the frame
-vectors_byte : (b : List ℕ) (at : ℕ) → at < PAGE_SIZE → slice_index b (frame_place VECTORS at) ≡ slice_index (vectors_part b) at
-vectors_byte b at within = part_byte b VECTORS 1 at (omega arith)
+vectors_byte : (b : List ℕ) (at : ℕ) → at < PAGE_SIZE * VECTOR_FRAMES → slice_index b (frame_place VECTORS at) ≡ slice_index (vectors_part b) at
+vectors_byte b at within = part_byte b VECTORS VECTOR_FRAMES at (omega arith)
 
 -- a byte that is 0 or 1 says whether it is 1
 bit_is : (n : ℕ) → n < 2 → n ≡ cond (nat_eq n 1) 1 0
@@ -41,37 +41,37 @@ bit_is n small = elim (cases_eq n 1) [
 ]
 
 pub interrupt_claim : (b : List ℕ) (budget : ℕ) (w : World) → Holds b budget → w.interrupt_vectors ≡ interrupt_vectors_in (vectors_part b) →
-    (n at : ℕ) (p : FarPtr) → slice_get w.interrupt_vectors n ≡ Some p → at < 8 →
-    slice_index b (frame_place VECTORS (8 * n + at)) ≡ slice_index (vector_bytes p) at
+    (n at : ℕ) (p : FarPtr) → slice_get w.interrupt_vectors n ≡ Some p → at < VECTOR_SIZE →
+    slice_index b (frame_place VECTORS (VECTOR_SIZE * n + at)) ≡ slice_index (vector_bytes p) at
 interrupt_claim b budget w holds vectors n at p e less =
-    let item = item_is INTERRUPT_VECTORS (λ k. pointer_at (vectors_part b) (8 * k)) n p
+    let item = item_is INTERRUPT_VECTORS (λ k. pointer_at (vectors_part b) (VECTOR_SIZE * k)) n p
     (sym (ap (λ (xs : List FarPtr). slice_get xs n) vectors) ∙ e) in
     let within = item.within in
-    vectors_byte b (8 * n + at) (omega arith) ∙ holds.vectors.vectors n at (omega arith) less
+    vectors_byte b (VECTOR_SIZE * n + at) (omega arith) ∙ holds.vectors.vectors n at (omega arith) less
     ∙ sym (ap (λ (q : FarPtr). slice_index (vector_bytes q) at) item.is)
 
 pub exception_claim : (b : List ℕ) (budget : ℕ) (w : World) → Holds b budget → w.exception_vectors ≡ exception_vectors_in (vectors_part b) →
-    (n at : ℕ) (p : FarPtr) → slice_get w.exception_vectors n ≡ Some p → at < 8 →
-    slice_index b (frame_place VECTORS (exceptions_start + (8 * n + at))) ≡ slice_index (vector_bytes p) at
+    (n at : ℕ) (p : FarPtr) → slice_get w.exception_vectors n ≡ Some p → at < VECTOR_SIZE →
+    slice_index b (frame_place VECTORS (exceptions_start + (VECTOR_SIZE * n + at))) ≡ slice_index (vector_bytes p) at
 exception_claim b budget w holds vectors n at p e less =
-    let item = item_is EXCEPTION_VECTORS (λ k. pointer_at (vectors_part b) (exceptions_start + 8 * k)) n p
+    let item = item_is EXCEPTION_VECTORS (λ k. pointer_at (vectors_part b) (exceptions_start + VECTOR_SIZE * k)) n p
     (sym (ap (λ (xs : List FarPtr). slice_get xs n) vectors) ∙ e) in
     let within = item.within in
-    let start : 8 * (INTERRUPT_VECTORS + n) ≡ exceptions_start + 8 * n = omega arith in
-    let place : exceptions_start + (8 * n + at) ≡ 8 * (INTERRUPT_VECTORS + n) + at = omega arith in
-    vectors_byte b (exceptions_start + (8 * n + at)) (omega arith) ∙ ap (slice_index (vectors_part b)) place
+    let start : VECTOR_SIZE * (INTERRUPT_VECTORS + n) ≡ exceptions_start + VECTOR_SIZE * n = omega arith in
+    let place : exceptions_start + (VECTOR_SIZE * n + at) ≡ VECTOR_SIZE * (INTERRUPT_VECTORS + n) + at = omega arith in
+    vectors_byte b (exceptions_start + (VECTOR_SIZE * n + at)) (omega arith) ∙ ap (slice_index (vectors_part b)) place
     ∙ holds.vectors.vectors (INTERRUPT_VECTORS + n) at (omega arith) less
     ∙ ap (λ (k : ℕ). slice_index (vector_bytes (pointer_at (vectors_part b) k)) at) start
     ∙ sym (ap (λ (q : FarPtr). slice_index (vector_bytes q) at) item.is)
 
 pub callback_claim : (b : List ℕ) (budget : ℕ) (w : World) → Holds b budget → w.callbacks ≡ callbacks_in (vectors_part b) →
-    (slot at : ℕ) → slot < CALLBACKS → at < 16 →
-    slice_index b (frame_place VECTORS (callbacks_start + (16 * slot + at))) ≡ slice_index (callback_bytes (get_or w.callbacks slot None)) at
+    (slot at : ℕ) → slot < CALLBACKS → at < CALLBACK_SIZE →
+    slice_index b (frame_place VECTORS (callbacks_start + (CALLBACK_SIZE * slot + at))) ≡ slice_index (callback_bytes (get_or w.callbacks slot None)) at
 callback_claim b budget w holds callbacks slot at within less =
-    vectors_byte b (callbacks_start + (16 * slot + at)) (omega arith) ∙ holds.vectors.callbacks slot at within less
+    vectors_byte b (callbacks_start + (CALLBACK_SIZE * slot + at)) (omega arith) ∙ holds.vectors.callbacks slot at within less
     ∙ sym (ap (λ (x : Option Callback). slice_index (callback_bytes x) at)
     (ap (λ (xs : List (Option Callback)). get_or xs slot None) callbacks
-    ∙ at_listed CALLBACKS (λ k. callback_at (vectors_part b) (callbacks_start + 16 * k)) slot None within))
+    ∙ at_listed CALLBACKS (λ k. callback_at (vectors_part b) (callbacks_start + CALLBACK_SIZE * k)) slot None within))
 
 pub pageable_claim : (b : List ℕ) (budget : ℕ) (w : World) → Holds b budget → w.pageable ≡ pageable_in (vectors_part b) →
     (page : ℕ) → page < DOS_VIEW_PAGES → slice_index b (frame_place VECTORS (pageable_start + page)) ≡ cond (get_or w.pageable page false) 1 0

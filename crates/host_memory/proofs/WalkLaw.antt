@@ -2,18 +2,19 @@
 use Rattle.std.proofs.Common.{◌≡◌, ◌≢◌, ℕ, ◌+◌, ◌-◌, ◌*◌, ◌/◌, ◌%◌, ◌<◌, ◌≤◌, ◌^◌, inl, inr, Bool, true, false, List, ap, ◌∙◌, sym, arith, Ok}
 use Rattle.std.proofs.lemmas.Bool.{lt-ltb, le-ltb, cases_lt}
 use Rattle.std.specs.declared.option.Option.{Option}
+use Rattle.client_world.specs.declared.limits.TheConstants.{MAX_BLOCKS}
 use Rattle.client_world.specs.declared.registers.Mode.{Mode}
 use Rattle.client_world.specs.declared.registers.Regs.{Regs}
 use Rattle.client_world.specs.declared.registers.Width.{Width}
 use Rattle.client_world.specs.declared.place.Place.{Place}
-use Rattle.client_world.specs.declared.host_frames.TheConstants.{PAGE_SIZE, PAGE_DIRECTORY, LOW_TABLE, WINDOW_TABLE, DOS_FRAMES, BUDGET_FRAMES}
+use Rattle.client_world.specs.declared.host_frames.TheConstants.{PAGE_SIZE, PAGE_DIRECTORY, LOW_TABLE, WINDOW_TABLE, DOS_FRAMES, BUDGET_FRAMES, TABLE_ENTRIES}
 use Rattle.client_world.specs.declared.memory_map.TheConstants.{DOS_VIEW_PAGES, ROM_START, BLOCK_REGION, BLOCK_REGION_END, HOST_WINDOW}
 use Rattle.client_world.specs.Access.{place_in, place_of, dos_address}
 use Rattle.client_world.specs.Soundness.{SoundBlocks}
 use Rattle.client_world.specs.World.{MemoryBlock}
 use Rattle.page_tables.specs.Entry.{page_entry}
 use Rattle.page_tables.specs.Walk.{walked, ended}
-use Rattle.page_tables.specs.declared.entry.TheConstants.{TABLE_ENTRIES, TABLE_SPAN}
+use Rattle.page_tables.specs.declared.entry.TheConstants.{TABLE_SPAN}
 use Rattle.host_memory.specs.Holds.{Holds}
 use Rattle.host_memory.specs.Law.{told}
 use Rattle.host_memory.specs.Layout.{world_of, fixed_part, tables_part, handles_part, locks_part, taken_part, budget_part, base_of, pages_of, first_page_of, entry_of, blocks_in}
@@ -106,7 +107,7 @@ pub record InPages (handles : List ℕ) (place at lin : ℕ) : Type 0 where
   pub number : (lin - BLOCK_REGION) / PAGE_SIZE ≡ first_page_of handles place + at / PAGE_SIZE
   pub rest : at % PAGE_SIZE ≡ lin % PAGE_SIZE
 
-pub in_pages : (handles : List ℕ) (place at lin : ℕ) → HasRanges handles → place < 256 → pages_of handles place ≢ 0 →
+pub in_pages : (handles : List ℕ) (place at lin : ℕ) → HasRanges handles → place < MAX_BLOCKS → pages_of handles place ≢ 0 →
     lin ≡ base_of handles place + at → at < PAGE_SIZE * pages_of handles place → InPages handles place at lin
 in_pages handles place at lin ranged within some offset inside =
     let range = ranged.each place within some in

@@ -3,7 +3,7 @@ use Rattle.std.specs.Prelude.{◌≡◌, ℕ, zero, suc, ◌+◌, ◌*◌, ◌/�
 use Rattle.client_world.specs.declared.dos_memory.DosEntry.{DosEntry}
 use Rattle.client_world.specs.declared.dos_memory.DosState.{DosState}
 use Rattle.client_world.specs.declared.dos_memory.DosState.TheVariants.{Free, Used, Dpmi}
-use Rattle.client_world.specs.declared.host_frames.TheConstants.{PAGE_SIZE, DOS_LIST_FRAMES}
+use Rattle.client_world.specs.declared.host_frames.TheConstants.{PAGE_SIZE, DOS_ENTRY_SIZE, DOS_LIST_FRAMES}
 use Rattle.guest_ram.specs.Bytes.{word_of}
 use Rattle.guest_ram.specs.Listed.{listed}
 use Rattle.host_memory.specs.Vectors.{word_bytes}
@@ -13,7 +13,7 @@ abbrev pub list_size : ℕ
 list_size = PAGE_SIZE * DOS_LIST_FRAMES
 
 abbrev pub entry_size : ℕ
-entry_size = 8
+entry_size = DOS_ENTRY_SIZE
 
 abbrev pub entry_room : ℕ
 entry_room = list_size / entry_size

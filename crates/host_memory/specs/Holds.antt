@@ -1,7 +1,7 @@
 -- The memory holds a world: its bytes are exactly those that the world asks for. Source: own.
 use Rattle.std.specs.Prelude.{◌≡◌, ℕ, ◌+◌, ◌*◌, ◌<◌, ◌≤◌, List, length, slice_index}
 use Rattle.std.specs.List.{range_with_len}
-use Rattle.client_world.specs.declared.host_frames.TheConstants.{PAGE_SIZE, BUDGET_FRAMES, DESCRIPTORS, DESCRIPTOR_ROW_SIZE}
+use Rattle.client_world.specs.declared.host_frames.TheConstants.{PAGE_SIZE, BUDGET_FRAMES, DESCRIPTORS, DESCRIPTOR_ROW_SIZE, BLOCK_ROW_SIZE}
 use Rattle.client_world.specs.declared.limits.TheConstants.{MAX_BLOCKS, MAX_PAGES}
 use Rattle.client_world.specs.declared.memory_map.TheConstants.{BLOCK_REGION_PAGES}
 use Rattle.guest_ram.specs.Count.{used, total}
@@ -19,8 +19,8 @@ pub record KeepsRows (rows : List ℕ) : Type 0 where
 
 -- the row of a block is its linear address and its pages; the row of a free handle is 0
 pub record KeepsHandles (handles : List ℕ) : Type 0 where
-  pub rest : (place at : ℕ) → place < MAX_BLOCKS → 8 ≤ at → at < 16 → slice_index handles (16 * place + at) ≡ 0
-  pub free : (place at : ℕ) → place < MAX_BLOCKS → pages_of handles place ≡ 0 → at < 16 → slice_index handles (16 * place + at) ≡ 0
+  pub rest : (place at : ℕ) → place < MAX_BLOCKS → 8 ≤ at → at < BLOCK_ROW_SIZE → slice_index handles (BLOCK_ROW_SIZE * place + at) ≡ 0
+  pub free : (place at : ℕ) → place < MAX_BLOCKS → pages_of handles place ≡ 0 → at < BLOCK_ROW_SIZE → slice_index handles (BLOCK_ROW_SIZE * place + at) ≡ 0
 
 -- the pages of all blocks
 unfoldable pub all_pages : List ℕ → ℕ

@@ -5,7 +5,7 @@ use Rattle.std.specs.declared.option.Option.{Option}
 use Rattle.client_world.specs.declared.segments.FarPtr.{FarPtr}
 use Rattle.client_world.specs.declared.dos_memory.DosEntry.{DosEntry}
 use Rattle.client_world.specs.declared.calls.Record.{Record}
-use Rattle.client_world.specs.declared.host_frames.TheConstants.{PAGE_SIZE, PAGE_DIRECTORY, LOW_TABLE, WINDOW_TABLE, BLOCK_TABLES, DESCRIPTOR_ROWS, VECTORS, RECORDS, BLOCK_ROWS, LOCK_COUNTS, DOS_LIST, TAKEN_FRAMES, BUDGET_FRAMES, DESCRIPTORS, DESCRIPTOR_ROW_SIZE}
+use Rattle.client_world.specs.declared.host_frames.TheConstants.{PAGE_SIZE, PAGE_DIRECTORY, LOW_TABLE, WINDOW_TABLE, BLOCK_TABLES, DESCRIPTOR_ROWS, VECTORS, RECORDS, BLOCK_ROWS, LOCK_COUNTS, DOS_LIST, TAKEN_FRAMES, BUDGET_FRAMES, DESCRIPTORS, DESCRIPTOR_ROW_SIZE, BLOCK_ROW_SIZE, CALLBACK_SIZE, LOCK_COUNT_SIZE, PAGE_ENTRY_SIZE, TABLE_ENTRIES, VECTOR_SIZE, RECORD_FRAMES, VECTOR_FRAMES}
 use Rattle.client_world.specs.declared.limits.TheConstants.{MAX_BLOCKS, MAX_PAGES, CALLBACKS}
 use Rattle.client_world.specs.declared.memory_map.TheConstants.{DOS_SIZE, DOS_VIEW_PAGES, BLOCK_REGION, BLOCK_REGION_PAGES}
 use Rattle.client_world.specs.Selector.{row_at_index}
@@ -14,7 +14,6 @@ use Rattle.client_world.specs.World.{World, MemoryBlock, block_at}
 use Rattle.guest_ram.specs.Bytes.{dword, word_of}
 use Rattle.desc_table.specs.Rows.{row_bytes}
 use Rattle.page_tables.specs.Entry.{page_entry}
-use Rattle.page_tables.specs.declared.entry.TheConstants.{ENTRY_SIZE, TABLE_ENTRIES}
 use Rattle.host_memory.specs.Vectors.{vector_bytes, callback_bytes, exceptions_start, callbacks_start, pageable_start}
 use Rattle.host_memory.specs.Records.{record_bytes, record_size}
 use Rattle.host_memory.specs.DosList.{entry_bytes, entry_size, list_size}
@@ -26,7 +25,7 @@ frame_place frame at = PAGE_SIZE * frame + at
 
 -- the page entry of a page of the block region
 abbrev pub block_entry : List ℕ → ℕ → ℕ
-block_entry b page = dword b (frame_place BLOCK_TABLES (ENTRY_SIZE * page))
+block_entry b page = dword b (frame_place BLOCK_TABLES (PAGE_ENTRY_SIZE * page))
 
 -- a page of a block, counted from the start of the block region
 abbrev pub block_page : MemoryBlock → ℕ → ℕ
@@ -46,13 +45,13 @@ base_of_block (Some block) = block.base
 pub record IsBlockRow (b : List ℕ) (at : ℕ) (block : Option MemoryBlock) : Type 0 where
   pub base : dword b at ≡ base_of_block block
   pub pages : dword b (at + 4) ≡ pages_of_block block
-  pub rest : (offset : ℕ) → 8 ≤ offset → offset < 16 → slice_index b (at + offset) ≡ 0
+  pub rest : (offset : ℕ) → 8 ≤ offset → offset < BLOCK_ROW_SIZE → slice_index b (at + offset) ≡ 0
 
 -- the page tables: the entries that never change, and those of the block region
 pub record HoldsTables (b : List ℕ) (w : World) : Type 0 where
-  pub directory : (index : ℕ) → index < TABLE_ENTRIES → dword b (frame_place PAGE_DIRECTORY (ENTRY_SIZE * index)) ≡ directory_entry_at index
-  pub low : (page : ℕ) → page < TABLE_ENTRIES → dword b (frame_place LOW_TABLE (ENTRY_SIZE * page)) ≡ low_entry_at page
-  pub window : (page : ℕ) → page < TABLE_ENTRIES → dword b (frame_place WINDOW_TABLE (ENTRY_SIZE * page)) ≡ window_entry_at page
+  pub directory : (index : ℕ) → index < TABLE_ENTRIES → dword b (frame_place PAGE_DIRECTORY (PAGE_ENTRY_SIZE * index)) ≡ directory_entry_at index
+  pub low : (page : ℕ) → page < TABLE_ENTRIES → dword b (frame_place LOW_TABLE (PAGE_ENTRY_SIZE * page)) ≡ low_entry_at page
+  pub window : (page : ℕ) → page < TABLE_ENTRIES → dword b (frame_place WINDOW_TABLE (PAGE_ENTRY_SIZE * page)) ≡ window_entry_at page
   -- each page of a block stands in a budget frame, which the client may read and write
   pub named : (handle page : ℕ) (block : MemoryBlock) → block_at w.blocks handle ≡ Some block → page < length block.locks →
       NamesBudgetFrame w.budget (block_entry b (block_page block page))
@@ -76,28 +75,28 @@ pub record HoldsBlocks (b : List ℕ) (w : World) : Type 0 where
   pub bytes : (handle at : ℕ) (block : MemoryBlock) → block_at w.blocks handle ≡ Some block → at < length block.bytes →
       slice_index b (frame_place (block_entry b (block_page block (at / PAGE_SIZE)) / PAGE_SIZE) (at % PAGE_SIZE)) ≡ slice_index block.bytes at
   pub rows : (handle : ℕ) → 0 < handle → handle ≤ MAX_BLOCKS →
-      IsBlockRow b (frame_place BLOCK_ROWS (16 * (handle - 1))) (block_at w.blocks handle)
+      IsBlockRow b (frame_place BLOCK_ROWS (BLOCK_ROW_SIZE * (handle - 1))) (block_at w.blocks handle)
   pub locks : (handle page : ℕ) (block : MemoryBlock) → block_at w.blocks handle ≡ Some block → page < length block.locks →
-      word_of b (frame_place LOCK_COUNTS (2 * block_page block page)) ≡ slice_index block.locks page
-  pub unlocked : (page : ℕ) → page < BLOCK_REGION_PAGES → IsNoBlocks w page → word_of b (frame_place LOCK_COUNTS (2 * page)) ≡ 0
+      word_of b (frame_place LOCK_COUNTS (LOCK_COUNT_SIZE * block_page block page)) ≡ slice_index block.locks page
+  pub unlocked : (page : ℕ) → page < BLOCK_REGION_PAGES → IsNoBlocks w page → word_of b (frame_place LOCK_COUNTS (LOCK_COUNT_SIZE * page)) ≡ 0
 
 -- the frame of the vectors: each list in its place, and zeros behind them
 pub record HoldsVectors (b : List ℕ) (w : World) : Type 0 where
-  pub interrupts : (n at : ℕ) (p : FarPtr) → slice_get w.interrupt_vectors n ≡ Some p → at < 8 →
-      slice_index b (frame_place VECTORS (8 * n + at)) ≡ slice_index (vector_bytes p) at
-  pub exceptions : (n at : ℕ) (p : FarPtr) → slice_get w.exception_vectors n ≡ Some p → at < 8 →
-      slice_index b (frame_place VECTORS (exceptions_start + (8 * n + at))) ≡ slice_index (vector_bytes p) at
-  pub callbacks : (slot at : ℕ) → slot < CALLBACKS → at < 16 →
-      slice_index b (frame_place VECTORS (callbacks_start + (16 * slot + at))) ≡ slice_index (callback_bytes (slice_index_or w.callbacks slot None)) at
+  pub interrupts : (n at : ℕ) (p : FarPtr) → slice_get w.interrupt_vectors n ≡ Some p → at < VECTOR_SIZE →
+      slice_index b (frame_place VECTORS (VECTOR_SIZE * n + at)) ≡ slice_index (vector_bytes p) at
+  pub exceptions : (n at : ℕ) (p : FarPtr) → slice_get w.exception_vectors n ≡ Some p → at < VECTOR_SIZE →
+      slice_index b (frame_place VECTORS (exceptions_start + (VECTOR_SIZE * n + at))) ≡ slice_index (vector_bytes p) at
+  pub callbacks : (slot at : ℕ) → slot < CALLBACKS → at < CALLBACK_SIZE →
+      slice_index b (frame_place VECTORS (callbacks_start + (CALLBACK_SIZE * slot + at))) ≡ slice_index (callback_bytes (slice_index_or w.callbacks slot None)) at
   pub pageable : (page : ℕ) → page < DOS_VIEW_PAGES →
       slice_index b (frame_place VECTORS (pageable_start + page)) ≡ cond (slice_index_or w.pageable page false) 1 0
-  pub rest : (at : ℕ) → pageable_start + DOS_VIEW_PAGES ≤ at → at < PAGE_SIZE → slice_index b (frame_place VECTORS at) ≡ 0
+  pub rest : (at : ℕ) → pageable_start + DOS_VIEW_PAGES ≤ at → at < PAGE_SIZE * VECTOR_FRAMES → slice_index b (frame_place VECTORS at) ≡ 0
 
 -- lists whose length the world gives: their items one behind the other, and zeros behind them
 pub record HoldsLists (b : List ℕ) (w : World) : Type 0 where
   pub records : (place at : ℕ) (r : Record) → slice_get w.calls place ≡ Some r → at < record_size →
       slice_index b (frame_place RECORDS (record_size * place + at)) ≡ slice_index (record_bytes r) at
-  pub no_more_records : (at : ℕ) → record_size * length w.calls ≤ at → at < PAGE_SIZE → slice_index b (frame_place RECORDS at) ≡ 0
+  pub no_more_records : (at : ℕ) → record_size * length w.calls ≤ at → at < PAGE_SIZE * RECORD_FRAMES → slice_index b (frame_place RECORDS at) ≡ 0
   pub entries : (place at : ℕ) (entry : DosEntry) → slice_get w.arena place ≡ Some entry → at < entry_size →
       slice_index b (frame_place DOS_LIST (entry_size * place + at)) ≡ slice_index (entry_bytes entry) at
   pub no_more_entries : (at : ℕ) → entry_size * length w.arena ≤ at → at < list_size → slice_index b (frame_place DOS_LIST at) ≡ 0

@@ -7,7 +7,7 @@ use Rattle.client_world.specs.declared.registers.Regs.{Regs}
 use Rattle.client_world.specs.declared.registers.Width.{Width}
 use Rattle.client_world.specs.declared.place.Place.{Place}
 use Rattle.client_world.specs.declared.place.Place.TheVariants.{Dos, Block, Host, Nothing}
-use Rattle.client_world.specs.declared.host_frames.TheConstants.{PAGE_SIZE, PAGE_DIRECTORY, BLOCK_TABLES, BLOCK_TABLE_FRAMES, DESCRIPTOR_ROWS, DESCRIPTOR_ROW_FRAMES, VECTORS, RECORDS, BLOCK_ROWS, BLOCK_ROW_FRAMES, LOCK_COUNTS, LOCK_COUNT_FRAMES, DOS_LIST, DOS_LIST_FRAMES, TAKEN_FRAMES, TAKEN_BYTE_FRAMES, BUDGET_FRAMES}
+use Rattle.client_world.specs.declared.host_frames.TheConstants.{PAGE_SIZE, PAGE_DIRECTORY, BLOCK_TABLES, BLOCK_TABLE_FRAMES, DESCRIPTOR_ROWS, DESCRIPTOR_ROW_FRAMES, VECTORS, RECORDS, BLOCK_ROWS, BLOCK_ROW_FRAMES, LOCK_COUNTS, LOCK_COUNT_FRAMES, DOS_LIST, DOS_LIST_FRAMES, TAKEN_FRAMES, TAKEN_BYTE_FRAMES, BUDGET_FRAMES, BLOCK_ROW_SIZE, FIXED_TABLE_FRAMES, LOCK_COUNT_SIZE, PAGE_ENTRY_SIZE, RECORD_FRAMES, VECTOR_FRAMES}
 use Rattle.client_world.specs.declared.limits.TheConstants.{MAX_BLOCKS}
 use Rattle.client_world.specs.declared.memory_map.TheConstants.{DOS_SIZE, BLOCK_REGION}
 use Rattle.client_world.specs.World.{World, MemoryBlock}
@@ -28,7 +28,7 @@ dos_part b = region b 0 DOS_SIZE
 
 -- the page directory, the table of the first 4 MB and the table of the host's window
 abbrev pub fixed_part : List ℕ → List ℕ
-fixed_part b = frames_at b PAGE_DIRECTORY 3
+fixed_part b = frames_at b PAGE_DIRECTORY FIXED_TABLE_FRAMES
 
 -- the page tables of the block region
 abbrev pub tables_part : List ℕ → List ℕ
@@ -40,10 +40,10 @@ rows_part b = frames_at b DESCRIPTOR_ROWS DESCRIPTOR_ROW_FRAMES
 
 -- the protected-mode vectors, the callbacks and the pageable pages
 abbrev pub vectors_part : List ℕ → List ℕ
-vectors_part b = frames_at b VECTORS 1
+vectors_part b = frames_at b VECTORS VECTOR_FRAMES
 
 abbrev pub records_part : List ℕ → List ℕ
-records_part b = frames_at b RECORDS 1
+records_part b = frames_at b RECORDS RECORD_FRAMES
 
 -- the rows of the memory blocks, by their handles
 abbrev pub handles_part : List ℕ → List ℕ
@@ -68,21 +68,21 @@ budget_part b budget = frames_at b BUDGET_FRAMES budget
 -- of a handle less 1: the linear address of its block, the block's pages (0 where there is none), and the number of the first of them among
 -- the pages of the block region
 abbrev pub base_of : List ℕ → ℕ → ℕ
-base_of handles place = dword handles (16 * place)
+base_of handles place = dword handles (BLOCK_ROW_SIZE * place)
 
 abbrev pub pages_of : List ℕ → ℕ → ℕ
-pages_of handles place = dword handles (16 * place + 4)
+pages_of handles place = dword handles (BLOCK_ROW_SIZE * place + 4)
 
 abbrev pub first_page_of : List ℕ → ℕ → ℕ
 first_page_of handles place = (base_of handles place - BLOCK_REGION) / PAGE_SIZE
 
 -- the page entry of a page of the block region
 abbrev pub entry_of : List ℕ → ℕ → ℕ
-entry_of tables page = dword tables (4 * page)
+entry_of tables page = dword tables (PAGE_ENTRY_SIZE * page)
 
 -- the lock count of a page of the block region
 abbrev pub lock_of : List ℕ → ℕ → ℕ
-lock_of locks page = word_of locks (2 * page)
+lock_of locks page = word_of locks (LOCK_COUNT_SIZE * page)
 
 -- the byte at an offset from the start of a page of the block region, through the page entries
 abbrev pub page_byte : List ℕ → List ℕ → ℕ → ℕ → ℕ

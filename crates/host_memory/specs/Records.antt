@@ -6,7 +6,7 @@ use Rattle.client_world.specs.declared.calls.Call.{Call}
 use Rattle.client_world.specs.declared.calls.Call.TheVariants.{Int, Far, Iret, Reflect}
 use Rattle.client_world.specs.declared.calls.Record.{Record}
 use Rattle.client_world.specs.declared.calls.Record.TheVariants.{Sim, Back, Exc}
-use Rattle.client_world.specs.declared.host_frames.TheConstants.{PAGE_SIZE}
+use Rattle.client_world.specs.declared.host_frames.TheConstants.{PAGE_SIZE, RECORD_FRAMES, RECORD_SIZE}
 use Rattle.client_world.specs.declared.limits.TheConstants.{GREATEST_DEPTH}
 use Rattle.client_world.specs.Registers.{flags_image, flags_of_image}
 use Rattle.guest_ram.specs.Bytes.{word_of, dword, dword_bytes}
@@ -15,7 +15,7 @@ use Rattle.host_memory.specs.Vectors.{word_bytes, pointer_at, pointer_bytes}
 
 -- the bytes of a record
 abbrev pub record_size : ℕ
-record_size = 128
+record_size = RECORD_SIZE
 
 -- the registers in a record: nine doublewords, the flags image without IF, and six words
 unfoldable pub regs_at : List ℕ → ℕ → Regs
@@ -83,7 +83,7 @@ call_number Far = 0
 call_number Iret = 0
 call_number (Reflect number) = number
 
--- the 128 bytes of a record; what its kind lacks is 0
+-- the bytes of a record; what its kind lacks is 0
 unfoldable pub record_bytes : Record → List ℕ
 record_bytes (Sim call saved vif at) =
     record_head (call_kind call) (call_number call) vif 0 at ++ regs_bytes saved ++ zeros 62
@@ -107,4 +107,4 @@ calls_in part = listed (record_count part) (λ place. record_at part (record_siz
 pub record KeepsRecords (part : List ℕ) : Type 0 where
   pub each : (place at : ℕ) → place < record_count part → at < record_size →
       slice_index part (record_size * place + at) ≡ slice_index (record_bytes (record_at part (record_size * place))) at
-  pub rest : (at : ℕ) → record_size * record_count part ≤ at → at < PAGE_SIZE → slice_index part at ≡ 0
+  pub rest : (at : ℕ) → record_size * record_count part ≤ at → at < PAGE_SIZE * RECORD_FRAMES → slice_index part at ≡ 0

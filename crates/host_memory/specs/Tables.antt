@@ -1,11 +1,11 @@
 -- The page entries of the host, and what those of the block region must be. Source: own.
 use Rattle.std.specs.Prelude.{◌≡◌, ◌≢◌, ℕ, ◌+◌, ◌-◌, ◌*◌, ◌/◌, ◌<◌, ◌≤◌, true, false, nat_eq, nat_lt, nat_le, if◌then◌else◌, List, slice_index}
-use Rattle.client_world.specs.declared.host_frames.TheConstants.{PAGE_SIZE, DOS_FRAMES, PAGE_DIRECTORY, LOW_TABLE, WINDOW_TABLE, BLOCK_TABLES, BLOCK_TABLE_FRAMES, BUDGET_FRAMES}
+use Rattle.client_world.specs.declared.host_frames.TheConstants.{PAGE_SIZE, DOS_FRAMES, PAGE_DIRECTORY, LOW_TABLE, WINDOW_TABLE, BLOCK_TABLES, BLOCK_TABLE_FRAMES, BUDGET_FRAMES, PAGE_ENTRY_SIZE, TABLE_ENTRIES}
 use Rattle.client_world.specs.declared.limits.TheConstants.{MAX_BLOCKS, MAX_PAGES}
 use Rattle.client_world.specs.declared.memory_map.TheConstants.{DOS_VIEW_PAGES, ROM_START, BLOCK_REGION_PAGES, HOST_WINDOW}
 use Rattle.guest_ram.specs.Bytes.{dword}
 use Rattle.page_tables.specs.Entry.{page_entry}
-use Rattle.page_tables.specs.declared.entry.TheConstants.{ENTRY_SIZE, TABLE_ENTRIES, TABLE_SPAN, SUPERVISOR_WRITABLE}
+use Rattle.page_tables.specs.declared.entry.TheConstants.{TABLE_SPAN, SUPERVISOR_WRITABLE}
 use Rattle.host_memory.specs.Layout.{entry_of, pages_of, first_page_of}
 
 -- the entry of a frame that the supervisor alone may touch
@@ -32,11 +32,18 @@ low_entry_at page =
 abbrev pub window_entry_at : ℕ → ℕ
 window_entry_at page = if nat_lt page (BUDGET_FRAMES - PAGE_DIRECTORY) then supervisor_entry (PAGE_DIRECTORY + page) else 0
 
+-- where the two page tables begin in the part of the directory
+abbrev pub low_table_start : ℕ
+low_table_start = PAGE_SIZE * (LOW_TABLE - PAGE_DIRECTORY)
+
+abbrev pub window_table_start : ℕ
+window_table_start = PAGE_SIZE * (WINDOW_TABLE - PAGE_DIRECTORY)
+
 -- the entries that never change stand in the directory and in the two tables behind it
 pub record HasFixedEntries (fixed : List ℕ) : Type 0 where
-  pub directory : (index : ℕ) → index < TABLE_ENTRIES → dword fixed (ENTRY_SIZE * index) ≡ directory_entry_at index
-  pub low : (page : ℕ) → page < TABLE_ENTRIES → dword fixed (PAGE_SIZE + ENTRY_SIZE * page) ≡ low_entry_at page
-  pub window : (page : ℕ) → page < TABLE_ENTRIES → dword fixed (2 * PAGE_SIZE + ENTRY_SIZE * page) ≡ window_entry_at page
+  pub directory : (index : ℕ) → index < TABLE_ENTRIES → dword fixed (PAGE_ENTRY_SIZE * index) ≡ directory_entry_at index
+  pub low : (page : ℕ) → page < TABLE_ENTRIES → dword fixed (low_table_start + PAGE_ENTRY_SIZE * page) ≡ low_entry_at page
+  pub window : (page : ℕ) → page < TABLE_ENTRIES → dword fixed (window_table_start + PAGE_ENTRY_SIZE * page) ≡ window_entry_at page
 
 -- the entry names a budget frame, which the client may read and write
 pub record NamesBudgetFrame (budget entry : ℕ) : Type 0 where

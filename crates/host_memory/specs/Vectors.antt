@@ -2,7 +2,7 @@
 use Rattle.std.specs.Prelude.{◌≡◌, ℕ, ◌+◌, ◌*◌, ◌/◌, ◌%◌, ◌<◌, ◌≤◌, Bool, nat_eq, if◌then◌else◌, List, [], ◌∷◌, ◌++◌, None, Some, slice_index}
 use Rattle.std.specs.declared.option.Option.{Option}
 use Rattle.client_world.specs.declared.segments.FarPtr.{FarPtr}
-use Rattle.client_world.specs.declared.host_frames.TheConstants.{PAGE_SIZE}
+use Rattle.client_world.specs.declared.host_frames.TheConstants.{PAGE_SIZE, CALLBACK_SIZE, VECTOR_FRAMES, VECTOR_SIZE}
 use Rattle.client_world.specs.declared.limits.TheConstants.{CALLBACKS, INTERRUPT_VECTORS, EXCEPTION_VECTORS}
 use Rattle.client_world.specs.declared.memory_map.TheConstants.{DOS_VIEW_PAGES}
 use Rattle.client_world.specs.World.{Callback}
@@ -11,13 +11,13 @@ use Rattle.guest_ram.specs.Listed.{listed}
 
 -- where each list begins in the frame
 abbrev pub exceptions_start : ℕ
-exceptions_start = 0x800
+exceptions_start = VECTOR_SIZE * INTERRUPT_VECTORS
 
 abbrev pub callbacks_start : ℕ
-callbacks_start = 0x900
+callbacks_start = exceptions_start + VECTOR_SIZE * EXCEPTION_VECTORS
 
 abbrev pub pageable_start : ℕ
-pageable_start = 0xA00
+pageable_start = callbacks_start + CALLBACK_SIZE * CALLBACKS
 
 -- a far pointer: its offset, and behind it its selector
 abbrev pub pointer_at : List ℕ → ℕ → FarPtr
@@ -45,22 +45,22 @@ callback_bytes (Some callback) = pointer_bytes callback.0 ++ pointer_bytes callb
 
 -- the lists that the frame holds
 abbrev pub interrupt_vectors_in : List ℕ → List FarPtr
-interrupt_vectors_in part = listed INTERRUPT_VECTORS (λ n. pointer_at part (8 * n))
+interrupt_vectors_in part = listed INTERRUPT_VECTORS (λ n. pointer_at part (VECTOR_SIZE * n))
 
 abbrev pub exception_vectors_in : List ℕ → List FarPtr
-exception_vectors_in part = listed EXCEPTION_VECTORS (λ n. pointer_at part (exceptions_start + 8 * n))
+exception_vectors_in part = listed EXCEPTION_VECTORS (λ n. pointer_at part (exceptions_start + VECTOR_SIZE * n))
 
 abbrev pub callbacks_in : List ℕ → List (Option Callback)
-callbacks_in part = listed CALLBACKS (λ slot. callback_at part (callbacks_start + 16 * slot))
+callbacks_in part = listed CALLBACKS (λ slot. callback_at part (callbacks_start + CALLBACK_SIZE * slot))
 
 abbrev pub pageable_in : List ℕ → List Bool
 pageable_in part = listed DOS_VIEW_PAGES (λ page. nat_eq (slice_index part (pageable_start + page)) 1)
 
 -- the bytes of the frame are exactly those of its lists, and zeros behind them
 pub record KeepsVectors (part : List ℕ) : Type 0 where
-  pub vectors : (n at : ℕ) → n < INTERRUPT_VECTORS + EXCEPTION_VECTORS → at < 8 →
-      slice_index part (8 * n + at) ≡ slice_index (vector_bytes (pointer_at part (8 * n))) at
-  pub callbacks : (slot at : ℕ) → slot < CALLBACKS → at < 16 →
-      slice_index part (callbacks_start + (16 * slot + at)) ≡ slice_index (callback_bytes (callback_at part (callbacks_start + 16 * slot))) at
+  pub vectors : (n at : ℕ) → n < INTERRUPT_VECTORS + EXCEPTION_VECTORS → at < VECTOR_SIZE →
+      slice_index part (VECTOR_SIZE * n + at) ≡ slice_index (vector_bytes (pointer_at part (VECTOR_SIZE * n))) at
+  pub callbacks : (slot at : ℕ) → slot < CALLBACKS → at < CALLBACK_SIZE →
+      slice_index part (callbacks_start + (CALLBACK_SIZE * slot + at)) ≡ slice_index (callback_bytes (callback_at part (callbacks_start + CALLBACK_SIZE * slot))) at
   pub pageable : (page : ℕ) → page < DOS_VIEW_PAGES → slice_index part (pageable_start + page) < 2
-  pub rest : (at : ℕ) → pageable_start + DOS_VIEW_PAGES ≤ at → at < PAGE_SIZE → slice_index part at ≡ 0
+  pub rest : (at : ℕ) → pageable_start + DOS_VIEW_PAGES ≤ at → at < PAGE_SIZE * VECTOR_FRAMES → slice_index part at ≡ 0

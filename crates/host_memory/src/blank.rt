@@ -11,7 +11,7 @@ ghost use Rattle.host_memory.specs.Tables.{directory_entry_at, low_entry_at, win
 use crate::dos_list::{header, listed_entry};
 use client_world::host_frames::{
     BLOCK_TABLE_FRAMES, BLOCK_TABLES, BUDGET_FRAMES, DOS_FRAMES, DOS_LIST, LOW_TABLE,
-    PAGE_DIRECTORY, PAGE_SIZE, VECTORS, WINDOW_TABLE,
+    PAGE_DIRECTORY, PAGE_ENTRY_SIZE, PAGE_SIZE, TABLE_ENTRIES, VECTORS, WINDOW_TABLE,
 };
 use client_world::limits::{EXCEPTION_VECTORS, INTERRUPT_VECTORS, MAX_PAGES};
 use client_world::memory_map::{
@@ -22,9 +22,7 @@ use client_world::selectors::{HOST_CODE, selector_of};
 use client_world::traps::PROTECTED_VECTOR_TRAPS;
 use client_world::{DosEntry, DosState};
 use guest_ram::Ram;
-use page_tables::{
-    ENTRY_SIZE, SUPERVISOR_WRITABLE, TABLE_ENTRIES, TABLE_SPAN, USER_READ_ONLY, USER_WRITABLE,
-};
+use page_tables::{SUPERVISOR_WRITABLE, TABLE_SPAN, USER_READ_ONLY, USER_WRITABLE};
 use std::alloc::{AllocError, Global};
 
 // The doublewords of the protected vectors, two for each.
@@ -110,7 +108,7 @@ fn fill_directory(ram: &mut Ram)
 {
     for index in 0..TABLE_ENTRIES {
         ram.set32(
-            PAGE_SIZE * PAGE_DIRECTORY + ENTRY_SIZE * index,
+            PAGE_SIZE * PAGE_DIRECTORY + PAGE_ENTRY_SIZE * index,
             directory_entry(index),
         );
     }
@@ -121,7 +119,10 @@ fn fill_low_table(ram: &mut Ram)
     ensures { Written low_entry_at (PAGE_SIZE * LOW_TABLE) TABLE_ENTRIES ram.old ram.new }
 {
     for page in 0..TABLE_ENTRIES {
-        ram.set32(PAGE_SIZE * LOW_TABLE + ENTRY_SIZE * page, low_entry(page));
+        ram.set32(
+            PAGE_SIZE * LOW_TABLE + PAGE_ENTRY_SIZE * page,
+            low_entry(page),
+        );
     }
 }
 
@@ -131,7 +132,7 @@ fn fill_window_table(ram: &mut Ram)
 {
     for page in 0..TABLE_ENTRIES {
         ram.set32(
-            PAGE_SIZE * WINDOW_TABLE + ENTRY_SIZE * page,
+            PAGE_SIZE * WINDOW_TABLE + PAGE_ENTRY_SIZE * page,
             window_entry(page),
         );
     }
