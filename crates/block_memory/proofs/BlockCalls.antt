@@ -3,7 +3,7 @@ use Rattle.std.proofs.Common.{◌≡◌, ◌≢◌, ℕ, suc, ◌+◌, ◌-◌, 
 use Rattle.std.specs.Prelude.{min}
 use Rattle.std.proofs.lemmas.Bool.{ne_eqb}
 use Rattle.std.proofs.lemmas.List.{length-append, length-take}
-use Rattle.client_world.specs.declared.host_frames.TheConstants.{PAGE_SIZE, BLOCK_ROWS, BLOCK_TABLES, LOCK_COUNTS}
+use Rattle.client_world.specs.declared.host_frames.TheConstants.{PAGE_SIZE, BLOCK_ROWS, BLOCK_TABLES, LOCK_COUNTS, BLOCK_ROW_SIZE, LOCK_COUNT_SIZE, PAGE_ENTRY_SIZE}
 use Rattle.client_world.specs.Access.{HasByte, bytes_of_block}
 use Rattle.client_world.specs.Soundness.{SoundBlocks, pages_of_block}
 use Rattle.client_world.specs.World.{World, MemoryBlock}
@@ -36,8 +36,8 @@ some_pages blocks budget place sound (Some block) e there n count =
     let is = sound.each (suc place) block e in let long = is.pages in let some = is.some in omega arith
 
 -- the two doublewords of a row
-pub row_read : (b : List ℕ) (place base pages : ℕ) → HasBlockIn b place → base ≡ dword b (PAGE_SIZE * BLOCK_ROWS + 16 * place) →
-    pages ≡ dword b (PAGE_SIZE * BLOCK_ROWS + 16 * place + 4) → (budget : ℕ) → Holds b budget → HasPages (blocks_held b budget) place base pages
+pub row_read : (b : List ℕ) (place base pages : ℕ) → HasBlockIn b place → base ≡ dword b (PAGE_SIZE * BLOCK_ROWS + BLOCK_ROW_SIZE * place) →
+    pages ≡ dword b (PAGE_SIZE * BLOCK_ROWS + BLOCK_ROW_SIZE * place + 4) → (budget : ℕ) → Holds b budget → HasPages (blocks_held b budget) place base pages
 row_read b place base pages h e f other holds =
     let s = block_parts (parts_of b h.budget) in
     let handles = handles_part b in
@@ -70,16 +70,16 @@ dropped b c place replaces budget holds =
 
 -- the three writes
 moved_is : (b b1 b2 b3 : List ℕ) (place old base n : ℕ) →
-    b1 ≡ slid b (PAGE_SIZE * BLOCK_TABLES + 4 * first_page old) (PAGE_SIZE * BLOCK_TABLES + 4 * first_page base) (4 * n) →
-    b2 ≡ slid b1 (PAGE_SIZE * LOCK_COUNTS + 2 * first_page old) (PAGE_SIZE * LOCK_COUNTS + 2 * first_page base) (2 * n) →
+    b1 ≡ slid b (PAGE_SIZE * BLOCK_TABLES + PAGE_ENTRY_SIZE * first_page old) (PAGE_SIZE * BLOCK_TABLES + PAGE_ENTRY_SIZE * first_page base) (PAGE_ENTRY_SIZE * n) →
+    b2 ≡ slid b1 (PAGE_SIZE * LOCK_COUNTS + LOCK_COUNT_SIZE * first_page old) (PAGE_SIZE * LOCK_COUNTS + LOCK_COUNT_SIZE * first_page base) (LOCK_COUNT_SIZE * n) →
     b3 ≡ with_block_row b2 place base n → b3 ≡ moved b place old base n
 moved_is b b1 b2 b3 place old base n e f g =
     g ∙ ap (λ (x : List ℕ). with_block_row x place base n)
-    (f ∙ ap (λ (x : List ℕ). slid x (PAGE_SIZE * LOCK_COUNTS + 2 * first_page old) (PAGE_SIZE * LOCK_COUNTS + 2 * first_page base) (2 * n)) e)
+    (f ∙ ap (λ (x : List ℕ). slid x (PAGE_SIZE * LOCK_COUNTS + LOCK_COUNT_SIZE * first_page old) (PAGE_SIZE * LOCK_COUNTS + LOCK_COUNT_SIZE * first_page base) (LOCK_COUNT_SIZE * n)) e)
 
 pub block_moved : (b b1 b2 b3 : List ℕ) (place old base n : ℕ) → CanMoveIn b place old base n →
-    b1 ≡ slid b (PAGE_SIZE * BLOCK_TABLES + 4 * first_page old) (PAGE_SIZE * BLOCK_TABLES + 4 * first_page base) (4 * n) →
-    b2 ≡ slid b1 (PAGE_SIZE * LOCK_COUNTS + 2 * first_page old) (PAGE_SIZE * LOCK_COUNTS + 2 * first_page base) (2 * n) →
+    b1 ≡ slid b (PAGE_SIZE * BLOCK_TABLES + PAGE_ENTRY_SIZE * first_page old) (PAGE_SIZE * BLOCK_TABLES + PAGE_ENTRY_SIZE * first_page base) (PAGE_ENTRY_SIZE * n) →
+    b2 ≡ slid b1 (PAGE_SIZE * LOCK_COUNTS + LOCK_COUNT_SIZE * first_page old) (PAGE_SIZE * LOCK_COUNTS + LOCK_COUNT_SIZE * first_page base) (LOCK_COUNT_SIZE * n) →
     b3 ≡ with_block_row b2 place base n → ReplacesBlock b b3 place (λ o. at_base base o)
 block_moved b b1 b2 b3 place old base n g e1 e2 e3 =
     let blocks = blocks_held b g.budget in

@@ -2,7 +2,7 @@
 use Rattle.std.proofs.Common.{◌≡◌, ◌≢◌, ℕ, zero, suc, ◌+◌, ◌*◌, ◌-◌, ◌<◌, inl, inr, true, List, length, slice_index, slice_index_or, slice_set, refl, ap, ◌∙◌, sym, subst, arith, Option, None, Some, get_or-set_same, get_or-set_other}
 use Rattle.std.proofs.lemmas.Bool.{cases_eq}
 use Rattle.std.proofs.lemmas.List.{set-get_or}
-use Rattle.client_world.specs.declared.host_frames.TheConstants.{PAGE_SIZE, BUDGET_FRAMES}
+use Rattle.client_world.specs.declared.host_frames.TheConstants.{PAGE_SIZE, BUDGET_FRAMES, PAGE_ENTRY_SIZE}
 use Rattle.client_world.specs.declared.memory_map.TheConstants.{BLOCK_REGION_PAGES}
 use Rattle.client_world.specs.declared.place.Place.{Place}
 use Rattle.client_world.specs.declared.place.Place.TheVariants.{Dos, Block, Host, Nothing}
@@ -235,7 +235,7 @@ can_give b place base n d c e frame f =
     let parts = entry_are b budget lin (region_page base n) 0 host in_region page in
     let after_host = entry_host b budget lin (region_page base n) 0 host in_region page in
     let from = s.last.inside.from in let to = s.last.inside.to in let most = holds.most in let size = after_host.size in
-    let tables : tables_part after ≡ put (tables_part b) (4 * region_page base n) (dword_bytes 0) = ap (λ (p : MemoryParts). p.tables) parts in
+    let tables : tables_part after ≡ put (tables_part b) (PAGE_ENTRY_SIZE * region_page base n) (dword_bytes 0) = ap (λ (p : MemoryParts). p.tables) parts in
     let taken : taken_part after ≡ taken_part b = ap (λ (p : MemoryParts). p.taken) parts in
     let more = shrunk_less (parts_of b budget) budget place base n (last_frame b base n - BUDGET_FRAMES) (holds_parts b budget holds)
     (may_shrink b budget place base n holds (ranges_held b budget d.holds) s.has) in
@@ -249,7 +249,7 @@ can_give b place base n d c e frame f =
           omega arith);
       nowhere = named_nowhere after budget (last_frame b base n) after_host s.last.inside.from (λ p small same. elim (cases_eq p (region_page base n)) [
         | inl here ↦ (
-            let zero : entry_of (tables_part after) p ≡ 0 = ap (λ (t : List ℕ). entry_of t p) tables ∙ ap (entry_of (put (tables_part b) (4 * region_page base n) (dword_bytes 0))) here ∙ more.no_entry in
+            let zero : entry_of (tables_part after) p ≡ 0 = ap (λ (t : List ℕ). entry_of t p) tables ∙ ap (entry_of (put (tables_part b) (PAGE_ENTRY_SIZE * region_page base n) (dword_bytes 0))) here ∙ more.no_entry in
             let none : frame_of (entry_of (tables_part after) p) ≡ 0 = ap frame_of zero in
             omega arith)
         | inr ne ↦ no_other b place base n d p small ne

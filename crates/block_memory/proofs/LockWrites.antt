@@ -1,7 +1,7 @@
 -- The lock count of a page of a block, read and written.
 use Rattle.std.proofs.Common.{◌≡◌, ◌≢◌, ℕ, suc, ◌+◌, ◌*◌, ◌/◌, ◌%◌, ◌<◌, ◌≤◌, ◌&&◌, ◌⊎◌, inl, inr, Bool, false, List, length, slice_index, slice_set, refl, ap, ◌∙◌, sym, subst, arith, Option, Some, nat_lt, nat_le}
 use Rattle.std.proofs.lemmas.Bool.{cases_eq, cases_lt, cases_Bool, le-ltb, lt-leb}
-use Rattle.client_world.specs.declared.host_frames.TheConstants.{PAGE_SIZE, LOCK_COUNTS}
+use Rattle.client_world.specs.declared.host_frames.TheConstants.{PAGE_SIZE, LOCK_COUNTS, LOCK_COUNT_SIZE}
 use Rattle.client_world.specs.declared.limits.TheConstants.{MAX_BLOCKS}
 use Rattle.client_world.specs.declared.memory_map.TheConstants.{BLOCK_REGION, BLOCK_REGION_END, BLOCK_REGION_PAGES, DOS_VIEW_END, HOST_WINDOW, HOST_WINDOW_END}
 use Rattle.client_world.specs.declared.place.Place.{Place}
@@ -136,24 +136,24 @@ block_byte handles tables locks frames lin ranges is =
 
 -- the lock counts with another one
 abbrev pub put_lock : List ℕ → ℕ → ℕ → List ℕ
-put_lock locks page n = put locks (2 * page) (word_bytes n)
+put_lock locks page n = put locks (LOCK_COUNT_SIZE * page) (word_bytes n)
 
-lock_there : (locks : List ℕ) (page n : ℕ) → length locks ≡ 2 * BLOCK_REGION_PAGES → page < BLOCK_REGION_PAGES → lock_of (put_lock locks page n) page ≡ n
+lock_there : (locks : List ℕ) (page n : ℕ) → length locks ≡ LOCK_COUNT_SIZE * BLOCK_REGION_PAGES → page < BLOCK_REGION_PAGES → lock_of (put_lock locks page n) page ≡ n
 lock_there locks page n long small =
-    let low : slice_index (put_lock locks page n) (2 * page) ≡ n % 0x100 = put_within locks (2 * page) (word_bytes n) 0 (2 * page) (omega arith) (omega arith) (omega arith) in
-    let high : slice_index (put_lock locks page n) (2 * page + 1) ≡ n / 0x100 = put_within locks (2 * page) (word_bytes n) 1 (2 * page + 1) (omega arith) (omega arith) refl in
+    let low : slice_index (put_lock locks page n) (LOCK_COUNT_SIZE * page) ≡ n % 0x100 = put_within locks (LOCK_COUNT_SIZE * page) (word_bytes n) 0 (LOCK_COUNT_SIZE * page) (omega arith) (omega arith) (omega arith) in
+    let high : slice_index (put_lock locks page n) (LOCK_COUNT_SIZE * page + 1) ≡ n / 0x100 = put_within locks (LOCK_COUNT_SIZE * page) (word_bytes n) 1 (LOCK_COUNT_SIZE * page + 1) (omega arith) (omega arith) refl in
     rw (low, high) (omega arith)
 
 lock_beside : (locks : List ℕ) (page n other : ℕ) → other ≢ page → lock_of (put_lock locks page n) other ≡ lock_of locks other
 lock_beside locks page n other ne =
-    let low : slice_index (put_lock locks page n) (2 * other) ≡ slice_index locks (2 * other) = put_away locks (2 * page) (word_bytes n) (2 * other) (beside 0) in
-    let high : slice_index (put_lock locks page n) (2 * other + 1) ≡ slice_index locks (2 * other + 1) = put_away locks (2 * page) (word_bytes n) (2 * other + 1) (beside_one 0) in
+    let low : slice_index (put_lock locks page n) (LOCK_COUNT_SIZE * other) ≡ slice_index locks (LOCK_COUNT_SIZE * other) = put_away locks (LOCK_COUNT_SIZE * page) (word_bytes n) (LOCK_COUNT_SIZE * other) (beside 0) in
+    let high : slice_index (put_lock locks page n) (LOCK_COUNT_SIZE * other + 1) ≡ slice_index locks (LOCK_COUNT_SIZE * other + 1) = put_away locks (LOCK_COUNT_SIZE * page) (word_bytes n) (LOCK_COUNT_SIZE * other + 1) (beside_one 0) in
     rw (low, high) refl
   where
-    beside : ℕ → (2 * page + 2 ≤ 2 * other) ⊎ (2 * other < 2 * page)
+    beside : ℕ → (LOCK_COUNT_SIZE * page + 2 ≤ LOCK_COUNT_SIZE * other) ⊎ (LOCK_COUNT_SIZE * other < LOCK_COUNT_SIZE * page)
     beside k = elim (cases_lt page other) [ inl below ↦ inl (omega arith) | inr above ↦ inr (omega arith) ]
 
-    beside_one : ℕ → (2 * page + 2 ≤ 2 * other + 1) ⊎ (2 * other + 1 < 2 * page)
+    beside_one : ℕ → (LOCK_COUNT_SIZE * page + 2 ≤ LOCK_COUNT_SIZE * other + 1) ⊎ (LOCK_COUNT_SIZE * other + 1 < LOCK_COUNT_SIZE * page)
     beside_one k = elim (cases_lt page other) [ inl below ↦ inl (omega arith) | inr above ↦ inr (omega arith) ]
 
 -- pages of no block have no lock still
@@ -166,7 +166,7 @@ locked_keeps handles locks place at page n within inside e h = record {
 }
 
 -- the block has that lock count, and the others are the same
-lock_block : (handles tables locks frames : List ℕ) (place at page n : ℕ) → length locks ≡ 2 * BLOCK_REGION_PAGES → place < MAX_BLOCKS → at < PAGE_SIZE * pages_of handles place →
+lock_block : (handles tables locks frames : List ℕ) (place at page n : ℕ) → length locks ≡ LOCK_COUNT_SIZE * BLOCK_REGION_PAGES → place < MAX_BLOCKS → at < PAGE_SIZE * pages_of handles place →
     page ≡ first_page_of handles place + at / PAGE_SIZE → page < BLOCK_REGION_PAGES →
     held_block handles tables (put_lock locks page n) frames place
     ≡ record (held_block handles tables locks frames place) { locks = slice_set (held_block handles tables locks frames place).locks (at / PAGE_SIZE) n }
@@ -192,7 +192,7 @@ lock_other handles tables locks frames place at page n other ranges within insid
         (λ k less. lock_beside locks page n (first_page_of handles other + k) (λ equal.
         apart_pages handles ranges place other (at / PAGE_SIZE) k within small (λ z. ne (sym z)) (omega arith) less (sym e ∙ sym equal)))) refl
 
-lock_blocks : (handles tables locks frames : List ℕ) (place at page n : ℕ) → HasRanges handles → length locks ≡ 2 * BLOCK_REGION_PAGES → place < MAX_BLOCKS →
+lock_blocks : (handles tables locks frames : List ℕ) (place at page n : ℕ) → HasRanges handles → length locks ≡ LOCK_COUNT_SIZE * BLOCK_REGION_PAGES → place < MAX_BLOCKS →
     pages_of handles place ≢ 0 → at < PAGE_SIZE * pages_of handles place → page ≡ first_page_of handles place + at / PAGE_SIZE → page < BLOCK_REGION_PAGES →
     blocks_in handles tables (put_lock locks page n) frames ≡ with_lock (blocks_in handles tables locks frames) (Block (suc place) at) n
 lock_blocks handles tables locks frames place at page n ranges long within some inside e small =
@@ -211,7 +211,7 @@ lock_blocks handles tables locks frames place at page n ranges long within some 
 
 -- the memory after the write
 abbrev pub locked : List ℕ → ℕ → ℕ → List ℕ
-locked b lin n = put b (PAGE_SIZE * LOCK_COUNTS + 2 * page_at lin) (word_bytes n)
+locked b lin n = put b (PAGE_SIZE * LOCK_COUNTS + LOCK_COUNT_SIZE * page_at lin) (word_bytes n)
 
 pub record LocksPage (b : List ℕ) (budget lin n : ℕ) : Type 0 where
   pub holds : Holds (locked b lin n) budget
@@ -229,13 +229,13 @@ locks_page b budget lin n holds ranges is =
     let byte = block_byte p.handles p.tables p.locks p.frames lin ranges is in
     let inside = byte.inside in let page = byte.page in
     let small : page_at lin < BLOCK_REGION_PAGES = (let s = page_small p.handles ranges byte.place (byte.at / PAGE_SIZE) byte.within (omega arith) in omega arith) in
-    let e = put_locks b budget (PAGE_SIZE * LOCK_COUNTS + 2 * page_at lin) (2 * page_at lin) (word_bytes n) holds.size refl (omega arith) in
+    let e = put_locks b budget (PAGE_SIZE * LOCK_COUNTS + LOCK_COUNT_SIZE * page_at lin) (LOCK_COUNT_SIZE * page_at lin) (word_bytes n) holds.size refl (omega arith) in
     let q : MemoryParts = record p { locks = put_lock p.locks (page_at lin) n } in
     let h = holds_parts b budget holds in
     let blocks = lock_blocks p.handles p.tables p.locks p.frames byte.place byte.at (page_at lin) n ranges sizes.locks byte.within byte.some byte.inside byte.page small
     ∙ ap (λ (x : Place). with_lock (blocks_held b budget) x n) (sym byte.answer) in
     record {
-      holds = holds_by (locked b lin n) budget q e (size_put b budget (PAGE_SIZE * LOCK_COUNTS + 2 * page_at lin) (word_bytes n) holds.size) holds.most (record {
+      holds = holds_by (locked b lin n) budget q e (size_put b budget (PAGE_SIZE * LOCK_COUNTS + LOCK_COUNT_SIZE * page_at lin) (word_bytes n) holds.size) holds.most (record {
         fixed = h.fixed;
         rows = h.rows;
         vectors = h.vectors;

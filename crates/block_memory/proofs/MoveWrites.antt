@@ -2,7 +2,7 @@
 use Rattle.std.proofs.Common.{◌≡◌, ◌≢◌, ℕ, zero, suc, ◌+◌, ◌*◌, ◌<◌, ◌≤◌, ◌⊎◌, inl, inr, List, length, get_or, slice_index_or, slice_set, refl, ap, ◌∙◌, sym, subst, arith, add_assoc, Option, None}
 use Rattle.std.proofs.lemmas.Bool.{cases_eq, cases_lt, lt-ltb, le-ltb}
 use Rattle.std.proofs.lemmas.Grind.{same_number_lists}
-use Rattle.client_world.specs.declared.host_frames.TheConstants.{PAGE_SIZE, BLOCK_TABLES, LOCK_COUNTS}
+use Rattle.client_world.specs.declared.host_frames.TheConstants.{PAGE_SIZE, BLOCK_TABLES, LOCK_COUNTS, BLOCK_TABLE_FRAMES, LOCK_COUNT_FRAMES, LOCK_COUNT_SIZE, PAGE_ENTRY_SIZE}
 use Rattle.client_world.specs.declared.limits.TheConstants.{MAX_BLOCKS}
 use Rattle.client_world.specs.declared.place.Place.{Place}
 use Rattle.client_world.specs.declared.place.Place.TheVariants.{Dos, Block, Host, Nothing}
@@ -56,7 +56,7 @@ left_inside from to n room fits = elim (cases_lt from to) [
 ]
 
 -- entries move in the tables
-pub slid_tables : (b : List ℕ) (budget from to n : ℕ) → HasHost b budget → from + n ≤ PAGE_SIZE * 16 → to + n ≤ PAGE_SIZE * 16 →
+pub slid_tables : (b : List ℕ) (budget from to n : ℕ) → HasHost b budget → from + n ≤ PAGE_SIZE * BLOCK_TABLE_FRAMES → to + n ≤ PAGE_SIZE * BLOCK_TABLE_FRAMES →
     parts_of (slid b (PAGE_SIZE * BLOCK_TABLES + from) (PAGE_SIZE * BLOCK_TABLES + to) n) budget
     ≡ record (parts_of b budget) { tables = slid (tables_part b) from to n }
 unfolding slid
@@ -68,16 +68,16 @@ slid_tables b budget from to n host source target =
     let b1 = put b (lo + to) xs in
     put_tables b1 budget (vacated (lo + from) (lo + to) n) (vacated from to n) (copies (vacant (lo + from) (lo + to) n) 0)
     (size_put b budget (lo + to) xs host.size) (shift_vacated lo from to n)
-    (omega (arith, length-copies (vacant (lo + from) (lo + to) n) 0, shift_vacant lo from to n, left_inside from to n (PAGE_SIZE * 16) source))
+    (omega (arith, length-copies (vacant (lo + from) (lo + to) n) 0, shift_vacant lo from to n, left_inside from to n (PAGE_SIZE * BLOCK_TABLE_FRAMES) source))
     ∙ ap (λ (p : MemoryParts). record p { tables = put p.tables (vacated from to n) (copies (vacant (lo + from) (lo + to) n) 0) })
     (put_tables b budget (lo + to) to xs host.size refl (omega arith))
     ∙ ap (λ (ys : List ℕ). record (parts_of b budget) { tables = put (put (tables_part b) to ys) (vacated from to n) (copies (vacant (lo + from) (lo + to) n) 0) })
-    (region_region b lo (PAGE_SIZE * 16) from n (omega arith) source)
+    (region_region b lo (PAGE_SIZE * BLOCK_TABLE_FRAMES) from n (omega arith) source)
     ∙ ap (λ (count : ℕ). record (parts_of b budget) { tables = put (put (tables_part b) to (region (tables_part b) from n)) (vacated from to n) (copies count 0) })
     (shift_vacant lo from to n)
 
 -- and words in the lock counts
-pub slid_locks : (b : List ℕ) (budget from to n : ℕ) → HasHost b budget → from + n ≤ PAGE_SIZE * 8 → to + n ≤ PAGE_SIZE * 8 →
+pub slid_locks : (b : List ℕ) (budget from to n : ℕ) → HasHost b budget → from + n ≤ PAGE_SIZE * LOCK_COUNT_FRAMES → to + n ≤ PAGE_SIZE * LOCK_COUNT_FRAMES →
     parts_of (slid b (PAGE_SIZE * LOCK_COUNTS + from) (PAGE_SIZE * LOCK_COUNTS + to) n) budget
     ≡ record (parts_of b budget) { locks = slid (locks_part b) from to n }
 unfolding slid
@@ -89,11 +89,11 @@ slid_locks b budget from to n host source target =
     let b1 = put b (lo + to) xs in
     put_locks b1 budget (vacated (lo + from) (lo + to) n) (vacated from to n) (copies (vacant (lo + from) (lo + to) n) 0)
     (size_put b budget (lo + to) xs host.size) (shift_vacated lo from to n)
-    (omega (arith, length-copies (vacant (lo + from) (lo + to) n) 0, shift_vacant lo from to n, left_inside from to n (PAGE_SIZE * 8) source))
+    (omega (arith, length-copies (vacant (lo + from) (lo + to) n) 0, shift_vacant lo from to n, left_inside from to n (PAGE_SIZE * LOCK_COUNT_FRAMES) source))
     ∙ ap (λ (p : MemoryParts). record p { locks = put p.locks (vacated from to n) (copies (vacant (lo + from) (lo + to) n) 0) })
     (put_locks b budget (lo + to) to xs host.size refl (omega arith))
     ∙ ap (λ (ys : List ℕ). record (parts_of b budget) { locks = put (put (locks_part b) to ys) (vacated from to n) (copies (vacant (lo + from) (lo + to) n) 0) })
-    (region_region b lo (PAGE_SIZE * 8) from n (omega arith) source)
+    (region_region b lo (PAGE_SIZE * LOCK_COUNT_FRAMES) from n (omega arith) source)
     ∙ ap (λ (count : ℕ). record (parts_of b budget) { locks = put (put (locks_part b) to (region (locks_part b) from n)) (vacated from to n) (copies count 0) })
     (shift_vacant lo from to n)
 
@@ -101,8 +101,8 @@ slid_locks b budget from to n host source target =
 abbrev pub moved_parts : MemoryParts → ℕ → ℕ → ℕ → ℕ → MemoryParts
 moved_parts p place old base n = record p {
   handles = with_row p.handles place base n;
-  tables = slid p.tables (4 * first_page old) (4 * first_page base) (4 * n);
-  locks = slid p.locks (2 * first_page old) (2 * first_page base) (2 * n);
+  tables = slid p.tables (PAGE_ENTRY_SIZE * first_page old) (PAGE_ENTRY_SIZE * first_page base) (PAGE_ENTRY_SIZE * n);
+  locks = slid p.locks (LOCK_COUNT_SIZE * first_page old) (LOCK_COUNT_SIZE * first_page base) (LOCK_COUNT_SIZE * n);
 }
 
 pub moved_more : (p : MemoryParts) (budget place old base n : ℕ) → HasSizes p budget → MayMove (block_parts p) place base n → base_of p.handles place ≡ old →
@@ -145,16 +145,16 @@ moved_holds p budget place old base n sizes h may based =
 -- the writes
 abbrev pub moved : List ℕ → ℕ → ℕ → ℕ → ℕ → List ℕ
 moved b place old base n = with_block_row
-    (slid (slid b (PAGE_SIZE * BLOCK_TABLES + 4 * first_page old) (PAGE_SIZE * BLOCK_TABLES + 4 * first_page base) (4 * n))
-    (PAGE_SIZE * LOCK_COUNTS + 2 * first_page old) (PAGE_SIZE * LOCK_COUNTS + 2 * first_page base) (2 * n))
+    (slid (slid b (PAGE_SIZE * BLOCK_TABLES + PAGE_ENTRY_SIZE * first_page old) (PAGE_SIZE * BLOCK_TABLES + PAGE_ENTRY_SIZE * first_page base) (PAGE_ENTRY_SIZE * n))
+    (PAGE_SIZE * LOCK_COUNTS + LOCK_COUNT_SIZE * first_page old) (PAGE_SIZE * LOCK_COUNTS + LOCK_COUNT_SIZE * first_page base) (LOCK_COUNT_SIZE * n))
     place base n
 
 pub moved_size : (b : List ℕ) (budget place old base n : ℕ) → HasSize b budget → HasSize (moved b place old base n) budget
 moved_size b budget place old base n size =
     row_size _ place base n
-    ∙ length-slid (slid b (PAGE_SIZE * BLOCK_TABLES + 4 * first_page old) (PAGE_SIZE * BLOCK_TABLES + 4 * first_page base) (4 * n))
-    (PAGE_SIZE * LOCK_COUNTS + 2 * first_page old) (PAGE_SIZE * LOCK_COUNTS + 2 * first_page base) (2 * n)
-    ∙ length-slid b (PAGE_SIZE * BLOCK_TABLES + 4 * first_page old) (PAGE_SIZE * BLOCK_TABLES + 4 * first_page base) (4 * n)
+    ∙ length-slid (slid b (PAGE_SIZE * BLOCK_TABLES + PAGE_ENTRY_SIZE * first_page old) (PAGE_SIZE * BLOCK_TABLES + PAGE_ENTRY_SIZE * first_page base) (PAGE_ENTRY_SIZE * n))
+    (PAGE_SIZE * LOCK_COUNTS + LOCK_COUNT_SIZE * first_page old) (PAGE_SIZE * LOCK_COUNTS + LOCK_COUNT_SIZE * first_page base) (LOCK_COUNT_SIZE * n)
+    ∙ length-slid b (PAGE_SIZE * BLOCK_TABLES + PAGE_ENTRY_SIZE * first_page old) (PAGE_SIZE * BLOCK_TABLES + PAGE_ENTRY_SIZE * first_page base) (PAGE_ENTRY_SIZE * n)
     ∙ size
 
 pub moved_are : (b : List ℕ) (budget place old base n : ℕ) → HasHost b budget → place < MAX_BLOCKS → IsRange old n → IsRange base n →
@@ -162,17 +162,17 @@ pub moved_are : (b : List ℕ) (budget place old base n : ℕ) → HasHost b bud
 moved_are b budget place old base n host within own range =
     let own_from = own.from in let own_to = own.to in
     let from = range.from in let to = range.to in
-    let b1 = slid b (PAGE_SIZE * BLOCK_TABLES + 4 * first_page old) (PAGE_SIZE * BLOCK_TABLES + 4 * first_page base) (4 * n) in
-    let e1 = slid_tables b budget (4 * first_page old) (4 * first_page base) (4 * n) host (omega arith) (omega arith) in
+    let b1 = slid b (PAGE_SIZE * BLOCK_TABLES + PAGE_ENTRY_SIZE * first_page old) (PAGE_SIZE * BLOCK_TABLES + PAGE_ENTRY_SIZE * first_page base) (PAGE_ENTRY_SIZE * n) in
+    let e1 = slid_tables b budget (PAGE_ENTRY_SIZE * first_page old) (PAGE_ENTRY_SIZE * first_page base) (PAGE_ENTRY_SIZE * n) host (omega arith) (omega arith) in
     let host1 : HasHost b1 budget = host_by b b1 budget _ host
-    (length-slid b (PAGE_SIZE * BLOCK_TABLES + 4 * first_page old) (PAGE_SIZE * BLOCK_TABLES + 4 * first_page base) (4 * n) ∙ host.size) e1 refl in
-    let b2 = slid b1 (PAGE_SIZE * LOCK_COUNTS + 2 * first_page old) (PAGE_SIZE * LOCK_COUNTS + 2 * first_page base) (2 * n) in
-    let e2 = slid_locks b1 budget (2 * first_page old) (2 * first_page base) (2 * n) host1 (omega arith) (omega arith) in
+    (length-slid b (PAGE_SIZE * BLOCK_TABLES + PAGE_ENTRY_SIZE * first_page old) (PAGE_SIZE * BLOCK_TABLES + PAGE_ENTRY_SIZE * first_page base) (PAGE_ENTRY_SIZE * n) ∙ host.size) e1 refl in
+    let b2 = slid b1 (PAGE_SIZE * LOCK_COUNTS + LOCK_COUNT_SIZE * first_page old) (PAGE_SIZE * LOCK_COUNTS + LOCK_COUNT_SIZE * first_page base) (LOCK_COUNT_SIZE * n) in
+    let e2 = slid_locks b1 budget (LOCK_COUNT_SIZE * first_page old) (LOCK_COUNT_SIZE * first_page base) (LOCK_COUNT_SIZE * n) host1 (omega arith) (omega arith) in
     let host2 : HasHost b2 budget = host_by b1 b2 budget _ host1
-    (length-slid b1 (PAGE_SIZE * LOCK_COUNTS + 2 * first_page old) (PAGE_SIZE * LOCK_COUNTS + 2 * first_page base) (2 * n) ∙ host1.size) e2 refl in
+    (length-slid b1 (PAGE_SIZE * LOCK_COUNTS + LOCK_COUNT_SIZE * first_page old) (PAGE_SIZE * LOCK_COUNTS + LOCK_COUNT_SIZE * first_page base) (LOCK_COUNT_SIZE * n) ∙ host1.size) e2 refl in
     row_are b2 budget place base n host2 within
     ∙ ap (λ (p : MemoryParts). record p { handles = with_row p.handles place base n })
-    (e2 ∙ ap (λ (p : MemoryParts). record p { locks = slid p.locks (2 * first_page old) (2 * first_page base) (2 * n) }) e1)
+    (e2 ∙ ap (λ (p : MemoryParts). record p { locks = slid p.locks (LOCK_COUNT_SIZE * first_page old) (LOCK_COUNT_SIZE * first_page base) (LOCK_COUNT_SIZE * n) }) e1)
 
 -- what the world says of the blocks, the rows say
 pub may_move : (s : BlockParts) (place base n : ℕ) → HasRanges s.handles → CanMove (blocks_of s) place base n → MayMove s place base n

@@ -1,6 +1,7 @@
 -- A block with one page more, and with one page less: the world after it, that the memory still holds one, and what stays.
 use Rattle.std.proofs.Common.{◌≡◌, ◌≢◌, ℕ, zero, suc, ◌+◌, ◌-◌, ◌*◌, ◌/◌, ◌%◌, ◌<◌, ◌≤◌, inl, inr, true, Bool, List, slice_index, slice_index_or, slice_set, refl, ap, ◌∙◌, sym, subst, arith, Option, None, Some}
 use Rattle.std.proofs.lemmas.Bool.{cases_eq}
+use Rattle.client_world.specs.declared.memory_map.TheConstants.{BLOCK_REGION}
 use Rattle.client_world.specs.declared.host_frames.TheConstants.{PAGE_SIZE, PAGE_DIRECTORY, BUDGET_FRAMES, TAKEN_FRAMES}
 use Rattle.client_world.specs.declared.limits.TheConstants.{MAX_BLOCKS}
 use Rattle.client_world.specs.declared.place.Place.{Place}
@@ -63,7 +64,7 @@ kept_place old new budget place base n frame m other at within inside = elim (ca
       let first : first_page_of new.handles other ≡ first_page_of old.handles other =
       ap (first_page_of new.handles) e ∙ first_new old new budget place base n frame m ∙ sym (first_old old new budget place base n frame m (omega arith)) ∙ ap (first_page_of old.handles) (sym e) in
       let known : first_page_of old.handles other ≡ region_page base n - n =
-      ap (first_page_of old.handles) e ∙ first_old old new budget place base n frame m (omega arith) ∙ (let k : (base - 4194304) / 4096 ≡ region_page base n - n = omega arith in k) in
+      ap (first_page_of old.handles) e ∙ first_old old new budget place base n frame m (omega arith) ∙ (let k : (base - BLOCK_REGION) / PAGE_SIZE ≡ region_page base n - n = omega arith in k) in
       let small = page_inside base n m.room.range in
       same_place first (m.other_entries (first_page_of old.handles other + at / PAGE_SIZE) (omega arith) (omega arith)))
   | inr ne ↦ (

@@ -2,7 +2,7 @@
 use Rattle.std.proofs.Common.{◌≡◌, ◌≢◌, ℕ, zero, suc, ◌+◌, ◌-◌, ◌*◌, ◌<◌, ◌≤◌, ◌⊎◌, inl, inr, List, [], ◌∷◌, length, slice_index, slice_set, refl, ap, ◌∙◌, sym, arith, get_or-set_same, get_or-set_other, length-set}
 use Rattle.std.specs.Prelude.{nat_eq, if◌then◌else◌}
 use Rattle.std.proofs.lemmas.Bool.{cases_eq, cases_lt, eq-eqb, ne_eqb}
-use Rattle.client_world.specs.declared.host_frames.TheConstants.{PAGE_SIZE}
+use Rattle.client_world.specs.declared.host_frames.TheConstants.{PAGE_SIZE, BLOCK_ROW_FRAMES, BLOCK_ROW_SIZE, LOCK_COUNT_SIZE, PAGE_ENTRY_SIZE}
 use Rattle.client_world.specs.declared.limits.TheConstants.{MAX_BLOCKS, MAX_PAGES}
 use Rattle.client_world.specs.declared.memory_map.TheConstants.{BLOCK_REGION_PAGES}
 use Rattle.guest_ram.specs.Bytes.{put, dword, dword_bytes}
@@ -23,41 +23,41 @@ block_parts p = record { handles = p.handles; tables = p.tables; taken = p.taken
 
 -- how long they are
 pub record HasSizes (p : MemoryParts) (budget : ℕ) : Type 0 where
-  pub handles : length p.handles ≡ PAGE_SIZE
-  pub tables : length p.tables ≡ 4 * BLOCK_REGION_PAGES
+  pub handles : length p.handles ≡ PAGE_SIZE * BLOCK_ROW_FRAMES
+  pub tables : length p.tables ≡ PAGE_ENTRY_SIZE * BLOCK_REGION_PAGES
   pub taken : length p.taken ≡ MAX_PAGES
-  pub locks : length p.locks ≡ 2 * BLOCK_REGION_PAGES
+  pub locks : length p.locks ≡ LOCK_COUNT_SIZE * BLOCK_REGION_PAGES
   pub frames : length p.frames ≡ PAGE_SIZE * budget
   pub most : budget ≤ MAX_PAGES
 
 -- the rows of the blocks with another row
 abbrev pub with_row : List ℕ → ℕ → ℕ → ℕ → List ℕ
-with_row handles place base pages = put (put handles (16 * place) (dword_bytes base)) (16 * place + 4) (dword_bytes pages)
+with_row handles place base pages = put (put handles (BLOCK_ROW_SIZE * place) (dword_bytes base)) (BLOCK_ROW_SIZE * place + 4) (dword_bytes pages)
 
-pub row_pages : (handles : List ℕ) (place base pages : ℕ) → length handles ≡ PAGE_SIZE → place < MAX_BLOCKS →
+pub row_pages : (handles : List ℕ) (place base pages : ℕ) → length handles ≡ PAGE_SIZE * BLOCK_ROW_FRAMES → place < MAX_BLOCKS →
     pages_of (with_row handles place base pages) place ≡ pages
 row_pages handles place base pages long within =
-    dword_put (put handles (16 * place) (dword_bytes base)) (16 * place + 4) pages (omega (arith, length-put handles (16 * place) (dword_bytes base)))
+    dword_put (put handles (BLOCK_ROW_SIZE * place) (dword_bytes base)) (BLOCK_ROW_SIZE * place + 4) pages (omega (arith, length-put handles (BLOCK_ROW_SIZE * place) (dword_bytes base)))
 
-pub row_base : (handles : List ℕ) (place base pages : ℕ) → length handles ≡ PAGE_SIZE → place < MAX_BLOCKS →
+pub row_base : (handles : List ℕ) (place base pages : ℕ) → length handles ≡ PAGE_SIZE * BLOCK_ROW_FRAMES → place < MAX_BLOCKS →
     base_of (with_row handles place base pages) place ≡ base
 row_base handles place base pages long within =
-    dword_put_other (put handles (16 * place) (dword_bytes base)) (16 * place + 4) (16 * place) pages (inr (omega arith))
-    ∙ dword_put handles (16 * place) base (omega arith)
+    dword_put_other (put handles (BLOCK_ROW_SIZE * place) (dword_bytes base)) (BLOCK_ROW_SIZE * place + 4) (BLOCK_ROW_SIZE * place) pages (inr (omega arith))
+    ∙ dword_put handles (BLOCK_ROW_SIZE * place) base (omega arith)
 
 -- an address of another row
-beside_row : (place other at n : ℕ) → other ≢ place → at + n ≤ 16 → (16 * place + 8 ≤ 16 * other + at) ⊎ (16 * other + at + n ≤ 16 * place)
+beside_row : (place other at n : ℕ) → other ≢ place → at + n ≤ BLOCK_ROW_SIZE → (BLOCK_ROW_SIZE * place + 8 ≤ BLOCK_ROW_SIZE * other + at) ⊎ (BLOCK_ROW_SIZE * other + at + n ≤ BLOCK_ROW_SIZE * place)
 beside_row place other at n ne inside = elim (cases_lt place other) [
   | inl below ↦ inl (omega arith)
   | inr above ↦ inr (omega arith)
 ]
 
-other_row : (handles : List ℕ) (place base pages other at : ℕ) → other ≢ place → at + 4 ≤ 16 →
-    dword (with_row handles place base pages) (16 * other + at) ≡ dword handles (16 * other + at)
+other_row : (handles : List ℕ) (place base pages other at : ℕ) → other ≢ place → at + 4 ≤ BLOCK_ROW_SIZE →
+    dword (with_row handles place base pages) (BLOCK_ROW_SIZE * other + at) ≡ dword handles (BLOCK_ROW_SIZE * other + at)
 other_row handles place base pages other at ne inside =
     let away = beside_row place other at 4 ne inside in
-    dword_put_other (put handles (16 * place) (dword_bytes base)) (16 * place + 4) (16 * other + at) pages (elim away [ inl a ↦ inl (omega arith) | inr a ↦ inr (omega arith) ])
-    ∙ dword_put_other handles (16 * place) (16 * other + at) base (elim away [ inl a ↦ inl (omega arith) | inr a ↦ inr (omega arith) ])
+    dword_put_other (put handles (BLOCK_ROW_SIZE * place) (dword_bytes base)) (BLOCK_ROW_SIZE * place + 4) (BLOCK_ROW_SIZE * other + at) pages (elim away [ inl a ↦ inl (omega arith) | inr a ↦ inr (omega arith) ])
+    ∙ dword_put_other handles (BLOCK_ROW_SIZE * place) (BLOCK_ROW_SIZE * other + at) base (elim away [ inl a ↦ inl (omega arith) | inr a ↦ inr (omega arith) ])
 
 pub other_pages : (handles : List ℕ) (place base pages other : ℕ) → other ≢ place → pages_of (with_row handles place base pages) other ≡ pages_of handles other
 other_pages handles place base pages other ne = other_row handles place base pages other 4 ne (omega arith)
@@ -65,15 +65,15 @@ other_pages handles place base pages other ne = other_row handles place base pag
 pub other_base : (handles : List ℕ) (place base pages other : ℕ) → other ≢ place → base_of (with_row handles place base pages) other ≡ base_of handles other
 other_base handles place base pages other ne =
     let away = beside_row place other 0 4 ne (omega arith) in
-    dword_put_other (put handles (16 * place) (dword_bytes base)) (16 * place + 4) (16 * other) pages (elim away [ inl a ↦ inl (omega arith) | inr a ↦ inr (omega arith) ])
-    ∙ dword_put_other handles (16 * place) (16 * other) base (elim away [ inl a ↦ inl (omega arith) | inr a ↦ inr (omega arith) ])
+    dword_put_other (put handles (BLOCK_ROW_SIZE * place) (dword_bytes base)) (BLOCK_ROW_SIZE * place + 4) (BLOCK_ROW_SIZE * other) pages (elim away [ inl a ↦ inl (omega arith) | inr a ↦ inr (omega arith) ])
+    ∙ dword_put_other handles (BLOCK_ROW_SIZE * place) (BLOCK_ROW_SIZE * other) base (elim away [ inl a ↦ inl (omega arith) | inr a ↦ inr (omega arith) ])
 
 -- a byte beside the two doublewords
-row_byte : (handles : List ℕ) (place base pages k : ℕ) → (16 * place + 8 ≤ k) ⊎ (k < 16 * place) →
+row_byte : (handles : List ℕ) (place base pages k : ℕ) → (BLOCK_ROW_SIZE * place + 8 ≤ k) ⊎ (k < BLOCK_ROW_SIZE * place) →
     slice_index (with_row handles place base pages) k ≡ slice_index handles k
 row_byte handles place base pages k away =
-    put_away (put handles (16 * place) (dword_bytes base)) (16 * place + 4) (dword_bytes pages) k (elim away [ inl a ↦ inl (omega arith) | inr a ↦ inr (omega arith) ])
-    ∙ put_away handles (16 * place) (dword_bytes base) k (elim away [ inl a ↦ inl (omega arith) | inr a ↦ inr (omega arith) ])
+    put_away (put handles (BLOCK_ROW_SIZE * place) (dword_bytes base)) (BLOCK_ROW_SIZE * place + 4) (dword_bytes pages) k (elim away [ inl a ↦ inl (omega arith) | inr a ↦ inr (omega arith) ])
+    ∙ put_away handles (BLOCK_ROW_SIZE * place) (dword_bytes base) k (elim away [ inl a ↦ inl (omega arith) | inr a ↦ inr (omega arith) ])
 
 zero_dword : (at : ℕ) → at < 4 → slice_index (dword_bytes 0) at ≡ 0
 zero_dword zero l = refl
@@ -83,70 +83,70 @@ zero_dword (suc (suc (suc zero))) l = refl
 zero_dword (suc (suc (suc (suc at)))) l = absurd (omega arith)
 
 -- the rows are exactly those of blocks; a row of no pages is 0
-pub keeps_handles : (handles : List ℕ) (place base pages : ℕ) → length handles ≡ PAGE_SIZE → place < MAX_BLOCKS → (pages ≡ 0 → base ≡ 0) →
+pub keeps_handles : (handles : List ℕ) (place base pages : ℕ) → length handles ≡ PAGE_SIZE * BLOCK_ROW_FRAMES → place < MAX_BLOCKS → (pages ≡ 0 → base ≡ 0) →
     KeepsHandles handles → KeepsHandles (with_row handles place base pages)
 keeps_handles handles place base pages long within none keeps = record { rest = rest; free = free }
   where
-    rest : (other at : ℕ) → other < MAX_BLOCKS → 8 ≤ at → at < 16 → slice_index (with_row handles place base pages) (16 * other + at) ≡ 0
-    rest other at inside from less = row_byte handles place base pages (16 * other + at) (elim (cases_lt other place) [
+    rest : (other at : ℕ) → other < MAX_BLOCKS → 8 ≤ at → at < BLOCK_ROW_SIZE → slice_index (with_row handles place base pages) (BLOCK_ROW_SIZE * other + at) ≡ 0
+    rest other at inside from less = row_byte handles place base pages (BLOCK_ROW_SIZE * other + at) (elim (cases_lt other place) [
       | inl below ↦ inr (omega arith)
       | inr above ↦ inl (omega arith)
     ]) ∙ keeps.rest other at inside from less
 
-    here : pages ≡ 0 → (at : ℕ) → at < 16 → slice_index (with_row handles place base pages) (16 * place + at) ≡ 0
+    here : pages ≡ 0 → (at : ℕ) → at < BLOCK_ROW_SIZE → slice_index (with_row handles place base pages) (BLOCK_ROW_SIZE * place + at) ≡ 0
     here zeroed at less = elim (cases_lt at 4) [
-      | inl low ↦ put_away (put handles (16 * place) (dword_bytes base)) (16 * place + 4) (dword_bytes pages) (16 * place + at) (inr (omega arith))
-          ∙ put_within handles (16 * place) (dword_bytes base) at (16 * place + at) (omega arith) low refl
+      | inl low ↦ put_away (put handles (BLOCK_ROW_SIZE * place) (dword_bytes base)) (BLOCK_ROW_SIZE * place + 4) (dword_bytes pages) (BLOCK_ROW_SIZE * place + at) (inr (omega arith))
+          ∙ put_within handles (BLOCK_ROW_SIZE * place) (dword_bytes base) at (BLOCK_ROW_SIZE * place + at) (omega arith) low refl
           ∙ ap (λ (v : ℕ). slice_index (dword_bytes v) at) (none zeroed) ∙ zero_dword at low
       | inr high ↦ elim (cases_lt at 8) [
-        | inl second ↦ put_within (put handles (16 * place) (dword_bytes base)) (16 * place + 4) (dword_bytes pages) (at - 4) (16 * place + at)
-            (omega (arith, length-put handles (16 * place) (dword_bytes base))) (omega arith) (omega arith)
+        | inl second ↦ put_within (put handles (BLOCK_ROW_SIZE * place) (dword_bytes base)) (BLOCK_ROW_SIZE * place + 4) (dword_bytes pages) (at - 4) (BLOCK_ROW_SIZE * place + at)
+            (omega (arith, length-put handles (BLOCK_ROW_SIZE * place) (dword_bytes base))) (omega arith) (omega arith)
             ∙ ap (λ (v : ℕ). slice_index (dword_bytes v) (at - 4)) zeroed ∙ zero_dword (at - 4) (omega arith)
-        | inr behind ↦ row_byte handles place base pages (16 * place + at) (inl (omega arith)) ∙ keeps.rest place at within behind less
+        | inr behind ↦ row_byte handles place base pages (BLOCK_ROW_SIZE * place + at) (inl (omega arith)) ∙ keeps.rest place at within behind less
       ]
     ]
 
-    free : (other at : ℕ) → other < MAX_BLOCKS → pages_of (with_row handles place base pages) other ≡ 0 → at < 16 →
-        slice_index (with_row handles place base pages) (16 * other + at) ≡ 0
+    free : (other at : ℕ) → other < MAX_BLOCKS → pages_of (with_row handles place base pages) other ≡ 0 → at < BLOCK_ROW_SIZE →
+        slice_index (with_row handles place base pages) (BLOCK_ROW_SIZE * other + at) ≡ 0
     free other at inside zeroed less = elim (cases_eq other place) [
-      | inl same ↦ ap (λ (k : ℕ). slice_index (with_row handles place base pages) (16 * k + at)) same
+      | inl same ↦ ap (λ (k : ℕ). slice_index (with_row handles place base pages) (BLOCK_ROW_SIZE * k + at)) same
           ∙ here (sym (row_pages handles place base pages long within) ∙ ap (pages_of (with_row handles place base pages)) (sym same) ∙ zeroed) at less
       | inr ne ↦ (
           let away = beside_row place other at 1 ne (omega arith) in
-          row_byte handles place base pages (16 * other + at) (elim away [ inl a ↦ inl a | inr a ↦ inr (omega arith) ])
+          row_byte handles place base pages (BLOCK_ROW_SIZE * other + at) (elim away [ inl a ↦ inl a | inr a ↦ inr (omega arith) ])
           ∙ keeps.free other at inside (sym (other_pages handles place base pages other ne) ∙ zeroed) less)
     ]
 
 -- the entries of the pages
-entry_put : (tables : List ℕ) (page v : ℕ) → length tables ≡ 4 * BLOCK_REGION_PAGES → page < BLOCK_REGION_PAGES → entry_of (put tables (4 * page) (dword_bytes v)) page ≡ v
-entry_put tables page v long small = dword_put tables (4 * page) v (omega arith)
+entry_put : (tables : List ℕ) (page v : ℕ) → length tables ≡ PAGE_ENTRY_SIZE * BLOCK_REGION_PAGES → page < BLOCK_REGION_PAGES → entry_of (put tables (PAGE_ENTRY_SIZE * page) (dword_bytes v)) page ≡ v
+entry_put tables page v long small = dword_put tables (PAGE_ENTRY_SIZE * page) v (omega arith)
 
-entry_other : (tables : List ℕ) (page v other : ℕ) → other ≢ page → entry_of (put tables (4 * page) (dword_bytes v)) other ≡ entry_of tables other
-entry_other tables page v other ne = dword_put_other tables (4 * page) (4 * other) v (elim (cases_lt page other) [
+entry_other : (tables : List ℕ) (page v other : ℕ) → other ≢ page → entry_of (put tables (PAGE_ENTRY_SIZE * page) (dword_bytes v)) other ≡ entry_of tables other
+entry_other tables page v other ne = dword_put_other tables (PAGE_ENTRY_SIZE * page) (PAGE_ENTRY_SIZE * other) v (elim (cases_lt page other) [
   | inl below ↦ inl (omega arith)
   | inr above ↦ inr (omega arith)
 ])
 
 -- the lock counts
 abbrev pub without_lock : List ℕ → ℕ → List ℕ
-without_lock locks page = put locks (2 * page) (0 ∷ 0 ∷ [])
+without_lock locks page = put locks (LOCK_COUNT_SIZE * page) (0 ∷ 0 ∷ [])
 
-lock_here : (locks : List ℕ) (page : ℕ) → length locks ≡ 2 * BLOCK_REGION_PAGES → page < BLOCK_REGION_PAGES → lock_of (without_lock locks page) page ≡ 0
+lock_here : (locks : List ℕ) (page : ℕ) → length locks ≡ LOCK_COUNT_SIZE * BLOCK_REGION_PAGES → page < BLOCK_REGION_PAGES → lock_of (without_lock locks page) page ≡ 0
 lock_here locks page long small =
-    let low : slice_index (without_lock locks page) (2 * page) ≡ 0 = put_within locks (2 * page) (0 ∷ 0 ∷ []) 0 (2 * page) (omega arith) (omega arith) (omega arith) in
-    let high : slice_index (without_lock locks page) (2 * page + 1) ≡ 0 = put_within locks (2 * page) (0 ∷ 0 ∷ []) 1 (2 * page + 1) (omega arith) (omega arith) refl in
+    let low : slice_index (without_lock locks page) (LOCK_COUNT_SIZE * page) ≡ 0 = put_within locks (LOCK_COUNT_SIZE * page) (0 ∷ 0 ∷ []) 0 (LOCK_COUNT_SIZE * page) (omega arith) (omega arith) (omega arith) in
+    let high : slice_index (without_lock locks page) (LOCK_COUNT_SIZE * page + 1) ≡ 0 = put_within locks (LOCK_COUNT_SIZE * page) (0 ∷ 0 ∷ []) 1 (LOCK_COUNT_SIZE * page + 1) (omega arith) (omega arith) refl in
     rw (low, high) refl
 
 lock_other : (locks : List ℕ) (page other : ℕ) → other ≢ page → lock_of (without_lock locks page) other ≡ lock_of locks other
 lock_other locks page other ne =
-    let low : slice_index (without_lock locks page) (2 * other) ≡ slice_index locks (2 * other) = put_away locks (2 * page) (0 ∷ 0 ∷ []) (2 * other) (beside 0 (omega arith)) in
-    let high : slice_index (without_lock locks page) (2 * other + 1) ≡ slice_index locks (2 * other + 1) = put_away locks (2 * page) (0 ∷ 0 ∷ []) (2 * other + 1) (beside_one 1) in
+    let low : slice_index (without_lock locks page) (LOCK_COUNT_SIZE * other) ≡ slice_index locks (LOCK_COUNT_SIZE * other) = put_away locks (LOCK_COUNT_SIZE * page) (0 ∷ 0 ∷ []) (LOCK_COUNT_SIZE * other) (beside 0 (omega arith)) in
+    let high : slice_index (without_lock locks page) (LOCK_COUNT_SIZE * other + 1) ≡ slice_index locks (LOCK_COUNT_SIZE * other + 1) = put_away locks (LOCK_COUNT_SIZE * page) (0 ∷ 0 ∷ []) (LOCK_COUNT_SIZE * other + 1) (beside_one 1) in
     rw (low, high) refl
   where
-    beside : (at : ℕ) → at < 1 → (2 * page + 2 ≤ 2 * other) ⊎ (2 * other < 2 * page)
+    beside : (at : ℕ) → at < 1 → (LOCK_COUNT_SIZE * page + 2 ≤ LOCK_COUNT_SIZE * other) ⊎ (LOCK_COUNT_SIZE * other < LOCK_COUNT_SIZE * page)
     beside at l = elim (cases_lt page other) [ inl below ↦ inl (omega arith) | inr above ↦ inr (omega arith) ]
 
-    beside_one : ℕ → (2 * page + 2 ≤ 2 * other + 1) ⊎ (2 * other + 1 < 2 * page)
+    beside_one : ℕ → (LOCK_COUNT_SIZE * page + 2 ≤ LOCK_COUNT_SIZE * other + 1) ⊎ (LOCK_COUNT_SIZE * other + 1 < LOCK_COUNT_SIZE * page)
     beside_one at = elim (cases_lt page other) [ inl below ↦ inl (omega arith) | inr above ↦ inr (omega arith) ]
 
 -- a page more
@@ -154,7 +154,7 @@ lock_other locks page other ne =
 abbrev pub grown_parts : MemoryParts → ℕ → ℕ → ℕ → ℕ → MemoryParts
 grown_parts p place base n frame = record p {
   handles = with_row p.handles place base (n + 1);
-  tables = put p.tables (4 * region_page base n) (dword_bytes (budget_entry frame));
+  tables = put p.tables (PAGE_ENTRY_SIZE * region_page base n) (dword_bytes (budget_entry frame));
   taken = slice_set p.taken frame 1;
   frames = put p.frames (PAGE_SIZE * frame) (copies PAGE_SIZE 0);
 }
@@ -243,7 +243,7 @@ base_in_row base pages = if nat_eq pages 0 then 0 else base
 abbrev pub shrunk_parts : MemoryParts → ℕ → ℕ → ℕ → ℕ → MemoryParts
 shrunk_parts p place base n frame = record p {
   handles = with_row p.handles place (base_in_row base n) n;
-  tables = put p.tables (4 * region_page base n) (dword_bytes 0);
+  tables = put p.tables (PAGE_ENTRY_SIZE * region_page base n) (dword_bytes 0);
   taken = slice_set p.taken frame 0;
   locks = without_lock p.locks (region_page base n);
 }

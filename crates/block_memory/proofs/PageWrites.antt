@@ -1,7 +1,7 @@
 -- The writes that give a page to a block and take it away, as what they make of the parts of the memory. Between them the host's own entries
 -- stand, so that each step may be made.
 use Rattle.std.proofs.Common.{◌≡◌, ℕ, ◌+◌, ◌-◌, ◌*◌, ◌<◌, ◌≤◌, true, List, [], ◌∷◌, length, slice_set, refl, ap, ◌∙◌, sym, subst, arith, length-set}
-use Rattle.client_world.specs.declared.host_frames.TheConstants.{PAGE_SIZE, BLOCK_TABLES, BLOCK_ROWS, LOCK_COUNTS, TAKEN_FRAMES, BUDGET_FRAMES}
+use Rattle.client_world.specs.declared.host_frames.TheConstants.{PAGE_SIZE, BLOCK_TABLES, BLOCK_ROWS, LOCK_COUNTS, TAKEN_FRAMES, BUDGET_FRAMES, BLOCK_ROW_FRAMES, BLOCK_ROW_SIZE, BLOCK_TABLE_FRAMES, LOCK_COUNT_FRAMES, LOCK_COUNT_SIZE, PAGE_ENTRY_SIZE, TAKEN_BYTE_FRAMES}
 use Rattle.client_world.specs.declared.limits.TheConstants.{MAX_BLOCKS}
 use Rattle.guest_ram.specs.Bytes.{put, dword_bytes}
 use Rattle.guest_ram.specs.Listed.{copies}
@@ -25,10 +25,10 @@ pub sizes_of : (b : List ℕ) (budget : ℕ) → HasHost b budget → HasSizes (
 sizes_of b budget host =
     let size = host.size in
     record {
-      handles = length-region b (PAGE_SIZE * BLOCK_ROWS) (PAGE_SIZE * 1) (omega arith);
-      tables = length-region b (PAGE_SIZE * BLOCK_TABLES) (PAGE_SIZE * 16) (omega arith);
-      taken = length-region b (PAGE_SIZE * TAKEN_FRAMES) (PAGE_SIZE * 1) (omega arith);
-      locks = length-region b (PAGE_SIZE * LOCK_COUNTS) (PAGE_SIZE * 8) (omega arith);
+      handles = length-region b (PAGE_SIZE * BLOCK_ROWS) (PAGE_SIZE * BLOCK_ROW_FRAMES) (omega arith);
+      tables = length-region b (PAGE_SIZE * BLOCK_TABLES) (PAGE_SIZE * BLOCK_TABLE_FRAMES) (omega arith);
+      taken = length-region b (PAGE_SIZE * TAKEN_FRAMES) (PAGE_SIZE * TAKEN_BYTE_FRAMES) (omega arith);
+      locks = length-region b (PAGE_SIZE * LOCK_COUNTS) (PAGE_SIZE * LOCK_COUNT_FRAMES) (omega arith);
       frames = length-region b (PAGE_SIZE * BUDGET_FRAMES) (PAGE_SIZE * budget) (omega arith);
       most = host.most;
     }
@@ -90,11 +90,11 @@ cleared_host b budget frame host inside =
 -- an entry of the block region
 
 pub entry_are : (b : List ℕ) (budget lin page v : ℕ) → HasHost b budget → InRegion lin → page_at lin ≡ page →
-    parts_of (with_entry b lin v) budget ≡ record (parts_of b budget) { tables = put (tables_part b) (4 * page) (dword_bytes v) }
+    parts_of (with_entry b lin v) budget ≡ record (parts_of b budget) { tables = put (tables_part b) (PAGE_ENTRY_SIZE * page) (dword_bytes v) }
 entry_are b budget lin page v host in_region same =
     let from = in_region.from in let to = in_region.to in
-    put_tables b budget _ (4 * page) (dword_bytes v) host.size (region_place b budget lin host in_region
-    ∙ (let e : PAGE_SIZE * BLOCK_TABLES + 4 * page_at lin ≡ PAGE_SIZE * BLOCK_TABLES + 4 * page = omega arith in e)) (omega arith)
+    put_tables b budget _ (PAGE_ENTRY_SIZE * page) (dword_bytes v) host.size (region_place b budget lin host in_region
+    ∙ (let e : PAGE_SIZE * BLOCK_TABLES + PAGE_ENTRY_SIZE * page_at lin ≡ PAGE_SIZE * BLOCK_TABLES + PAGE_ENTRY_SIZE * page = omega arith in e)) (omega arith)
 
 pub entry_host : (b : List ℕ) (budget lin page v : ℕ) → HasHost b budget → InRegion lin → page_at lin ≡ page → HasHost (with_entry b lin v) budget
 entry_host b budget lin page v host in_region same =
@@ -104,20 +104,20 @@ entry_host b budget lin page v host in_region same =
 
 abbrev pub with_block_row : List ℕ → ℕ → ℕ → ℕ → List ℕ
 with_block_row b place base pages =
-    put (put b (PAGE_SIZE * BLOCK_ROWS + 16 * place) (dword_bytes base)) (PAGE_SIZE * BLOCK_ROWS + 16 * place + 4) (dword_bytes pages)
+    put (put b (PAGE_SIZE * BLOCK_ROWS + BLOCK_ROW_SIZE * place) (dword_bytes base)) (PAGE_SIZE * BLOCK_ROWS + BLOCK_ROW_SIZE * place + 4) (dword_bytes pages)
 
 pub row_are : (b : List ℕ) (budget place base pages : ℕ) → HasHost b budget → place < MAX_BLOCKS →
     parts_of (with_block_row b place base pages) budget ≡ record (parts_of b budget) { handles = with_row (handles_part b) place base pages }
 row_are b budget place base pages host within =
-    put_handles (put b (PAGE_SIZE * BLOCK_ROWS + 16 * place) (dword_bytes base)) budget (PAGE_SIZE * BLOCK_ROWS + 16 * place + 4) (16 * place + 4) (dword_bytes pages)
-    (size_put b budget (PAGE_SIZE * BLOCK_ROWS + 16 * place) (dword_bytes base) host.size) (omega arith) (omega arith)
-    ∙ ap (λ (p : MemoryParts). record p { handles = put p.handles (16 * place + 4) (dword_bytes pages) })
-    (put_handles b budget (PAGE_SIZE * BLOCK_ROWS + 16 * place) (16 * place) (dword_bytes base) host.size refl (omega arith))
+    put_handles (put b (PAGE_SIZE * BLOCK_ROWS + BLOCK_ROW_SIZE * place) (dword_bytes base)) budget (PAGE_SIZE * BLOCK_ROWS + BLOCK_ROW_SIZE * place + 4) (BLOCK_ROW_SIZE * place + 4) (dword_bytes pages)
+    (size_put b budget (PAGE_SIZE * BLOCK_ROWS + BLOCK_ROW_SIZE * place) (dword_bytes base) host.size) (omega arith) (omega arith)
+    ∙ ap (λ (p : MemoryParts). record p { handles = put p.handles (BLOCK_ROW_SIZE * place + 4) (dword_bytes pages) })
+    (put_handles b budget (PAGE_SIZE * BLOCK_ROWS + BLOCK_ROW_SIZE * place) (BLOCK_ROW_SIZE * place) (dword_bytes base) host.size refl (omega arith))
 
 pub row_size : (b : List ℕ) (place base pages : ℕ) → length (with_block_row b place base pages) ≡ length b
 row_size b place base pages =
-    length-put (put b (PAGE_SIZE * BLOCK_ROWS + 16 * place) (dword_bytes base)) (PAGE_SIZE * BLOCK_ROWS + 16 * place + 4) (dword_bytes pages)
-    ∙ length-put b (PAGE_SIZE * BLOCK_ROWS + 16 * place) (dword_bytes base)
+    length-put (put b (PAGE_SIZE * BLOCK_ROWS + BLOCK_ROW_SIZE * place) (dword_bytes base)) (PAGE_SIZE * BLOCK_ROWS + BLOCK_ROW_SIZE * place + 4) (dword_bytes pages)
+    ∙ length-put b (PAGE_SIZE * BLOCK_ROWS + BLOCK_ROW_SIZE * place) (dword_bytes base)
 
 -- page n of a block in the block region
 pub page_in_region : (base n : ℕ) → IsRange base (n + 1) → InRegion (base + PAGE_SIZE * n)
@@ -146,10 +146,10 @@ grown_are b budget place base n frame host inside within range =
     row_are b3 budget place base (n + 1) host3 within
     ∙ ap (λ (p : MemoryParts). record p { handles = with_row p.handles place base (n + 1) })
     (entry_are b2 budget lin (region_page base n) (page_entry frame true) host2 in_region page
-    ∙ ap (λ (p : MemoryParts). record p { tables = put p.tables (4 * region_page base n) (dword_bytes (page_entry frame true)) })
+    ∙ ap (λ (p : MemoryParts). record p { tables = put p.tables (PAGE_ENTRY_SIZE * region_page base n) (dword_bytes (page_entry frame true)) })
     (cleared_are b budget frame host inside))
     ∙ ap (λ (e : ℕ). record (cleared_parts (parts_of b budget) (frame - BUDGET_FRAMES)) {
-      tables = put (tables_part b) (4 * region_page base n) (dword_bytes e);
+      tables = put (tables_part b) (PAGE_ENTRY_SIZE * region_page base n) (dword_bytes e);
       handles = with_row (handles_part b) place base (n + 1);
     }) entry
 
@@ -166,7 +166,7 @@ abbrev pub without_entry : List ℕ → ℕ → ℕ → List ℕ
 without_entry b lin frame = slice_set (with_entry b lin 0) (taken_place frame) 0
 
 abbrev pub unlocked : List ℕ → ℕ → List ℕ
-unlocked b page = put b (PAGE_SIZE * LOCK_COUNTS + 2 * page) (0 ∷ 0 ∷ [])
+unlocked b page = put b (PAGE_SIZE * LOCK_COUNTS + LOCK_COUNT_SIZE * page) (0 ∷ 0 ∷ [])
 
 abbrev pub shrunk : List ℕ → ℕ → ℕ → ℕ → ℕ → List ℕ
 shrunk b place base n frame =
@@ -184,7 +184,7 @@ shrunk_are b budget place base n frame host inside within range =
     let b2 = without_entry b lin frame in
     let host2 = taken_host b1 budget frame 0 host1 inside in
     let b3 = unlocked b2 (region_page base n) in
-    let e3 = put_locks b2 budget (PAGE_SIZE * LOCK_COUNTS + 2 * region_page base n) (2 * region_page base n) (0 ∷ 0 ∷ []) host2.size refl (omega arith) in
+    let e3 = put_locks b2 budget (PAGE_SIZE * LOCK_COUNTS + LOCK_COUNT_SIZE * region_page base n) (LOCK_COUNT_SIZE * region_page base n) (0 ∷ 0 ∷ []) host2.size refl (omega arith) in
     let host3 : HasHost b3 budget = host_by b2 b3 budget _ host2 (size_put b2 budget _ (0 ∷ 0 ∷ []) host2.size) e3 refl in
     row_are b3 budget place (base_in_row base n) n host3 within
     ∙ ap (λ (p : MemoryParts). record p { handles = with_row p.handles place (base_in_row base n) n })

@@ -2,7 +2,7 @@
 use Rattle.std.proofs.Common.{◌≡◌, ◌≢◌, ℕ, ◌+◌, ◌-◌, ◌*◌, ◌/◌, ◌%◌, ◌<◌, ◌≤◌, ◌^◌, ◌⊎◌, inl, inr, true, List, slice_index, ap, ◌∙◌, sym, subst, arith}
 use Rattle.std.proofs.lemmas.Bool.{cases_lt, lt-ltb, le-ltb, false≢true}
 use Rattle.client_world.specs.Registers.{has_bit}
-use Rattle.client_world.specs.declared.host_frames.TheConstants.{PAGE_SIZE, PAGE_DIRECTORY, LOW_TABLE, WINDOW_TABLE, BLOCK_TABLES, BUDGET_FRAMES, TAKEN_FRAMES, DOS_FRAMES}
+use Rattle.client_world.specs.declared.host_frames.TheConstants.{PAGE_SIZE, PAGE_DIRECTORY, LOW_TABLE, WINDOW_TABLE, BLOCK_TABLES, BUDGET_FRAMES, TAKEN_FRAMES, DOS_FRAMES, BLOCK_TABLE_FRAMES, FIXED_TABLE_FRAMES, PAGE_ENTRY_SIZE, TABLE_ENTRIES, TAKEN_BYTE_FRAMES}
 use Rattle.client_world.specs.declared.limits.TheConstants.{MAX_PAGES}
 use Rattle.client_world.specs.declared.memory_map.TheConstants.{BLOCK_REGION, BLOCK_REGION_END, BLOCK_REGION_PAGES, HOST_WINDOW, ROM_START, DOS_VIEW_PAGES}
 use Rattle.guest_ram.specs.Bytes.{dword}
@@ -11,11 +11,11 @@ use Rattle.page_tables.specs.Entry.{page_entry}
 use Rattle.page_tables.specs.Budget.{HasBudget, IsNamedNowhere}
 use Rattle.page_tables.specs.Mapping.{HasTables, IsCovered, IsMapped, IsUnmapped}
 use Rattle.page_tables.specs.Walk.{directory_entry, table_place, table_entry, entry_place, frame_of}
-use Rattle.page_tables.specs.declared.entry.TheConstants.{ENTRY_SIZE, PRESENT, TABLE_ENTRIES, TABLE_SPAN}
+use Rattle.page_tables.specs.declared.entry.TheConstants.{PRESENT, TABLE_SPAN}
 use Rattle.page_tables.proofs.EntryLaws.{page_entry_present}
 use Rattle.page_tables.proofs.HostDirectory.{HasTables-host_directory}
 use Rattle.host_memory.specs.Layout.{fixed_part, tables_part, taken_part, pages_of, first_page_of, entry_of}
-use Rattle.host_memory.specs.Tables.{HasFixedEntries, HasBlockEntries, NamesBudgetFrame, directory_entry_at, low_entry_at, window_entry_at, supervisor_entry}
+use Rattle.host_memory.specs.Tables.{HasFixedEntries, HasBlockEntries, NamesBudgetFrame, directory_entry_at, low_entry_at, window_entry_at, supervisor_entry, low_table_start, window_table_start}
 use Rattle.host_memory.proofs.BlockRows.{HasRanges, over_tells}
 use Rattle.host_memory.proofs.FixedWalks.{directory_is, directory_of_block, directory_of_none, block_table}
 use Rattle.host_memory.proofs.HostTables.{host_directory}
@@ -53,19 +53,19 @@ region_directory b budget lin host in_region =
     directory_is b (lin / TABLE_SPAN) host.fixed (omega arith) ∙ directory_of_block (lin / TABLE_SPAN) (omega arith) (omega arith)
 
 pub region_place : (b : List ℕ) (budget lin : ℕ) → HasHost b budget → InRegion lin →
-    table_place b PAGE_DIRECTORY lin ≡ PAGE_SIZE * BLOCK_TABLES + ENTRY_SIZE * page_at lin
+    table_place b PAGE_DIRECTORY lin ≡ PAGE_SIZE * BLOCK_TABLES + PAGE_ENTRY_SIZE * page_at lin
 region_place b budget lin host in_region =
     let from = in_region.from in let to = in_region.to in
     ap (λ (d : ℕ). entry_place (frame_of d) (lin / PAGE_SIZE % TABLE_ENTRIES)) (region_directory b budget lin host in_region)
     ∙ (let at : entry_place (frame_of (page_entry (block_table lin) true)) (lin / PAGE_SIZE % TABLE_ENTRIES)
-    ≡ PAGE_SIZE * BLOCK_TABLES + ENTRY_SIZE * page_at lin = omega arith in at)
+    ≡ PAGE_SIZE * BLOCK_TABLES + PAGE_ENTRY_SIZE * page_at lin = omega arith in at)
 
 pub region_entry : (b : List ℕ) (budget lin : ℕ) → HasHost b budget → InRegion lin →
     table_entry b PAGE_DIRECTORY lin ≡ entry_of (tables_part b) (page_at lin)
 region_entry b budget lin host in_region =
     let from = in_region.from in let to = in_region.to in
     ap (dword b) (region_place b budget lin host in_region)
-    ∙ sym (dword-region b (PAGE_SIZE * BLOCK_TABLES) (PAGE_SIZE * 16) (ENTRY_SIZE * page_at lin) (omega arith))
+    ∙ sym (dword-region b (PAGE_SIZE * BLOCK_TABLES) (PAGE_SIZE * BLOCK_TABLE_FRAMES) (PAGE_ENTRY_SIZE * page_at lin) (omega arith))
 
 pub region_covered : (b : List ℕ) (budget lin : ℕ) → HasHost b budget → InRegion lin → IsCovered b lin
 region_covered b budget lin host in_region =
@@ -87,10 +87,10 @@ low_entry b budget lin host below =
     let first : lin / TABLE_SPAN ≡ 0 = omega arith in
     let directory : directory_entry b PAGE_DIRECTORY lin ≡ page_entry LOW_TABLE true = directory_is b (lin / TABLE_SPAN) host.fixed (omega arith)
     ∙ ap (directory_entry_at) first in
-    let at : entry_place (frame_of (page_entry LOW_TABLE true)) (lin / PAGE_SIZE % TABLE_ENTRIES) ≡ PAGE_SIZE * PAGE_DIRECTORY + (PAGE_SIZE + ENTRY_SIZE * (lin / PAGE_SIZE)) = omega arith in
+    let at : entry_place (frame_of (page_entry LOW_TABLE true)) (lin / PAGE_SIZE % TABLE_ENTRIES) ≡ PAGE_SIZE * PAGE_DIRECTORY + (low_table_start + PAGE_ENTRY_SIZE * (lin / PAGE_SIZE)) = omega arith in
     ap (λ (d : ℕ). dword b (entry_place (frame_of d) (lin / PAGE_SIZE % TABLE_ENTRIES))) directory
     ∙ ap (dword b) at
-    ∙ sym (dword-region b (PAGE_SIZE * PAGE_DIRECTORY) (PAGE_SIZE * 3) (PAGE_SIZE + ENTRY_SIZE * (lin / PAGE_SIZE)) (omega arith))
+    ∙ sym (dword-region b (PAGE_SIZE * PAGE_DIRECTORY) (PAGE_SIZE * FIXED_TABLE_FRAMES) (low_table_start + PAGE_ENTRY_SIZE * (lin / PAGE_SIZE)) (omega arith))
     ∙ host.fixed.low (lin / PAGE_SIZE) (omega arith)
 
 low_frame : (page : ℕ) → frame_of (low_entry_at page) < BUDGET_FRAMES
@@ -108,14 +108,14 @@ low_frame page = elim (cases_lt page (ROM_START / PAGE_SIZE)) [
 window_entry : (b : List ℕ) (budget lin : ℕ) → HasHost b budget → HOST_WINDOW ≤ lin → lin < HOST_WINDOW + TABLE_SPAN →
     table_entry b PAGE_DIRECTORY lin ≡ window_entry_at (lin / PAGE_SIZE % TABLE_ENTRIES)
 window_entry b budget lin host from to =
-    let index : lin / TABLE_SPAN ≡ 768 = omega arith in
+    let index : lin / TABLE_SPAN ≡ HOST_WINDOW / TABLE_SPAN = omega arith in
     let directory : directory_entry b PAGE_DIRECTORY lin ≡ supervisor_entry WINDOW_TABLE = directory_is b (lin / TABLE_SPAN) host.fixed (omega arith)
     ∙ ap (directory_entry_at) index in
     let at : entry_place (frame_of (supervisor_entry WINDOW_TABLE)) (lin / PAGE_SIZE % TABLE_ENTRIES)
-    ≡ PAGE_SIZE * PAGE_DIRECTORY + (2 * PAGE_SIZE + ENTRY_SIZE * (lin / PAGE_SIZE % TABLE_ENTRIES)) = omega arith in
+    ≡ PAGE_SIZE * PAGE_DIRECTORY + (window_table_start + PAGE_ENTRY_SIZE * (lin / PAGE_SIZE % TABLE_ENTRIES)) = omega arith in
     ap (λ (d : ℕ). dword b (entry_place (frame_of d) (lin / PAGE_SIZE % TABLE_ENTRIES))) directory
     ∙ ap (dword b) at
-    ∙ sym (dword-region b (PAGE_SIZE * PAGE_DIRECTORY) (PAGE_SIZE * 3) (2 * PAGE_SIZE + ENTRY_SIZE * (lin / PAGE_SIZE % TABLE_ENTRIES)) (omega arith))
+    ∙ sym (dword-region b (PAGE_SIZE * PAGE_DIRECTORY) (PAGE_SIZE * FIXED_TABLE_FRAMES) (window_table_start + PAGE_ENTRY_SIZE * (lin / PAGE_SIZE % TABLE_ENTRIES)) (omega arith))
     ∙ host.fixed.window (lin / PAGE_SIZE % TABLE_ENTRIES) (omega arith)
 
 window_frame : (page : ℕ) → frame_of (window_entry_at page) < BUDGET_FRAMES
@@ -127,7 +127,7 @@ window_frame page = elim (cases_lt page (BUDGET_FRAMES - PAGE_DIRECTORY)) [
 nothing_covered : (b : List ℕ) (budget lin : ℕ) → HasHost b budget → lin < 2 ^ 32 → BLOCK_REGION_END ≤ lin →
     (lin < HOST_WINDOW) ⊎ (HOST_WINDOW + TABLE_SPAN ≤ lin) → IsMapped b lin → ⊥
 nothing_covered b budget lin host small from out mapped =
-    let other : lin / TABLE_SPAN ≢ 768 = elim out [ inl below ↦ omega arith | inr above ↦ omega arith ] in
+    let other : lin / TABLE_SPAN ≢ HOST_WINDOW / TABLE_SPAN = elim out [ inl below ↦ omega arith | inr above ↦ omega arith ] in
     let directory : directory_entry b PAGE_DIRECTORY lin ≡ 0 =
     directory_is b (lin / TABLE_SPAN) host.fixed (omega arith) ∙ directory_of_none (lin / TABLE_SPAN) (omega arith) other in
     false≢true (sym (ap (λ (d : ℕ). has_bit d PRESENT) directory) ∙ mapped.covered)
@@ -178,4 +178,4 @@ entry_kinds handles tables locks frames taken budget page ranges h small =
 
 -- the taken byte of a frame
 pub taken_byte : (b : List ℕ) (frame : ℕ) → frame < MAX_PAGES → slice_index b (PAGE_SIZE * TAKEN_FRAMES + frame) ≡ slice_index (taken_part b) frame
-taken_byte b frame small = sym (at_region b (PAGE_SIZE * TAKEN_FRAMES) (PAGE_SIZE * 1) frame (omega arith))
+taken_byte b frame small = sym (at_region b (PAGE_SIZE * TAKEN_FRAMES) (PAGE_SIZE * TAKEN_BYTE_FRAMES) frame (omega arith))

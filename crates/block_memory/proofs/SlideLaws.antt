@@ -1,6 +1,7 @@
 -- What a run of bytes that moves leaves: the bytes, and the doublewords and words that they make.
 use Rattle.std.proofs.Common.{◌≡◌, ℕ, ◌+◌, ◌-◌, ◌*◌, ◌<◌, ◌≤◌, ◌⊎◌, inl, inr, List, length, slice_index, refl, ap, ◌∙◌, sym, arith, add-zero}
 use Rattle.std.proofs.lemmas.Bool.{cases_lt, lt-ltb, le-ltb}
+use Rattle.client_world.specs.declared.host_frames.TheConstants.{LOCK_COUNT_SIZE, PAGE_ENTRY_SIZE}
 use Rattle.client_world.specs.declared.memory_map.TheConstants.{BLOCK_REGION_PAGES}
 use Rattle.guest_ram.specs.Bytes.{put, region, dword, word_of}
 use Rattle.guest_ram.specs.Listed.{copies}
@@ -89,23 +90,23 @@ zero_dword b at h =
     let e1 = h 1 (omega arith) in let e2 = h 2 (omega arith) in let e3 = h 3 (omega arith) in
     omega arith
 
-pub entries_go : (b : List ℕ) (from to n : ℕ) → length b ≡ 4 * BLOCK_REGION_PAGES → from + n ≤ BLOCK_REGION_PAGES → to + n ≤ BLOCK_REGION_PAGES →
-    GoAlong (entry_of b) (entry_of (slid b (4 * from) (4 * to) (4 * n))) from to n
+pub entries_go : (b : List ℕ) (from to n : ℕ) → length b ≡ PAGE_ENTRY_SIZE * BLOCK_REGION_PAGES → from + n ≤ BLOCK_REGION_PAGES → to + n ≤ BLOCK_REGION_PAGES →
+    GoAlong (entry_of b) (entry_of (slid b (PAGE_ENTRY_SIZE * from) (PAGE_ENTRY_SIZE * to) (PAGE_ENTRY_SIZE * n))) from to n
 entries_go b from to n long source target = record {
-  there = λ i less. same_dword (slid b (4 * from) (4 * to) (4 * n)) b (4 * (to + i)) (4 * (from + i)) (λ k small.
-      ap (slice_index (slid b (4 * from) (4 * to) (4 * n))) (let e : 4 * (to + i) + k ≡ 4 * to + (4 * i + k) = omega arith in e)
-      ∙ slid_there b (4 * from) (4 * to) (4 * n) (4 * i + k) inside (omega arith)
-      ∙ ap (slice_index b) (let e : 4 * from + (4 * i + k) ≡ 4 * (from + i) + k = omega arith in e));
+  there = λ i less. same_dword (slid b (PAGE_ENTRY_SIZE * from) (PAGE_ENTRY_SIZE * to) (PAGE_ENTRY_SIZE * n)) b (PAGE_ENTRY_SIZE * (to + i)) (PAGE_ENTRY_SIZE * (from + i)) (λ k small.
+      ap (slice_index (slid b (PAGE_ENTRY_SIZE * from) (PAGE_ENTRY_SIZE * to) (PAGE_ENTRY_SIZE * n))) (let e : PAGE_ENTRY_SIZE * (to + i) + k ≡ PAGE_ENTRY_SIZE * to + (PAGE_ENTRY_SIZE * i + k) = omega arith in e)
+      ∙ slid_there b (PAGE_ENTRY_SIZE * from) (PAGE_ENTRY_SIZE * to) (PAGE_ENTRY_SIZE * n) (PAGE_ENTRY_SIZE * i + k) inside (omega arith)
+      ∙ ap (slice_index b) (let e : PAGE_ENTRY_SIZE * from + (PAGE_ENTRY_SIZE * i + k) ≡ PAGE_ENTRY_SIZE * (from + i) + k = omega arith in e));
   left = λ page small is off. (
       let less = is.less in let same = is.is in
-      zero_dword (slid b (4 * from) (4 * to) (4 * n)) (4 * page) (λ k few.
-      slid_left b (4 * from) (4 * to) (4 * n) (4 * page + k) inside (omega arith) (omega arith) (elim off [ inl a ↦ inl (omega arith) | inr a ↦ inr (omega arith) ])));
-  others = λ page small away off. same_dword (slid b (4 * from) (4 * to) (4 * n)) b (4 * page) (4 * page) (λ k few.
-      slid_other b (4 * from) (4 * to) (4 * n) (4 * page + k) inside (elim away [ inl a ↦ inl (omega arith) | inr a ↦ inr (omega arith) ])
+      zero_dword (slid b (PAGE_ENTRY_SIZE * from) (PAGE_ENTRY_SIZE * to) (PAGE_ENTRY_SIZE * n)) (PAGE_ENTRY_SIZE * page) (λ k few.
+      slid_left b (PAGE_ENTRY_SIZE * from) (PAGE_ENTRY_SIZE * to) (PAGE_ENTRY_SIZE * n) (PAGE_ENTRY_SIZE * page + k) inside (omega arith) (omega arith) (elim off [ inl a ↦ inl (omega arith) | inr a ↦ inr (omega arith) ])));
+  others = λ page small away off. same_dword (slid b (PAGE_ENTRY_SIZE * from) (PAGE_ENTRY_SIZE * to) (PAGE_ENTRY_SIZE * n)) b (PAGE_ENTRY_SIZE * page) (PAGE_ENTRY_SIZE * page) (λ k few.
+      slid_other b (PAGE_ENTRY_SIZE * from) (PAGE_ENTRY_SIZE * to) (PAGE_ENTRY_SIZE * n) (PAGE_ENTRY_SIZE * page + k) inside (elim away [ inl a ↦ inl (omega arith) | inr a ↦ inr (omega arith) ])
       (elim off [ inl a ↦ inl (omega arith) | inr a ↦ inr (omega arith) ]));
 }
   where
-    inside : Inside b (4 * from) (4 * to) (4 * n)
+    inside : Inside b (PAGE_ENTRY_SIZE * from) (PAGE_ENTRY_SIZE * to) (PAGE_ENTRY_SIZE * n)
     inside = record { source = omega arith; target = omega arith }
 
 -- and words
@@ -121,21 +122,21 @@ zero_word b at h =
     let e1 = h 1 (omega arith) in
     omega arith
 
-pub locks_go : (b : List ℕ) (from to n : ℕ) → length b ≡ 2 * BLOCK_REGION_PAGES → from + n ≤ BLOCK_REGION_PAGES → to + n ≤ BLOCK_REGION_PAGES →
-    GoAlong (lock_of b) (lock_of (slid b (2 * from) (2 * to) (2 * n))) from to n
+pub locks_go : (b : List ℕ) (from to n : ℕ) → length b ≡ LOCK_COUNT_SIZE * BLOCK_REGION_PAGES → from + n ≤ BLOCK_REGION_PAGES → to + n ≤ BLOCK_REGION_PAGES →
+    GoAlong (lock_of b) (lock_of (slid b (LOCK_COUNT_SIZE * from) (LOCK_COUNT_SIZE * to) (LOCK_COUNT_SIZE * n))) from to n
 locks_go b from to n long source target = record {
-  there = λ i less. same_word (slid b (2 * from) (2 * to) (2 * n)) b (2 * (to + i)) (2 * (from + i)) (λ k small.
-      ap (slice_index (slid b (2 * from) (2 * to) (2 * n))) (let e : 2 * (to + i) + k ≡ 2 * to + (2 * i + k) = omega arith in e)
-      ∙ slid_there b (2 * from) (2 * to) (2 * n) (2 * i + k) inside (omega arith)
-      ∙ ap (slice_index b) (let e : 2 * from + (2 * i + k) ≡ 2 * (from + i) + k = omega arith in e));
+  there = λ i less. same_word (slid b (LOCK_COUNT_SIZE * from) (LOCK_COUNT_SIZE * to) (LOCK_COUNT_SIZE * n)) b (LOCK_COUNT_SIZE * (to + i)) (LOCK_COUNT_SIZE * (from + i)) (λ k small.
+      ap (slice_index (slid b (LOCK_COUNT_SIZE * from) (LOCK_COUNT_SIZE * to) (LOCK_COUNT_SIZE * n))) (let e : LOCK_COUNT_SIZE * (to + i) + k ≡ LOCK_COUNT_SIZE * to + (LOCK_COUNT_SIZE * i + k) = omega arith in e)
+      ∙ slid_there b (LOCK_COUNT_SIZE * from) (LOCK_COUNT_SIZE * to) (LOCK_COUNT_SIZE * n) (LOCK_COUNT_SIZE * i + k) inside (omega arith)
+      ∙ ap (slice_index b) (let e : LOCK_COUNT_SIZE * from + (LOCK_COUNT_SIZE * i + k) ≡ LOCK_COUNT_SIZE * (from + i) + k = omega arith in e));
   left = λ page small is off. (
       let less = is.less in let same = is.is in
-      zero_word (slid b (2 * from) (2 * to) (2 * n)) (2 * page) (λ k few.
-      slid_left b (2 * from) (2 * to) (2 * n) (2 * page + k) inside (omega arith) (omega arith) (elim off [ inl a ↦ inl (omega arith) | inr a ↦ inr (omega arith) ])));
-  others = λ page small away off. same_word (slid b (2 * from) (2 * to) (2 * n)) b (2 * page) (2 * page) (λ k few.
-      slid_other b (2 * from) (2 * to) (2 * n) (2 * page + k) inside (elim away [ inl a ↦ inl (omega arith) | inr a ↦ inr (omega arith) ])
+      zero_word (slid b (LOCK_COUNT_SIZE * from) (LOCK_COUNT_SIZE * to) (LOCK_COUNT_SIZE * n)) (LOCK_COUNT_SIZE * page) (λ k few.
+      slid_left b (LOCK_COUNT_SIZE * from) (LOCK_COUNT_SIZE * to) (LOCK_COUNT_SIZE * n) (LOCK_COUNT_SIZE * page + k) inside (omega arith) (omega arith) (elim off [ inl a ↦ inl (omega arith) | inr a ↦ inr (omega arith) ])));
+  others = λ page small away off. same_word (slid b (LOCK_COUNT_SIZE * from) (LOCK_COUNT_SIZE * to) (LOCK_COUNT_SIZE * n)) b (LOCK_COUNT_SIZE * page) (LOCK_COUNT_SIZE * page) (λ k few.
+      slid_other b (LOCK_COUNT_SIZE * from) (LOCK_COUNT_SIZE * to) (LOCK_COUNT_SIZE * n) (LOCK_COUNT_SIZE * page + k) inside (elim away [ inl a ↦ inl (omega arith) | inr a ↦ inr (omega arith) ])
       (elim off [ inl a ↦ inl (omega arith) | inr a ↦ inr (omega arith) ]));
 }
   where
-    inside : Inside b (2 * from) (2 * to) (2 * n)
+    inside : Inside b (LOCK_COUNT_SIZE * from) (LOCK_COUNT_SIZE * to) (LOCK_COUNT_SIZE * n)
     inside = record { source = omega arith; target = omega arith }

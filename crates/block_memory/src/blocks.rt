@@ -7,7 +7,10 @@ ghost use Rattle.block_memory.specs.BlockSizes.{HasPages, at_base, extended, lon
 
 use crate::rows::set_block_row;
 use crate::slides::slide;
-use client_world::host_frames::{BLOCK_ROWS, BLOCK_TABLES, LOCK_COUNTS, PAGE_SIZE};
+use client_world::host_frames::{
+    BLOCK_ROW_SIZE, BLOCK_ROWS, BLOCK_TABLES, LOCK_COUNT_SIZE, LOCK_COUNTS, PAGE_ENTRY_SIZE,
+    PAGE_SIZE,
+};
 use client_world::memory_map::BLOCK_REGION;
 use guest_ram::Ram;
 use page_tables::{give_frame, map, take_frame, unmap};
@@ -42,7 +45,7 @@ fn drop_page(ram: &mut Ram, place: u32, base: u32, n: u32)
     let frame = unmap(ram, base + PAGE_SIZE * n);
     give_frame(ram, frame);
     let page = (base - BLOCK_REGION) / PAGE_SIZE + n;
-    ram.set16(PAGE_SIZE * LOCK_COUNTS + 2 * page, 0);
+    ram.set16(PAGE_SIZE * LOCK_COUNTS + LOCK_COUNT_SIZE * page, 0);
     set_block_row(ram, place, base_of_pages(base, n), n);
 }
 
@@ -78,15 +81,15 @@ fn move_block(ram: &mut Ram, place: u32, from: u32, base: u32, n: u32)
     let last = (base - BLOCK_REGION) / PAGE_SIZE;
     slide(
         ram,
-        PAGE_SIZE * BLOCK_TABLES + 4 * first,
-        PAGE_SIZE * BLOCK_TABLES + 4 * last,
-        4 * n,
+        PAGE_SIZE * BLOCK_TABLES + PAGE_ENTRY_SIZE * first,
+        PAGE_SIZE * BLOCK_TABLES + PAGE_ENTRY_SIZE * last,
+        PAGE_ENTRY_SIZE * n,
     );
     slide(
         ram,
-        PAGE_SIZE * LOCK_COUNTS + 2 * first,
-        PAGE_SIZE * LOCK_COUNTS + 2 * last,
-        2 * n,
+        PAGE_SIZE * LOCK_COUNTS + LOCK_COUNT_SIZE * first,
+        PAGE_SIZE * LOCK_COUNTS + LOCK_COUNT_SIZE * last,
+        LOCK_COUNT_SIZE * n,
     );
     set_block_row(ram, place, base, n);
 }
@@ -96,7 +99,7 @@ pub fn block_row(ram: &Ram, place: u32) -> (u32, u32)
     requires { HasBlockIn ram.now place }
     ensures { (budget : ℕ) → Holds ram.now budget → HasPages (blocks_held ram.now budget) place result.0 result.1 }
 {
-    let row = PAGE_SIZE * BLOCK_ROWS + 16 * place;
+    let row = PAGE_SIZE * BLOCK_ROWS + BLOCK_ROW_SIZE * place;
     (ram.get32(row), ram.get32(row + 4))
 }
 

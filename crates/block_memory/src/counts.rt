@@ -7,7 +7,9 @@ ghost use Rattle.block_memory.specs.BlockSizes.{all_locked, locked_run};
 ghost use Rattle.host_memory.specs.Holds.{all_pages};
 ghost use Rattle.host_memory.specs.Layout.{handles_part, locks_part, pages_of, first_page_of};
 
-use client_world::host_frames::{BLOCK_ROWS, LOCK_COUNTS, PAGE_SIZE};
+use client_world::host_frames::{
+    BLOCK_ROW_SIZE, BLOCK_ROWS, LOCK_COUNT_SIZE, LOCK_COUNTS, PAGE_SIZE,
+};
 use client_world::limits::MAX_BLOCKS;
 use client_world::memory_map::BLOCK_REGION;
 use guest_ram::Ram;
@@ -21,7 +23,7 @@ pub fn used_pages(ram: &Ram) -> u32
     let _size = ram.len();
     let mut used = 0;
     for place in 0..MAX_BLOCKS {
-        used += ram.get32(PAGE_SIZE * BLOCK_ROWS + 16 * place + 4);
+        used += ram.get32(PAGE_SIZE * BLOCK_ROWS + BLOCK_ROW_SIZE * place + 4);
     }
     used
 }
@@ -42,7 +44,7 @@ fn locked_in(ram: &Ram, first: u32, pages: u32) -> u32
     let _size = ram.len();
     let mut count = 0;
     for page in 0..pages {
-        count += is_locked(ram.get16(PAGE_SIZE * LOCK_COUNTS + 2 * (first + page)));
+        count += is_locked(ram.get16(PAGE_SIZE * LOCK_COUNTS + LOCK_COUNT_SIZE * (first + page)));
     }
     count
 }
@@ -58,7 +60,7 @@ pub fn locked_pages(ram: &Ram) -> u32
     let _size = ram.len();
     let mut locked = 0;
     for place in 0..MAX_BLOCKS {
-        let row = PAGE_SIZE * BLOCK_ROWS + 16 * place;
+        let row = PAGE_SIZE * BLOCK_ROWS + BLOCK_ROW_SIZE * place;
         let base = ram.get32(row);
         let pages = ram.get32(row + 4);
         locked += locked_in(ram, base.saturating_sub(BLOCK_REGION) / PAGE_SIZE, pages);

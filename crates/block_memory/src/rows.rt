@@ -5,7 +5,7 @@ ghost use Rattle.client_world.specs.declared.limits.TheConstants.{MAX_BLOCKS};
 ghost use Rattle.client_world.specs.declared.memory_map.TheConstants.{BLOCK_REGION, BLOCK_REGION_END, BLOCK_REGION_PAGES};
 ghost use Rattle.guest_ram.specs.Bytes.{put, dword_bytes};
 
-use client_world::host_frames::{BLOCK_ROWS, PAGE_SIZE};
+use client_world::host_frames::{BLOCK_ROW_SIZE, BLOCK_ROWS, PAGE_SIZE};
 use client_world::memory_map::BLOCK_REGION;
 use guest_ram::Ram;
 
@@ -13,9 +13,9 @@ use guest_ram::Ram;
 pub fn set_block_row(ram: &mut Ram, place: u32, base: u32, pages: u32)
     requires size { PAGE_SIZE * BUDGET_FRAMES ≤ length ram.old }
     requires place { place < MAX_BLOCKS }
-    ensures { ram.new ≡ put (put ram.old (PAGE_SIZE * BLOCK_ROWS + 16 * place) (dword_bytes base)) (PAGE_SIZE * BLOCK_ROWS + 16 * place + 4) (dword_bytes pages) }
+    ensures { ram.new ≡ put (put ram.old (PAGE_SIZE * BLOCK_ROWS + BLOCK_ROW_SIZE * place) (dword_bytes base)) (PAGE_SIZE * BLOCK_ROWS + BLOCK_ROW_SIZE * place + 4) (dword_bytes pages) }
 {
-    let row = PAGE_SIZE * BLOCK_ROWS + 16 * place;
+    let row = PAGE_SIZE * BLOCK_ROWS + BLOCK_ROW_SIZE * place;
     ram.set32(row, base);
     ram.set32(row + 4, pages);
 }
