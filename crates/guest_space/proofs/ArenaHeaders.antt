@@ -4,7 +4,7 @@ use Rattle.std.proofs.lemmas.Bool.{cases_eq, eq-eqb, ne_eqb}
 use Rattle.client_world.specs.declared.dos_memory.DosEntry.{DosEntry}
 use Rattle.client_world.specs.declared.dos_memory.DosState.{DosState}
 use Rattle.client_world.specs.declared.dos_memory.DosState.TheVariants.{Free, Used, Dpmi}
-use Rattle.client_world.specs.declared.host_frames.TheConstants.{PAGE_SIZE, DOS_LIST}
+use Rattle.client_world.specs.declared.host_frames.TheConstants.{PAGE_SIZE, DOS_LIST, DOS_LIST_FRAMES}
 use Rattle.client_world.specs.declared.memory_map.TheConstants.{ARENA_START, ARENA_END, PARAGRAPH_SIZE, ROM_START}
 use Rattle.client_world.specs.DosMemory.{Fills, IsArena}
 use Rattle.client_world.specs.Soundness.{SoundMegabyte}
@@ -168,7 +168,7 @@ pub header_away : (c : List ℕ) (at letter : ℕ) (entry : DosEntry) → HasFra
     arena_part (put c at (header_bytes letter entry)) ≡ arena_part c
 header_away c at letter entry frames low =
     let long = length-header letter entry in
-    region-put_below c at (header_bytes letter entry) (PAGE_SIZE * DOS_LIST) (PAGE_SIZE * 80) (omega arith) (omega arith)
+    region-put_below c at (header_bytes letter entry) (PAGE_SIZE * DOS_LIST) (PAGE_SIZE * DOS_LIST_FRAMES) (omega arith) (omega arith)
 
 -- and behind the last entry nothing is left
 pub no_header_left : (c : List ℕ) (es : List DosEntry) (place : ℕ) → length es ≤ place → with_headers c (drop place es) ≡ c

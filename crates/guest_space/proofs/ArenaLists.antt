@@ -12,7 +12,7 @@ use Rattle.host_memory.specs.DosList.{entry_at, entry_bytes, state_of, state_cod
 use Rattle.guest_space.specs.Arena.{list_bytes, arena_bytes}
 
 -- eight bytes that are the same are the same entry
-pub same_entry : (a b : List ℕ) (p q : ℕ) → ((i : ℕ) → i < 8 → get_or a (p + i) 0 ≡ get_or b (q + i) 0) → entry_at a p ≡ entry_at b q
+pub same_entry : (a b : List ℕ) (p q : ℕ) → ((i : ℕ) → i < entry_size → get_or a (p + i) 0 ≡ get_or b (q + i) 0) → entry_at a p ≡ entry_at b q
 unfolding entry_at
 same_entry a b p q h =
     let e0 : get_or a p 0 ≡ get_or b q 0 = rw (← add-zero p, ← add-zero q) (h 0 (omega arith)) in
@@ -49,7 +49,7 @@ pub length-list_bytes : (es : List DosEntry) → length (list_bytes es) ≡ entr
 length-list_bytes [] = refl
 length-list_bytes (e ∷ es) = let rest = length-list_bytes es in omega arith
 
-first_byte : (e : DosEntry) (bytes : List ℕ) (at : ℕ) → at < 8 → get_or (entry_bytes e ++ bytes) at 0 ≡ get_or (entry_bytes e) at 0
+first_byte : (e : DosEntry) (bytes : List ℕ) (at : ℕ) → at < entry_size → get_or (entry_bytes e ++ bytes) at 0 ≡ get_or (entry_bytes e) at 0
 first_byte e bytes zero small = refl
 first_byte e bytes (suc zero) small = refl
 first_byte e bytes (suc (suc zero)) small = refl
@@ -60,13 +60,13 @@ first_byte e bytes (suc (suc (suc (suc (suc (suc zero)))))) small = refl
 first_byte e bytes (suc (suc (suc (suc (suc (suc (suc zero))))))) small = refl
 first_byte e bytes (suc (suc (suc (suc (suc (suc (suc (suc n)))))))) small = absurd (omega arith)
 
-at_list_bytes : (es : List DosEntry) (place at : ℕ) (d : DosEntry) → place < length es → at < 8 →
+at_list_bytes : (es : List DosEntry) (place at : ℕ) (d : DosEntry) → place < length es → at < entry_size →
     get_or (list_bytes es) (entry_size * place + at) 0 ≡ get_or (entry_bytes (get_or es place d)) at 0
 at_list_bytes [] place at d within small = absurd (omega arith)
 at_list_bytes (e ∷ es) zero at d within small =
     ap (λ (n : ℕ). get_or (entry_bytes e ++ list_bytes es) n 0) (zero-add at) ∙ first_byte e (list_bytes es) at small
 at_list_bytes (e ∷ es) (suc place) at d within small =
-    let behind : 8 * suc place + at ≡ suc (suc (suc (suc (suc (suc (suc (suc (8 * place + at)))))))) = omega arith in
+    let behind : entry_size * suc place + at ≡ suc (suc (suc (suc (suc (suc (suc (suc (entry_size * place + at)))))))) = omega arith in
     ap (λ (n : ℕ). get_or (entry_bytes e ++ list_bytes es) n 0) behind ∙ at_list_bytes es place at d (omega arith) small
 
 -- those of two lists together
@@ -94,7 +94,7 @@ bytes_take es n at few small =
 pub bytes_drop : (es : List DosEntry) (n at : ℕ) → n ≤ length es → get_or (list_bytes (drop n es)) at 0 ≡ get_or (list_bytes es) (entry_size * n + at) 0
 bytes_drop es n at few =
     let long : length (take n es) ≡ n = omega (arith, length-take n es) in
-    ap (λ (k : ℕ). get_or (list_bytes (drop n es)) k 0) (let same : at ≡ 8 * n + at - 8 * length (take n es) = omega arith in same)
+    ap (λ (k : ℕ). get_or (list_bytes (drop n es)) k 0) (let same : at ≡ entry_size * n + at - entry_size * length (take n es) = omega arith in same)
     ∙ sym (bytes_right (take n es) (drop n es) (entry_size * n + at) (omega arith))
     ∙ ap (λ (xs : List DosEntry). get_or (list_bytes xs) (entry_size * n + at) 0) (take-append-drop n es)
 
@@ -125,7 +125,7 @@ at_arena_bytes es at = elim (cases_lt at (length (list_bytes es))) [
 pub past_arena_bytes : (es : List DosEntry) (at : ℕ) → entry_size * length es ≤ at → get_or (arena_bytes es) at 0 ≡ 0
 past_arena_bytes es at past = at_arena_bytes es at ∙ get_or_past (list_bytes es) at 0 (omega (arith, length-list_bytes es))
 
-byte_of_entry : (es : List DosEntry) (place at : ℕ) (d : DosEntry) → place < length es → at < 8 →
+byte_of_entry : (es : List DosEntry) (place at : ℕ) (d : DosEntry) → place < length es → at < entry_size →
     get_or (arena_bytes es) (entry_size * place + at) 0 ≡ get_or (entry_bytes (get_or es place d)) at 0
 byte_of_entry es place at d within small = at_arena_bytes es (entry_size * place + at) ∙ at_list_bytes es place at d within small
 
@@ -142,25 +142,25 @@ unfolding entries_from
 entries_are part place zero n few some ends = omega arith
 entries_are part place (suc room) zero few some ends = elim ends [
   | inl full ↦ absurd (omega arith)
-  | inr none ↦ (let here : get_or part (8 * place + 4) 0 ≡ 0 = ap (λ (j : ℕ). get_or part (8 * j + 4) 0) (sym (add-zero place)) ∙ none in
-      rw (eq-eqb (get_or part (8 * place + 4) 0) 0 here) refl)
+  | inr none ↦ (let here : get_or part (entry_size * place + 4) 0 ≡ 0 = ap (λ (j : ℕ). get_or part (entry_size * j + 4) 0) (sym (add-zero place)) ∙ none in
+      rw (eq-eqb (get_or part (entry_size * place + 4) 0) 0 here) refl)
 ]
 entries_are part place (suc room) (suc n) few some ends =
-    let here : get_or part (8 * place + 4) 0 ≢ 0 = λ e. some 0 (omega arith) (ap (λ (j : ℕ). get_or part (8 * j + 4) 0) (add-zero place) ∙ e) in
+    let here : get_or part (entry_size * place + 4) 0 ≢ 0 = λ e. some 0 (omega arith) (ap (λ (j : ℕ). get_or part (entry_size * j + 4) 0) (add-zero place) ∙ e) in
     let next : (j : ℕ) → place + 1 + j ≡ place + suc j = λ j. omega arith in
     let rest = entries_are part (place + 1) room n (omega arith)
-    (λ j small e. some (suc j) (omega arith) (ap (λ (x : ℕ). get_or part (8 * x + 4) 0) (sym (next j)) ∙ e))
+    (λ j small e. some (suc j) (omega arith) (ap (λ (x : ℕ). get_or part (entry_size * x + 4) 0) (sym (next j)) ∙ e))
     (elim ends [
       | inl full ↦ inl (omega arith)
-      | inr none ↦ inr (ap (λ (x : ℕ). get_or part (8 * x + 4) 0) (next n) ∙ none)
+      | inr none ↦ inr (ap (λ (x : ℕ). get_or part (entry_size * x + 4) 0) (next n) ∙ none)
     ]) in
-    rw (ne_eqb (get_or part (8 * place + 4) 0) 0 here) (omega (arith, rest))
+    rw (ne_eqb (get_or part (entry_size * place + 4) 0) 0 here) (omega (arith, rest))
 
 count_back : (es : List DosEntry) → length es ≤ entry_room → entry_count (arena_bytes es) ≡ length es
 count_back es few = entries_are (arena_bytes es) 0 entry_room (length es) few
     (λ j small e. (let d = entry_at (arena_bytes es) 0 in
     code_some (get_or es j d) (sym (byte_of_entry es j 4 d small (omega arith))
-    ∙ ap (λ (x : ℕ). get_or (arena_bytes es) (8 * x + 4) 0) (sym (zero-add j)) ∙ e)))
+    ∙ ap (λ (x : ℕ). get_or (arena_bytes es) (entry_size * x + 4) 0) (sym (zero-add j)) ∙ e)))
     (inr (past_arena_bytes es (entry_size * (0 + length es) + 4) (omega arith)))
 
 -- the entries are read from these bytes, which are exactly theirs
@@ -200,9 +200,9 @@ arena_bytes_are part size few keeps = same_number_lists part (arena_bytes (arena
     long = length-arena_bytes (arena_in part) (omega (arith, count))
 
     each : (at : ℕ) → at < length part → get_or part at 0 ≡ get_or (arena_bytes (arena_in part)) at 0
-    each at within = elim (cases_lt at (8 * entry_count part)) [
+    each at within = elim (cases_lt at (entry_size * entry_count part)) [
       | inl inside ↦ (let d = entry_at part 0 in
-          let split : at ≡ 8 * (at / 8) + at % 8 = omega arith in
+          let split : at ≡ entry_size * (at / 8) + at % 8 = omega arith in
           ap (λ (k : ℕ). get_or part k 0) split
           ∙ keeps.each (at / 8) (at % 8) (omega (arith, count)) (omega (arith, count))
           ∙ ap (λ (x : DosEntry). get_or (entry_bytes x) (at % 8) 0) (sym (at_arena_in part (at / 8) d (omega (arith, count))))

@@ -8,7 +8,7 @@ use Rattle.guest_ram.specs.Bytes.{put, region}
 use Rattle.guest_ram.specs.Listed.{copies}
 use Rattle.guest_ram.proofs.ListedLaws.{length-copies}
 use Rattle.guest_ram.proofs.PutLaws.{length-put, put_above, put_below, put_within, length-region, at_region, region-put}
-use Rattle.host_memory.specs.DosList.{entry_count, entry_room, list_size, arena_in, KeepsArena}
+use Rattle.host_memory.specs.DosList.{entry_count, entry_room, list_size, arena_in, KeepsArena, entry_size}
 use Rattle.host_memory.specs.Layout.{arena_part}
 use Rattle.host_memory.proofs.ListsClaim.{entries_few}
 use Rattle.guest_space.specs.Arena.{spliced, list_bytes, arena_bytes}
@@ -50,33 +50,33 @@ is_splice : (b : List ℕ) (n place old : ℕ) (new : List DosEntry) → HasFram
     IsSplice b (spliced_bytes b list_start n place old new) n place old new
 is_splice b n place old new frames few within fits =
     let count = length new in
-    let from = list_start + 8 * (place + old) in
-    let moved = region b from (8 * (n - (place + old))) in
-    let long : length moved ≡ 8 * (n - (place + old)) = length-region b from (8 * (n - (place + old))) (omega arith) in
-    let b1 = put b (list_start + 8 * (place + count)) moved in
-    let size1 : length b1 ≡ length b = length-put b (list_start + 8 * (place + count)) moved in
+    let from = list_start + entry_size * (place + old) in
+    let moved = region b from (entry_size * (n - (place + old))) in
+    let long : length moved ≡ entry_size * (n - (place + old)) = length-region b from (entry_size * (n - (place + old))) (omega arith) in
+    let b1 = put b (list_start + entry_size * (place + count)) moved in
+    let size1 : length b1 ≡ length b = length-put b (list_start + entry_size * (place + count)) moved in
     let bytes = list_bytes new in
-    let long-new : length bytes ≡ 8 * count = length-list_bytes new in
-    let b2 = put b1 (list_start + 8 * place) bytes in
-    let size2 : length b2 ≡ length b1 = length-put b1 (list_start + 8 * place) bytes in
-    let none = copies (8 * (old - count)) 0 in
-    let long-none : length none ≡ 8 * (old - count) = length-copies (8 * (old - count)) 0 in
-    let end = list_start + 8 * (n - old + count) in
+    let long-new : length bytes ≡ entry_size * count = length-list_bytes new in
+    let b2 = put b1 (list_start + entry_size * place) bytes in
+    let size2 : length b2 ≡ length b1 = length-put b1 (list_start + entry_size * place) bytes in
+    let none = copies (entry_size * (old - count)) 0 in
+    let long-none : length none ≡ entry_size * (old - count) = length-copies (entry_size * (old - count)) 0 in
+    let end = list_start + entry_size * (n - old + count) in
     record {
       size = length-put b2 end none ∙ size2 ∙ size1;
-      part = region-put b2 end none list_start list_size (8 * (n - old + count)) refl (omega arith)
-          ∙ ap (λ (a : List ℕ). put a (8 * (n - old + count)) none)
-          (region-put b1 (list_start + 8 * place) bytes list_start list_size (8 * place) refl (omega arith)
-          ∙ ap (λ (a : List ℕ). put a (8 * place) bytes)
-          (region-put b (list_start + 8 * (place + count)) moved list_start list_size (8 * (place + count)) refl (omega arith)
-          ∙ ap (λ (xs : List ℕ). put (arena_part b) (8 * (place + count)) xs)
-          (sym (region-region b list_start list_size (8 * (place + old)) (8 * (n - (place + old))) (omega arith) (omega arith)))))
-          ∙ no_start (arena_part b) (8 * (place + old)) (8 * (place + count)) (8 * place) (8 * (n - old + count)) (8 * (n - (place + old))) bytes none;
+      part = region-put b2 end none list_start list_size (entry_size * (n - old + count)) refl (omega arith)
+          ∙ ap (λ (a : List ℕ). put a (entry_size * (n - old + count)) none)
+          (region-put b1 (list_start + entry_size * place) bytes list_start list_size (entry_size * place) refl (omega arith)
+          ∙ ap (λ (a : List ℕ). put a (entry_size * place) bytes)
+          (region-put b (list_start + entry_size * (place + count)) moved list_start list_size (entry_size * (place + count)) refl (omega arith)
+          ∙ ap (λ (xs : List ℕ). put (arena_part b) (entry_size * (place + count)) xs)
+          (sym (region-region b list_start list_size (entry_size * (place + old)) (entry_size * (n - (place + old))) (omega arith) (omega arith)))))
+          ∙ no_start (arena_part b) (entry_size * (place + old)) (entry_size * (place + count)) (entry_size * place) (entry_size * (n - old + count)) (entry_size * (n - (place + old))) bytes none;
       others = λ at away. elim away [
-        | inl low ↦ put_below b2 end none at (omega arith) ∙ put_below b1 (list_start + 8 * place) bytes at (omega arith)
-            ∙ put_below b (list_start + 8 * (place + count)) moved at (omega arith)
-        | inr high ↦ put_above b2 end none at (omega arith) ∙ put_above b1 (list_start + 8 * place) bytes at (omega arith)
-            ∙ put_above b (list_start + 8 * (place + count)) moved at (omega arith)
+        | inl low ↦ put_below b2 end none at (omega arith) ∙ put_below b1 (list_start + entry_size * place) bytes at (omega arith)
+            ∙ put_below b (list_start + entry_size * (place + count)) moved at (omega arith)
+        | inr high ↦ put_above b2 end none at (omega arith) ∙ put_above b1 (list_start + entry_size * place) bytes at (omega arith)
+            ∙ put_above b (list_start + entry_size * (place + count)) moved at (omega arith)
       ];
     }
   where

@@ -2,7 +2,7 @@
 use Rattle.std.proofs.Common.{◌≡◌, ◌≢◌, ℕ, ◌+◌, ◌*◌, ◌<◌, ◌≤◌, ◌⊎◌, inl, inr, List, length, get_or, ap, ◌∙◌, sym, arith, add_assoc}
 use Rattle.std.proofs.lemmas.Bool.{cases_lt}
 use Rattle.client_world.specs.declared.dos_memory.DosEntry.{DosEntry}
-use Rattle.client_world.specs.declared.host_frames.TheConstants.{PAGE_SIZE, BUDGET_FRAMES, DOS_LIST}
+use Rattle.client_world.specs.declared.host_frames.TheConstants.{PAGE_SIZE, BUDGET_FRAMES, DOS_LIST, DOS_LIST_FRAMES}
 use Rattle.guest_ram.proofs.PutLaws.{at_region}
 use Rattle.host_memory.specs.DosList.{entry_at, entry_count, entry_room, entry_size, arena_in}
 use Rattle.host_memory.specs.Layout.{arena_part}
@@ -23,7 +23,7 @@ few_entries part = entries_few part 0 entry_room
 entry_here : (c : List ℕ) (place : ℕ) → place < entry_room → entry_at c (list_start + entry_size * place) ≡ entry_at (arena_part c) (entry_size * place)
 entry_here c place small = same_entry c (arena_part c) (list_start + entry_size * place) (entry_size * place) (λ i within.
     ap (λ (k : ℕ). get_or c k 0) (add_assoc list_start (entry_size * place) i)
-    ∙ sym (at_region c list_start (PAGE_SIZE * 80) (entry_size * place + i) (omega arith)))
+    ∙ sym (at_region c list_start (PAGE_SIZE * DOS_LIST_FRAMES) (entry_size * place + i) (omega arith)))
 
 -- an entry is read where the list is as it was
 pub entry_there : (b c : List ℕ) (place : ℕ) (d : DosEntry) → arena_part c ≡ arena_part b → place < entry_count (arena_part b) →
@@ -49,5 +49,5 @@ counted b n few some ends = entries_are (arena_part b) 0 entry_room n few
   where
     byte : (k : ℕ) → k < entry_room → get_or (arena_part b) (entry_size * (0 + k) + 4) 0 ≡ get_or b (list_start + entry_size * k + 4) 0
     byte k small =
-        at_region b list_start (PAGE_SIZE * 80) (entry_size * (0 + k) + 4) (omega arith)
-        ∙ ap (λ (j : ℕ). get_or b j 0) (let same : PAGE_SIZE * DOS_LIST + (8 * (0 + k) + 4) ≡ PAGE_SIZE * DOS_LIST + 8 * k + 4 = omega arith in same)
+        at_region b list_start (PAGE_SIZE * DOS_LIST_FRAMES) (entry_size * (0 + k) + 4) (omega arith)
+        ∙ ap (λ (j : ℕ). get_or b j 0) (let same : PAGE_SIZE * DOS_LIST + (entry_size * (0 + k) + 4) ≡ PAGE_SIZE * DOS_LIST + entry_size * k + 4 = omega arith in same)

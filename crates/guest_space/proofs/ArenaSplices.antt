@@ -9,7 +9,7 @@ use Rattle.guest_ram.specs.Bytes.{put, region}
 use Rattle.guest_ram.specs.Listed.{copies}
 use Rattle.guest_ram.proofs.ListedLaws.{length-copies, at_copies}
 use Rattle.guest_ram.proofs.PutLaws.{length-put, put_above, put_below, put_within, length-region, at_region}
-use Rattle.host_memory.specs.DosList.{entry_room, list_size}
+use Rattle.host_memory.specs.DosList.{entry_room, list_size, entry_size}
 use Rattle.guest_space.specs.Arena.{spliced, list_bytes, arena_bytes}
 use Rattle.guest_space.proofs.ArenaLists.{length-list_bytes, length-arena_bytes, at_arena_bytes, past_arena_bytes, bytes_left, bytes_right, bytes_take, bytes_drop}
 
@@ -26,12 +26,12 @@ length-spliced es place old new within =
 -- n entries stand there from `start` on
 abbrev pub spliced_bytes : List ℕ → ℕ → ℕ → ℕ → ℕ → List DosEntry → List ℕ
 spliced_bytes b start n place old new =
-    put (put (put b (start + 8 * (place + length new)) (region b (start + 8 * (place + old)) (8 * (n - (place + old)))))
-    (start + 8 * place) (list_bytes new))
-    (start + 8 * (n - old + length new)) (copies (8 * (old - length new)) 0)
+    put (put (put b (start + entry_size * (place + length new)) (region b (start + entry_size * (place + old)) (entry_size * (n - (place + old)))))
+    (start + entry_size * place) (list_bytes new))
+    (start + entry_size * (n - old + length new)) (copies (entry_size * (old - length new)) 0)
 
 -- the bytes of the entries after it, by those of the old ones and of the new ones
-bytes_before : (es : List DosEntry) (place old : ℕ) (new : List DosEntry) (at : ℕ) → place + old ≤ length es → at < 8 * place →
+bytes_before : (es : List DosEntry) (place old : ℕ) (new : List DosEntry) (at : ℕ) → place + old ≤ length es → at < entry_size * place →
     get_or (arena_bytes (spliced es place old new)) at 0 ≡ get_or (arena_bytes es) at 0
 bytes_before es place old new at within small =
     let front : length (take place es) ≡ place = omega (arith, length-take place es) in
@@ -40,26 +40,26 @@ bytes_before es place old new at within small =
     ∙ bytes_take es place at (omega arith) small
     ∙ sym (at_arena_bytes es at)
 
-bytes_new : (es : List DosEntry) (place old : ℕ) (new : List DosEntry) (at i : ℕ) → place + old ≤ length es → at ≡ 8 * place + i → i < 8 * length new →
+bytes_new : (es : List DosEntry) (place old : ℕ) (new : List DosEntry) (at i : ℕ) → place + old ≤ length es → at ≡ entry_size * place + i → i < entry_size * length new →
     get_or (arena_bytes (spliced es place old new)) at 0 ≡ get_or (list_bytes new) i 0
 bytes_new es place old new at i within e small =
     let front : length (take place es) ≡ place = omega (arith, length-take place es) in
     at_arena_bytes (spliced es place old new) at
     ∙ bytes_right (take place es) (new ++ drop (place + old) es) at (omega arith)
-    ∙ bytes_left new (drop (place + old) es) (at - 8 * length (take place es)) (omega arith)
-    ∙ ap (λ (k : ℕ). get_or (list_bytes new) k 0) (let same : at - 8 * length (take place es) ≡ i = omega arith in same)
+    ∙ bytes_left new (drop (place + old) es) (at - entry_size * length (take place es)) (omega arith)
+    ∙ ap (λ (k : ℕ). get_or (list_bytes new) k 0) (let same : at - entry_size * length (take place es) ≡ i = omega arith in same)
 
 bytes_behind : (es : List DosEntry) (place old : ℕ) (new : List DosEntry) (at i : ℕ) → place + old ≤ length es →
-    8 * (place + length new) ≤ at → at + 8 * old ≡ i + 8 * length new →
+    entry_size * (place + length new) ≤ at → at + entry_size * old ≡ i + entry_size * length new →
     get_or (arena_bytes (spliced es place old new)) at 0 ≡ get_or (arena_bytes es) i 0
 bytes_behind es place old new at i within from e =
     let front : length (take place es) ≡ place = omega (arith, length-take place es) in
     at_arena_bytes (spliced es place old new) at
     ∙ bytes_right (take place es) (new ++ drop (place + old) es) at (omega arith)
-    ∙ bytes_right new (drop (place + old) es) (at - 8 * length (take place es)) (omega arith)
-    ∙ bytes_drop es (place + old) (at - 8 * length (take place es) - 8 * length new) within
+    ∙ bytes_right new (drop (place + old) es) (at - entry_size * length (take place es)) (omega arith)
+    ∙ bytes_drop es (place + old) (at - entry_size * length (take place es) - entry_size * length new) within
     ∙ ap (λ (k : ℕ). get_or (list_bytes es) k 0)
-    (let same : 8 * (place + old) + (at - 8 * length (take place es) - 8 * length new) ≡ i = omega arith in same)
+    (let same : entry_size * (place + old) + (at - entry_size * length (take place es) - entry_size * length new) ≡ i = omega arith in same)
     ∙ sym (at_arena_bytes es i)
 
 -- so they are the bytes that the three writes leave
@@ -74,39 +74,39 @@ splice_is es place old new within few fits =
     let size : length a ≡ list_size = length-arena_bytes es few in
     let total : length (spliced es place old new) + old ≡ n + count = length-spliced es place old new within in
     let long : length after ≡ list_size = length-arena_bytes (spliced es place old new) (omega arith) in
-    let from = 0 + 8 * (place + old) in
-    let to = 0 + 8 * (place + count) in
-    let moved = region a from (8 * (n - (place + old))) in
-    let size-moved : length moved ≡ 8 * (n - (place + old)) = length-region a from (8 * (n - (place + old))) (omega arith) in
+    let from = 0 + entry_size * (place + old) in
+    let to = 0 + entry_size * (place + count) in
+    let moved = region a from (entry_size * (n - (place + old))) in
+    let size-moved : length moved ≡ entry_size * (n - (place + old)) = length-region a from (entry_size * (n - (place + old))) (omega arith) in
     let a1 = put a to moved in
     let size1 : length a1 ≡ list_size = length-put a to moved ∙ size in
     let bytes = list_bytes new in
-    let size-new : length bytes ≡ 8 * count = length-list_bytes new in
-    let here = 0 + 8 * place in
+    let size-new : length bytes ≡ entry_size * count = length-list_bytes new in
+    let here = 0 + entry_size * place in
     let a2 = put a1 here bytes in
     let size2 : length a2 ≡ list_size = length-put a1 here bytes ∙ size1 in
-    let end = 0 + 8 * (n - old + count) in
-    let none = copies (8 * (old - count)) 0 in
-    let size-none : length none ≡ 8 * (old - count) = length-copies (8 * (old - count)) 0 in
+    let end = 0 + entry_size * (n - old + count) in
+    let none = copies (entry_size * (old - count)) 0 in
+    let size-none : length none ≡ entry_size * (old - count) = length-copies (entry_size * (old - count)) 0 in
     let size3 : length (put a2 end none) ≡ list_size = length-put a2 end none ∙ size2 in
-    same_number_lists (put a2 end none) after (size3 ∙ sym long) (λ at small. elim (cases_lt at (8 * place)) [
+    same_number_lists (put a2 end none) after (size3 ∙ sym long) (λ at small. elim (cases_lt at (entry_size * place)) [
       | inl low ↦
           put_below a2 end none at (omega arith) ∙ put_below a1 here bytes at (omega arith) ∙ put_below a to moved at (omega arith)
           ∙ sym (bytes_before es place old new at within low)
-      | inr high ↦ elim (cases_lt at (8 * (place + count))) [
+      | inr high ↦ elim (cases_lt at (entry_size * (place + count))) [
         | inl fresh ↦
-            put_below a2 end none at (omega arith) ∙ put_within a1 here bytes (at - 8 * place) at (omega arith) (omega arith) (omega arith)
-            ∙ sym (bytes_new es place old new at (at - 8 * place) within (omega arith) (omega arith))
+            put_below a2 end none at (omega arith) ∙ put_within a1 here bytes (at - entry_size * place) at (omega arith) (omega arith) (omega arith)
+            ∙ sym (bytes_new es place old new at (at - entry_size * place) within (omega arith) (omega arith))
         | inr above ↦ elim (cases_lt at end) [
           | inl kept ↦
               put_below a2 end none at kept ∙ put_above a1 here bytes at (omega arith)
-              ∙ put_within a to moved (at - 8 * (place + count)) at (omega arith) (omega arith) (omega arith)
-              ∙ at_region a from (8 * (n - (place + old))) (at - 8 * (place + count)) (omega arith)
-              ∙ sym (bytes_behind es place old new at (from + (at - 8 * (place + count))) within above (omega arith))
-          | inr past ↦ elim (cases_lt at (end + 8 * (old - count))) [
+              ∙ put_within a to moved (at - entry_size * (place + count)) at (omega arith) (omega arith) (omega arith)
+              ∙ at_region a from (entry_size * (n - (place + old))) (at - entry_size * (place + count)) (omega arith)
+              ∙ sym (bytes_behind es place old new at (from + (at - entry_size * (place + count))) within above (omega arith))
+          | inr past ↦ elim (cases_lt at (end + entry_size * (old - count))) [
             | inl filled ↦
                 put_within a2 end none (at - end) at (omega arith) (omega arith) (omega arith)
-                ∙ at_copies (8 * (old - count)) 0 (at - end) (omega arith)
+                ∙ at_copies (entry_size * (old - count)) 0 (at - end) (omega arith)
                 ∙ sym (past_arena_bytes (spliced es place old new) at (omega arith))
             | inr behind ↦
                 put_above a2 end none at (omega arith) ∙ put_above a1 here bytes at (omega arith) ∙ put_above a to moved at (omega arith)

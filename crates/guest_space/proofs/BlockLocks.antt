@@ -1,6 +1,6 @@
 -- The lock counts of a machine's blocks.
 use Rattle.std.proofs.Common.{◌≡◌, ◌≢◌, ℕ, suc, ◌+◌, ◌*◌, ◌<◌, ◌≤◌, ◌⊎◌, List, ap, ◌∙◌, sym, subst, arith, Option, None}
-use Rattle.client_world.specs.declared.host_frames.TheConstants.{PAGE_SIZE, LOCK_COUNTS}
+use Rattle.client_world.specs.declared.host_frames.TheConstants.{PAGE_SIZE, LOCK_COUNTS, LOCK_COUNT_FRAMES, LOCK_COUNT_SIZE}
 use Rattle.client_world.specs.declared.limits.TheConstants.{GREATEST_LOCK_COUNT}
 use Rattle.client_world.specs.declared.memory_map.TheConstants.{BLOCK_REGION, BLOCK_REGION_END}
 use Rattle.client_world.specs.declared.place.Place.{Place}
@@ -25,9 +25,9 @@ abbrev lock_of_world : World → ℕ → ℕ
 lock_of_world w lin = lock_in w.blocks (place_of w lin)
 
 pub region_lock : (k : Processor) (b : List ℕ) (v : MachineView) → IsView k b v → Holds b k.budget → IsSound (held_world k b) → (lin n : ℕ) →
-    BLOCK_REGION ≤ lin → lin < BLOCK_REGION_END → n ≡ word_of b (PAGE_SIZE * LOCK_COUNTS + 2 * page_at lin) → n ≡ lock_in v.world.blocks (place_of v.world lin)
+    BLOCK_REGION ≤ lin → lin < BLOCK_REGION_END → n ≡ word_of b (PAGE_SIZE * LOCK_COUNTS + LOCK_COUNT_SIZE * page_at lin) → n ≡ lock_in v.world.blocks (place_of v.world lin)
 region_lock k b v is holds sound lin n from to e =
-    e ∙ part_word b LOCK_COUNTS 8 (2 * page_at lin) (omega arith)
+    e ∙ part_word b LOCK_COUNTS LOCK_COUNT_FRAMES (LOCK_COUNT_SIZE * page_at lin) (omega arith)
     ∙ lock_reads (handles_part b) (tables_part b) (locks_part b) (budget_part b k.budget) lin (memory_ranges k b sound) holds.locks (record { from = from; to = to })
     ∙ sym (ap (λ (bs : List (Option MemoryBlock)). lock_in bs (place_in bs lin)) (held_blocks k b))
     ∙ ap (λ (x : MachineView). lock_of_world x.world lin) is

@@ -1,7 +1,7 @@
 -- A page of a machine's block cleared, and the pages of its blocks counted.
 use Rattle.std.proofs.Common.{◌≡◌, ◌≢◌, ℕ, suc, ◌+◌, ◌*◌, ◌/◌, ◌<◌, ◌≤◌, inl, inr, List, length, ap, ◌∙◌, sym, subst, arith, Option, None}
 use Rattle.std.proofs.lemmas.Bool.{cases_eq}
-use Rattle.client_world.specs.declared.host_frames.TheConstants.{PAGE_SIZE, BLOCK_TABLES}
+use Rattle.client_world.specs.declared.host_frames.TheConstants.{PAGE_SIZE, BLOCK_TABLES, BLOCK_TABLE_FRAMES, PAGE_ENTRY_SIZE}
 use Rattle.client_world.specs.declared.memory_map.TheConstants.{BLOCK_REGION_PAGES}
 use Rattle.client_world.specs.declared.limits.TheConstants.{MAX_BLOCKS, MAX_PAGES}
 use Rattle.client_world.specs.declared.place.Place.{Place}
@@ -41,25 +41,25 @@ here_blocks k b v is lin blocks_is =
 
 -- the frame of the page lies inside the memory
 pub frame_inside : (k : Processor) (b : List ℕ) (v : MachineView) → IsView k b v → Holds b k.budget → IsSound (held_world k b) → (lin entry : ℕ) →
-    IsBlocks (place_of v.world lin) → entry ≡ dword b (PAGE_SIZE * BLOCK_TABLES + 4 * page_at lin) → PAGE_SIZE * (entry / PAGE_SIZE) + PAGE_SIZE ≤ length b
+    IsBlocks (place_of v.world lin) → entry ≡ dword b (PAGE_SIZE * BLOCK_TABLES + PAGE_ENTRY_SIZE * page_at lin) → PAGE_SIZE * (entry / PAGE_SIZE) + PAGE_SIZE ≤ length b
 frame_inside k b v is holds sound lin entry blocks_is e =
     let here = here_blocks k b v is lin blocks_is in
     let r = in_region_of (blocks_held b k.budget) lin here in
     let from = r.from in let to = r.to in
-    let own : entry ≡ entry_of (tables_part b) (page_at lin) = e ∙ part_dword b BLOCK_TABLES 16 (4 * page_at lin) (omega arith) in
+    let own : entry ≡ entry_of (tables_part b) (page_at lin) = e ∙ part_dword b BLOCK_TABLES BLOCK_TABLE_FRAMES (PAGE_ENTRY_SIZE * page_at lin) (omega arith) in
     let c = clears_page b k.budget lin holds (memory_ranges k b sound) here in
     let low = c.from in let high = c.to in let size = holds.size in
     omega arith
 
 pub cleared_machine : (k : Processor) (b : List ℕ) (v : MachineView) → IsView k b v → Holds b k.budget → IsSound (held_world k b) → (lin entry : ℕ) →
-    IsBlocks (place_of v.world lin) → entry ≡ dword b (PAGE_SIZE * BLOCK_TABLES + 4 * page_at lin) →
+    IsBlocks (place_of v.world lin) → entry ≡ dword b (PAGE_SIZE * BLOCK_TABLES + PAGE_ENTRY_SIZE * page_at lin) →
     (c : List ℕ) → c ≡ put b (PAGE_SIZE * (entry / PAGE_SIZE)) (copies PAGE_SIZE 0) → ClearedMachine k b c lin
 cleared_machine k b v is holds sound lin entry blocks_is e c f =
     let blocks = blocks_held b k.budget in
     let here = here_blocks k b v is lin blocks_is in
     let r = in_region_of blocks lin here in
     let from = r.from in let to = r.to in
-    let own : entry ≡ entry_of (tables_part b) (page_at lin) = e ∙ part_dword b BLOCK_TABLES 16 (4 * page_at lin) (omega arith) in
+    let own : entry ≡ entry_of (tables_part b) (page_at lin) = e ∙ part_dword b BLOCK_TABLES BLOCK_TABLE_FRAMES (PAGE_ENTRY_SIZE * page_at lin) (omega arith) in
     let ranges = memory_ranges k b sound in
     let old = memory_blocks k b sound in
     let handles = old.handles in

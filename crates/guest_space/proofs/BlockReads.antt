@@ -2,7 +2,7 @@
 use Rattle.std.proofs.Common.{◌≡◌, ◌≢◌, ℕ, zero, suc, ◌+◌, ◌-◌, ◌*◌, ◌/◌, ◌%◌, ◌<◌, ◌≤◌, inl, inr, List, length, slice_index, slice_index_or, refl, ap, ◌∙◌, sym, subst, arith, Option, None, Some}
 use Rattle.std.proofs.lemmas.Bool.{cases_lt}
 use Rattle.std.proofs.lemmas.List.{get_or_past}
-use Rattle.client_world.specs.declared.host_frames.TheConstants.{PAGE_SIZE, BLOCK_TABLES, BLOCK_ROWS}
+use Rattle.client_world.specs.declared.host_frames.TheConstants.{PAGE_SIZE, BLOCK_TABLES, BLOCK_ROWS, BLOCK_ROW_SIZE, PAGE_ENTRY_SIZE}
 use Rattle.client_world.specs.declared.limits.TheConstants.{MAX_BLOCKS}
 use Rattle.client_world.specs.declared.memory_map.TheConstants.{BLOCK_REGION, BLOCK_REGION_END, BLOCK_REGION_PAGES}
 use Rattle.client_world.specs.Access.{HasByte, bytes_of_block}
@@ -42,7 +42,7 @@ row_at_place k b v is holds sound handle place base pages same within some first
     ∙ ap row_seen there)
 
 pub some_row : (k : Processor) (b : List ℕ) (v : MachineView) → IsView k b v → Holds b k.budget → IsSound (held_world k b) → (handle base pages : ℕ) → handle ≢ 0 →
-    handle ≤ MAX_BLOCKS → base ≡ dword b (PAGE_SIZE * BLOCK_ROWS + 16 * (handle - 1)) → pages ≡ dword b (PAGE_SIZE * BLOCK_ROWS + 16 * (handle - 1) + 4) → pages ≢ 0 →
+    handle ≤ MAX_BLOCKS → base ≡ dword b (PAGE_SIZE * BLOCK_ROWS + BLOCK_ROW_SIZE * (handle - 1)) → pages ≡ dword b (PAGE_SIZE * BLOCK_ROWS + BLOCK_ROW_SIZE * (handle - 1) + 4) → pages ≢ 0 →
     Some (base, pages) ≡ row_seen (block_at v.world.blocks handle)
 some_row k b v is holds sound handle base pages held few e f some =
     let within : handle - 1 < MAX_BLOCKS = omega arith in
@@ -50,7 +50,7 @@ some_row k b v is holds sound handle base pages held few e f some =
     row_at_place k b v is holds sound handle (handle - 1) base pages (omega arith) within (λ none. some (second ∙ none)) (row_base_read b (handle - 1) base within e) second
 
 pub free_row : (k : Processor) (b : List ℕ) (v : MachineView) → IsView k b v → (handle pages : ℕ) → handle ≢ 0 → handle ≤ MAX_BLOCKS →
-    pages ≡ dword b (PAGE_SIZE * BLOCK_ROWS + 16 * (handle - 1) + 4) → pages ≡ 0 → None ≡ row_seen (block_at v.world.blocks handle)
+    pages ≡ dword b (PAGE_SIZE * BLOCK_ROWS + BLOCK_ROW_SIZE * (handle - 1) + 4) → pages ≡ 0 → None ≡ row_seen (block_at v.world.blocks handle)
 free_row k b v is handle pages held few f none =
     let within : handle - 1 < MAX_BLOCKS = omega arith in
     let next : handle ≡ suc (handle - 1) = omega arith in
@@ -85,9 +85,9 @@ pub record ReadsByte (b : List ℕ) (blocks : List (Option MemoryBlock)) (handle
   pub from : BLOCK_REGION ≤ base
   pub to : base < BLOCK_REGION_END
   pub small : (base - BLOCK_REGION) / PAGE_SIZE + at / PAGE_SIZE < BLOCK_REGION_PAGES
-  pub byte : (entry : ℕ) → entry ≡ dword b (PAGE_SIZE * BLOCK_TABLES + 4 * ((base - BLOCK_REGION) / PAGE_SIZE + at / PAGE_SIZE)) →
+  pub byte : (entry : ℕ) → entry ≡ dword b (PAGE_SIZE * BLOCK_TABLES + PAGE_ENTRY_SIZE * ((base - BLOCK_REGION) / PAGE_SIZE + at / PAGE_SIZE)) →
       slice_index b (PAGE_SIZE * (entry / PAGE_SIZE) + at % PAGE_SIZE) ≡ slice_index (bytes_of_block (block_at blocks handle)) at
-  pub inside : (entry : ℕ) → entry ≡ dword b (PAGE_SIZE * BLOCK_TABLES + 4 * ((base - BLOCK_REGION) / PAGE_SIZE + at / PAGE_SIZE)) →
+  pub inside : (entry : ℕ) → entry ≡ dword b (PAGE_SIZE * BLOCK_TABLES + PAGE_ENTRY_SIZE * ((base - BLOCK_REGION) / PAGE_SIZE + at / PAGE_SIZE)) →
       PAGE_SIZE * (entry / PAGE_SIZE) + at % PAGE_SIZE < length b
 
 reads_of : (k : Processor) (b : List ℕ) → Holds b k.budget → IsSound (held_world k b) → (handle base pages at : ℕ) (o : Option MemoryBlock) →

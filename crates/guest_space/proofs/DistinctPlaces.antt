@@ -4,6 +4,7 @@ use Rattle.std.proofs.lemmas.Bool.{cases_Bool, cases_lt}
 use Rattle.std.proofs.lemmas.Bool.Decides.{nat_tests}
 use Rattle.client_world.specs.declared.place.Place.{Place}
 use Rattle.client_world.specs.declared.place.Place.TheVariants.{Dos, Block, Host, Nothing}
+use Rattle.client_world.specs.declared.host_frames.TheConstants.{PAGE_SIZE}
 use Rattle.client_world.specs.declared.memory_map.TheConstants.{DOS_VIEW_END, BLOCK_REGION, BLOCK_REGION_END, HOST_WINDOW, HOST_WINDOW_END}
 use Rattle.client_world.specs.Access.{place_in, block_place, covers, dos_address, may_touch}
 use Rattle.client_world.specs.World.{MemoryBlock}
@@ -105,7 +106,7 @@ blocks_apart blocks l k (Block number at) may e f = same_offset blocks 1 l k num
 blocks_apart blocks l k Host may e f = absurd cc
 blocks_apart blocks l k Nothing may e f = absurd cc
 
-pub addresses_apart : (blocks : List (Option MemoryBlock)) (a i j : ℕ) → i < 4096 → j < 4096 →
+pub addresses_apart : (blocks : List (Option MemoryBlock)) (a i j : ℕ) → i < PAGE_SIZE → j < PAGE_SIZE →
     may_touch (place_in blocks ((a + i) % 2 ^ 32)) true ≡ true → place_in blocks ((a + i) % 2 ^ 32) ≡ place_in blocks ((a + j) % 2 ^ 32) → i ≡ j
 addresses_apart blocks a i j small less may same =
     elim (where_writable blocks ((a + i) % 2 ^ 32) may) [

@@ -43,8 +43,8 @@ low_place blocks lin write low =
     ap (λ (p : Place). may_touch p write) (place-dos blocks lin (omega arith) ∙ ap Dos same) ∙ may_low lin write low
 
 -- an access to them, by their row
-inside_stacks : (off n : ℕ) → off + n ≤ GREATEST_DEPTH * PROTECTED_STACK_SIZE → (nat_le (off + n) 0x8000 && nat_le (off + n) (2 ^ 32)) ≡ true
-inside_stacks off n room = rw (le-leb (off + n) 0x8000 (omega arith), le-leb (off + n) (2 ^ 32) (omega arith)) refl
+inside_stacks : (off n : ℕ) → off + n ≤ GREATEST_DEPTH * PROTECTED_STACK_SIZE → (nat_le (off + n) (GREATEST_DEPTH * PROTECTED_STACK_SIZE) && nat_le (off + n) (2 ^ 32)) ≡ true
+inside_stacks off n room = rw (le-leb (off + n) (GREATEST_DEPTH * PROTECTED_STACK_SIZE) (omega arith), le-leb (off + n) (2 ^ 32) (omega arith)) refl
 
 base_in_stacks : (width : Width) (off n : ℕ) (write : Bool) → off + n ≤ GREATEST_DEPTH * PROTECTED_STACK_SIZE →
     base_in_row Es (selector_of HOST_STACKS) (host_stacks width) off n write ≡ Ok PROTECTED_STACKS

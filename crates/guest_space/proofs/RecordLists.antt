@@ -6,7 +6,7 @@ use Rattle.client_world.specs.declared.calls.Call.{Call}
 use Rattle.client_world.specs.declared.calls.Call.TheVariants.{Int, Far, Iret, Reflect}
 use Rattle.client_world.specs.declared.calls.Record.{Record}
 use Rattle.client_world.specs.declared.calls.Record.TheVariants.{Sim, Back, Exc}
-use Rattle.client_world.specs.declared.host_frames.TheConstants.{PAGE_SIZE}
+use Rattle.client_world.specs.declared.host_frames.TheConstants.{PAGE_SIZE, RECORD_FRAMES}
 use Rattle.client_world.specs.declared.limits.TheConstants.{GREATEST_DEPTH}
 use Rattle.guest_ram.specs.Bytes.{put}
 use Rattle.guest_ram.specs.Listed.{zeros}
@@ -22,7 +22,7 @@ pub record IsRecordPart (part : List ℕ) (rs : List Record) : Type 0 where
   pub read : (place : ℕ) (d : Record) → place < length rs → record_at part (record_size * place) ≡ get_or rs place d
   pub bytes : (place at : ℕ) (d : Record) → place < length rs → at < record_size →
       get_or part (record_size * place + at) 0 ≡ get_or (record_bytes (get_or rs place d)) at 0
-  pub rest : (at : ℕ) → record_size * length rs ≤ at → at < PAGE_SIZE → get_or part at 0 ≡ 0
+  pub rest : (at : ℕ) → record_size * length rs ≤ at → at < PAGE_SIZE * RECORD_FRAMES → get_or part at 0 ≡ 0
 
 -- no record has the kind 0
 kind_of_call : (call : Call) → call_kind call ≢ 0
@@ -116,7 +116,7 @@ part_of_keeps part keeps =
 abbrev pub with_row : List ℕ → ℕ → List ℕ → List ℕ
 with_row part place xs = put part (record_size * place) xs
 
-row_inside : (part : List ℕ) (place : ℕ) (xs : List ℕ) → length part ≡ PAGE_SIZE → place < GREATEST_DEPTH → length xs ≡ record_size → (i : ℕ) → i < record_size →
+row_inside : (part : List ℕ) (place : ℕ) (xs : List ℕ) → length part ≡ PAGE_SIZE * RECORD_FRAMES → place < GREATEST_DEPTH → length xs ≡ record_size → (i : ℕ) → i < record_size →
     get_or (with_row part place xs) (record_size * place + i) 0 ≡ get_or xs i 0
 row_inside part place xs size small long i within =
     put_within part (record_size * place) xs i (record_size * place + i) (omega arith) (omega arith) refl
@@ -129,7 +129,7 @@ below_read : (part : List ℕ) (place : ℕ) (xs : List ℕ) (k : ℕ) → k < p
 below_read part place xs k below =
     same_record (with_row part place xs) part (record_size * k) (record_size * k) (λ i within. row_below part place xs k i below within)
 
-row_read : (part : List ℕ) (place : ℕ) (xs : List ℕ) → length part ≡ PAGE_SIZE → place < GREATEST_DEPTH → length xs ≡ record_size →
+row_read : (part : List ℕ) (place : ℕ) (xs : List ℕ) → length part ≡ PAGE_SIZE * RECORD_FRAMES → place < GREATEST_DEPTH → length xs ≡ record_size →
     record_at (with_row part place xs) (record_size * place) ≡ record_at xs 0
 row_read part place xs size small long =
     same_record (with_row part place xs) xs (record_size * place) 0
@@ -148,7 +148,7 @@ last_or_before place n small = elim (cases_lt place n) [
   | inr past ↦ inr (omega arith)
 ]
 
-pub one_more : (part : List ℕ) (rs : List Record) (xs : List ℕ) → length part ≡ PAGE_SIZE → IsRecordPart part rs → length rs < GREATEST_DEPTH →
+pub one_more : (part : List ℕ) (rs : List Record) (xs : List ℕ) → length part ≡ PAGE_SIZE * RECORD_FRAMES → IsRecordPart part rs → length rs < GREATEST_DEPTH →
     length xs ≡ record_size → record_bytes (record_at xs 0) ≡ xs →
     IsRecordPart (with_row part (length rs) xs) (rs ++ record_at xs 0 ∷ [])
 one_more part rs xs size h room long exact =
@@ -173,7 +173,7 @@ one_more part rs xs size h room long exact =
     }
 
 -- one record less: zeros stand in its place
-pub one_less : (part : List ℕ) (rs : List Record) → length part ≡ PAGE_SIZE → IsRecordPart part rs → 0 < length rs →
+pub one_less : (part : List ℕ) (rs : List Record) → length part ≡ PAGE_SIZE * RECORD_FRAMES → IsRecordPart part rs → 0 < length rs →
     IsRecordPart (with_row part (length rs - 1) (zeros record_size)) (take (length rs - 1) rs)
 one_less part rs size h some =
     let left = length rs - 1 in

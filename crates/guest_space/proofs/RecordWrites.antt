@@ -4,7 +4,7 @@ use Rattle.std.specs.List.{slice_get}
 use Rattle.std.proofs.lemmas.Bool.{cases_lt}
 use Rattle.std.proofs.lemmas.Option.{slice_get-get_or}
 use Rattle.client_world.specs.declared.calls.Record.{Record}
-use Rattle.client_world.specs.declared.host_frames.TheConstants.{PAGE_SIZE, RECORDS}
+use Rattle.client_world.specs.declared.host_frames.TheConstants.{PAGE_SIZE, RECORDS, RECORD_FRAMES}
 use Rattle.client_world.specs.declared.limits.TheConstants.{GREATEST_DEPTH}
 use Rattle.client_world.specs.declared.place.Place.{Place}
 use Rattle.client_world.specs.declared.registers.Mode.{Mode}
@@ -29,8 +29,8 @@ use Rattle.guest_space.proofs.RecordLists.{IsRecordPart, kind_some, count_of_par
 use Rattle.guest_space.proofs.RecordRuns.{same_record}
 use Rattle.guest_space.proofs.SoundLists.{IsSound-calls}
 
-length-records_part : (b : List ℕ) (budget : ℕ) → HasSize b budget → length (records_part b) ≡ PAGE_SIZE
-length-records_part b budget size = length-region b (PAGE_SIZE * RECORDS) (PAGE_SIZE * 1) (omega (arith, size))
+length-records_part : (b : List ℕ) (budget : ℕ) → HasSize b budget → length (records_part b) ≡ PAGE_SIZE * RECORD_FRAMES
+length-records_part b budget size = length-region b (PAGE_SIZE * RECORDS) (PAGE_SIZE * RECORD_FRAMES) (omega (arith, size))
 
 -- the row of a record written, where the frame then holds these records
 pub row_holds : (b : List ℕ) (budget : ℕ) → Holds b budget → (place : ℕ) (xs : List ℕ) (rs : List Record) → place < GREATEST_DEPTH → length xs ≡ record_size →
@@ -108,7 +108,7 @@ pub row_byte : (b : List ℕ) (place i : ℕ) → place < GREATEST_DEPTH → i <
     get_or b (record_place place + i) 0 ≡ get_or (records_part b) (record_size * place + i) 0
 row_byte b place i small within =
     ap (λ (j : ℕ). get_or b j 0) (add_assoc (PAGE_SIZE * RECORDS) (record_size * place) i)
-    ∙ sym (at_region b (PAGE_SIZE * RECORDS) (PAGE_SIZE * 1) (record_size * place + i) (omega arith))
+    ∙ sym (at_region b (PAGE_SIZE * RECORDS) (PAGE_SIZE * RECORD_FRAMES) (record_size * place + i) (omega arith))
 
 pub row_kind : (b : List ℕ) (place : ℕ) → place < GREATEST_DEPTH →
     get_or b (record_place place) 0 ≡ get_or (records_part b) (record_size * place) 0

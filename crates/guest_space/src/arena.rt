@@ -11,7 +11,7 @@ ghost use Rattle.guest_space.specs.Arena.{spliced, NoneMade, with_entries, list_
 
 use crate::machine::Machine;
 use arrayvec::ArrayVec;
-use client_world::host_frames::{DOS_LIST, DOS_LIST_FRAMES, PAGE_SIZE};
+use client_world::host_frames::{DOS_ENTRY_SIZE, DOS_LIST, DOS_LIST_FRAMES, PAGE_SIZE};
 use client_world::memory_map::PARAGRAPH_SIZE;
 use client_world::{DosEntry, DosState};
 use guest_ram::Ram;
@@ -20,11 +20,8 @@ use host_memory::{header, listed_entry};
 // Where the list stands in the memory.
 const LIST_START: u32 = PAGE_SIZE * DOS_LIST;
 
-// The bytes of an entry there.
-const ENTRY_SIZE: u32 = 8;
-
 // The entries for which there is room.
-const ENTRY_ROOM: u32 = PAGE_SIZE * DOS_LIST_FRAMES / ENTRY_SIZE;
+const ENTRY_ROOM: u32 = PAGE_SIZE * DOS_LIST_FRAMES / DOS_ENTRY_SIZE;
 
 // The state of a code in the list.
 fn state(code: u8) -> DosState
@@ -58,7 +55,7 @@ fn entry_count(ram: &Ram) -> u32
     ensures few { result ≤ entry_room }
 {
     for place in 0..ENTRY_ROOM {
-        if ram.get8(LIST_START + ENTRY_SIZE * place + 4) == 0 {
+        if ram.get8(LIST_START + DOS_ENTRY_SIZE * place + 4) == 0 {
             return place;
         }
     }
@@ -75,7 +72,7 @@ fn write_entries(ram: &mut Ram, at: u32, entries: &[DosEntry])
     let mut place = at;
     for entry in entries {
         ram.write(place, &listed_entry(*entry));
-        place += ENTRY_SIZE;
+        place += DOS_ENTRY_SIZE;
     }
 }
 
@@ -90,12 +87,12 @@ fn replace_entries(ram: &mut Ram, n: u32, place: u32, old: u32, new: &[DosEntry]
     ensures { ram.new ≡ put ram.old (PAGE_SIZE * DOS_LIST) (arena_bytes (spliced (arena_in (arena_part ram.old)) place old new.now)) }
 {
     let count = new.len() as u32;
-    let from = LIST_START + ENTRY_SIZE * (place + old);
-    let to = LIST_START + ENTRY_SIZE * (place + count);
-    ram.copy(from, to, ENTRY_SIZE * (n - (place + old)));
-    write_entries(ram, LIST_START + ENTRY_SIZE * place, new);
-    let end = LIST_START + ENTRY_SIZE * (n - old + count);
-    ram.fill(end, ENTRY_SIZE * old.saturating_sub(count), 0);
+    let from = LIST_START + DOS_ENTRY_SIZE * (place + old);
+    let to = LIST_START + DOS_ENTRY_SIZE * (place + count);
+    ram.copy(from, to, DOS_ENTRY_SIZE * (n - (place + old)));
+    write_entries(ram, LIST_START + DOS_ENTRY_SIZE * place, new);
+    let end = LIST_START + DOS_ENTRY_SIZE * (n - old + count);
+    ram.fill(end, DOS_ENTRY_SIZE * old.saturating_sub(count), 0);
 }
 
 // The letter of the header of an entry, of n in all: 'Z' of the last one, 'M' of the others. Source: MS-DOS memory control blocks.
@@ -115,7 +112,7 @@ fn write_headers(ram: &mut Ram, n: u32)
     ensures { ram.new ≡ with_headers ram.old (arena_in (arena_part ram.old)) }
 {
     for place in 0..n {
-        let entry = entry(ram, LIST_START + ENTRY_SIZE * place);
+        let entry = entry(ram, LIST_START + DOS_ENTRY_SIZE * place);
         let bytes = header(letter(place, n), entry);
         ram.write(PARAGRAPH_SIZE * entry.at as u32, &bytes);
     }
@@ -135,7 +132,7 @@ impl Machine {
         requires { place < length self.now.world.arena }
         ensures { (default : DosEntry) → result ≡ slice_index_or self.now.world.arena place default }
     {
-        entry(&self.ram, LIST_START + ENTRY_SIZE * place as u32)
+        entry(&self.ram, LIST_START + DOS_ENTRY_SIZE * place as u32)
     }
 
     /// Puts entries of DOS memory in place of so many old ones from a place on, and writes the header of every entry. INT 31h function

@@ -12,7 +12,10 @@ use crate::machine::Machine;
 use block_memory::{
     block_row, drop_block, extend_block, locked_pages, region_page, resize_block, used_pages,
 };
-use client_world::host_frames::{BLOCK_ROWS, BLOCK_TABLES, LOCK_COUNTS, PAGE_SIZE};
+use client_world::host_frames::{
+    BLOCK_ROW_SIZE, BLOCK_ROWS, BLOCK_TABLES, LOCK_COUNT_SIZE, LOCK_COUNTS, PAGE_ENTRY_SIZE,
+    PAGE_SIZE,
+};
 use client_world::limits::MAX_BLOCKS;
 use client_world::memory_map::{BLOCK_REGION, BLOCK_REGION_END};
 
@@ -69,8 +72,7 @@ impl Machine {
         if lin < BLOCK_REGION {
             0
         } else if lin < BLOCK_REGION_END {
-            self.ram
-                .get16(PAGE_SIZE * LOCK_COUNTS + 2 * region_page(lin))
+            self.ram.get16(PAGE_SIZE * LOCK_COUNTS + LOCK_COUNT_SIZE * region_page(lin))
         } else {
             0
         }
@@ -85,7 +87,8 @@ impl Machine {
         ensures addresses { (p : Place) → address_of self.new.bytes p ≡ address_of self.old.bytes p }
     {
         let page = region_page(lin);
-        self.ram.set16(PAGE_SIZE * LOCK_COUNTS + 2 * page, n);
+        self.ram
+            .set16(PAGE_SIZE * LOCK_COUNTS + LOCK_COUNT_SIZE * page, n);
     }
 
     /// Fills the page of a linear address that a memory block covers with zeros. Source: own.
@@ -94,9 +97,7 @@ impl Machine {
         ensures world { self.new.world ≡ record self.old.world { blocks = zeroed self.old.world.blocks (place_of self.old.world lin) } }
         ensures addresses { (p : Place) → address_of self.new.bytes p ≡ address_of self.old.bytes p }
     {
-        let entry = self
-            .ram
-            .get32(PAGE_SIZE * BLOCK_TABLES + 4 * region_page(lin));
+        let entry = self.ram.get32(PAGE_SIZE * BLOCK_TABLES + PAGE_ENTRY_SIZE * region_page(lin));
         self.ram.fill(PAGE_SIZE * (entry / PAGE_SIZE), PAGE_SIZE, 0);
     }
 
@@ -125,7 +126,7 @@ impl Machine {
         if MAX_BLOCKS < handle as u32 {
             return None;
         }
-        let row = PAGE_SIZE * BLOCK_ROWS + 16 * (handle as u32 - 1);
+        let row = PAGE_SIZE * BLOCK_ROWS + BLOCK_ROW_SIZE * (handle as u32 - 1);
         let pages = self.ram.get32(row + 4);
         if pages == 0 {
             return None;
@@ -142,7 +143,9 @@ impl Machine {
         self.soundness();
         let (base, _) = block_row(&self.ram, handle as u32 - 1);
         let page = region_page(base) + at / PAGE_SIZE;
-        let entry = self.ram.get32(PAGE_SIZE * BLOCK_TABLES + 4 * page);
+        let entry = self
+            .ram
+            .get32(PAGE_SIZE * BLOCK_TABLES + PAGE_ENTRY_SIZE * page);
         self.ram
             .get8(PAGE_SIZE * (entry / PAGE_SIZE) + at % PAGE_SIZE)
     }

@@ -9,15 +9,12 @@ ghost use Rattle.host_memory.specs.Records.{record_at, record_bytes, record_coun
 ghost use Rattle.guest_space.specs.Records.{record_place, with_record, without_record};
 
 use crate::machine::Machine;
-use client_world::host_frames::{PAGE_SIZE, RECORDS};
+use client_world::host_frames::{PAGE_SIZE, RECORD_SIZE, RECORDS};
 use client_world::limits::GREATEST_DEPTH;
 use guest_ram::Ram;
 
 // Where the rows of the records stand in the memory.
 const ROWS_START: u32 = PAGE_SIZE * RECORDS;
-
-// The bytes of a row.
-const ROW_SIZE: u32 = 128;
 
 // The number of records.
 fn record_count(ram: &Ram) -> u32
@@ -26,7 +23,7 @@ fn record_count(ram: &Ram) -> u32
     ensures few { result ≤ GREATEST_DEPTH }
 {
     for place in 0..GREATEST_DEPTH {
-        if ram.get8(ROWS_START + ROW_SIZE * place) == 0 {
+        if ram.get8(ROWS_START + RECORD_SIZE * place) == 0 {
             return place;
         }
     }
@@ -42,7 +39,7 @@ impl Machine {
         ensures some { slot < length self.now.world.calls → slice_index result 0 ≢ 0 }
         ensures none { length self.now.world.calls ≤ slot → slice_index result 0 ≡ 0 }
     {
-        self.ram.get(ROWS_START + ROW_SIZE * slot as u32)
+        self.ram.get(ROWS_START + RECORD_SIZE * slot as u32)
     }
 
     /// Puts a record behind all others, by the bytes of its row.
@@ -53,7 +50,7 @@ impl Machine {
         ensures { self.new ≡ with_record self.old (record_at bytes.now 0) bytes.now }
     {
         let place = record_count(&self.ram);
-        self.ram.write(ROWS_START + ROW_SIZE * place, bytes);
+        self.ram.write(ROWS_START + RECORD_SIZE * place, bytes);
     }
 
     /// Takes the last record away; its row becomes 0.
@@ -62,6 +59,7 @@ impl Machine {
         ensures { self.new ≡ without_record self.old }
     {
         let place = record_count(&self.ram) - 1;
-        self.ram.fill(ROWS_START + ROW_SIZE * place, ROW_SIZE, 0);
+        self.ram
+            .fill(ROWS_START + RECORD_SIZE * place, RECORD_SIZE, 0);
     }
 }

@@ -1,6 +1,6 @@
 // The protected-mode vectors, and which pages of the DOS megabyte's view are pageable.
 ghost use Rattle.std.specs.Prelude.{◌≡◌, ◌≤◌, ◌<◌, ◌+◌, ◌*◌, ℕ, cond, length, slice_set};
-ghost use Rattle.client_world.specs.declared.host_frames.TheConstants.{PAGE_SIZE, BUDGET_FRAMES, VECTORS};
+ghost use Rattle.client_world.specs.declared.host_frames.TheConstants.{PAGE_SIZE, BUDGET_FRAMES, VECTORS, VECTOR_FRAMES};
 ghost use Rattle.client_world.specs.declared.limits.TheConstants.{EXCEPTION_VECTORS};
 ghost use Rattle.client_world.specs.declared.memory_map.TheConstants.{DOS_VIEW_PAGES};
 ghost use Rattle.client_world.specs.declared.place.Place.{Place};
@@ -11,19 +11,23 @@ ghost use Rattle.host_memory.specs.Vectors.{exceptions_start, pageable_start, po
 
 use crate::machine::Machine;
 use client_world::FarPtr;
-use client_world::host_frames::{PAGE_SIZE, VECTORS};
+use client_world::host_frames::{CALLBACK_SIZE, PAGE_SIZE, VECTOR_SIZE, VECTORS};
+use client_world::limits::{CALLBACKS, EXCEPTION_VECTORS, INTERRUPT_VECTORS};
 use guest_ram::Ram;
 
 // Where the exception vectors lie in the frame of the vectors.
-const EXCEPTIONS_START: u32 = 0x800;
+const EXCEPTIONS_START: u32 = VECTOR_SIZE * INTERRUPT_VECTORS;
+
+// Where the callbacks lie in that frame.
+const CALLBACKS_START: u32 = EXCEPTIONS_START + VECTOR_SIZE * EXCEPTION_VECTORS;
 
 // Where the byte of each pageable page lies in that frame.
-const PAGEABLE_START: u32 = 0xA00;
+const PAGEABLE_START: u32 = CALLBACKS_START + CALLBACK_SIZE * CALLBACKS;
 
 // The far pointer at a place of the frame of the vectors: an offset, and then a selector.
 fn pointer(ram: &Ram, at: u32) -> FarPtr
     requires size { PAGE_SIZE * BUDGET_FRAMES ≤ length ram.now }
-    requires room { at + 6 ≤ PAGE_SIZE }
+    requires room { at + 6 ≤ PAGE_SIZE * VECTOR_FRAMES }
     ensures { result ≡ pointer_at ram.now (PAGE_SIZE * VECTORS + at) }
 {
     let address = PAGE_SIZE * VECTORS + at;
@@ -36,7 +40,7 @@ fn pointer(ram: &Ram, at: u32) -> FarPtr
 // Writes a far pointer at a place of that frame.
 fn set_pointer(ram: &mut Ram, at: u32, p: FarPtr)
     requires size { PAGE_SIZE * BUDGET_FRAMES ≤ length ram.old }
-    requires room { at + 6 ≤ PAGE_SIZE }
+    requires room { at + 6 ≤ PAGE_SIZE * VECTOR_FRAMES }
     ensures { ram.new ≡ put (put ram.old (PAGE_SIZE * VECTORS + at) (dword_bytes p.off)) (PAGE_SIZE * VECTORS + at + 4) (word_bytes p.sel) }
 {
     let address = PAGE_SIZE * VECTORS + at;
@@ -56,7 +60,7 @@ impl Machine {
     pub fn pvec(&self, n: u8) -> FarPtr
         ensures { result ≡ vector_at self.now.world.interrupt_vectors n }
     {
-        pointer(&self.ram, 8 * n as u32)
+        pointer(&self.ram, VECTOR_SIZE * n as u32)
     }
 
     /// Sets the protected-mode interrupt vector of a number. Source: own.
@@ -66,7 +70,7 @@ impl Machine {
         } }
         ensures addresses { (place : Place) → address_of self.new.bytes place ≡ address_of self.old.bytes place }
     {
-        set_pointer(&mut self.ram, 8 * n as u32, p);
+        set_pointer(&mut self.ram, VECTOR_SIZE * n as u32, p);
     }
 
     /// The exception vector of a number below 32.
@@ -74,7 +78,7 @@ impl Machine {
         requires { n < EXCEPTION_VECTORS }
         ensures { result ≡ vector_at self.now.world.exception_vectors n }
     {
-        pointer(&self.ram, EXCEPTIONS_START + 8 * n as u32)
+        pointer(&self.ram, EXCEPTIONS_START + VECTOR_SIZE * n as u32)
     }
 
     /// Sets the exception vector of a number below 32. Source: own.
@@ -85,7 +89,7 @@ impl Machine {
         } }
         ensures addresses { (place : Place) → address_of self.new.bytes place ≡ address_of self.old.bytes place }
     {
-        set_pointer(&mut self.ram, EXCEPTIONS_START + 8 * n as u32, p);
+        set_pointer(&mut self.ram, EXCEPTIONS_START + VECTOR_SIZE * n as u32, p);
     }
 
     /// Whether a page of the DOS megabyte's view is pageable.

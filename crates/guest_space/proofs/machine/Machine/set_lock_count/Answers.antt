@@ -4,7 +4,7 @@ use Rattle.host_memory.specs.Layout.{address_of}
 use Rattle.host_memory.specs.View.{MachineView}
 use Rattle.guest_space.specs.Machines.{Processor}
 use Rattle.guest_space.proofs.BlockLocks.{locked_machine}
-use Rattle.client_world.specs.declared.host_frames.TheConstants.{PAGE_SIZE, LOCK_COUNTS}
+use Rattle.client_world.specs.declared.host_frames.TheConstants.{PAGE_SIZE, LOCK_COUNTS, LOCK_COUNT_SIZE}
 use Rattle.guest_ram.specs.Bytes.{put}
 use Rattle.host_memory.specs.Vectors.{word_bytes}
 use Rattle.block_memory.proofs.LockWrites.{in_region_of}
@@ -16,7 +16,7 @@ invariant_of-self c =
     let k : Processor = record { budget = m.pages; mode = m.mode; regs = m.regs; vif = m.vif; width = m.width } in
     let after = locked_machine k m.ram c.args.self.now c.self.view_is c.self.invariant.0 c.self.invariant.1 c.args.lin c.args.n (omega arith) c.requires
     c.set16.new.self
-    (c.set16.ensures.bytes ∙ ap (λ (page : ℕ). put m.ram (PAGE_SIZE * LOCK_COUNTS + 2 * page) (word_bytes c.args.n)) c.region_page-page.ensures.page) in
+    (c.set16.ensures.bytes ∙ ap (λ (page : ℕ). put m.ram (PAGE_SIZE * LOCK_COUNTS + LOCK_COUNT_SIZE * page) (word_bytes c.args.n)) c.region_page-page.ensures.page) in
     (after.holds, after.sound)
 
 pub returns-clause-world : goal.returns-clause-world
@@ -25,7 +25,7 @@ returns-clause-world c =
     let k : Processor = record { budget = m.pages; mode = m.mode; regs = m.regs; vif = m.vif; width = m.width } in
     let after = locked_machine k m.ram c.args.self.now c.self.view_is c.self.invariant.0 c.self.invariant.1 c.args.lin c.args.n (omega arith) c.requires
     c.set16.new.self
-    (c.set16.ensures.bytes ∙ ap (λ (page : ℕ). put m.ram (PAGE_SIZE * LOCK_COUNTS + 2 * page) (word_bytes c.args.n)) c.region_page-page.ensures.page) in
+    (c.set16.ensures.bytes ∙ ap (λ (page : ℕ). put m.ram (PAGE_SIZE * LOCK_COUNTS + LOCK_COUNT_SIZE * page) (word_bytes c.args.n)) c.region_page-page.ensures.page) in
     rw (← c.self.view_is) after.world
 
 pub returns-clause-addresses : goal.returns-clause-addresses
@@ -34,7 +34,7 @@ returns-clause-addresses c =
     let k : Processor = record { budget = m.pages; mode = m.mode; regs = m.regs; vif = m.vif; width = m.width } in
     let after = locked_machine k m.ram c.args.self.now c.self.view_is c.self.invariant.0 c.self.invariant.1 c.args.lin c.args.n (omega arith) c.requires
     c.set16.new.self
-    (c.set16.ensures.bytes ∙ ap (λ (page : ℕ). put m.ram (PAGE_SIZE * LOCK_COUNTS + 2 * page) (word_bytes c.args.n)) c.region_page-page.ensures.page) in
+    (c.set16.ensures.bytes ∙ ap (λ (page : ℕ). put m.ram (PAGE_SIZE * LOCK_COUNTS + LOCK_COUNT_SIZE * page) (word_bytes c.args.n)) c.region_page-page.ensures.page) in
     subst (λ (v : MachineView). (p : Place) → address_of c.set16.new.self p ≡ address_of v.bytes p) c.self.view_is after.addresses
 
 pub region_page-page-requires-clause-from : goal.region_page-page-requires-clause-from

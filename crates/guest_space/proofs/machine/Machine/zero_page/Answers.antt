@@ -4,7 +4,7 @@ use Rattle.host_memory.specs.Layout.{address_of}
 use Rattle.host_memory.specs.View.{MachineView}
 use Rattle.guest_space.specs.Machines.{Processor}
 use Rattle.guest_space.proofs.BlockPageCalls.{frame_inside, cleared_machine}
-use Rattle.client_world.specs.declared.host_frames.TheConstants.{PAGE_SIZE, BLOCK_TABLES}
+use Rattle.client_world.specs.declared.host_frames.TheConstants.{PAGE_SIZE, BLOCK_TABLES, PAGE_ENTRY_SIZE}
 use Rattle.guest_ram.specs.Bytes.{dword}
 use Rattle.block_memory.proofs.LockWrites.{in_region_of}
 use Rattle.guest_space.proofs.machine.Machine.zero_page.Goals as goal
@@ -13,14 +13,14 @@ pub fill-requires : goal.fill-requires
 fill-requires c =
     let m = c.self.inside in
     let k : Processor = record { budget = m.pages; mode = m.mode; regs = m.regs; vif = m.vif; width = m.width } in
-    frame_inside k m.ram c.args.self.now c.self.view_is c.self.invariant.0 c.self.invariant.1 c.args.lin c.get32-entry.result c.requires (c.get32-entry.ensures ∙ ap (λ (page : ℕ). dword c.self.inside.ram (PAGE_SIZE * BLOCK_TABLES + 4 * page)) c.region_page.ensures.page)
+    frame_inside k m.ram c.args.self.now c.self.view_is c.self.invariant.0 c.self.invariant.1 c.args.lin c.get32-entry.result c.requires (c.get32-entry.ensures ∙ ap (λ (page : ℕ). dword c.self.inside.ram (PAGE_SIZE * BLOCK_TABLES + PAGE_ENTRY_SIZE * page)) c.region_page.ensures.page)
 
 pub invariant_of-self : goal.invariant_of-self
 invariant_of-self c =
     let m = c.self.inside in
     let k : Processor = record { budget = m.pages; mode = m.mode; regs = m.regs; vif = m.vif; width = m.width } in
     let after = cleared_machine k m.ram c.args.self.now c.self.view_is c.self.invariant.0 c.self.invariant.1 c.args.lin c.get32-entry.result c.requires
-    (c.get32-entry.ensures ∙ ap (λ (page : ℕ). dword c.self.inside.ram (PAGE_SIZE * BLOCK_TABLES + 4 * page)) c.region_page.ensures.page) c.fill.new.self c.fill.ensures.bytes in
+    (c.get32-entry.ensures ∙ ap (λ (page : ℕ). dword c.self.inside.ram (PAGE_SIZE * BLOCK_TABLES + PAGE_ENTRY_SIZE * page)) c.region_page.ensures.page) c.fill.new.self c.fill.ensures.bytes in
     (after.holds, after.sound)
 
 pub returns-clause-world : goal.returns-clause-world
@@ -28,7 +28,7 @@ returns-clause-world c =
     let m = c.self.inside in
     let k : Processor = record { budget = m.pages; mode = m.mode; regs = m.regs; vif = m.vif; width = m.width } in
     let after = cleared_machine k m.ram c.args.self.now c.self.view_is c.self.invariant.0 c.self.invariant.1 c.args.lin c.get32-entry.result c.requires
-    (c.get32-entry.ensures ∙ ap (λ (page : ℕ). dword c.self.inside.ram (PAGE_SIZE * BLOCK_TABLES + 4 * page)) c.region_page.ensures.page) c.fill.new.self c.fill.ensures.bytes in
+    (c.get32-entry.ensures ∙ ap (λ (page : ℕ). dword c.self.inside.ram (PAGE_SIZE * BLOCK_TABLES + PAGE_ENTRY_SIZE * page)) c.region_page.ensures.page) c.fill.new.self c.fill.ensures.bytes in
     rw (← c.self.view_is) after.world
 
 pub returns-clause-addresses : goal.returns-clause-addresses
@@ -36,7 +36,7 @@ returns-clause-addresses c =
     let m = c.self.inside in
     let k : Processor = record { budget = m.pages; mode = m.mode; regs = m.regs; vif = m.vif; width = m.width } in
     let after = cleared_machine k m.ram c.args.self.now c.self.view_is c.self.invariant.0 c.self.invariant.1 c.args.lin c.get32-entry.result c.requires
-    (c.get32-entry.ensures ∙ ap (λ (page : ℕ). dword c.self.inside.ram (PAGE_SIZE * BLOCK_TABLES + 4 * page)) c.region_page.ensures.page) c.fill.new.self c.fill.ensures.bytes in
+    (c.get32-entry.ensures ∙ ap (λ (page : ℕ). dword c.self.inside.ram (PAGE_SIZE * BLOCK_TABLES + PAGE_ENTRY_SIZE * page)) c.region_page.ensures.page) c.fill.new.self c.fill.ensures.bytes in
     subst (λ (v : MachineView). (p : Place) → address_of c.fill.new.self p ≡ address_of v.bytes p) c.self.view_is after.addresses
 
 pub region_page-requires-clause-from : goal.region_page-requires-clause-from
