@@ -120,3 +120,19 @@ all_locked_is handles locks = refl
 pub locked_few : (handles locks : List ℕ) → total (locked_of handles locks) (range_with_len 0 MAX_BLOCKS) ≤ all_pages handles
 unfolding all_pages
 locked_few handles locks = less_sums (pages_of handles) (locked_of handles locks) 0 MAX_BLOCKS (λ k. run_few locks (first_page_of handles k) (pages_of handles k))
+
+-- so the rows before a place, and that place's own, have no more. The sums of all rows stay closed
+at_most : (a b c : ℕ) → a ≤ b → b ≤ c → a ≤ c
+at_most a b c first second = omega arith
+
+pub pages_part : (handles : List ℕ) (place : ℕ) → place < MAX_BLOCKS →
+    total (pages_of handles) (range_with_len 0 place) + pages_of handles place ≤ all_pages handles
+unfolding all_pages
+pages_part handles place within = sum_part (pages_of handles) place MAX_BLOCKS within
+
+pub locked_part : (handles locks : List ℕ) (place : ℕ) → place < MAX_BLOCKS →
+    total (locked_of handles locks) (range_with_len 0 place) + locked_of handles locks place ≤ all_pages handles
+locked_part handles locks place within =
+    at_most (total (locked_of handles locks) (range_with_len 0 place) + locked_of handles locks place)
+    (total (locked_of handles locks) (range_with_len 0 MAX_BLOCKS)) (all_pages handles)
+    (sum_part (locked_of handles locks) place MAX_BLOCKS within) (locked_few handles locks)

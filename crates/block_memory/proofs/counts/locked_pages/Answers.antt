@@ -5,7 +5,7 @@ use Rattle.client_world.specs.declared.limits.TheConstants.{MAX_BLOCKS}
 use Rattle.client_world.specs.declared.memory_map.TheConstants.{BLOCK_REGION}
 use Rattle.block_memory.specs.BlockSizes.{locked_of, locked_run}
 use Rattle.host_memory.specs.Layout.{handles_part, locks_part, first_page_of}
-use Rattle.block_memory.proofs.PageSums.{sum_next, sum_part, locked_few, all_locked_is}
+use Rattle.block_memory.proofs.PageSums.{sum_next, locked_part, all_locked_is}
 use Rattle.guest_ram.specs.Count.{total}
 use Rattle.block_memory.proofs.RowReads.{row_pages_read, row_base_read}
 use Rattle.block_memory.proofs.counts.locked_pages.Goals as goal
@@ -33,8 +33,7 @@ overflow_add-locked c =
     c.locked_in-locked.ensures ∙ ap (λ (n : ℕ). locked_run (locks_part b) n c.get32-pages.result) first
     ∙ ap (locked_run (locks_part b) (first_page_of (handles_part b) place)) pages in
     let so_far = c.loop-place.invariant.so_far in
-    let part = sum_part (locked_of (handles_part b) (locks_part b)) place MAX_BLOCKS c.loop-place-test.true in
-    let all = locked_few (handles_part b) (locks_part b) in
+    let part = locked_part (handles_part b) (locks_part b) place c.loop-place-test.true in
     let few = c.requires.few in
     omega arith
 

@@ -3,7 +3,7 @@ use Rattle.std.specs.List.{range_with_len}
 use Rattle.client_world.specs.declared.limits.TheConstants.{MAX_BLOCKS}
 use Rattle.guest_ram.specs.Count.{total}
 use Rattle.host_memory.specs.Layout.{handles_part, pages_of}
-use Rattle.block_memory.proofs.PageSums.{sum_next, sum_part, all_pages_is}
+use Rattle.block_memory.proofs.PageSums.{sum_next, pages_part, all_pages_is}
 use Rattle.block_memory.proofs.RowReads.{row_pages_read}
 use Rattle.block_memory.proofs.counts.used_pages.Goals as goal
 
@@ -12,8 +12,7 @@ overflow_add-used c =
     let b = c.args.ram.now in
     let read = row_pages_read b c.loop-place.place c.get32-used.result c.loop-place-test.true c.get32-used.ensures in
     let so_far = c.loop-place.invariant.so_far in
-    let part = sum_part (pages_of (handles_part b)) c.loop-place.place MAX_BLOCKS c.loop-place-test.true in
-    let all = all_pages_is (handles_part b) in
+    let part = pages_part (handles_part b) c.loop-place.place c.loop-place-test.true in
     let few = c.requires.few in
     omega arith
 
