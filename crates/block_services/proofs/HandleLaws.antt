@@ -13,7 +13,7 @@ pub none_of : (b : Option MemoryBlock) → is_none b ≡ true → b ≡ None
 none_of None e = refl
 none_of (Some block) e = absurd cc
 
--- a handle that is held is 1 to 256
+-- a handle that is held is 1 to `MAX_BLOCKS`
 pub record IsHandle (handle : ℕ) : Type 0 where
   pub some : 1 ≤ handle
   pub most : handle ≤ MAX_BLOCKS

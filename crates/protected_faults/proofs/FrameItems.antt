@@ -2,6 +2,8 @@
 use Rattle.std.proofs.Common.{◌≡◌, ◌≢◌, ℕ, ◌+◌, ◌*◌, ◌%◌, ◌<◌, ◌≤◌, Bool, true, false, List, [], ◌∷◌, refl, ap, ◌∙◌, arith, Option, None, Result, Ok, Err}
 use Rattle.client_world.specs.declared.faults.Event.{Event}
 use Rattle.client_world.specs.declared.faults.Fault.{Fault}
+use Rattle.client_world.specs.declared.limits.TheConstants.{GREATEST_DEPTH}
+use Rattle.client_world.specs.declared.memory_map.TheConstants.{PROTECTED_STACK_SIZE}
 use Rattle.client_world.specs.declared.registers.Mode.TheVariants.{Protected}
 use Rattle.client_world.specs.declared.registers.TheConstants.{INTERRUPT_BIT}
 use Rattle.client_world.specs.declared.segments.SegReg.TheVariants.{Cs, Ss}
@@ -34,7 +36,7 @@ pub record AtFrame (w : World) (bits offset : ℕ) (frame : List ℕ) : Type 0 w
   pub width : w.width ≢ None
   pub ss : w.regs.ss ≡ selector_of HOST_STACKS
   pub esp : w.regs.esp ≡ offset + 2 * byte_count bits
-  pub room : offset + 8 * byte_count bits ≤ 0x8000
+  pub room : offset + 8 * byte_count bits ≤ GREATEST_DEPTH * PROTECTED_STACK_SIZE
   pub bytes : far_bytes w (stacks_at offset) (8 * byte_count bits) ≡ frame
 
 cut_small : (big : Bool) (a : ℕ) → a < 0x10000 → cut_address big a ≡ a
