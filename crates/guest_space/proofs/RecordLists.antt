@@ -44,19 +44,19 @@ unfolding records_from
 records_are part place zero n few some ends = omega arith
 records_are part place (suc room) zero few some ends = elim ends [
   | inl full ↦ absurd (omega arith)
-  | inr none ↦ (let here : get_or part (128 * place) 0 ≡ 0 = ap (λ (j : ℕ). get_or part (128 * j) 0) (sym (add-zero place)) ∙ none in
-      rw (eq-eqb (get_or part (128 * place) 0) 0 here) refl)
+  | inr none ↦ (let here : get_or part (record_size * place) 0 ≡ 0 = ap (λ (j : ℕ). get_or part (record_size * j) 0) (sym (add-zero place)) ∙ none in
+      rw (eq-eqb (get_or part (record_size * place) 0) 0 here) refl)
 ]
 records_are part place (suc room) (suc n) few some ends =
-    let here : get_or part (128 * place) 0 ≢ 0 = λ e. some 0 (omega arith) (ap (λ (j : ℕ). get_or part (128 * j) 0) (add-zero place) ∙ e) in
+    let here : get_or part (record_size * place) 0 ≢ 0 = λ e. some 0 (omega arith) (ap (λ (j : ℕ). get_or part (record_size * j) 0) (add-zero place) ∙ e) in
     let next : (j : ℕ) → place + 1 + j ≡ place + suc j = λ j. omega arith in
     let rest = records_are part (place + 1) room n (omega arith)
-    (λ j small e. some (suc j) (omega arith) (ap (λ (x : ℕ). get_or part (128 * x) 0) (sym (next j)) ∙ e))
+    (λ j small e. some (suc j) (omega arith) (ap (λ (x : ℕ). get_or part (record_size * x) 0) (sym (next j)) ∙ e))
     (elim ends [
       | inl full ↦ inl (omega arith)
-      | inr none ↦ inr (ap (λ (x : ℕ). get_or part (128 * x) 0) (next n) ∙ none)
+      | inr none ↦ inr (ap (λ (x : ℕ). get_or part (record_size * x) 0) (next n) ∙ none)
     ]) in
-    rw (ne_eqb (get_or part (128 * place) 0) 0 here) (omega (arith, rest))
+    rw (ne_eqb (get_or part (record_size * place) 0) 0 here) (omega (arith, rest))
 
 -- so the frame is read as these records, and keeps them
 pub count_of_part : (part : List ℕ) (rs : List Record) → IsRecordPart part rs → record_count part ≡ length rs
@@ -66,11 +66,11 @@ count_of_part part rs h = records_are part 0 GREATEST_DEPTH (length rs) h.few so
     some j small e =
         let d = record_at part 0 in
         kind_some (get_or rs j d) (sym (h.bytes j 0 d small (omega arith))
-        ∙ ap (λ (x : ℕ). get_or part x 0) (let same : 128 * j + 0 ≡ 128 * (0 + j) = omega arith in same) ∙ e)
+        ∙ ap (λ (x : ℕ). get_or part x 0) (let same : record_size * j + 0 ≡ record_size * (0 + j) = omega arith in same) ∙ e)
 
     ends : (GREATEST_DEPTH ≡ length rs) ⊎ (get_or part (record_size * (0 + length rs)) 0 ≡ 0)
-    ends = elim (cases_lt (length rs) 16) [
-      | inl room ↦ inr (h.rest (128 * (0 + length rs)) (omega arith) (omega arith))
+    ends = elim (cases_lt (length rs) GREATEST_DEPTH) [
+      | inl room ↦ inr (h.rest (record_size * (0 + length rs)) (omega arith) (omega arith))
       | inr full ↦ inl (let few = h.few in omega arith)
     ]
 
@@ -186,11 +186,11 @@ one_less part rs size h some =
       bytes = λ place at d small within. (let before : place < left = omega arith in
           row_below part left (zeros record_size) place at before within ∙ h.bytes place at d (omega arith) within
           ∙ sym (ap (λ (x : Record). get_or (record_bytes x) at 0) (get_or-take left rs place d before)));
-      rest = λ at from to. elim (cases_lt at (128 * left + 128)) [
-        | inl inside ↦ (let split : at ≡ 128 * left + (at - 128 * left) = omega arith in
+      rest = λ at from to. elim (cases_lt at (record_size * left + record_size)) [
+        | inl inside ↦ (let split : at ≡ record_size * left + (at - record_size * left) = omega arith in
             ap (λ (k : ℕ). get_or (with_row part left (zeros record_size)) k 0) split
-            ∙ row_inside part left (zeros record_size) size (omega arith) (length-zeros record_size) (at - 128 * left) (omega arith)
-            ∙ at_zeros record_size (at - 128 * left) (omega arith))
+            ∙ row_inside part left (zeros record_size) size (omega arith) (length-zeros record_size) (at - record_size * left) (omega arith)
+            ∙ at_zeros record_size (at - record_size * left) (omega arith))
         | inr past ↦ put_above part (record_size * left) (zeros record_size) at (omega (arith, length-zeros record_size)) ∙ h.rest at (omega arith) to
       ];
     }

@@ -59,13 +59,13 @@ same_regs a b p q same =
 pub same_record : (a b : List ℕ) (p q : ℕ) → SameRun a b p q record_size → record_at a p ≡ record_at b q
 unfolding record_at
 same_record a b p q same =
-    let at_pointer : SameRun a b (p + 8) (q + 8) 6 = run_part a b p q 128 8 6 same (omega arith) in
+    let at_pointer : SameRun a b (p + 8) (q + 8) 6 = run_part a b p q record_size 8 6 same (omega arith) in
     rw (
-      run_byte a b p q 128 same (omega arith),
-      byte_in a b p q 128 1 same (omega arith),
-      byte_in a b p q 128 2 same (omega arith),
-      dword_in a b p q 128 4 same (omega arith),
-      dword_in a b p q 128 8 same (omega arith),
+      run_byte a b p q record_size same (omega arith),
+      byte_in a b p q record_size 1 same (omega arith),
+      byte_in a b p q record_size 2 same (omega arith),
+      dword_in a b p q record_size 4 same (omega arith),
+      dword_in a b p q record_size 8 same (omega arith),
       word_in a b (p + 8) (q + 8) 6 4 at_pointer (omega arith),
-      same_regs a b (p + 16) (q + 16) (run_part a b p q 128 16 50 same (omega arith)),
+      same_regs a b (p + 16) (q + 16) (run_part a b p q record_size 16 50 same (omega arith)),
     ) refl

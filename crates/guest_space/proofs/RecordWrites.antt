@@ -120,7 +120,7 @@ pub counted_rows : (b : List ℕ) (n : ℕ) → n ≤ GREATEST_DEPTH → ((k : �
     (GREATEST_DEPTH ≡ n) ⊎ (get_or b (record_place n) 0 ≡ 0) → record_count (records_part b) ≡ n
 counted_rows b n few some ends = counted (records_part b) n few
     (λ k small none. some k small (row_kind b k (omega arith) ∙ none))
-    (elim (cases_lt n 16) [
+    (elim (cases_lt n GREATEST_DEPTH) [
       | inl room ↦ elim ends [
         | inl full ↦ inl full
         | inr none ↦ inr (sym (row_kind b n room) ∙ none)
