@@ -31,7 +31,7 @@ const FILLED: &[u8] = &[
     0xF0,
 ];
 
-// PUSHA whose pushes don't all fit: one of them would be at offset FFFFh, and none is made.
+// PUSHA whose pushes don't all fit: one of them would be at offset FFFFh. That it is the stack exception, and that no push is made, is own.
 macro_rules! refused {
     ($esp:expr) => {
         Bytes {
