@@ -1,13 +1,13 @@
--- What a call leaves: the mode and the place of the stack, and, where it ends the client, the machine, and but for a full console the keys and
--- the console.
-use Rattle.std.proofs.Common.{◌≡◌, ◌≢◌, ◌∙◌, ℕ, ◌+◌, ◌||◌, List, [], ◌∷◌, length, take, refl, ap, nat_eq, nat_le, if◌then◌else◌, Bool, true, false, Option, None, Some, Result, Ok, Err}
+-- What a call keeps: all of the machine but registers and DOS memory; what the client wrote before; and, where it ends the client, the machine,
+-- and but for a full console the keys and the console.
+use Rattle.std.proofs.Common.{◌≡◌, ◌≢◌, ◌∙◌, ℕ, ◌+◌, ◌||◌, List, [], ◌∷◌, length, take, append-nil, refl, sym, ap, nat_eq, nat_le, if◌then◌else◌, Bool, true, false, Option, None, Some, Result, Ok, Err}
 use Rattle.client_world.specs.declared.dos_memory.DosEntry.{DosEntry}
 use Rattle.client_world.specs.declared.dos_memory.DosRefusal.{DosRefusal}
 use Rattle.client_world.specs.declared.dos_memory.DosRefusal.TheVariants.{NoMemory, WrongBlock}
 use Rattle.client_world.specs.declared.limits.TheConstants.{CONSOLE_ROOM}
 use Rattle.client_world.specs.declared.outcome.Exit.{Exit}
 use Rattle.client_world.specs.declared.outcome.Exit.TheVariants.{NoKeys, ConsoleFull}
-use Rattle.client_world.specs.declared.registers.Mode.{Mode}
+use Rattle.client_world.specs.declared.registers.Regs.{Regs}
 use Rattle.client_world.specs.declared.services.DosDone.TheVariants.{Ended}
 use Rattle.client_world.specs.Registers.{low_byte, high_byte, low_half}
 use Rattle.client_world.specs.World.{World}
@@ -16,41 +16,62 @@ use Rattle.dos_blocks.specs.Blocks.{Done, first_fit, block_place, possible, allo
 use Rattle.dos_calls.specs.Calls as calls
 use Rattle.dos_calls.specs.Calls.{CallResult, CallState, served, ended, printed, poll_key, line_read, line_of, keys_read, memory_refused, memory_given, memory_changed, dos_call}
 use Rattle.dos_calls.specs.DosBytes.{byte_at}
-use Rattle.dos_calls.specs.Multiplex.{multiplex_call}
-use Rattle.dos_calls.specs.Stack.{HasSameStack}
+use Rattle.dos_calls.specs.Multiplex.{multiplex_call, with_entry}
+use Rattle.dos_calls.specs.Kept.{Extends, HasOtherDosMemory, HasSameStack}
 
--- what HasSameStack compares, as one value
-abbrev pub stack_of : World → Mode × ℕ × ℕ
-stack_of w = (w.mode, w.regs.ss, w.regs.esp)
-
-pub same_stack : (w u : World) → stack_of u ≡ stack_of w → HasSameStack w u
-same_stack w u e = record {
-  mode = ap (λ (p : Mode × ℕ × ℕ). p.0) e;
-  segment = ap (λ (p : Mode × ℕ × ℕ). p.1) e;
-  pointer = ap (λ (p : Mode × ℕ × ℕ). p.2) e;
+-- what no call changes, as one value: DOS memory and the registers that some call changes are blank
+abbrev pub rest_of : World → World
+rest_of w = record w {
+  regs = record w.regs { eax = 0; ebx = 0; ecx = 0; edx = 0; esi = 0; edi = 0; es = 0 };
+  dos = [];
+  arena = [];
 }
 
+pub same_stack : (w u : World) → rest_of u ≡ rest_of w → HasSameStack w u
+same_stack w u e = record {
+  mode = ap (λ (x : World). x.mode) e;
+  segment = ap (λ (x : World). x.regs.ss) e;
+  pointer = ap (λ (x : World). x.regs.esp) e;
+}
+
+pub other_dos_memory : (w u : World) → rest_of u ≡ rest_of w → HasOtherDosMemory w u
+other_dos_memory w u e = ap (λ (x : World). record x { regs = u.regs; dos = u.dos; arena = u.arena }) e
+
 pub record Leaves (s : CallState) (r : CallResult) : Type 0 where
-  pub stack : stack_of r.world ≡ stack_of s.world
+  pub rest : rest_of r.world ≡ rest_of s.world
+  pub console : Extends s.console r.console
   pub machine : (exit : Exit) → r.done ≡ Ended exit → r.world ≡ s.world
   pub outside : (exit : Exit) → r.done ≡ Ended exit → exit ≢ ConsoleFull → (r.keys ≡ s.keys) × (r.console ≡ s.console)
+
+pub extends_itself : (console : List ℕ) → Extends console console
+extends_itself console = ([], sym (append-nil console))
 
 leaves_if : (s : CallState) (c : Bool) (r q : CallResult) → Leaves s r → Leaves s q → Leaves s (if c then r else q)
 leaves_if s true r q one other = one
 leaves_if s false r q one other = other
 
-leaves_served : (s : CallState) (w : World) (keys : List ℕ) → stack_of w ≡ stack_of s.world → Leaves s (served s w keys)
-leaves_served s w keys e = record { stack = e; machine = λ exit other. cc; outside = λ exit other full. cc }
+leaves_served : (s : CallState) (w : World) (keys : List ℕ) → rest_of w ≡ rest_of s.world → Leaves s (served s w keys)
+leaves_served s w keys e = record {
+  rest = e;
+  console = extends_itself s.console;
+  machine = λ exit other. cc;
+  outside = λ exit other full. cc;
+}
 
 leaves_ended : (s : CallState) (exit : Exit) → Leaves s (ended s exit)
-leaves_ended s exit = record { stack = refl; machine = λ same e. refl; outside = λ same e full. (refl, refl) }
+leaves_ended s exit = record {
+  rest = refl;
+  console = extends_itself s.console;
+  machine = λ same e. refl;
+  outside = λ same e full. (refl, refl);
+}
 
-leaves_printed : (s : CallState) (xs : List ℕ) (w : World) (keys : List ℕ) → stack_of w ≡ stack_of s.world → Leaves s (printed s xs w keys)
+leaves_printed : (s : CallState) (xs : List ℕ) (w : World) (keys : List ℕ) → rest_of w ≡ rest_of s.world → Leaves s (printed s xs w keys)
 unfolding printed
 leaves_printed s xs w keys e =
     leaves_if s (nat_le (length s.console + length xs) CONSOLE_ROOM) _ _
-    (record { stack = e; machine = λ exit other. cc; outside = λ exit other full. cc })
-    (record { stack = refl; machine = λ exit same. refl; outside = λ exit same full. absurd (full (cc)) })
+    (record { rest = e; console = (xs, refl); machine = λ exit other. cc; outside = λ exit other full. cc })
+    (record { rest = refl; console = (_, refl); machine = λ exit same. refl; outside = λ exit same full. absurd (full (cc)) })
 
 -- ---- characters
 
@@ -135,38 +156,38 @@ leaves_write_file s =
 
 -- a change of the blocks, and what is said of it in registers and flags
 
-stack_entries : (w : World) (place old : ℕ) (new : List DosEntry) → stack_of (with_entries w place old new) ≡ stack_of w
+rest_entries : (w : World) (place old : ℕ) (new : List DosEntry) → rest_of (with_entries w place old new) ≡ rest_of w
 unfolding with_entries
-stack_entries w place old new = refl
+rest_entries w place old new = refl
 
-stack_if : (w : World) (c : Bool) (one other : Done (Unit {0})) → stack_of one.world ≡ stack_of w → stack_of other.world ≡ stack_of w →
-    stack_of (if c then one else other).world ≡ stack_of w
-stack_if w true one other d e = d
-stack_if w false one other d e = e
+rest_if_done : (w : World) (c : Bool) (one other : Done (Unit {0})) → rest_of one.world ≡ rest_of w → rest_of other.world ≡ rest_of w →
+    rest_of (if c then one else other).world ≡ rest_of w
+rest_if_done w true one other d e = d
+rest_if_done w false one other d e = e
 
-stack_allocated : (w : World) (n : ℕ) (o : Option ℕ) → stack_of (allocated_at w false n o).world ≡ stack_of w
-stack_allocated w n None = refl
-stack_allocated w n (Some place) = stack_entries w place 1 _
+rest_allocated : (w : World) (n : ℕ) (o : Option ℕ) → rest_of (allocated_at w false n o).world ≡ rest_of w
+rest_allocated w n None = refl
+rest_allocated w n (Some place) = rest_entries w place 1 _
 
-stack_resized : (w : World) (n : ℕ) (o : Option ℕ) → stack_of (resized_at w false n o).world ≡ stack_of w
-stack_resized w n None = refl
-stack_resized w n (Some place) = stack_if w (nat_le n (possible w.arena place)) _ _ (stack_entries w place _ _) refl
+rest_resized : (w : World) (n : ℕ) (o : Option ℕ) → rest_of (resized_at w false n o).world ≡ rest_of w
+rest_resized w n None = refl
+rest_resized w n (Some place) = rest_if_done w (nat_le n (possible w.arena place)) _ _ (rest_entries w place _ _) refl
 
-stack_freed : (w : World) (o : Option ℕ) → stack_of (freed_at w o).world ≡ stack_of w
-stack_freed w None = refl
-stack_freed w (Some place) = stack_entries w _ _ _
+rest_freed : (w : World) (o : Option ℕ) → rest_of (freed_at w o).world ≡ rest_of w
+rest_freed w None = refl
+rest_freed w (Some place) = rest_entries w _ _ _
 
-stack_refused : (refusal : DosRefusal) (w : World) → stack_of (memory_refused refusal w) ≡ stack_of w
-stack_refused (NoMemory largest) w = refl
-stack_refused WrongBlock w = refl
+rest_refused : (refusal : DosRefusal) (w : World) → rest_of (memory_refused refusal w) ≡ rest_of w
+rest_refused (NoMemory largest) w = refl
+rest_refused WrongBlock w = refl
 
-stack_given : (answer : Result ℕ DosRefusal) (w : World) → stack_of (memory_given (record { answer = answer; world = w })) ≡ stack_of w
-stack_given (Ok segment) w = refl
-stack_given (Err refusal) w = stack_refused refusal w
+rest_given : (answer : Result ℕ DosRefusal) (w : World) → rest_of (memory_given (record { answer = answer; world = w })) ≡ rest_of w
+rest_given (Ok segment) w = refl
+rest_given (Err refusal) w = rest_refused refusal w
 
-stack_changed : (answer : Result (Unit {0}) DosRefusal) (w : World) → stack_of (memory_changed (record { answer = answer; world = w })) ≡ stack_of w
-stack_changed (Ok done) w = refl
-stack_changed (Err refusal) w = stack_refused refusal w
+rest_changed : (answer : Result (Unit {0}) DosRefusal) (w : World) → rest_of (memory_changed (record { answer = answer; world = w })) ≡ rest_of w
+rest_changed (Ok done) w = refl
+rest_changed (Err refusal) w = rest_refused refusal w
 
 leaves_allocate : (s : CallState) → Leaves s (calls.allocate s)
 unfolding calls.allocate allocated
@@ -174,14 +195,14 @@ leaves_allocate s =
     let n = low_half s.world.regs.ebx in
     let o = first_fit s.world.arena n 0 in
     let d = allocated_at s.world false n o in
-    leaves_served s (memory_given d) s.keys (stack_given d.answer d.world ∙ stack_allocated s.world n o)
+    leaves_served s (memory_given d) s.keys (rest_given d.answer d.world ∙ rest_allocated s.world n o)
 
 leaves_free : (s : CallState) → Leaves s (calls.free s)
 unfolding calls.free freed
 leaves_free s =
     let o = block_place false s.world.arena s.world.regs.es 0 in
     let d = freed_at s.world o in
-    leaves_served s (memory_changed d) s.keys (stack_changed d.answer d.world ∙ stack_freed s.world o)
+    leaves_served s (memory_changed d) s.keys (rest_changed d.answer d.world ∙ rest_freed s.world o)
 
 leaves_resize : (s : CallState) → Leaves s (calls.resize s)
 unfolding calls.resize resized
@@ -189,7 +210,7 @@ leaves_resize s =
     let n = low_half s.world.regs.ebx in
     let o = block_place false s.world.arena s.world.regs.es 0 in
     let d = resized_at s.world false n o in
-    leaves_served s (memory_changed d) s.keys (stack_changed d.answer d.world ∙ stack_resized s.world n o)
+    leaves_served s (memory_changed d) s.keys (rest_changed d.answer d.world ∙ rest_resized s.world n o)
 
 -- ---- all of them
 
@@ -226,10 +247,19 @@ call_leaves s =
 
 -- ---- INT 2Fh
 
-stack_of_if : (w : World) (c : Bool) (one : World) → stack_of one ≡ stack_of w → stack_of (if c then one else w) ≡ stack_of w
-stack_of_if w true one e = e
-stack_of_if w false one e = refl
+rest_if : (w : World) (c : Bool) (one : World) → rest_of one ≡ rest_of w → rest_of (if c then one else w) ≡ rest_of w
+rest_if w true one e = e
+rest_if w false one e = refl
 
-pub multiplex_leaves : (w : World) → HasSameStack w (multiplex_call w)
+pub multiplex_leaves : (w : World) → rest_of (multiplex_call w) ≡ rest_of w
 unfolding multiplex_call
-multiplex_leaves w = same_stack w _ (stack_of_if w (nat_eq (low_half w.regs.eax) 0x1687) _ refl)
+multiplex_leaves w = rest_if w (nat_eq (low_half w.regs.eax) 0x1687) _ refl
+
+regs_if : (w : World) (c : Bool) (regs : Regs) →
+    let u : World = if c then record w { regs = regs } else w in u ≡ record w { regs = u.regs }
+regs_if w true regs = refl
+regs_if w false regs = refl
+
+pub multiplex_regs : (w : World) → multiplex_call w ≡ record w { regs = (multiplex_call w).regs }
+unfolding multiplex_call
+multiplex_regs w = regs_if w (nat_eq (low_half w.regs.eax) 0x1687) (with_entry w.regs)

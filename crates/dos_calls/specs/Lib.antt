@@ -2,4 +2,4 @@ pub mod Answering
 pub mod Calls
 pub mod DosBytes
 pub mod Multiplex
-pub mod Stack
+pub mod Kept

@@ -8,7 +8,7 @@ ghost use Rattle.client_world.specs.World.{World};
 ghost use Rattle.dos_calls.specs.Calls.{CallState, dos_call};
 ghost use Rattle.guest_ram.specs.Bytes.{AreBytes};
 ghost use Rattle.dos_calls.specs.Multiplex.{multiplex_call};
-ghost use Rattle.dos_calls.specs.Stack.{HasSameStack};
+ghost use Rattle.dos_calls.specs.Kept.{Extends, HasOtherDosMemory, HasSameStack};
 
 /// A call leads from a sound world to a sound one, where the keys are bytes. Those that are left are bytes, and a console of bytes stays one.
 pub fn every_dos_call_is_sound()
@@ -18,10 +18,18 @@ pub fn every_dos_call_is_sound()
     ensures multiplex { (w : World) → IsSound w → IsSound (multiplex_call w) }
 {}
 
-/// A call leaves the mode and the place of the stack, so that the frame of its interrupt is where it was.
-pub fn every_dos_call_leaves_the_stack()
-    ensures calls { (s : CallState) → HasSameStack s.world (dos_call s).world }
-    ensures multiplex { (w : World) → HasSameStack w (multiplex_call w) }
+/// A call changes registers and DOS memory alone, and INT 2Fh registers alone. Both leave the mode and the place of the stack, so that the frame
+/// of their interrupt is where it was.
+pub fn every_dos_call_keeps_the_rest()
+    ensures calls { (s : CallState) → HasOtherDosMemory s.world (dos_call s).world }
+    ensures stack { (s : CallState) → HasSameStack s.world (dos_call s).world }
+    ensures multiplex { (w : World) → multiplex_call w ≡ record w { regs = (multiplex_call w).regs } }
+    ensures multiplex_stack { (w : World) → HasSameStack w (multiplex_call w) }
+{}
+
+/// What the client wrote before a call stays: a call adds bytes at the console's end alone.
+pub fn every_dos_call_extends_the_console()
+    ensures { (s : CallState) → Extends s.console (dos_call s).console }
 {}
 
 /// A call that ends the client leaves the machine, and but for a full console the keys and the console too.

@@ -23,7 +23,7 @@ pub use console::Console;
 pub use dispatch::int21;
 pub use keys::Keys;
 pub use laws::{
-    every_dos_call_is_sound, every_dos_call_leaves_the_stack,
+    every_dos_call_extends_the_console, every_dos_call_is_sound, every_dos_call_keeps_the_rest,
     every_end_of_a_dos_call_leaves_the_machine,
 };
 pub use multiplex::int2f;

@@ -1,5 +1,5 @@
 pub mod Handlers
-pub mod KeptModes
+pub mod KeptWorlds
 pub mod ReturnPlans
 pub mod ReturnStates
 pub mod Alone

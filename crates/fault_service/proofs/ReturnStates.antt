@@ -12,18 +12,14 @@ use Rattle.insn_plan.specs.Plan.{carried_out, settled, with_state}
 use Rattle.fault_service.specs.Delivery.{iret_popped}
 use Rattle.fault_service.specs.Worlds.{HasOtherState}
 use Rattle.fault_service.proofs.ReturnPlans.{WritesNothing, quiet_frame}
-use Rattle.fault_service.proofs.SoundAnswers.{return_was}
-
-granted_state : (o : Option Fault) (v x u : MachineView) → HasOtherState v x →
-    elim o as (λ _. Result MachineView Event) [ Some f ↦ Err (fault f) | None ↦ Ok x ] ≡ Ok u → HasOtherState v u
-granted_state None v x u same e = let is : x ≡ u = cc in subst (HasOtherState v) is same
-granted_state (Some f) v x u same e = absurd cc
+use Rattle.fault_service.proofs.SoundAnswers.{granted_was, holds_of_answer, return_was}
 
 settled_state : (v u : MachineView) (p : Pending) → p.writes ≡ [] → settled v p ≡ Ok u → HasOtherState v u
 unfolding settled
 settled_state v u p none e =
-    granted_state (first_refusal v.world p.writes) v (with_state p.regs p.vif (all_written v p.writes)) u
-    (ap (with_state p.regs p.vif) (ap (all_written v) none ∙ all_none v)) e
+    let x = with_state p.regs p.vif (all_written v p.writes) in
+    holds_of_answer (HasOtherState v) (Ok x) u (ap (with_state p.regs p.vif) (ap (all_written v) none ∙ all_none v))
+    (granted_was fault (first_refusal v.world p.writes) (Ok x) u e)
 
 pub quiet_state : (v u : MachineView) (r : Result Pending Event) → WritesNothing r → carried_out v r ≡ Ok u → HasOtherState v u
 unfolding carried_out

@@ -1,5 +1,6 @@
 -- An interrupt, an exception and a return lead from a sound world to a sound one.
 use Rattle.std.proofs.Common.{◌≡◌, ℕ, ◌+◌, ◌*◌, ◌<◌, inl, inr, List, length, refl, subst, arith, if◌then◌else◌, Bool, true, false, Option, None, Some, Result, Ok, Err}
+use Rattle.std.specs.Prelude.{IfOk}
 use Rattle.std.proofs.lemmas.Bool.{cases_lt}
 use Rattle.std.proofs.lemmas.List.{get_or_past}
 use Rattle.client_world.specs.declared.faults.Event.{Event}
@@ -99,16 +100,17 @@ sound_pushed v s =
     sound_state (all_written v p.writes) p (segments_of p.regs (pushed_words v.world (words_of v.world.regs s.segments)))
     (sound_all_written v p.writes s)
 
-sound_served : (o : Option Fault) (r : Result MachineView Fault) (u : MachineView) → (r ≡ Ok u → IsSound u.world) →
-    elim o as (λ _. Result MachineView Fault) [ Some f ↦ Err f | None ↦ r ] ≡ Ok u → IsSound u.world
-sound_served None r u s e = s e
-sound_served (Some f) r u s e = absurd cc
+-- what is answered where there is no fault
+pub granted_was : {E : Type 0} (err : Fault → E) (o : Option Fault) (r : Result MachineView E) (u : MachineView) →
+    elim o as (λ _. Result MachineView E) [ Some f ↦ Err (err f) | None ↦ r ] ≡ Ok u → r ≡ Ok u
+granted_was err None r u e = e
+granted_was err (Some f) r u e = absurd cc
 
 sound_interrupted : (v u : MachineView) (n : ℕ) → IsSound v.world → interrupted v n ≡ Ok u → IsSound u.world
 sound_interrupted v u n s e =
-    sound_served (first_refusal v.world (interrupt_pushed v.world).writes)
-    (handler_entered (frame_pushed v) (interrupt_vector (frame_pushed v).world n)) u
-    (sound_entered (frame_pushed v) u n (sound_pushed v s)) e
+    sound_entered (frame_pushed v) u n (sound_pushed v s)
+    (granted_was (λ (f : Fault). f) (first_refusal v.world (interrupt_pushed v.world).writes)
+    (handler_entered (frame_pushed v) (interrupt_vector (frame_pushed v).world n)) u e)
 
 pub sound_interrupt : (v u : MachineView) (n len : ℕ) → IsSound v.world → software_interrupt v n len ≡ Ok u → IsSound u.world
 unfolding software_interrupt
@@ -120,15 +122,15 @@ interrupt_was : (f : Fault) (r : Result MachineView Fault) (u : MachineView) →
 interrupt_was f (Ok v) u e = cc
 interrupt_was f (Err g) u e = absurd cc
 
-delivered_by : (served : Bool) (f : Fault) (r : Result MachineView Fault) (u : MachineView) → (r ≡ Ok u → IsSound u.world) →
-    (if served then interrupt_of f r else Err (unserved f)) ≡ Ok u → IsSound u.world
-delivered_by true f r u s e = s (interrupt_was f r u e)
-delivered_by false f r u s e = absurd cc
+pub delivered_was : (served : Bool) (f : Fault) (r : Result MachineView Fault) (u : MachineView) →
+    (if served then interrupt_of f r else Err (unserved f)) ≡ Ok u → r ≡ Ok u
+delivered_was true f r u e = interrupt_was f r u e
+delivered_was false f r u e = absurd cc
 
 pub sound_delivery : (v u : MachineView) (f : Fault) → IsSound v.world → real_delivery v f ≡ Ok u → IsSound u.world
 unfolding real_delivery
 sound_delivery v u f s e =
-    delivered_by (has_real_vector f.number) f (software_interrupt v f.number 0) u (sound_interrupt v u f.number 0 s) e
+    sound_interrupt v u f.number 0 s (delivered_was (has_real_vector f.number) f (software_interrupt v f.number 0) u e)
 
 -- ---- a return
 
@@ -145,23 +147,29 @@ sound_popped v u s e =
 
 -- ---- of worlds
 
-pub sound_on_world : {E : Type 0} (r : Result MachineView E) (u : World) → ((v : MachineView) → r ≡ Ok v → IsSound v.world) →
-    its_world r ≡ Ok u → IsSound u
-sound_on_world (Ok v) u s e = let same : v.world ≡ u = cc in subst IsSound same (s v refl)
-sound_on_world (Err g) u s e = absurd cc
+-- what holds of each answer holds of its world
+pub holds_of_world : {E : Type 0} (P : World → Type 0) (r : Result MachineView E) (u : World) →
+    ((v : MachineView) → r ≡ Ok v → P v.world) → its_world r ≡ Ok u → P u
+holds_of_world P (Ok v) u holds e = let same : v.world ≡ u = cc in subst P same (holds v refl)
+holds_of_world P (Err g) u holds e = absurd cc
+
+-- what holds of the answer that was found holds of the one that is given
+pub holds_of_answer : {E : Type 0} (P : MachineView → Type 0) (r : Result MachineView E) (u : MachineView) → IfOk r P → r ≡ Ok u → P u
+holds_of_answer P (Ok v) u holds e = let same : v ≡ u = cc in subst P same holds
+holds_of_answer P (Err g) u holds e = absurd cc
 
 pub sound_world_step : (w u : World) → IsSound w → world_step w ≡ Ok u → IsSound u
 unfolding world_step
-sound_world_step w u s e = sound_on_world (client_step (bare w)) u (λ v. sound_step (bare w) v s) e
+sound_world_step w u s e = holds_of_world IsSound (client_step (bare w)) u (λ v. sound_step (bare w) v s) e
 
 pub sound_world_interrupt : (w u : World) (n len : ℕ) → IsSound w → world_interrupt w n len ≡ Ok u → IsSound u
 unfolding world_interrupt
-sound_world_interrupt w u n len s e = sound_on_world (software_interrupt (bare w) n len) u (λ v. sound_interrupt (bare w) v n len s) e
+sound_world_interrupt w u n len s e = holds_of_world IsSound (software_interrupt (bare w) n len) u (λ v. sound_interrupt (bare w) v n len s) e
 
 pub sound_world_delivery : (w u : World) (f : Fault) → IsSound w → world_delivery w f ≡ Ok u → IsSound u
 unfolding world_delivery
-sound_world_delivery w u f s e = sound_on_world (real_delivery (bare w) f) u (λ v. sound_delivery (bare w) v f s) e
+sound_world_delivery w u f s e = holds_of_world IsSound (real_delivery (bare w) f) u (λ v. sound_delivery (bare w) v f s) e
 
 pub sound_world_popped : (w u : World) → IsSound w → world_popped w ≡ Ok u → IsSound u
 unfolding world_popped
-sound_world_popped w u s e = sound_on_world (iret_popped (bare w)) u (λ v. sound_popped (bare w) v s) e
+sound_world_popped w u s e = holds_of_world IsSound (iret_popped (bare w)) u (λ v. sound_popped (bare w) v s) e

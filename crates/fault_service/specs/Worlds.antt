@@ -43,3 +43,11 @@ world_popped w = on_world iret_popped w
 -- the machine differs at most in its registers and its virtual interrupt flag: its memory is the same, and so are its bytes
 abbrev pub HasOtherState : MachineView → MachineView → Type 0
 HasOtherState v u = u ≡ with_state u.world.regs u.world.vif v
+
+-- the world differs at most in its registers and its virtual interrupt flag
+abbrev pub HasOtherRegisters : World → World → Type 0
+HasOtherRegisters w u = u ≡ record w { regs = u.regs; vif = u.vif }
+
+-- or in its memory besides: the megabyte and the memory blocks
+abbrev pub HasOtherRegistersAndMemory : World → World → Type 0
+HasOtherRegistersAndMemory w u = u ≡ record w { regs = u.regs; vif = u.vif; dos = u.dos; blocks = u.blocks }

@@ -8,7 +8,7 @@ ghost use Rattle.cpu_step.specs.Step.{client_step};
 ghost use Rattle.host_memory.specs.View.{MachineView};
 ghost use Rattle.fault_service.specs.Delivery.{iret_popped, real_delivery, software_interrupt};
 ghost use Rattle.fault_service.specs.RealFrames.{frame_fits};
-ghost use Rattle.fault_service.specs.Worlds.{HasOtherState, its_world, world_delivery, world_interrupt, world_popped, world_step};
+ghost use Rattle.fault_service.specs.Worlds.{HasOtherRegisters, HasOtherRegistersAndMemory, HasOtherState, its_world, world_delivery, world_interrupt, world_popped, world_step};
 
 /// What a step, an interrupt, an exception and a return make of the world depends on the world alone, and not on the bytes that hold it.
 pub fn every_answer_depends_on_the_world_alone()
@@ -32,7 +32,14 @@ pub fn every_answer_is_sound()
 /// A return changes registers and the virtual interrupt flag alone, and no byte of the memory; the mode stays.
 pub fn a_return_changes_registers_alone()
     ensures state { (v u : MachineView) → iret_popped v ≡ Ok u → HasOtherState v u }
-    ensures mode { (w u : World) → world_popped w ≡ Ok u → u.mode ≡ w.mode }
+    ensures world { (w u : World) → world_popped w ≡ Ok u → HasOtherRegisters w u }
+{}
+
+/// A step, a software interrupt and an exception of real mode change registers, the virtual interrupt flag and memory alone.
+pub fn every_answer_keeps_the_rest()
+    ensures step { (w u : World) → world_step w ≡ Ok u → HasOtherRegistersAndMemory w u }
+    ensures interrupt { (w u : World) (n len : ℕ) → world_interrupt w n len ≡ Ok u → HasOtherRegistersAndMemory w u }
+    ensures delivery { (w u : World) (f : Fault) → world_delivery w f ≡ Ok u → HasOtherRegistersAndMemory w u }
 {}
 
 /// In real mode a frame can be popped exactly where its three words lie inside the stack segment.

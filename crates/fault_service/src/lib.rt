@@ -1,7 +1,7 @@
 //! Software interrupts, exceptions of real mode, and the return from an interrupt at a trap.
 //! It promises that each leaves the machine that its definition names, or gives its fault or exit and changes nothing; that its answer
-//! depends on the world alone; that a sound world leads to a sound one; and that in real mode a frame is popped exactly where its words lie
-//! inside the stack segment. It stands on plans of instructions and on the executing crates.
+//! depends on the world alone; that a sound world leads to a sound one; that nothing but registers and memory changes; and that in real mode
+//! a frame is popped exactly where its words lie inside the stack segment. It stands on plans of instructions and on the executing crates.
 #![tactic(auto)]
 
 mod exceptions;
@@ -15,6 +15,6 @@ pub use exceptions::deliver;
 pub use interrupts::soft_int;
 pub use laws::{
     a_real_frame_is_popped_where_it_fits, a_return_changes_registers_alone,
-    every_answer_depends_on_the_world_alone, every_answer_is_sound,
+    every_answer_depends_on_the_world_alone, every_answer_is_sound, every_answer_keeps_the_rest,
 };
 pub use returns::{can_pop_iret, pop_iret};

@@ -8,7 +8,7 @@ use Rattle.client_world.specs.declared.outcome.Exit.TheVariants.{BadFrame}
 use Rattle.client_world.specs.declared.registers.Mode.TheVariants.{Real}
 use Rattle.client_world.specs.Soundness.{IsSound}
 use Rattle.client_world.specs.World.{World, HostWorld}
-use Rattle.dos_calls.specs.Stack.{HasSameStack}
+use Rattle.dos_calls.specs.Kept.{HasSameStack}
 use Rattle.fault_service.specs.Delivery.{iret_popped, popped_or_bad}
 use Rattle.fault_service.specs.RealFrames.{frame_fits}
 use Rattle.fault_service.specs.Worlds.{its_world, world_popped}

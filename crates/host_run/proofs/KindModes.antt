@@ -8,7 +8,7 @@ use Rattle.client_world.specs.declared.traps.TheConstants.{REAL_VECTOR_TRAPS, EN
 use Rattle.client_world.specs.World.{World}
 use Rattle.host_run.specs.declared.traps.Trap.{Trap}
 use Rattle.host_run.specs.declared.traps.Trap.TheVariants.{RealVector, Entry, ToProtected, RealState, CallReturn, Callback, ProtectedVector, ExceptionHandler, ToReal, ProtectedState, ExceptionReturn, CallbackReturn, NoTrap}
-use Rattle.host_run.specs.Traps.{is_among, code_linear, protected_trap_at, real_trap_at, current_trap, trap_at, trap_where}
+use Rattle.host_run.specs.Traps.{is_among, code_linear, protected_trap_at, real_trap_at, current_trap, trap_where}
 
 -- a trap that is served in one mode is reached in that mode alone
 abbrev pub Suits : Mode → Trap → Type 0

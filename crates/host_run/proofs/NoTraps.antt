@@ -1,5 +1,5 @@
 -- Below read-only memory there is no trap.
-use Rattle.std.proofs.Common.{◌≡◌, ℕ, ◌+◌, ◌<◌, Bool, false, refl, arith, Option, None, Some, Result, Ok, Err}
+use Rattle.std.proofs.Common.{◌≡◌, ℕ, ◌<◌, refl, arith, None, Some, Result, Ok, Err}
 use Rattle.client_world.specs.declared.faults.Fault.{Fault}
 use Rattle.client_world.specs.declared.memory_map.TheConstants.{ROM_START}
 use Rattle.client_world.specs.declared.registers.Mode.{Mode}

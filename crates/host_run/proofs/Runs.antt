@@ -3,8 +3,7 @@ use Rattle.std.proofs.Common.{arith, ◌≡◌, ◌≤◌, ◌<◌, ◌+◌, ◌
 use Rattle.std.specs.Prelude.{IsSome, IfSome, List}
 use Rattle.std.specs.declared.option.Option.{Option}
 use Rattle.client_world.specs.declared.outcome.Exit.{Exit}
-use Rattle.client_world.specs.declared.outcome.Exit.TheVariants.{Bound}
-use Rattle.client_world.specs.World.{World, HostWorld}
+use Rattle.client_world.specs.World.{HostWorld}
 use Rattle.host_run.specs.Turn.{turn}
 use Rattle.host_run.specs.View.{HostView}
 use Rattle.host_run.specs.Run.{turns, run, bounded}

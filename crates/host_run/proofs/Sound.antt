@@ -1,11 +1,14 @@
--- What crates above may cite of a run: from a sound world with keys that are bytes each turn leads to such a one.
-use Rattle.std.proofs.Common.{arith, ◌≡◌, ◌≢◌, ◌≤◌, ◌+◌, ◌*◌, ℕ, zero, suc, List, None, Some, refl, sym, subst}
+-- What crates above may cite of a run: from a sound world with keys that are bytes each turn leads to such a one, keeps the records of calls,
+-- and adds to the console at its end alone.
+use Rattle.std.proofs.Common.{arith, ◌≡◌, ◌≢◌, ◌∙◌, ◌≤◌, ◌+◌, ◌-◌, ◌*◌, ◌++◌, ℕ, zero, suc, List, None, Some, add-suc, add-zero, ap, append_assoc, refl, sym, subst}
 use Rattle.std.specs.Prelude.{IsSome}
 use Rattle.std.specs.declared.option.Option.{Option}
 use Rattle.client_world.specs.declared.outcome.Exit.{Exit}
 use Rattle.client_world.specs.declared.outcome.Exit.TheVariants.{Bound, ConsoleFull}
 use Rattle.client_world.specs.Soundness.{IsSound, IsSoundHost}
 use Rattle.client_world.specs.World.{HostWorld}
+use Rattle.dos_calls.specs.Kept.{Extends}
+use Rattle.dos_calls.proofs.LeftCalls.{extends_itself}
 use Rattle.guest_ram.specs.Bytes.{AreBytes}
 use Rattle.host_memory.proofs.BlankSound.{blank_is_sound}
 use Rattle.mz_loader.specs.Refusal.{refusal}
@@ -14,48 +17,31 @@ use Rattle.host_run.specs.Keys.{HasKeys}
 use Rattle.host_run.specs.Start.{blank, started}
 use Rattle.host_run.specs.Run.{turns, run}
 use Rattle.host_run.specs.Turn.{turn}
-use Rattle.host_run.proofs.TurnLaws.{IsReached, LeavesAll, LeavesBy, turn_keeps, turn_stays}
+use Rattle.host_run.proofs.TurnLaws.{IsReached, LeavesAll, LeavesBy, turn_keeps}
 
 -- the trace has two lines for each turn at most
 abbrev pub HasFewLines : HostWorld → Type 0
 HasFewLines w = w.lines ≤ 2 * w.steps
 
-turned : (w : HostWorld) (o : Option Exit) → w.exit ≡ o → IsReached w → IsReached (turn w)
-turned w (Some exit) is s = subst IsReached (sym (turn_stays w exit is)) s
-turned w None is s = (turn_keeps w s is).reached
-
 pub turn_sound : (w : HostWorld) → IsReached w → IsReached (turn w)
-turn_sound w s = turned w w.exit refl s
+turn_sound w s = (turn_keeps w s).reached
 
-lines_turned : (w : HostWorld) (o : Option Exit) → w.exit ≡ o → IsReached w → HasFewLines w → HasFewLines (turn w)
-lines_turned w (Some exit) is s few = subst HasFewLines (sym (turn_stays w exit is)) few
-lines_turned w None is s few = let k = turn_keeps w s is in let more = k.lines in let next = k.steps in omega arith
-
-pub turn_lines : (w : HostWorld) → IsReached w → HasFewLines w → HasFewLines (turn w)
-turn_lines w s few = lines_turned w w.exit refl s few
+turn_lines : (w : HostWorld) → IsReached w → HasFewLines w → HasFewLines (turn w)
+turn_lines w s few = omega (arith, few, (turn_keeps w s).lines)
 
 -- a turn that ends the run leaves the machine, and but for a full console the keystrokes and the console too
-leaves_turned : (w : HostWorld) (o : Option Exit) → w.exit ≡ o → IsReached w → LeavesBy w (turn w) (turn w).exit
-leaves_turned w (Some exit) is s =
-    subst (λ (u : HostWorld). LeavesBy w u u.exit) (sym (turn_stays w exit is))
-    (subst (LeavesBy w w) (sym is) (record { machine = refl; outside = λ _. (refl, refl) }))
-leaves_turned w None is s = (turn_keeps w s is).leaves
-
-pub turn_leaves : (w : HostWorld) → IsReached w → LeavesBy w (turn w) (turn w).exit
-turn_leaves w s = leaves_turned w w.exit refl s
-
 machine_by : (w after : HostWorld) (e : Option Exit) → LeavesBy w after e → IsSome e → after.machine ≡ w.machine
 machine_by w after None l is = cc
 machine_by w after (Some exit) l is = l.machine
 
 pub exit_leaves_machine : (w : HostWorld) → IsSound w.machine → HasKeys w → IsSome (turn w).exit → (turn w).machine ≡ w.machine
 exit_leaves_machine w sound keys ended =
-    machine_by w (turn w) (turn w).exit (turn_leaves w (record { machine = sound; keys = keys })) ended
+    machine_by w (turn w) (turn w).exit (turn_keeps w (record { machine = sound; keys = keys })).leaves ended
 
 pub exit_leaves_outside : (w : HostWorld) (exit : Exit) → IsSound w.machine → HasKeys w → (turn w).exit ≡ Some exit → exit ≢ ConsoleFull →
     ((turn w).keys ≡ w.keys) × ((turn w).console ≡ w.console)
 exit_leaves_outside w exit sound keys is other =
-    (let l : LeavesAll w (turn w) exit = subst (LeavesBy w (turn w)) is (turn_leaves w (record { machine = sound; keys = keys })) in l.outside) other
+    (let l : LeavesAll w (turn w) exit = subst (LeavesBy w (turn w)) is (turn_keeps w (record { machine = sound; keys = keys })).leaves in l.outside) other
 
 -- so does any number of turns
 pub turns_sound : (w : HostWorld) (n : ℕ) → IsReached w → IsReached (turns w n)
@@ -67,6 +53,37 @@ pub turns_lines : (w : HostWorld) (n : ℕ) → IsReached w → HasFewLines w �
 unfolding turns
 turns_lines w zero s few = few
 turns_lines w (suc n) s few = turn_lines (turns w n) (turns_sound w n s) (turns_lines w n s few)
+
+-- the records of calls stay
+pub turns_calls : (w : HostWorld) (n : ℕ) → IsReached w → (turns w n).machine.calls ≡ w.machine.calls
+unfolding turns
+turns_calls w zero s = refl
+turns_calls w (suc n) s = (turn_keeps (turns w n) (turns_sound w n s)).calls ∙ turns_calls w n s
+
+-- the console after some turns is a prefix of the console after more
+extends_then : (a b c : List ℕ) → Extends a b → Extends b c → Extends a c
+extends_then a b c first then = (first.0 ++ then.0, then.1 ∙ ap (λ (x : List ℕ). x ++ then.0) first.1 ∙ append_assoc a first.0 then.0)
+
+more_console : (w : HostWorld) (m k : ℕ) → IsReached w → Extends (turns w m).console (turns w (m + k)).console
+unfolding turns
+more_console w m zero s = rw add-zero (extends_itself (turns w m).console)
+more_console w m (suc k) s =
+    rw add-suc (extends_then _ _ _ (more_console w m k s) (turn_keeps (turns w (m + k)) (turns_sound w (m + k) s)).console)
+
+pub turns_console : (w : HostWorld) (m n : ℕ) → m ≤ n → IsReached w → Extends (turns w m).console (turns w n).console
+turns_console w m n le s =
+    let split : m + (n - m) ≡ n = omega arith in
+    subst (λ (k : ℕ). Extends (turns w m).console (turns w k).console) split (more_console w m (n - m) s)
+
+-- the bound of a run leaves the console
+bounded_console : (w : HostWorld) (o : Option Exit) →
+    let after : HostWorld = elim o [ Some _ ↦ w | None ↦ record w { exit = Some Bound } ] in after.console ≡ w.console
+bounded_console w (Some _) = refl
+bounded_console w None = refl
+
+pub run_console : (w : HostWorld) (m n : ℕ) → m ≤ n → IsReached w → Extends (turns w m).console (run w n).console
+run_console w m n le s =
+    subst (Extends (turns w m).console) (sym (bounded_console (turns w n) (turns w n).exit)) (turns_console w m n le s)
 
 -- so does a run
 bound_sound : (w : HostWorld) (o : Option Exit) → IsReached w → IsReached (elim o [ Some _ ↦ w | None ↦ record w { exit = Some Bound } ])

@@ -5,6 +5,7 @@ ghost use Rattle.client_world.specs.declared.outcome.Exit.TheVariants.{ConsoleFu
 ghost use Rattle.client_world.specs.Access.{IsHeld};
 ghost use Rattle.client_world.specs.Soundness.{IsSound, IsSoundHost};
 ghost use Rattle.client_world.specs.World.{HostWorld};
+ghost use Rattle.dos_calls.specs.Kept.{Extends};
 ghost use Rattle.guest_ram.specs.Bytes.{AreBytes};
 ghost use Rattle.mz_loader.specs.Refusal.{refusal};
 ghost use Rattle.host_run.specs.Keys.{HasKeys};
@@ -38,6 +39,20 @@ pub fn every_run_is_sound()
     ensures keys { (w : HostWorld) → IsSound w.machine → HasKeys w → (n : ℕ) → HasKeys (turns w n) }
     ensures host_turns { (w : HostWorld) → IsSoundHost w → HasKeys w → (n : ℕ) → IsSoundHost (turns w n) }
     ensures host_end { (w : HostWorld) → IsSoundHost w → HasKeys w → (n : ℕ) → IsSoundHost (run w n) }
+{}
+
+/// A turn leaves the records of the nested calls as they are, and so do any number of turns.
+pub fn every_turn_keeps_the_calls()
+    ensures turn { (w : HostWorld) → IsSound w.machine → HasKeys w → (turn w).machine.calls ≡ w.machine.calls }
+    ensures turns { (w : HostWorld) → IsSound w.machine → HasKeys w → (n : ℕ) → (turns w n).machine.calls ≡ w.machine.calls }
+{}
+
+/// What the client wrote stays: a turn adds bytes at the console's end alone. So the console after some turns is a prefix of the console after
+/// more, and of the console at the end of the run.
+pub fn every_turn_extends_the_console()
+    ensures turn { (w : HostWorld) → IsSound w.machine → HasKeys w → Extends w.console (turn w).console }
+    ensures turns { (w : HostWorld) → IsSound w.machine → HasKeys w → (m n : ℕ) → m ≤ n → Extends (turns w m).console (turns w n).console }
+    ensures end { (w : HostWorld) → IsSound w.machine → HasKeys w → (m n : ℕ) → m ≤ n → Extends (turns w m).console (run w n).console }
 {}
 
 /// However many turns were made, the next touches memory that the client holds, and no other.

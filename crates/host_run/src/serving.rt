@@ -8,7 +8,7 @@ ghost use Rattle.fault_service.specs.Worlds.{world_step, world_popped};
 
 use client_world::{DosDone, Event, Exit};
 use cpu_step::step_with_memo;
-use dos_calls::{Console, Keys, every_dos_call_leaves_the_stack, int2f, int21};
+use dos_calls::{Console, Keys, every_dos_call_keeps_the_rest, int2f, int21};
 use fault_service::{
     a_real_frame_is_popped_where_it_fits, can_pop_iret, every_answer_depends_on_the_world_alone,
     pop_iret,
@@ -57,7 +57,7 @@ pub(crate) fn serve_dos(m: &mut Machine, keys: &mut Keys, console: &mut Console)
     ensures ended { IfEnded result (m.new ≡ m.old) }
     ensures frame { is_ok (world_popped m.new.world) ≡ true }
 {
-    every_dos_call_leaves_the_stack();
+    every_dos_call_keeps_the_rest();
     a_real_frame_is_popped_where_it_fits();
     m.soundness();
     let done = int21(m, keys, console);
@@ -73,7 +73,7 @@ pub(crate) fn serve_multiplex(m: &mut Machine)
     ensures world { m.new.world ≡ multiplex_call m.old.world }
     ensures frame { is_ok (world_popped m.new.world) ≡ true }
 {
-    every_dos_call_leaves_the_stack();
+    every_dos_call_keeps_the_rest();
     a_real_frame_is_popped_where_it_fits();
     m.soundness();
     int2f(m);

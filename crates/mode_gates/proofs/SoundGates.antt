@@ -26,7 +26,7 @@ use Rattle.guest_space.proofs.HostRows.{IsSound-width}
 use Rattle.host_memory.specs.View.{MachineView}
 use Rattle.insn_plan.specs.Plan.{planned, carried_out}
 use Rattle.fault_service.specs.Worlds.{bare}
-use Rattle.fault_service.proofs.SoundAnswers.{return_was, sound_on_world}
+use Rattle.fault_service.proofs.SoundAnswers.{holds_of_world, return_was}
 use Rattle.mode_gates.specs.Entry.{asked_width, code_at, data_at, after_first_entry, entry, entry_after, entry_registers, entry_rows, entry_answer, environment, environment_word, host_rows, with_carry}
 use Rattle.mode_gates.specs.FarFrames.{after_far_return, world_after_far_return}
 use Rattle.mode_gates.specs.Rows.{AreFreeFrom}
@@ -43,7 +43,7 @@ sound_far v u s e =
 
 pub sound_world_far : (w u : World) → IsSound w → world_after_far_return w ≡ Ok u → IsSound u
 unfolding world_after_far_return
-sound_world_far w u s e = sound_on_world (after_far_return (bare w)) u (λ v. sound_far (bare w) v s) e
+sound_world_far w u s e = holds_of_world IsSound (after_far_return (bare w)) u (λ v. sound_far (bare w) v s) e
 
 -- ---- the descriptors
 

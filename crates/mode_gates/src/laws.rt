@@ -19,6 +19,18 @@ pub fn a_far_return_changes_registers_alone()
     ensures { (v u : MachineView) → after_far_return v ≡ Ok u → HasOtherState v u }
 {}
 
+/// The entry changes the mode, the width, registers, the virtual interrupt flag, the megabyte and descriptors alone.
+pub fn the_entry_keeps_the_rest()
+    ensures { (w : World) (s : Served) → entry w ≡ Ok s → s.world ≡ record w {
+      mode = s.world.mode;
+      regs = s.world.regs;
+      vif = s.world.vif;
+      width = s.world.width;
+      dos = s.world.dos;
+      descriptors = s.world.descriptors;
+    } }
+{}
+
 /// A far return at a trap and the entry lead from a sound world to a sound one.
 pub fn every_gate_is_sound()
     ensures far { (w u : World) → IsSound w → world_after_far_return w ≡ Ok u → IsSound u }

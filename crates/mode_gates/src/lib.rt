@@ -13,5 +13,5 @@ pub use entering::{asked_width, entry, with_carry};
 pub use far_frames::pop_far;
 pub use laws::{
     a_far_return_changes_registers_alone, a_far_return_depends_on_the_world_alone,
-    every_gate_is_sound,
+    every_gate_is_sound, the_entry_keeps_the_rest,
 };

@@ -1,0 +1,9 @@
+use Rattle.host_run.proofs.Sound.{turns_calls}
+use Rattle.host_run.proofs.TurnLaws.{turn_keeps}
+use Rattle.host_run.proofs.laws.every_turn_keeps_the_calls.Goals as goal
+
+pub returns-clause-turn : goal.returns-clause-turn
+returns-clause-turn c = λ w s keys. (turn_keeps w (record { machine = s; keys = keys })).calls
+
+pub returns-clause-turns : goal.returns-clause-turns
+returns-clause-turns c = λ w s keys n. turns_calls w n (record { machine = s; keys = keys })
