@@ -1,8 +1,7 @@
 -- A return at a trap changes registers and the virtual interrupt flag alone, and no byte.
-use Rattle.std.proofs.Common.{◌≡◌, [], ap, ◌∙◌, subst, Option, None, Some, Result, Ok, Err}
+use Rattle.std.proofs.Common.{◌≡◌, [], ap, ◌∙◌, Result, Ok, Err}
 use Rattle.client_world.specs.declared.faults.Event.{Event}
 use Rattle.client_world.specs.declared.faults.Event.TheVariants.{Fault as fault}
-use Rattle.client_world.specs.declared.faults.Fault.{Fault}
 use Rattle.exec_flow.specs.Interrupts.{frame_bits}
 use Rattle.guest_space.proofs.Writes.{all_none}
 use Rattle.guest_space.specs.Pending.{all_written, first_refusal}
