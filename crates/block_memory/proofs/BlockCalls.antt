@@ -15,7 +15,7 @@ use Rattle.host_memory.specs.Layout.{handles_part, pages_of}
 use Rattle.host_memory.proofs.BlockRows.{row_there, held_base}
 use Rattle.host_memory.proofs.Parts.{parts_of}
 use Rattle.block_memory.specs.BlockChanges.{blocks_held, CanHoldIn, CanMoveIn, CanSizeIn, HasBlockIn, HasPagesIn, IsHeldIn, ReplacesBlock, with_at}
-use Rattle.block_memory.specs.BlockSizes.{CanHold, CanMove, HasPages, at_base, base_of_held, extended, resized, shorter, slid}
+use Rattle.block_memory.specs.BlockSizes.{CanHold, CanMove, HasPages, at_base, base_of_held, extended, sized_block, shorter, slid}
 use Rattle.block_memory.proofs.BlockSteps.{becomes, for_budget, held_still, held_there, one_budget, ranges_held, replaced_at}
 use Rattle.block_memory.proofs.MoveWrites.{moved, moved_changes}
 use Rattle.block_memory.proofs.PageChanges.{block_reads}
@@ -135,8 +135,8 @@ grows_after b c d place from old base pages kept g s cut has move =
 
 -- a byte that the block has before and after it has in between
 resized_byte : (base pages kept : ℕ) (o : Option MemoryBlock) (old at : ℕ) → length (bytes_of_block o) ≡ PAGE_SIZE * old → pages_of_block o ≡ old → kept ≡ min old pages → kept ≢ 0 →
-    HasByte o at → HasByte (resized base pages o) at → HasByte (shorter o kept) at
-unfolding resized
+    HasByte o at → HasByte (sized_block base pages o) at → HasByte (shorter o kept) at
+unfolding sized_block
 resized_byte base pages kept None old at long count few some has later = absurd has
 resized_byte base pages kept (Some block) old at long count few some has later =
     rw (ne_eqb kept 0 some) (omega (
@@ -154,7 +154,7 @@ based_byte base (Some block) at has = has
 -- and in the end it has that address and size
 pub block_resized : (b c d e : List ℕ) (place from old base pages kept : ℕ) (g : CanSizeIn b place base pages) →
     Sizing (blocks_held b g.budget) g.budget place from old base pages kept → ReplacesBlock b c place (λ o. shorter o kept) → ReplacesBlock c d place (λ o. at_base base o) →
-    ReplacesBlock d e place (λ o. extended base o (pages - kept)) → ReplacesBlock b e place (λ o. resized base pages o)
+    ReplacesBlock d e place (λ o. extended base o (pages - kept)) → ReplacesBlock b e place (λ o. sized_block base pages o)
 block_resized b c d e place from old base pages kept g s cut move extend =
     let blocks = blocks_held b g.budget in
     let o = slice_index_or blocks place None in
@@ -163,7 +163,7 @@ block_resized b c d e place from old base pages kept g s cut move extend =
     let three = extend g.budget two.after.holds in
     let within = s.has.within in let handles = s.has.handles in let few = s.few in let some = s.some in let more = s.can.some in
     let cut_list = cut_blocks blocks place kept in
-    let final = slice_set blocks place (resized base pages o) in
+    let final = slice_set blocks place (sized_block base pages o) in
     let size : length cut_list ≡ length blocks = length-set blocks place _ in
     let moved_now : with_at (blocks_held c g.budget) place (λ x. at_base base x) ≡ moved_blocks cut_list place base =
     ap (λ (bs : List (Option MemoryBlock)). moved_blocks bs place base) one.are in
@@ -171,13 +171,13 @@ block_resized b c d e place from old base pages kept g s cut move extend =
     ap (λ (bs : List (Option MemoryBlock)). with_at bs place (λ x. extended base x (pages - kept))) (two.are ∙ moved_now)
     ∙ sized_blocks blocks g.budget place from old base pages kept g.holds.sound s in
     let long : length (bytes_of_block o) ≡ PAGE_SIZE * old = length-bytes blocks g.budget place g.holds.sound o refl ∙ ap (λ (n : ℕ). PAGE_SIZE * n) s.has.count in
-    let in_cut = held_there blocks place (resized base pages o) (shorter o kept) (omega arith)
+    let in_cut = held_there blocks place (sized_block base pages o) (shorter o kept) (omega arith)
     (λ at before after. resized_byte base pages kept o old at long s.has.count few (omega arith) before after) in
     let in_moved = held_still cut_list place (at_base base (slice_index_or cut_list place None)) (omega arith)
     (λ at has. based_byte base (slice_index_or cut_list place None) at has) in
     let second = becomes c d g.budget _ _ two moved_now in
     let third = becomes d e g.budget _ _ three last in
-    for_budget b e place (λ x. resized base pages x) g.budget g.holds.holds (record {
+    for_budget b e place (λ x. sized_block base pages x) g.budget g.holds.holds (record {
       after = third.after;
       are = third.are;
       world = λ mode regs vif width. third.world mode regs vif width

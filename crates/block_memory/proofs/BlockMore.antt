@@ -119,7 +119,7 @@ other_block old new budget place base n frame m beside h other within ne = elim 
       same_listed (pages_of old.handles other) (lock_at new (first_page_of old.handles other)) (lock_at old (first_page_of old.handles other)) lock,
     ) refl
 
--- a list whose front and whose rest are known
+-- a list whose first part and rest are known
 append_listed : (f : ℕ → ℕ) (xs ys : List ℕ) (m n : ℕ) → length xs ≡ m → m + length ys ≡ n → ((k : ℕ) → k < m → f k ≡ get_or xs k 0) →
     ((k : ℕ) → k < length ys → f (m + k) ≡ get_or ys k 0) → listed n f ≡ xs ++ ys
 append_listed f xs ys m n long all front back =
@@ -221,7 +221,7 @@ more_block old new budget place base n frame m beside h zero unlocked =
         (λ k small. ap (lock_of new.locks) (let e : first_page base + (n + k) ≡ region_page base n = omega (arith, length-zeros 1) in e)
         ∙ unlocked ∙ sym (at_zeros 1 k (omega (arith, length-zeros 1))))
 
--- the front of a list
+-- the first part of a list
 take_listed : (f g : ℕ → ℕ) (m n : ℕ) → m ≤ n → ((k : ℕ) → k < m → g k ≡ f k) → listed m f ≡ take m (listed n g)
 take_listed f g m n few same =
     same_number_lists (listed m f) (take m (listed n g))

@@ -21,7 +21,7 @@ use Rattle.host_memory.specs.Layout.{world_of, handles_part, tables_part, locks_
 use Rattle.host_memory.proofs.BlockRows.{HasRanges, IsRange, ranges}
 use Rattle.host_memory.proofs.HostTables.{has_tables}
 use Rattle.host_memory.proofs.Parts.{MemoryParts, parts_of, holds_parts}
-use Rattle.block_memory.specs.BlockChanges.{blocks_held, CanHoldIn, HasPagesIn, HoldsBlocks, IsHeldIn, ReplacesBlock, ReplacesBlocks, with_at}
+use Rattle.block_memory.specs.BlockChanges.{blocks_held, CanHoldIn, HasPagesIn, HoldsSoundBlocks, IsHeldIn, ReplacesBlock, ReplacesBlocks, with_at}
 use Rattle.block_memory.specs.BlockSizes.{longer, shorter}
 use Rattle.block_memory.proofs.PageChanges.{ChangesBlocks, HasLast, HasLastFrame, last_frame, last_range, has_last_frame, may_shrink, not_all_taken, in_budget, room_of, grown_changes, shrunk_changes}
 use Rattle.block_memory.proofs.PageMore.{page_inside, page_outside, region_page}
@@ -39,12 +39,12 @@ pub for_budget : (b c : List ℕ) (place : ℕ) (change : Option MemoryBlock →
 for_budget b c place change budget holds replaces other h =
     subst (λ (n : ℕ). ReplacesBlocks b c n (with_at (blocks_held b n) place change)) (one_budget b budget other holds h) replaces
 
-pub ranges_held : (b : List ℕ) (budget : ℕ) → HoldsBlocks b budget → HasRanges (handles_part b)
+pub ranges_held : (b : List ℕ) (budget : ℕ) → HoldsSoundBlocks b budget → HasRanges (handles_part b)
 ranges_held b budget h = ranges (handles_part b) (tables_part b) (locks_part b) (budget_part b budget) budget h.sound
 
 -- no change, and one change after another
 
-pub same_blocks : (b : List ℕ) (budget : ℕ) (blocks : List (Option MemoryBlock)) → HoldsBlocks b budget → blocks_held b budget ≡ blocks →
+pub same_blocks : (b : List ℕ) (budget : ℕ) (blocks : List (Option MemoryBlock)) → HoldsSoundBlocks b budget → blocks_held b budget ≡ blocks →
     ReplacesBlocks b b budget blocks
 unfolding world_of
 same_blocks b budget blocks holds e = record {
@@ -108,7 +108,7 @@ replaced b c budget blocks changes sound fits = record {
 }
 
 -- so the block at an index changes
-pub replaced_at : (b c d : List ℕ) (budget place : ℕ) (change : Option MemoryBlock → Option MemoryBlock) → HoldsBlocks b budget → d ≡ c →
+pub replaced_at : (b c d : List ℕ) (budget place : ℕ) (change : Option MemoryBlock → Option MemoryBlock) → HoldsSoundBlocks b budget → d ≡ c →
     ChangesBlocks b c budget (with_at (blocks_held b budget) place change) → SoundBlocks (with_at (blocks_held b budget) place change) budget →
     HoldBytes (with_at (blocks_held b budget) place change) → ReplacesBlock b d place change
 replaced_at b c d budget place change holds e changes sound fits =

@@ -51,7 +51,7 @@ pub record ChangesBlocks (b c : List ℕ) (budget : ℕ) (blocks : List (Option 
   pub rows : rows_part c ≡ rows_part b
   pub addresses : (p : Place) → IsHeldIn (blocks_held b budget) p → IsHeldIn blocks p → address_of c p ≡ address_of b p
 
--- where a byte of a block stands, in a state
+-- where a byte of a block is, in a state
 abbrev byte_place : BlockParts → ℕ → ℕ → ℕ
 byte_place s place at = PAGE_SIZE * (entry_of s.tables (first_page_of s.handles place + at / PAGE_SIZE) / PAGE_SIZE) + at % PAGE_SIZE
 
@@ -209,7 +209,7 @@ grown_changes b budget place base n to frame holds ranges can further inside fre
           refl (ap block_parts e) place_of_it before;
     }
 
--- the last page of a block stands in a frame of the budget
+-- the last page of a block lies in a frame of the budget
 
 abbrev pub last_frame : List ℕ → ℕ → ℕ → ℕ
 last_frame b base n = frame_of (table_entry b PAGE_DIRECTORY (base + PAGE_SIZE * n))

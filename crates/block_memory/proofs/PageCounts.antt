@@ -13,7 +13,7 @@ use Rattle.host_memory.specs.Holds.{all_pages}
 use Rattle.host_memory.specs.Layout.{pages_of, block_in, blocks_in}
 use Rattle.host_memory.proofs.BlockRows.{row_there, row_free, length-held_locks}
 
--- where the first n bytes aren't 0, so many are used
+-- where the first n bytes aren't 0, n are used
 pub used_front : (xs : List ℕ) (n : ℕ) → n ≤ length xs → ((k : ℕ) → k < n → get_or xs k 0 ≢ 0) → n ≤ used xs
 used_front xs zero room h = omega arith
 used_front [] (suc n) room h = absurd (omega arith)

@@ -26,7 +26,7 @@ first_page base = (base - BLOCK_REGION) / PAGE_SIZE
 abbrev pub region_page : ℕ → ℕ → ℕ
 region_page base n = first_page base + n
 
--- the entry of a page that stands in that frame of the budget
+-- the entry of a page that lies in that frame of the budget
 abbrev pub budget_entry : ℕ → ℕ
 budget_entry frame = page_entry (BUDGET_FRAMES + frame) true
 

@@ -17,7 +17,7 @@ use Rattle.block_memory.proofs.PageCounts.{used_more, one_page_more}
 use Rattle.block_memory.proofs.PageMore.{BlockParts, HasRoom, HasPageMore, AgreesBeside, region_page, budget_entry, page_inside, page_outside, more_entries, less_entries, more_locks, less_locks}
 use Rattle.host_memory.proofs.Parts.{MemoryParts, HoldsParts}
 
--- the parts that blocks stand in
+-- the parts that blocks lie in
 abbrev pub block_parts : MemoryParts → BlockParts
 block_parts p = record { handles = p.handles; tables = p.tables; taken = p.taken; locks = p.locks; frames = p.frames }
 
@@ -236,7 +236,7 @@ grown_holds p budget place base n frame h may =
 
 -- a page less
 
--- the address in the row of a block of so many pages
+-- the address in the row of a block of n pages
 abbrev pub base_in_row : ℕ → ℕ → ℕ
 base_in_row base pages = if nat_eq pages 0 then 0 else base
 
@@ -248,7 +248,7 @@ shrunk_parts p place base n frame = record p {
   locks = without_lock p.locks (region_page base n);
 }
 
--- what is asked: page n is the last one of the block, and stands in the frame
+-- what is asked: page n is the last one of the block, and lies in the frame
 pub record MayShrink (p : MemoryParts) (budget place base n frame : ℕ) : Type 0 where
   pub sizes : HasSizes p budget
   pub ranges : HasRanges p.handles

@@ -1,5 +1,5 @@
 -- The writes that give a page to a block and take it away, as what they make of the parts of the memory. Between them the host's own entries
--- stand, so that each step may be made.
+-- stay, so that each step may be made.
 use Rattle.std.proofs.Common.{◌≡◌, ℕ, ◌+◌, ◌-◌, ◌*◌, ◌<◌, ◌≤◌, true, List, [], ◌∷◌, length, slice_set, refl, ap, ◌∙◌, sym, subst, arith, length-set}
 use Rattle.client_world.specs.declared.host_frames.TheConstants.{PAGE_SIZE, BLOCK_TABLES, BLOCK_ROWS, LOCK_COUNTS, TAKEN_FRAMES, BUDGET_FRAMES, BLOCK_ROW_FRAMES, BLOCK_ROW_SIZE, BLOCK_TABLE_FRAMES, LOCK_COUNT_FRAMES, LOCK_COUNT_SIZE, PAGE_ENTRY_SIZE, TAKEN_BYTE_FRAMES}
 use Rattle.client_world.specs.declared.limits.TheConstants.{MAX_BLOCKS}
@@ -126,7 +126,7 @@ page_in_region base n r = let from = r.from in let to = r.to in record { from = 
 pub page_is : (base n : ℕ) → IsRange base (n + 1) → page_at (base + PAGE_SIZE * n) ≡ region_page base n
 page_is base n r = let from = r.from in let whole = r.whole in omega arith
 
--- all writes that give a page to a block: page n from a linear address on stands in a frame, which is taken and cleared
+-- all writes that give a page to a block: page n from a linear address on lies in a frame, which is taken and cleared
 
 abbrev pub grown : List ℕ → ℕ → ℕ → ℕ → ℕ → List ℕ
 grown b place base n frame = with_block_row (with_entry (cleared b frame) (base + PAGE_SIZE * n) (page_entry frame true)) place base (n + 1)

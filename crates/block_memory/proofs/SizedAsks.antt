@@ -8,7 +8,7 @@ use Rattle.client_world.specs.Soundness.{SoundBlocks, IsBlock, pages_of_block, p
 use Rattle.client_world.specs.World.{MemoryBlock, block_at, with_block_at}
 use Rattle.guest_ram.specs.Listed.{zeros}
 use Rattle.guest_ram.proofs.ListedLaws.{length-zeros}
-use Rattle.block_memory.specs.BlockSizes.{CanMake, CanSize, fresh_block, resized}
+use Rattle.block_memory.specs.BlockSizes.{CanMake, CanSize, fresh_block, sized_block}
 use Rattle.block_memory.proofs.SizedSound.{pages_put}
 
 -- the blocks with a block at a place are sound: what that says of it, and of the others
@@ -58,8 +58,8 @@ make_asks blocks budget (suc place) base pages long some most free sound =
     ]
 
 pub size_asks_of : (blocks : List (Option MemoryBlock)) (budget place base pages : ℕ) (block : MemoryBlock) → length blocks ≡ MAX_BLOCKS → place < MAX_BLOCKS →
-    slice_index_or blocks place None ≡ Some block → IsBlock block → SoundBlocks (slice_set blocks place (resized base pages (Some block))) budget → CanSize blocks budget (suc place) base pages
-unfolding resized
+    slice_index_or blocks place None ≡ Some block → IsBlock block → SoundBlocks (slice_set blocks place (sized_block base pages (Some block))) budget → CanSize blocks budget (suc place) base pages
+unfolding sized_block
 size_asks_of blocks budget place base pages block long within e was sound =
     let f = fits blocks budget place _ long within sound in
     let size = was.pages in

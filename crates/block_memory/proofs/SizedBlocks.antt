@@ -9,7 +9,7 @@ use Rattle.client_world.specs.Soundness.{SoundBlocks, pages_of_block}
 use Rattle.client_world.specs.World.{MemoryBlock}
 use Rattle.guest_ram.specs.Listed.{zeros}
 use Rattle.guest_ram.proofs.ListedLaws.{length-zeros, at_zeros}
-use Rattle.block_memory.specs.BlockSizes.{HasPages, longer, shorter, extended, at_base, resized, fresh_block, locks_of_block}
+use Rattle.block_memory.specs.BlockSizes.{HasPages, longer, shorter, extended, at_base, sized_block, fresh_block, locks_of_block}
 
 zeros_more : (n m : ℕ) → zeros n ++ zeros m ≡ zeros (n + m)
 zeros_more n m = same_number_lists (zeros n ++ zeros m) (zeros (n + m))
@@ -138,8 +138,8 @@ whole_front xs size few a b = take_all few xs a ∙ sym (take_all size xs b)
 
 pub resized_is : (base pages kept : ℕ) (block : MemoryBlock) → length block.bytes ≡ PAGE_SIZE * length block.locks → kept ≢ 0 →
     ((kept ≡ pages) × (pages ≤ length block.locks)) ⊎ ((kept ≡ length block.locks) × (length block.locks ≤ pages)) →
-    extended base (at_base base (shorter (Some block) kept)) (pages - kept) ≡ resized base pages (Some block)
-unfolding extended resized
+    extended base (at_base base (shorter (Some block) kept)) (pages - kept) ≡ sized_block base pages (Some block)
+unfolding extended sized_block
 resized_is base pages kept block long some way = elim way [
   | inl less ↦ (
       let same = less.0 in let few = less.1 in

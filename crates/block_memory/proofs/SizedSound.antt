@@ -23,7 +23,7 @@ pages_put [] place x l = absurd (omega arith)
 pages_put (y ∷ blocks) zero x l = omega arith
 pages_put (y ∷ blocks) (suc place) x l = let rest = pages_put blocks place x (omega arith) in omega arith
 
--- which block stands at a handle then
+-- which block is at a handle then
 record IsThere (blocks : List (Option MemoryBlock)) (place : ℕ) (x : Option MemoryBlock) (handle : ℕ) (block : MemoryBlock) : Type 0 where
   at : ℕ
   is : handle ≡ suc at
@@ -109,7 +109,7 @@ sound_blocks w blocks s some sound fits = record {
   width = sound_width w.width w blocks some s.width;
 }
 
--- a list of numbers with zeros behind it
+-- a list of numbers with zeros after it
 zeros_behind : (xs : List ℕ) (n at most : ℕ) → ((k : ℕ) → slice_index xs k ≤ most) → slice_index (xs ++ zeros n) at ≤ most
 zeros_behind xs n at most few = elim (cases_lt at (length xs)) [
   | inl front ↦ rw (get_or_append_left xs (zeros n) 0 at front) (few at)

@@ -26,7 +26,7 @@ IsHeldIn blocks Host = ⊥
 IsHeldIn blocks Nothing = ⊥
 
 -- the memory holds sound blocks
-pub record HoldsBlocks (b : List ℕ) (budget : ℕ) : Type 0 where
+pub record HoldsSoundBlocks (b : List ℕ) (budget : ℕ) : Type 0 where
   pub holds : Holds b budget
   pub sound : SoundBlocks (blocks_held b budget) budget
   pub fits : HoldBytes (blocks_held b budget)
@@ -34,7 +34,7 @@ pub record HoldsBlocks (b : List ℕ) (budget : ℕ) : Type 0 where
 -- the memory holds these blocks in place of its former ones, and they are sound; the rest of its world and the descriptor rows stay, and each
 -- place that is held before and after keeps its address
 pub record ReplacesBlocks (b c : List ℕ) (budget : ℕ) (blocks : List (Option MemoryBlock)) : Type 0 where
-  pub after : HoldsBlocks c budget
+  pub after : HoldsSoundBlocks c budget
   pub are : blocks_held c budget ≡ blocks
   pub world : (mode : Mode) (regs : Regs) (vif : Bool) (width : Option Width) →
       world_of c budget mode regs vif width ≡ record (world_of b budget mode regs vif width) { blocks = blocks }
@@ -53,32 +53,32 @@ ReplacesBlock b c place change =
 -- in the memory the block at an index may grow from a number of pages to another
 pub record CanHoldIn (b : List ℕ) (place base from to : ℕ) : Type 0 where
   pub budget : ℕ
-  pub holds : HoldsBlocks b budget
+  pub holds : HoldsSoundBlocks b budget
   pub can : CanHold (blocks_held b budget) budget place base from to
 
 -- in the memory there is a block of that many pages at an index
 pub record HasPagesIn (b : List ℕ) (place base pages : ℕ) : Type 0 where
   pub budget : ℕ
-  pub holds : HoldsBlocks b budget
+  pub holds : HoldsSoundBlocks b budget
   pub has : HasPages (blocks_held b budget) place base pages
 
 -- in the memory that block may move to another linear address
 pub record CanMoveIn (b : List ℕ) (place from base pages : ℕ) : Type 0 where
   pub budget : ℕ
-  pub holds : HoldsBlocks b budget
+  pub holds : HoldsSoundBlocks b budget
   pub has : HasPages (blocks_held b budget) place from pages
   pub can : CanMove (blocks_held b budget) place base pages
 
 -- in the memory there is a block at an index
 pub record HasBlockIn (b : List ℕ) (place : ℕ) : Type 0 where
   pub budget : ℕ
-  pub holds : HoldsBlocks b budget
+  pub holds : HoldsSoundBlocks b budget
   pub within : place < MAX_BLOCKS
   pub held : slice_index_or (blocks_held b budget) place None ≢ None
 
 -- in the memory the block at an index may get that linear address and that many pages
 pub record CanSizeIn (b : List ℕ) (place base pages : ℕ) : Type 0 where
   pub budget : ℕ
-  pub holds : HoldsBlocks b budget
+  pub holds : HoldsSoundBlocks b budget
   pub within : place < MAX_BLOCKS
   pub can : CanSize (blocks_held b budget) budget (suc place) base pages

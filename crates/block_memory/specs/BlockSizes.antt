@@ -87,9 +87,9 @@ at_base base None = None
 at_base base (Some block) = Some (record { base = base; bytes = block.bytes; locks = block.locks })
 
 -- a block at that address with that many pages: its own first ones with their lock counts, and then zero pages that aren't locked
-unfoldable pub resized : ℕ → ℕ → Option MemoryBlock → Option MemoryBlock
-resized base pages None = None
-resized base pages (Some block) = Some (record {
+unfoldable pub sized_block : ℕ → ℕ → Option MemoryBlock → Option MemoryBlock
+sized_block base pages None = None
+sized_block base pages (Some block) = Some (record {
   base = base;
   bytes = take (PAGE_SIZE * pages) block.bytes ++ zeros (PAGE_SIZE * (pages - length block.locks));
   locks = take pages block.locks ++ zeros (pages - length block.locks);

@@ -3,7 +3,7 @@ ghost use Rattle.std.specs.Prelude.{◌≡◌, ◌≤◌, ◌<◌, ◌+◌, ◌-
 ghost use Rattle.client_world.specs.declared.limits.TheConstants.{MAX_BLOCKS};
 ghost use Rattle.host_memory.specs.Holds.{Holds};
 ghost use Rattle.block_memory.specs.BlockChanges.{CanHoldIn, CanMoveIn, CanSizeIn, HasBlockIn, HasPagesIn, ReplacesBlock, blocks_held};
-ghost use Rattle.block_memory.specs.BlockSizes.{HasPages, at_base, extended, longer, resized, shorter};
+ghost use Rattle.block_memory.specs.BlockSizes.{HasPages, at_base, extended, longer, sized_block, shorter};
 
 use crate::rows::set_block_row;
 use crate::slides::slide;
@@ -116,7 +116,7 @@ pub fn drop_block(ram: &mut Ram, place: u32)
 /// further pages are 0 and not locked. Source: own.
 pub fn resize_block(ram: &mut Ram, place: u32, base: u32, pages: u32)
     requires { CanSizeIn ram.old place base pages }
-    ensures { ReplacesBlock ram.old ram.new place (λ block. resized base pages block) }
+    ensures { ReplacesBlock ram.old ram.new place (λ block. sized_block base pages block) }
 {
     let (from, old) = block_row(ram, place);
     let kept = old.min(pages);

@@ -1,6 +1,6 @@
 //! The memory blocks in the host's frames: their rows, page entries, frames and lock counts.
 //! It promises what each write of these leaves in the memory, in lemmas over its bytes: a block with a page more or less, at another
-//! address, with another lock count or with a page of zeros. It stands on `host_memory`; the calls of `guest_space` on blocks stand on it.
+//! address, with another lock count or with a page of zeros. It uses `host_memory`; the calls of `guest_space` on blocks use it.
 #![tactic(auto)]
 
 mod blocks;

@@ -74,7 +74,7 @@ barred blocks handle page pages k row e there whole from above below =
 abbrev pub gap_at : List (Option MemoryBlock) → ℕ → ℕ → Bool
 gap_at blocks pages page = is_gap blocks 0 (page_address page) pages
 
--- the search goes on behind the block in the way
+-- the search goes on after the block in the way
 pub record Skips (blocks : List (Option MemoryBlock)) (page pages next : ℕ) : Type 0 where
   pub more : page < next
   pub few : next ≤ BLOCK_REGION_PAGES

@@ -10,7 +10,7 @@ use Rattle.client_world.specs.Soundness.{AreApart, HoldBytes, IsBlock, SoundBloc
 use Rattle.client_world.specs.World.{MemoryBlock, block_at, with_block_at}
 use Rattle.guest_ram.specs.Listed.{zeros}
 use Rattle.guest_ram.proofs.ListedLaws.{at_zeros, length-zeros}
-use Rattle.block_memory.specs.BlockSizes.{CanMake, CanSize, fresh_block, lock_in, resized, with_lock, zeroed}
+use Rattle.block_memory.specs.BlockSizes.{CanMake, CanSize, fresh_block, lock_in, sized_block, with_lock, zeroed}
 use Rattle.block_memory.proofs.SizedSound.{bytes_put, locked_fits, locked_sound, sound_put, zeroed_fits, zeroed_sound}
 use Rattle.block_services.specs.declared.regions.Change.{Change}
 use Rattle.block_services.specs.declared.regions.Change.TheVariants.{Lock, Unlock, Discard}
@@ -20,7 +20,7 @@ pub record Good (blocks : List (Option MemoryBlock)) (budget : ℕ) : Type 0 whe
   pub sound : SoundBlocks blocks budget
   pub fits : HoldBytes blocks
 
--- lists with zeros behind them
+-- lists with zeros after them
 
 zero_at : (n k : ℕ) → slice_index (zeros n) k ≡ 0
 zero_at n k = elim (cases_lt k n) [
@@ -131,13 +131,13 @@ sized_good blocks budget place base pages own g within there can =
     }
 
 resized_at_block : (blocks : List (Option MemoryBlock)) (budget place base pages : ℕ) (own : Option MemoryBlock) → Good blocks budget → place < MAX_BLOCKS →
-    slice_index_or blocks place None ≡ own → CanSize blocks budget (suc place) base pages → Good (slice_set blocks place (resized base pages own)) budget
-unfolding resized
+    slice_index_or blocks place None ≡ own → CanSize blocks budget (suc place) base pages → Good (slice_set blocks place (sized_block base pages own)) budget
+unfolding sized_block
 resized_at_block blocks budget place base pages None g within there can = absurd (can.held there)
 resized_at_block blocks budget place base pages (Some own) g within there can = sized_good blocks budget place base pages own g within there can
 
 pub resized_good : (blocks : List (Option MemoryBlock)) (budget handle base pages : ℕ) → Good blocks budget → handle ≤ MAX_BLOCKS →
-    CanSize blocks budget handle base pages → Good (with_block_at blocks handle (resized base pages (block_at blocks handle))) budget
+    CanSize blocks budget handle base pages → Good (with_block_at blocks handle (sized_block base pages (block_at blocks handle))) budget
 resized_good blocks budget zero base pages g most can = g
 resized_good blocks budget (suc place) base pages g most can =
     resized_at_block blocks budget place base pages (slice_index_or blocks place None) g (omega arith) refl can

@@ -20,7 +20,7 @@ use Rattle.service_rows.proofs.AnswerLaws.{no_reason, of_answer}
 use Rattle.guest_space.proofs.FarPuts.{sound_far_put}
 use Rattle.service_rows.proofs.IndexLaws.{first_is}
 use Rattle.service_rows.proofs.WidthLaws.{protected_width}
-use Rattle.block_services.specs.Free.{free_numbers, free_table, largest, with_dwords}
+use Rattle.block_services.specs.Free.{free_numbers, free_table, largest_new_block, with_dwords}
 use Rattle.block_services.specs.Gaps.{first_gap, lowest_handle}
 use Rattle.block_services.specs.Pages.{with_pages}
 use Rattle.block_services.specs.Rows.{allocate_block, mark_pageable, function_of, asked_pages, bx_cx, discard_pages, first_page, relock_pages, free_block, free_memory_information, free_pages, lock_pages, with_new_block, mark_paging_candidates, new_base, page_count, page_size, resize_block, with_resized_block, block_service, si_di, unlock_pages, with_blocks}
@@ -151,7 +151,7 @@ sound_pageable w on s = IsSound-vectors w w.interrupt_vectors w.exception_vector
 sound_after : (ax : ℕ) (w : World) → IsSound w → w.width ≢ None → first_reason (function_of ax w).reasons ≡ None → IsSound (function_of ax w).after
 unfolding allocate_block mark_pageable discard_pages relock_pages free_block free_memory_information lock_pages mark_paging_candidates page_size resize_block unlock_pages unsupported
 sound_after ax w s width = of_each_service (λ (a : Service). first_reason a.reasons ≡ None → IsSound a.after) w (record {
-  f500 = λ e. sound_far_put w (es_di w) 0x30 _ s (table_small w (largest w.blocks (free_pages w)));
+  f500 = λ e. sound_far_put w (es_di w) 0x30 _ s (table_small w (largest_new_block w.blocks (free_pages w)));
   f501 = λ e. (let none = no_reason (allocate_block w).reasons e in
       sound_made w (first_gap w.blocks (asked_pages w)) (lowest_handle w.blocks) s width refl refl (some_pages w none.0)
       (ltb-false (free_pages w) (asked_pages w) none.1.0));

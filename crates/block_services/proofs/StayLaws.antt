@@ -1,4 +1,4 @@
--- A block that shrinks stays where it is, and the table of function 0500h tells the largest run.
+-- A block that shrinks stays where it is, and the table of function 0500h has the largest run.
 use Rattle.std.proofs.Common.{◌≡◌, ◌≢◌, ◌≤◌, ◌+◌, ◌*◌, inl, inr, ℕ, zero, suc, true, false, List, length, refl, sym, ◌∙◌, ap, arith, Option, None, Some, nat_eq}
 use Rattle.std.specs.Option.{is_none, is_some}
 use Rattle.std.proofs.lemmas.Bool.{and_from, and_left, and_right, cases_Bool, cases_eq, eq-eqb, le-leb, le-ltb, not_from_true}
@@ -9,7 +9,7 @@ use Rattle.client_world.specs.Soundness.{IsSound, SoundBlocks}
 use Rattle.client_world.specs.World.{World, MemoryBlock, block_at}
 use Rattle.block_memory.specs.BlockSizes.{base_of_held, row_seen}
 use Rattle.service_rows.proofs.IndexLaws.{is_missing}
-use Rattle.block_services.specs.Free.{IsLargest, largest}
+use Rattle.block_services.specs.Free.{IsLargest, largest_new_block}
 use Rattle.block_services.specs.Gaps.{block_in_way, first_gap, is_gap, is_in_way, overlaps}
 use Rattle.block_services.specs.Rows.{new_base}
 
@@ -56,8 +56,8 @@ some_is : (o : Option ℕ) → is_some o ≡ true → o ≢ None
 some_is None e same = absurd cc
 some_is (Some x) e same = absurd cc
 
-largest_more : (blocks : List (Option MemoryBlock)) (n : ℕ) → IsLargest blocks n (largest blocks n) → IsLargest blocks (suc n) (largest blocks (suc n))
-unfolding largest
+largest_more : (blocks : List (Option MemoryBlock)) (n : ℕ) → IsLargest blocks n (largest_new_block blocks n) → IsLargest blocks (suc n) (largest_new_block blocks (suc n))
+unfolding largest_new_block
 largest_more blocks n rest = elim (cases_Bool (is_some (first_gap blocks (suc n)))) [
   | inl t ↦ rw t (record { within = omega arith; free = λ some. some_is (first_gap blocks (suc n)) t; others = λ k above below. absurd (omega arith) })
   | inr t ↦ rw t (let within = rest.within in record {
@@ -70,10 +70,10 @@ largest_more blocks n rest = elim (cases_Bool (is_some (first_gap blocks (suc n)
   })
 ]
 
-largest_none : (blocks : List (Option MemoryBlock)) → IsLargest blocks 0 (largest blocks 0)
-unfolding largest
+largest_none : (blocks : List (Option MemoryBlock)) → IsLargest blocks 0 (largest_new_block blocks 0)
+unfolding largest_new_block
 largest_none blocks = record { within = omega arith; free = λ some. absurd (omega arith); others = λ k above below. absurd (omega arith) }
 
-pub largest_is : (blocks : List (Option MemoryBlock)) (n : ℕ) → IsLargest blocks n (largest blocks n)
+pub largest_is : (blocks : List (Option MemoryBlock)) (n : ℕ) → IsLargest blocks n (largest_new_block blocks n)
 largest_is blocks zero = largest_none blocks
 largest_is blocks (suc n) = largest_more blocks n (largest_is blocks n)

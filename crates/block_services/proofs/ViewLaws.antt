@@ -1,4 +1,4 @@
--- Pages of which none is behind the view of the DOS megabyte.
+-- Pages of which none is after the view of the DOS megabyte.
 use Rattle.std.proofs.Common.{◌≡◌, ◌≤◌, ◌<◌, ◌+◌, ℕ, false, Option, None, Some, refl, nat_le}
 use Rattle.std.specs.Option.{is_some}
 use Rattle.std.proofs.lemmas.Bool.{leb-false, not-false, not-true}

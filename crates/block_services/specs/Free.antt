@@ -11,9 +11,9 @@ use Rattle.block_memory.specs.BlockSizes.{locked_pages}
 use Rattle.block_services.specs.Gaps.{first_gap}
 
 -- the greatest number of pages, up to a limit, for which a new block would find a free run
-unfoldable pub largest : List (Option MemoryBlock) → ℕ → ℕ
-largest blocks zero = 0
-largest blocks (suc n) = if is_some (first_gap blocks (suc n)) then suc n else largest blocks n
+unfoldable pub largest_new_block : List (Option MemoryBlock) → ℕ → ℕ
+largest_new_block blocks zero = 0
+largest_new_block blocks (suc n) = if is_some (first_gap blocks (suc n)) then suc n else largest_new_block blocks n
 
 -- a number of pages is the greatest up to n for which a new block would find a free run
 pub record IsLargest (blocks : List (Option MemoryBlock)) (n most : ℕ) : Type 0 where

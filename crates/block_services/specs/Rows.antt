@@ -8,7 +8,7 @@ use Rattle.client_world.specs.Registers.{low_half, with_low_half}
 use Rattle.client_world.specs.Services.{Served, bx, cx, es_di, two_words}
 use Rattle.client_world.specs.Soundness.{pages_of_block, pages_of_blocks}
 use Rattle.client_world.specs.World.{World, MemoryBlock, block_at, with_block_at}
-use Rattle.block_memory.specs.BlockSizes.{base_of_held, fresh_block, resized}
+use Rattle.block_memory.specs.BlockSizes.{base_of_held, fresh_block, sized_block}
 use Rattle.service_rows.specs.declared.refusal.Refusal.TheVariants.{InvalidAddress, InvalidValue, InvalidHandle, PhysicalMemoryUnavailable, LinearMemoryUnavailable, HandleUnavailable}
 use Rattle.guest_space.specs.Far.{far_put}
 use Rattle.service_rows.specs.Reasons.{Service, outcome}
@@ -16,7 +16,7 @@ use Rattle.service_rows.specs.Rows.{unsupported}
 use Rattle.block_services.specs.declared.regions.Change.TheVariants.{Lock, Unlock, Discard}
 use Rattle.block_services.specs.declared.regions.Question.{Question}
 use Rattle.block_services.specs.declared.regions.Question.TheVariants.{IsOutside, IsNoBlock, IsLockedMost, IsUnlocked, IsAboveView, IsPageable, IsRelocked}
-use Rattle.block_services.specs.Free.{free_table, largest}
+use Rattle.block_services.specs.Free.{free_table, largest_new_block}
 use Rattle.block_services.specs.Gaps.{first_gap, is_gap, lowest_handle, page_address}
 use Rattle.block_services.specs.Pages.{changed, first_whole_page, some_page, touched_pages, whole_pages, with_pages}
 
@@ -64,7 +64,7 @@ with_block_outputs base handle w = record w {
 unfoldable pub free_memory_information : World → Service
 free_memory_information w = record {
   reasons = (InvalidAddress, not (is_reachable w (es_di w) 0x30 true)) ∷ [];
-  after = far_put w (es_di w) 0x30 (free_table w (largest w.blocks (free_pages w)));
+  after = far_put w (es_di w) 0x30 (free_table w (largest_new_block w.blocks (free_pages w)));
 }
 
 -- a new block at a page of the block region, under a handle
@@ -109,7 +109,7 @@ abbrev pub with_resized_block : Option ℕ → World → World
 with_resized_block None w = w
 with_resized_block (Some base) w =
     with_block_outputs base (si_di w)
-    (with_blocks (with_block_at w.blocks (si_di w) (resized base (asked_pages w) (block_at w.blocks (si_di w)))) w)
+    (with_blocks (with_block_at w.blocks (si_di w) (sized_block base (asked_pages w) (block_at w.blocks (si_di w)))) w)
 
 -- 0503h (resize memory block): the block of handle SI:DI gets BX:CX bytes
 unfoldable pub resize_block : World → Service

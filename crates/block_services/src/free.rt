@@ -3,7 +3,7 @@ ghost use Rattle.std.specs.Prelude.{◌≡◌, ◌≤◌, ◌<◌, ◌+◌, ◌%
 ghost use Rattle.client_world.specs.declared.limits.TheConstants.{MAX_PAGES};
 ghost use Rattle.guest_ram.specs.Bytes.{dword_bytes, put};
 ghost use Rattle.service_rows.specs.Reasons.{Does};
-ghost use Rattle.block_services.specs.Free.{free_table, largest};
+ghost use Rattle.block_services.specs.Free.{free_table, largest_new_block};
 ghost use Rattle.block_services.specs.Rows.{free_memory_information};
 
 use crate::blocks::free_pages;
@@ -14,9 +14,9 @@ use guest_space::Machine;
 use service_rows::{Refusal, es_di};
 
 // The greatest number of pages, up to a limit, for which a new block would find a free run.
-fn largest(m: &Machine, most: u32) -> u32
+fn largest_new_block(m: &Machine, most: u32) -> u32
     requires { most ≤ MAX_PAGES }
-    ensures pages { result ≡ largest m.now.world.blocks most }
+    ensures pages { result ≡ largest_new_block m.now.world.blocks most }
     ensures most { result ≤ most }
 {
     let mut pages = most;
@@ -69,7 +69,7 @@ pub(crate) fn free_memory_information(m: &mut Machine) -> Result<(), Refusal>
     if !m.far_ok(p, 0x30, true) {
         return Err(Refusal::InvalidAddress);
     }
-    let most = largest(m, free_pages(m));
+    let most = largest_new_block(m, free_pages(m));
     let table = free_table(m, most);
     m.write_bytes(p, &table);
     Ok(())

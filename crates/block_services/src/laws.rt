@@ -3,7 +3,7 @@ ghost use Rattle.std.specs.Prelude.{ℕ, ◌≡◌, ◌≤◌, Some, length};
 ghost use Rattle.client_world.specs.declared.registers.Mode.TheVariants.{Protected as protected};
 ghost use Rattle.client_world.specs.Soundness.{IsSound};
 ghost use Rattle.client_world.specs.World.{World, MemoryBlock, block_at};
-ghost use Rattle.block_services.specs.Free.{IsLargest, largest};
+ghost use Rattle.block_services.specs.Free.{IsLargest, largest_new_block};
 ghost use Rattle.block_services.specs.Rows.{free_pages, new_base, block_service};
 
 /// A service keeps a world of protected mode sound.
@@ -29,5 +29,5 @@ pub fn a_block_that_shrinks_stays()
 
 /// The table of function 0500h gives the size of the largest block that function 0501h would make.
 pub fn the_table_gives_the_largest_block()
-    ensures { (w : World) → IsLargest w.blocks (free_pages w) (largest w.blocks (free_pages w)) }
+    ensures { (w : World) → IsLargest w.blocks (free_pages w) (largest_new_block w.blocks (free_pages w)) }
 {}

@@ -1,6 +1,6 @@
 //! The services of INT 31h on memory blocks and their pages.
 //! It promises that each returns the carry and leaves the world of its definition, and that a refusal changes nothing.
-//! It stands on the memory blocks of `guest_space` and on `service_rows`.
+//! It uses the memory blocks of `guest_space` and `service_rows`.
 #![tactic(auto)]
 
 mod blocks;

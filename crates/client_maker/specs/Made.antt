@@ -17,15 +17,15 @@ abbrev pub made_code : ℕ → List ℕ
 made_code seed = (entry_code ++ pieces seed PIECES) ++ end_code
 
 -- the bytes of a header
-abbrev pub header_bytes : ℕ
-header_bytes = 32
+abbrev pub made_header_bytes : ℕ
+made_header_bytes = 32
 
 -- the bytes of the last page, and the pages of 512 bytes, of a file with n bytes of code
-abbrev pub last_page : ℕ → ℕ
-last_page n = (header_bytes + n) % 512
+abbrev pub made_last_page : ℕ → ℕ
+made_last_page n = (made_header_bytes + n) % 512
 
-abbrev pub page_count : ℕ → ℕ
-page_count n = (header_bytes + n + 511) / 512
+abbrev pub made_pages : ℕ → ℕ
+made_pages n = (made_header_bytes + n + 511) / 512
 
 -- the segment of the stack, from the code's on: the first paragraph after the code
 abbrev pub stack_segment : ℕ → ℕ
@@ -35,7 +35,7 @@ stack_segment n = (n + 15) / 16
 -- SS, SP 0100h, no checksum, IP 0, CS 0; the relocation table at 1Ch, no overlay, and four bytes of zero
 abbrev pub header : ℕ → List ℕ
 header n =
-    (0x4D ∷ 0x5A ∷ word (last_page n)) ++ word (page_count n) ++ (0 ∷ 0 ∷ 2 ∷ 0 ∷ 0x10 ∷ 0 ∷ 0xFF ∷ 0xFF ∷ [])
+    (0x4D ∷ 0x5A ∷ word (made_last_page n)) ++ word (made_pages n) ++ (0 ∷ 0 ∷ 2 ∷ 0 ∷ 0x10 ∷ 0 ∷ 0xFF ∷ 0xFF ∷ [])
     ++ word (stack_segment n) ++ 0 ∷ 1 ∷ 0 ∷ 0 ∷ 0 ∷ 0 ∷ 0 ∷ 0 ∷ 0x1C ∷ 0 ∷ 0 ∷ 0 ∷ 0 ∷ 0 ∷ 0 ∷ 0 ∷ []
 
 -- the file with that code

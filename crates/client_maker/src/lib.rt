@@ -1,6 +1,6 @@
 //! A client that is made from a number, for long runs: 2000 calls of DOS and DPMI services, chosen by a sequence of random numbers.
 //! It promises that the file is the one that its definition in `specs/` names, byte for byte.
-//! It stands on nothing.
+//! It uses no other crate.
 #![tactic(auto)]
 
 ghost use Rattle.std.specs.Prelude.{◌≡◌, ◌≤◌, ◌+◌, ◌++◌, length, IfOk, OnOk};

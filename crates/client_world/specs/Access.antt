@@ -62,7 +62,7 @@ IsHeld w (Block number at) = HasByte (block_at w.blocks number) at
 IsHeld w Host = ⊥
 IsHeld w Nothing = ⊥
 
--- the client may read, or write, what stands there
+-- the client may read, or write, what is there
 abbrev pub may_touch : Place → Bool → Bool
 may_touch (Dos at) write = not write || nat_lt at ROM_START
 may_touch (Block number at) write = true

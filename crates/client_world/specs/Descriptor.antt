@@ -19,7 +19,7 @@ kind_bits Code = 8 + 2
 abbrev pub access_byte : Desc → ℕ
 access_byte d = cond d.present 0x80 0 + 0x60 + 0x10 + kind_bits d.kind + 1
 
--- the byte behind it: limit 19 to 16, AVL in bit 4, D/B in bit 6, G in bit 7
+-- the byte after it: limit 19 to 16, AVL in bit 4, D/B in bit 6, G in bit 7
 abbrev pub flags_byte : Desc → ℕ
 flags_byte d = d.limit / 0x10000 + cond d.avl 0x10 0 + cond d.size 0x40 0 + cond d.gran 0x80 0
 

@@ -16,11 +16,11 @@ is_dpmi Free = false
 is_dpmi Used = false
 is_dpmi Dpmi = true
 
--- the segment of an entry's block: it begins behind the header's paragraph
+-- the segment of an entry's block: it begins after the header's paragraph
 abbrev pub block_segment : DosEntry → ℕ
 block_segment entry = entry.at + 1
 
--- the entries, each a header's paragraph and its block, stand from a paragraph to another without a gap
+-- the entries, each a header's paragraph and its block, lie from a paragraph to another without a gap
 abbrev pub Fills : ℕ → List DosEntry → ℕ → Type 0
 Fills from [] to = from ≡ to
 Fills from (entry ∷ entries) to = (entry.at ≡ from) × Fills (from + 1 + entry.paras) entries to

@@ -107,7 +107,7 @@ pub record SoundDescriptors (rows : List Row) : Type 0 where
   pub segments : (one other segment : ℕ) → HasOrigin (row_at_index rows one) (Segment segment) →
       HasOrigin (row_at_index rows other) (Segment segment) → one ≡ other
 
--- the descriptors of a DOS block of so many paragraphs: one for each 64 KB
+-- the descriptors of a DOS block of n paragraphs: one for each 64 KB
 abbrev pub descriptors_for : ℕ → ℕ
 descriptors_for paragraphs = (paragraphs + 0xFFF) / 0x1000
 
@@ -117,7 +117,7 @@ pub record IsRunOf (rows : List Row) (origin : Origin) (first n : ℕ) : Type 0 
   pub from : (index : ℕ) → HasOrigin (row_at_index rows index) origin → first ≤ index
   pub to : (index : ℕ) → HasOrigin (row_at_index rows index) origin → index < first + n
 
--- an entry of DOS memory for which INT 31h function 0100h made descriptors, and where they stand
+-- an entry of DOS memory for which INT 31h function 0100h made descriptors, and where they are
 pub record HasRun (rows : List Row) (entry : DosEntry) : Type 0 where
   pub some : 0 < entry.paras
   pub first : ℕ
@@ -176,7 +176,7 @@ host_stacks width = Some (
 abbrev pub IsCallbackStack : ℕ → Type 0
 IsCallbackStack index = (CALLBACK_STACKS ≤ index) × (index < CALLBACK_STACKS + GREATEST_DEPTH)
 
--- the index is none of those at which the host's own descriptors stand
+-- the index is none of those at which the host's own descriptors are
 pub record IsClientsIndex (index : ℕ) : Type 0 where
   pub code : index ≢ HOST_CODE
   pub stacks : index ≢ HOST_STACKS

@@ -16,7 +16,7 @@ pub enum Call {
     Reflect(u8),
 }
 
-/// What stands until a nested call returns. Source: own.
+/// What is kept until a nested call returns. Source: own.
 #[derive(Clone, Copy, Debug, PartialEq, Eq)]
 pub enum Record {
     /// A simulated call or a reflection: the client's registers and virtual interrupt flag, and its call structure

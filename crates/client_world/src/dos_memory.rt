@@ -12,7 +12,7 @@ pub enum DosState {
     Dpmi,
 }
 
-/// An entry of the arena: the paragraph of its header, the paragraphs of its block behind that, and what the block is. Source: own.
+/// An entry of the arena: the paragraph of its header, the paragraphs of its block after that, and what the block is. Source: own.
 #[derive(Clone, Copy, Debug, Default, PartialEq, Eq)]
 pub struct DosEntry {
     pub at: u16,
@@ -23,7 +23,7 @@ pub struct DosEntry {
 /// Why DOS memory isn't given, freed or resized. Source: MS-DOS functions 48h to 4Ah.
 #[derive(Clone, Copy, Debug, PartialEq, Eq)]
 pub enum DosRefusal {
-    /// There is no room; so many paragraphs are the most that there could be.
+    /// There is no room; the number is the most paragraphs that there could be.
     NoMemory { largest: u16 },
     /// The segment starts no block of the kind that was asked for.
     WrongBlock,

@@ -1,4 +1,4 @@
-//! The frames of physical memory, and what stands in those of the host. Source: own.
+//! The frames of physical memory, and what lies in those of the host. Source: own.
 
 use crate::limits::{GREATEST_DEPTH, MAX_BLOCKS, MAX_PAGES};
 use crate::memory_map::{ARENA_END, ARENA_START, BLOCK_REGION_PAGES, DOS_SIZE};
@@ -22,7 +22,7 @@ pub const PAGE_DIRECTORY: u32 = DOS_FRAMES;
 /// The frame of the page table of 00000000h to 003FFFFFh.
 pub const LOW_TABLE: u32 = PAGE_DIRECTORY + 1;
 
-/// The frame of the page table of the window in which the host's frames stand.
+/// The frame of the page table of the window in which the host's frames lie.
 pub const WINDOW_TABLE: u32 = LOW_TABLE + 1;
 
 /// The frames of the page directory and of these two page tables, whose entries never change.

@@ -1,6 +1,6 @@
 //! The plain types of the client's world: registers, the memory map, limits, places, exits.
 //! It promises that each conversion between them is the one that its definition in `specs/` names.
-//! It stands on nothing; every other crate that speaks of the client stands on it.
+//! It uses no other crate; every other crate that knows the client uses it.
 #![tactic(auto)]
 
 mod blocks;

@@ -9,16 +9,16 @@ pub const PARAGRAPH_SIZE: u32 = 16;
 /// The bytes of a real-mode segment, whose limit is FFFFh.
 pub const SEGMENT_SIZE: u32 = 0x1_0000;
 
-/// The bytes of the DOS megabyte, which stands at 00000h to FFFFFh.
+/// The bytes of the DOS megabyte, which is at 00000h to FFFFFh.
 pub const DOS_SIZE: u32 = 0x10_0000;
 
-/// The bytes of the real-mode vector table, which stands at 00000h: 256 far pointers.
+/// The bytes of the real-mode vector table, which is at 00000h: 256 far pointers.
 pub const VECTOR_TABLE_SIZE: u32 = 0x400;
 
 /// The first paragraph of the arena of DOS memory.
 pub const ARENA_START: u32 = 0x60;
 
-/// The paragraph behind the arena of DOS memory.
+/// The paragraph after the arena of DOS memory.
 pub const ARENA_END: u32 = 0xA000;
 
 /// The segment of the client's program segment prefix.
@@ -60,16 +60,16 @@ pub const DOS_VIEW_END: u32 = DOS_SIZE + SEGMENT_SIZE;
 /// The pages of that view.
 pub const DOS_VIEW_PAGES: u32 = DOS_VIEW_END / PAGE_SIZE;
 
-/// Where memory blocks stand.
+/// Where memory blocks lie.
 pub const BLOCK_REGION: u32 = 0x40_0000;
 
-/// The end of where memory blocks stand.
+/// The end of where memory blocks lie.
 pub const BLOCK_REGION_END: u32 = BLOCK_REGION + BLOCK_REGION_PAGES * PAGE_SIZE;
 
-/// The pages of where memory blocks stand.
+/// The pages of where memory blocks lie.
 pub const BLOCK_REGION_PAGES: u32 = 0x4000;
 
-/// Where the host's own frames stand, which no client may touch.
+/// Where the host's own frames lie, which no client may touch.
 pub const HOST_WINDOW: u32 = 0xC000_0000;
 
 /// The end of the host's own frames.

@@ -1,6 +1,6 @@
 //! The processor's arithmetic at widths of 8, 16 and 32 bits, each operation with the flags that it leaves.
 //! It promises that each call is one formula over whole numbers, the word of `specs/` that its contract names.
-//! It stands on `cpu_values`' words and `client_world`'s flags; the instructions that compute stand on it.
+//! It uses `cpu_values`' words and `client_world`'s flags; the instructions that compute use it.
 #![tactic(auto)]
 
 mod decimal;

@@ -8,7 +8,7 @@ use Rattle.client_world.specs.Access.{access, byte_of, bytes_of_block}
 use Rattle.client_world.specs.Soundness.{IsSound}
 use Rattle.client_world.specs.World.{World, MemoryBlock, block_at}
 use Rattle.guest_space.specs.Code.{one_byte, code_byte, code_from, code_room}
-use Rattle.guest_space.specs.Transfer.{loaded, bytes_at}
+use Rattle.guest_space.specs.Transfer.{read_result, bytes_at}
 use Rattle.guest_space.proofs.Codes.{code_none, code_next, code_stops}
 use Rattle.insn_forms.specs.Grammar.{AreBytes}
 use Rattle.cpu_step.specs.Step.{code}
@@ -31,7 +31,7 @@ first_small w h (Ok (p ∷ places)) byte e =
 first_small w h (Err f) byte e = absurd cc
 
 fetched_small : (w : World) → IsSound w → (at byte : ℕ) → code_byte w at ≡ Ok byte → byte < 0x100
-unfolding code_byte loaded
+unfolding code_byte read_result
 fetched_small w h at byte e = first_small w h (access w Cs (w.regs.eip + at) 1 false) byte e
 
 more_bytes : (w : World) → IsSound w → (at n : ℕ) (r : Result ℕ Fault) → code_byte w at ≡ r → AreBytes (code_from w (at + 1) n) →

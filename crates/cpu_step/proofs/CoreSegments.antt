@@ -14,7 +14,7 @@ use Rattle.exec_core.specs.Moves.{mov, movzx, movsx, xchg, lea, xlat, cbw, cwd}
 use Rattle.exec_core.specs.Products.{Product, Quotient, with_double, multiply, multiply_two, multiply_three, is_empty, imul, divided, divide}
 use Rattle.exec_core.specs.Shifts.{DoubleFormula, shift, double_shift}
 use Rattle.exec_core.specs.Stacks.{push, pop, pusha, popa}
-use Rattle.exec_core.specs.Strings.{is_repeated, is_over, with_source_next, with_destination_next, repeated, goes_on_with, movs, cmps, stos, lods, scas}
+use Rattle.exec_core.specs.Strings.{is_repeated, is_over, with_source_next, with_destination_next, repeated, goes_on_while, movs, cmps, stos, lods, scas}
 use Rattle.insn_forms.specs.declared.insn.Insn.{Insn}
 use Rattle.insn_forms.specs.declared.insn.Op.{Op}
 use Rattle.insn_forms.specs.declared.insn.Op.TheVariants as ops
@@ -209,7 +209,7 @@ cmps_leaves : (w : World) (i : Insn) (len : ℕ) → HoldWords w.regs → Leaves
 unfolding cmps
 cmps_leaves w i len s = leaves_if (is_over w i) _ _ s (λ a b.
     let f = (sub_of i.width (cut i.width a) (cut i.width b) w.regs.flags).1 in
-    repeated_words w i len (goes_on_with i.rep f) (with_source_next w i (with_destination_next w i (record w.regs { flags = f }))) s)
+    repeated_words w i len (goes_on_while i.rep f) (with_source_next w i (with_destination_next w i (record w.regs { flags = f }))) s)
 
 stos_leaves : (w : World) (i : Insn) (len : ℕ) → HoldWords w.regs → LeavesWords (stos w i len)
 unfolding stos
@@ -224,7 +224,7 @@ scas_leaves : (w : World) (i : Insn) (len : ℕ) → HoldWords w.regs → Leaves
 unfolding scas
 scas_leaves w i len s = leaves_if (is_over w i) _ _ s (λ b.
     let f = (sub_of i.width (cut i.width (register w.regs i.width 0)) (cut i.width b) w.regs.flags).1 in
-    repeated_words w i len (goes_on_with i.rep f) (with_destination_next w i (record w.regs { flags = f })) s)
+    repeated_words w i len (goes_on_while i.rep f) (with_destination_next w i (record w.regs { flags = f })) s)
 
 -- ---- all of them
 

@@ -16,7 +16,7 @@ use Rattle.exec_flow.specs.Frames.{frames_pushed, frame_made, enter, leave, is_l
 use Rattle.exec_flow.specs.Interrupts.{int, int3, into}
 use Rattle.exec_flow.specs.Pointers.{offset_range}
 use Rattle.exec_flow.specs.Ports.{input, output}
-use Rattle.exec_flow.specs.Questions.{verify, told, tell, arpl}
+use Rattle.exec_flow.specs.Questions.{verify, descriptor_answer, tell, arpl}
 use Rattle.exec_flow.specs.Raising.{invalid_opcode, privileged, escape, in_protected, load_table}
 use Rattle.exec_flow.specs.Segments.{segment_loaded, mov_to_segment, mov_from_segment, mov_segment, push_segment, pop_into, pop_segment, load_pointer}
 use Rattle.exec_flow.specs.Transfers.{at_operand_size, near_transfer, jcc, jcxz, count_down, counted_down, loop_while, jmp, call, immediate, ret}
@@ -194,7 +194,7 @@ verify_leaves : (test : Row → Bool) (w : World) (i : Insn) → HoldWords w.reg
 unfolding verify
 verify_leaves test w i s = in_protected_leaves w _ (λ sel. s)
 
-told_leaves : (number : Desc → ℕ) (w : World) (i : Insn) (row : Row) → HoldWords w.regs → LeavesWords (told number w i row)
+told_leaves : (number : Desc → ℕ) (w : World) (i : Insn) (row : Row) → HoldWords w.regs → LeavesWords (descriptor_answer number w i row)
 told_leaves number w i None s = s
 told_leaves number w i (Some row) s = words_put _ _ _ _ _ _ s
 

@@ -14,8 +14,8 @@ use Rattle.client_world.specs.Soundness.{HasSegments}
 use Rattle.client_world.specs.World.{World}
 use Rattle.insn_forms.specs.declared.insn.Operand.{Operand}
 use Rattle.insn_forms.specs.declared.insn.Operand.TheVariants.{Empty, Reg, Seg, Mem, Imm, Far}
-use Rattle.insn_plan.specs.Act.{Act, End, Read, Outcome, Done, Raise, Interrupt, Pending, unless_fault, value_of}
-use Rattle.insn_plan.specs.Operands.{put}
+use Rattle.insn_plan.specs.Act.{Act, End, Read, Ending, Done, Raise, Interrupt, Pending, unless_fault, value_of}
+use Rattle.insn_plan.specs.Operands.{put_operand}
 use Rattle.insn_plan.specs.Plan.{planned}
 use Rattle.insn_plan.specs.Registers.{with_register}
 use Rattle.insn_plan.specs.Stack.{pushed}
@@ -41,7 +41,7 @@ segments_of r s = record { es = s.es_fits; cs = s.cs_fits; ss = s.ss_fits; ds = 
 
 -- ---- an instruction, whatever it reads
 
-abbrev pub EndsInWords : Outcome → Type 0
+abbrev pub EndsInWords : Ending → Type 0
 EndsInWords (Done p) = HoldWords p.regs
 EndsInWords (Raise f) = Unit {0}
 EndsInWords (Interrupt number len) = Unit {0}
@@ -98,8 +98,8 @@ words_register r width n v s =
     (words_if (nat_lt n 4) _ _ (words_general r n _ s) (words_general r (n - 4) _ s))
     (words_if (nat_eq width 16) _ _ (words_general r n _ s) (words_general r n _ s))
 
-pub words_put : (r : Regs) (addr32 : Bool) (width : ℕ) (o : Operand) (v : ℕ) (p : Pending) → HoldWords p.regs → HoldWords (put r addr32 width o v p).regs
-unfolding put
+pub words_put : (r : Regs) (addr32 : Bool) (width : ℕ) (o : Operand) (v : ℕ) (p : Pending) → HoldWords p.regs → HoldWords (put_operand r addr32 width o v p).regs
+unfolding put_operand
 words_put r addr32 width Empty v p s = s
 words_put r addr32 width (Reg own number) v p s = words_register p.regs own number v s
 words_put r addr32 width (Seg seg) v p s = s

@@ -15,7 +15,7 @@ use Rattle.guest_space.proofs.Machines.{with_places_world}
 use Rattle.guest_space.proofs.OnlyWritten.{write_places}
 use Rattle.host_memory.specs.View.{MachineView}
 use Rattle.insn_plan.specs.Act.{Pending}
-use Rattle.insn_plan.specs.Plan.{settled, with_state}
+use Rattle.insn_plan.specs.Plan.{after_commit, with_state}
 
 -- ---- what is written are bytes
 
@@ -88,6 +88,6 @@ sound_unless v u p None segments s e =
     subst (λ (m : MachineView). IsSound m.world) same (sound_state (all_written v p.writes) p segments (sound_all_written v p.writes s))
 sound_unless v u p (Some f) segments s e = absurd cc
 
-pub sound_settled : (v u : MachineView) (p : Pending) → HasSegments p.regs → IsSound v.world → settled v p ≡ Ok u → IsSound u.world
-unfolding settled
+pub sound_settled : (v u : MachineView) (p : Pending) → HasSegments p.regs → IsSound v.world → after_commit v p ≡ Ok u → IsSound u.world
+unfolding after_commit
 sound_settled v u p segments s e = sound_unless v u p (first_refusal v.world p.writes) segments s e

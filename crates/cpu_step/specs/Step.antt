@@ -32,14 +32,14 @@ has_big_code w = elim w.mode [ Real ↦ false | Protected ↦ has_size_bit (row_
 abbrev pub code : World → List ℕ
 code w = code_from w 0 code_room
 
--- the world, and the machine, with EIP behind an instruction of so many bytes
+-- the world, and the machine, with EIP past an instruction of `len` bytes
 abbrev pub moved : ℕ → World → World
 moved len w = record w { regs = record w.regs { eip = (w.regs.eip + len) % 2 ^ 32 } }
 
 abbrev pub behind : ℕ → MachineView → MachineView
 behind len v = record v { world = moved len v.world }
 
--- what an instruction of so many bytes does
+-- what an instruction of `len` bytes does
 unfoldable pub client_row : World → Insn → ℕ → Act
 client_row w insn len =
     if is_core insn.op insn.first insn.second then core_row insn.op w insn len else flow_row insn.op w insn len

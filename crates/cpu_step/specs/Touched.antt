@@ -1,6 +1,6 @@
 -- The places that the client's next instruction touches, in the order of the accesses: the bytes that are fetched, what it reads, what it
 -- writes; and what its software interrupt pushes, and the vector that this reads. An access that faults names no place, and nothing is accessed
--- behind it. Source: own.
+-- after it. Source: own.
 use Rattle.std.specs.Prelude.{ℕ, zero, suc, ◌+◌, ◌*◌, true, false, List, [], ◌∷◌, ◌++◌, Ok, Err, None, Some}
 use Rattle.std.specs.declared.result.Result.{Result}
 use Rattle.client_world.specs.declared.faults.Event.{Event}
@@ -23,7 +23,7 @@ use Rattle.insn_plan.specs.Act.{Act, End, Read, Input, Given, From, Pending, val
 use Rattle.insn_plan.specs.Plan.{planned}
 use Rattle.cpu_step.specs.Step.{has_big_code, code, client_row, moved}
 
--- the places of an access, and of what comes behind it where it doesn't fault
+-- the places of an access, and of what comes after it where it doesn't fault
 abbrev pub and_then : Result (List Place) Fault → List Place → List Place
 and_then (Ok places) more = places ++ more
 and_then (Err f) more = []
@@ -58,13 +58,13 @@ vector_read w n = elim w.mode [
   | Protected ↦ []
 ]
 
--- what comes behind the reads
+-- what comes after the reads
 abbrev pub places_behind : World → Result Pending Event → List Place
 places_behind w (Ok p) = write_places w p.writes
 places_behind w (Err (fault f)) = []
 places_behind w (Err (Soft number len)) = write_places w (interrupt_pushed w).writes ++ vector_read w number
 
--- an instruction, with EIP behind it
+-- an instruction, with EIP after it
 abbrev pub executed_touches : World → Act → List Place
 executed_touches w act = read_places w act ++ places_behind w (planned w act)
 

@@ -1,6 +1,6 @@
 //! The client's next instruction: fetched, decoded and carried out.
 //! It promises that a step is what the grammar says of the code bytes, that an event changes nothing, and that what a step touches is the
-//! client's. It stands on the decoder and on the two executing crates.
+//! client's. It uses the decoder and the two executing crates.
 #![tactic(auto)]
 
 mod laws;

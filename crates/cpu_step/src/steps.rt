@@ -31,7 +31,7 @@ pub fn has_big_code(m: &Machine) -> bool
     }
 }
 
-/// Moves EIP behind an instruction of so many bytes, modulo 2^32.
+/// Moves EIP past an instruction of `len` bytes, modulo 2^32.
 #[inline(always)]
 pub fn move_behind(m: &mut Machine, len: u8)
     ensures { m.new ≡ behind len m.old }
@@ -39,7 +39,7 @@ pub fn move_behind(m: &mut Machine, len: u8)
     m.set_eip(m.registers().eip.wrapping_add(u32::from(len)));
 }
 
-// Runs an instruction whose EIP is already behind it, by the crate that has it.
+// Runs an instruction whose EIP is already after it, by the crate that has it.
 #[inline(always)]
 #[tactic(auto, unfolding(crate::specs::Step::client_row), using(crate::proofs::CoreOrFlow::flow_where_not_core))]
 fn run(m: &mut Machine, insn: &Insn, len: u8) -> Result<(), Event>
@@ -53,7 +53,7 @@ fn run(m: &mut Machine, insn: &Insn, len: u8) -> Result<(), Event>
     }
 }
 
-// Executes an instruction of so many bytes; an event leaves the machine as it was, EIP too.
+// Executes an instruction of `len` bytes; an event leaves the machine as it was, EIP too.
 #[inline(always)]
 #[tactic(auto, unfolding(crate::specs::Step::executed))]
 fn execute(m: &mut Machine, insn: &Insn, len: u8) -> Result<(), Event>

@@ -36,7 +36,7 @@ fn expect_bytes(rt: &impl Abort, m: &Machine, from: u32, bytes: &[u8], number: u
     }
 }
 
-// Where code and stack stand in both modes.
+// Where code and stack lie in both modes.
 const CODE: u32 = 0x1000;
 
 const STACK: u32 = 0x3_0000;

@@ -3,8 +3,8 @@
 use Rattle.std.specs.Prelude.{ℕ, ◌+◌, ◌*◌, ◌/◌, ◌%◌, Bool, if◌then◌else◌}
 
 -- its low byte (AL of EAX), or the byte above it (AH)
-abbrev pub byte_of : ℕ → Bool → ℕ
-byte_of r high = if high then r / 0x100 % 0x100 else r % 0x100
+abbrev pub register_byte : ℕ → Bool → ℕ
+register_byte r high = if high then r / 0x100 % 0x100 else r % 0x100
 
 -- the register with another such byte
 abbrev pub with_byte : ℕ → Bool → ℕ → ℕ

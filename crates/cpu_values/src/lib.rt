@@ -1,6 +1,6 @@
 //! Numbers at a width of 8, 16 or 32 bits, and the bytes of a register.
 //! It promises that each call is the word of `specs/` that its contract names.
-//! It stands on nothing; the processor's operations and instructions stand on it.
+//! It uses no other crate; the processor's operations and instructions use it.
 #![tactic(auto)]
 
 mod register;

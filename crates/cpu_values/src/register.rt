@@ -1,11 +1,11 @@
 // The bytes and the low half of a general register.
 ghost use Rattle.std.specs.Prelude.{◌≡◌};
-ghost use Rattle.cpu_values.specs.Register.{byte_of, with_byte, with_low_half};
+ghost use Rattle.cpu_values.specs.Register.{register_byte, with_byte, with_low_half};
 
 /// The low byte of a register (AL of EAX), or with `high` the byte above it (AH).
 /// Source: 80386 Programmer's Reference Manual, ch. 2, "General Registers".
 pub fn part8(r: u32, high: bool) -> u8
-    ensures { result ≡ byte_of r high }
+    ensures { result ≡ register_byte r high }
 {
     if high {
         (r >> 8 & 0xFF) as u8

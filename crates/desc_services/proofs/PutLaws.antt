@@ -21,7 +21,7 @@ use Rattle.desc_services.specs.Rows.{is_freeable_origin}
 none_some : (r : Desc × Origin) → None ≢ Some r
 none_some r e = cc
 
--- an index at which a descriptor stands is below 8192
+-- the index of a descriptor is below 8192
 pub row_within : (w : World) (index : ℕ) (row : Desc × Origin) → IsSound w → row_at_index w.descriptors index ≡ Some row → index < DESCRIPTORS
 row_within w index row s e = elim (cases_lt index DESCRIPTORS) [
   | inl below ↦ below
@@ -33,7 +33,7 @@ some_width : (width : Option Width) (w : World) (index : ℕ) (row : Desc × Ori
 some_width None w index row s e none = none_some row (sym (s.descriptors index) ∙ e)
 some_width (Some width) w index row s e none = cc
 
--- where a descriptor stands there is a width
+-- where there is a descriptor there is a width
 pub row_has_width : (w : World) (index : ℕ) (row : Desc × Origin) → IsSound w → row_at_index w.descriptors index ≡ Some row → w.width ≢ None
 row_has_width w index row s e = some_width w.width w index row s.width e
 
@@ -52,7 +52,7 @@ clients (Some width) w index row s e plain = record {
     host_of : (d : Desc) → Some row ≡ Some (d, Host) → row.1 ≡ Host
     host_of d same = cc
 
--- a plain descriptor stands at an index of the client
+-- a plain descriptor is at an index of the client
 pub plain_row_is_clients : (w : World) (index : ℕ) (row : Desc × Origin) → IsSound w → row_at_index w.descriptors index ≡ Some row →
     IsPlainOrigin row.1 → IsClientsIndex index
 plain_row_is_clients w index row s e plain = clients w.width w index row s.width e plain
@@ -70,7 +70,7 @@ plain_not_dos (Some row) p d = plain_dos row.1 p d
     plain_dos (Dos s) p d = p
     plain_dos Host p d = p
 
--- where a plain descriptor stands another plain row may be put, or none
+-- where there is a plain descriptor another plain row may be put, or none
 pub may_change : (w : World) (index : ℕ) (row : Desc × Origin) (new : Row) → IsSound w → row_at_index w.descriptors index ≡ Some row →
     IsPlainOrigin row.1 → FitsRow new → IsPlainRow new → MayPut w index new
 may_change w index row new s e plain fits new_plain =
@@ -84,7 +84,7 @@ may_change w index row new s e plain fits new_plain =
           (plain_row_is_clients w index row s e plain);
     }
 
--- where no descriptor stands, behind the host's or in front of them, a plain row may be put
+-- where there is no descriptor, after the host's or before them, a plain row may be put
 pub may_make : (w : World) (index : ℕ) (new : Row) → IsSound w → w.width ≢ None → row_at_index w.descriptors index ≡ None →
     index < DESCRIPTORS → IsClientsIndex index → FitsRow new → IsPlainRow new → MayPut w index new
 may_make w index new s width e small clients fits plain =

@@ -122,9 +122,9 @@ unfoldable pub selector_increment : World → Service
 selector_increment w = record { reasons = []; after = with_ax 8 w }
 
 -- the base of a row's descriptor, 0 where there is none
-abbrev pub base_of : Row → ℕ
-base_of None = 0
-base_of (Some row) = row.0.base
+abbrev pub row_base : Row → ℕ
+row_base None = 0
+row_base (Some row) = row.0.base
 
 -- the row with another descriptor
 abbrev pub redescribed : Row → Option Desc → Row
@@ -142,8 +142,8 @@ get_segment_base w = record {
   reasons = (InvalidSelector, not (is_held w (bx w))) ∷ [];
   after = record w {
     regs = record w.regs {
-      ecx = with_low_half w.regs.ecx (base_of (desc_of w (bx w)) / 0x10000);
-      edx = with_low_half w.regs.edx (base_of (desc_of w (bx w)) % 0x10000);
+      ecx = with_low_half w.regs.ecx (row_base (desc_of w (bx w)) / 0x10000);
+      edx = with_low_half w.regs.edx (row_base (desc_of w (bx w)) % 0x10000);
     };
   };
 }

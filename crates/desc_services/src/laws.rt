@@ -29,7 +29,7 @@ pub fn a_limit_that_is_set_is_the_limit()
     ensures { (d : Desc) (limit : ℕ) → is_no_limit limit ≡ false → byte_limit (limited d limit) ≡ limit }
 {}
 
-/// Function 0002h finds the descriptor of a real segment wherever it stands: a sound world has one at most.
+/// Function 0002h finds the descriptor of a real segment wherever it is: a sound world has one at most.
 pub fn the_descriptor_of_a_segment_is_found()
     ensures { (w : World) (index segment : ℕ) → IsSound w → HasOrigin (row_at_index w.descriptors index) (Segment segment) →
         segment_index w.descriptors segment ≡ Some index }

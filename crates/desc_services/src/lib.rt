@@ -1,6 +1,6 @@
 //! The services of INT 31h on descriptors, 0000h to 000Dh.
 //! It promises that each answers the carry and makes the world that its definition says, and that a refusal changes nothing.
-//! It stands on `guest_space` and on the packing of `desc_table`.
+//! It uses `guest_space` and the packing of `desc_table`.
 #![tactic(auto)]
 
 mod dispatch;

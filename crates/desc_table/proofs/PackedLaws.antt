@@ -157,7 +157,7 @@ access-back x small good =
     let present = weight-has x 0x80 in
     omega arith
 
--- the byte behind it, from its fields
+-- the byte after it, from its fields
 flags-back : (x l : ℕ) → x < 256 → l ≡ x % 0x10 → has_bit x 0x20 ≡ false →
     x ≡ l + cond (has_bit x 0x10) 0x10 0 + cond (has_bit x 0x40) 0x40 0 + cond (has_bit x 0x80) 0x80 0
 flags-back x l small low clear =

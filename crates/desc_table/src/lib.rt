@@ -1,6 +1,6 @@
 //! The client's descriptor table: descriptors as eight bytes, and the rows of the host's frames that hold them.
 //! It promises that a row is read as it was set, that the other rows stay, and that a run of free rows is the first.
-//! It stands on the client's types and on the memory; the machine stands on it.
+//! It uses the client's types and the memory; the machine uses it.
 #![tactic(auto)]
 
 mod packing;

@@ -25,7 +25,7 @@ const PRESENT: u8 = 0x80;
 
 const ACCESSED: u8 = 0x01;
 
-// The bits of the byte behind it.
+// The bits of the byte after it.
 const AVAILABLE: u8 = 0x10;
 
 const RESERVED: u8 = 0x20;
@@ -68,7 +68,7 @@ fn access(d: &Desc) -> u8
     weight(d.present, PRESENT) + SEGMENT_AT_LEVEL_3 + type_bits(d.kind) + ACCESSED
 }
 
-// The byte behind it.
+// The byte after it.
 fn flags(d: &Desc) -> u8
     requires { d.now.limit < 2 ^ 20 }
     ensures { result ≡ flags_byte d.now }

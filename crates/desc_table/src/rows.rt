@@ -143,7 +143,7 @@ pub fn set(ram: &mut Ram, index: u16, row: Option<(Desc, Origin)>)
     ram.write(address(index), &bytes(row));
 }
 
-/// The first index from 64 on at which so many rows one behind the other are free, that is, `look` gives `None` there.
+/// The first index from 64 on at which n rows one after another are free, that is, `look` gives `None` there.
 /// `None` where n is 0 or there is no such run. Source: own.
 pub fn free_run(ram: &Ram, n: u16) -> Option<u16>
     requires rows { HasRows ram.now }
@@ -172,7 +172,7 @@ pub fn the_bytes_of_a_row_are_that_row()
     ensures read { (row : Row) → FitsRow row → row_at (row_bytes row) 0 ≡ row }
 {}
 
-/// In the list of the rows each stands at its index.
+/// In the list of the rows each is at its index.
 pub fn the_rows_stand_at_their_indices()
     ensures size { (bytes : List ℕ) → length (rows_from bytes rows_start) ≡ DESCRIPTORS }
     ensures rows { (bytes : List ℕ) (index : ℕ) → index < DESCRIPTORS →

@@ -92,7 +92,7 @@ fn rows_are_set_and_found(rt: HostRuntime) -> Result<(), Fail> {
     assert_eq!(rt; free_run(&ram, 2), Some(65));
     assert_eq!(rt; free_run(&ram, 3), Some(68));
 
-    // Row 64 stands at 113400h; its descriptor, then the code of its origin and its segment.
+    // Row 64 is at 113400h; its descriptor, then the code of its origin and its segment.
     assert_eq!(rt; ram.get8(0x113400), 0xFF);
     assert_eq!(rt; ram.get8(0x113405), 0xFB);
     assert_eq!(rt; ram.get16(0x113408), 5);

@@ -5,7 +5,7 @@ use Rattle.client_world.specs.declared.dos_memory.DosEntry.{DosEntry}
 use Rattle.client_world.specs.declared.memory_map.TheConstants.{ARENA_END}
 use Rattle.client_world.specs.DosMemory.{is_free, is_dpmi, Fills, IsArena}
 use Rattle.guest_space.specs.Arena.{spliced, NoneMade}
-use Rattle.dos_blocks.specs.Blocks.{nowhere, entry_of, block_state, split, is_of_kind, free_behind, possible, free_before, room_before, joined}
+use Rattle.dos_blocks.specs.Blocks.{nowhere, entry_of_place, block_state, split, is_of_kind, free_behind, possible, free_before, room_before, joined}
 use Rattle.dos_blocks.proofs.Founds.{HasFit, HasBlock}
 use Rattle.dos_blocks.proofs.NeighbourLaws.{free_plain, used_plain, take_one, behind_within, behind_fills, behind_plain, behind_right, possible_ends, is_before}
 use Rattle.dos_blocks.proofs.Splicing.{joined_next, arena-spliced}
@@ -34,18 +34,18 @@ plain_kind false entry h kind = used_plain entry.state kind
 -- a block is given
 
 pub can_give : (es : List DosEntry) (for_dpmi : Bool) (n place : ℕ) → for_dpmi ≡ false → IsArena es → HasFit es n place →
-    CanPut es place 1 (split (block_state for_dpmi) (entry_of es place).at n (entry_of es place).paras)
+    CanPut es place 1 (split (block_state for_dpmi) (entry_of_place es place).at n (entry_of_place es place).paras)
 can_give es for_dpmi n place dos arena fit =
     let small = fit.small in
     let state = block_state for_dpmi in
-    let at = (entry_of es place).at in
-    let paras = (entry_of es place).paras in
+    let at = (entry_of_place es place).at in
+    let paras = (entry_of_place es place).paras in
     record {
       within = omega arith;
-      old_plain = rw (take_one es place small) (free_plain (entry_of es place).state fit.free, tt);
+      old_plain = rw (take_one es place small) (free_plain (entry_of_place es place).state fit.free, tt);
       new_plain = plain-split state at n paras (plain_state for_dpmi dos);
       sound = arena-spliced es place 1 (split state at n paras) nowhere arena (omega arith)
-          (λ from to f. (let one : Fills from (entry_of es place ∷ []) to = rw (take_one es place small) at f in
+          (λ from to f. (let one : Fills from (entry_of_place es place ∷ []) to = rw (take_one es place small) at f in
           fills-split state at n paras from to fit.room one.0 one.1))
           (joined-split state at n paras (held_state for_dpmi))
           (record {
@@ -58,15 +58,15 @@ can_give es for_dpmi n place dos arena fit =
 -- a block is resized
 
 pub can_resize : (es : List DosEntry) (for_dpmi : Bool) (n segment place : ℕ) → for_dpmi ≡ false → IsArena es → HasBlock for_dpmi es segment place →
-    n ≤ possible es place → CanPut es place (1 + free_behind es place) (split (block_state for_dpmi) (entry_of es place).at n (possible es place))
+    n ≤ possible es place → CanPut es place (1 + free_behind es place) (split (block_state for_dpmi) (entry_of_place es place).at n (possible es place))
 can_resize es for_dpmi n segment place dos arena block room =
     let small = block.small in
     let state = block_state for_dpmi in
-    let at = (entry_of es place).at in
+    let at = (entry_of_place es place).at in
     let paras = possible es place in
     record {
       within = behind_within es place small;
-      old_plain = behind_plain es place small (plain_kind for_dpmi (entry_of es place) dos block.kind);
+      old_plain = behind_plain es place small (plain_kind for_dpmi (entry_of_place es place) dos block.kind);
       new_plain = plain-split state at n paras (plain_state for_dpmi dos);
       sound = arena-spliced es place (1 + free_behind es place) (split state at n paras) nowhere arena (behind_within es place small)
           (λ from to f. (let filled = behind_fills es place from to small f in
@@ -91,7 +91,7 @@ can_free es for_dpmi segment place dos arena block =
     let end : place - free_before es place + (free_before es place + (1 + free_behind es place)) ≡ place + (1 + free_behind es place) = omega arith in
     record {
       within = omega arith;
-      old_plain = front.plain (1 + free_behind es place) (behind_plain es place small (plain_kind for_dpmi (entry_of es place) dos block.kind));
+      old_plain = front.plain (1 + free_behind es place) (behind_plain es place small (plain_kind for_dpmi (entry_of_place es place) dos block.kind));
       new_plain = (refl, tt);
       sound = arena-spliced es (place - free_before es place) (free_before es place + (1 + free_behind es place)) (joined es place ∷ []) nowhere arena
           (omega arith)
@@ -103,14 +103,14 @@ can_free es for_dpmi segment place dos arena block =
           (record {
             some = omega arith;
             left = λ j next free. absurd (false≢true (sym (front.left j next) ∙ free));
-            right = λ inside. ap (λ (n : ℕ). is_free (entry_of es n).state) end ∙ behind_right es place arena (omega arith);
+            right = λ inside. ap (λ (n : ℕ). is_free (entry_of_place es n).state) end ∙ behind_right es place arena (omega arith);
           });
     }
 
 -- the numbers of what is free around a block
 pub record HasRoom (es : List DosEntry) (place : ℕ) : Type 0 where
-  pub before : room_before es place ≤ (entry_of es place).at
-  pub behind : (entry_of es place).at + 1 + possible es place ≤ ARENA_END
+  pub before : room_before es place ≤ (entry_of_place es place).at
+  pub behind : (entry_of_place es place).at + 1 + possible es place ≤ ARENA_END
 
 pub has_room : (es : List DosEntry) (place : ℕ) → IsArena es → place < length es → HasRoom es place
 has_room es place arena small = record { before = (is_before es place arena small).fits; behind = possible_ends es place arena small }

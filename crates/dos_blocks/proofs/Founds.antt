@@ -1,10 +1,10 @@
--- What the place that a search finds tells of the entry there.
+-- What the place that a search finds says of the entry there.
 use Rattle.std.proofs.Common.{◌≡◌, ℕ, zero, suc, ◌+◌, ◌-◌, ◌<◌, ◌≤◌, ◌⊎◌, inl, inr, Bool, true, false, ◌&&◌, nat_eq, nat_le, if◌then◌else◌, List, [], ◌∷◌, length, refl, ap, sym, subst, arith, Option, Some, None}
 use Rattle.std.proofs.lemmas.Bool.{leb-true, eqb-true}
 use Rattle.std.proofs.lemmas.Option.{none-some}
 use Rattle.client_world.specs.declared.dos_memory.DosEntry.{DosEntry}
 use Rattle.client_world.specs.DosMemory.{is_free, block_segment}
-use Rattle.dos_blocks.specs.Blocks.{fits, first_fit, entry_of, is_of_kind, starts_at, block_place}
+use Rattle.dos_blocks.specs.Blocks.{fits, first_fit, entry_of_place, is_of_kind, starts_at, place_of_block}
 
 pub and_left : (a b : Bool) → (a && b) ≡ true → a ≡ true
 and_left true b h = refl
@@ -25,8 +25,8 @@ chosen false here place rest h = inr h
 -- a free entry with room
 pub record HasFit (es : List DosEntry) (n place : ℕ) : Type 0 where
   pub small : place < length es
-  pub free : is_free (entry_of es place).state ≡ true
-  pub room : n ≤ (entry_of es place).paras
+  pub free : is_free (entry_of_place es place).state ≡ true
+  pub room : n ≤ (entry_of_place es place).paras
 
 fit_tells : (es : List DosEntry) (n start place : ℕ) → first_fit es n start ≡ Some place → (start ≤ place) × HasFit es n (place - start)
 unfolding first_fit
@@ -58,15 +58,15 @@ found_fit es n place h = subst (λ (x : ℕ). HasFit es n x) (let same : place -
 -- a block of the kind
 pub record HasBlock (for_dpmi : Bool) (es : List DosEntry) (segment place : ℕ) : Type 0 where
   pub small : place < length es
-  pub kind : is_of_kind for_dpmi (entry_of es place).state ≡ true
-  pub starts : block_segment (entry_of es place) ≡ segment
+  pub kind : is_of_kind for_dpmi (entry_of_place es place).state ≡ true
+  pub starts : block_segment (entry_of_place es place) ≡ segment
 
-block_tells : (for_dpmi : Bool) (es : List DosEntry) (segment start place : ℕ) → block_place for_dpmi es segment start ≡ Some place →
+block_tells : (for_dpmi : Bool) (es : List DosEntry) (segment start place : ℕ) → place_of_block for_dpmi es segment start ≡ Some place →
     (start ≤ place) × HasBlock for_dpmi es segment (place - start)
-unfolding block_place
+unfolding place_of_block
 block_tells for_dpmi [] segment start place h = absurd (none-some place h)
 block_tells for_dpmi (e ∷ es) segment start place h =
-    elim (chosen (starts_at for_dpmi e segment) start place (block_place for_dpmi es segment (start + 1)) h) [
+    elim (chosen (starts_at for_dpmi e segment) start place (place_of_block for_dpmi es segment (start + 1)) h) [
       | inl found ↦ (omega (arith, found.1), here (place - start) (omega (arith, found.1)) found.0)
       | inr rest ↦ (let i = block_tells for_dpmi es segment (start + 1) place rest in
           (omega (arith, i.0), there (place - start) (place - (start + 1)) (omega (arith, i.0)) i.1))
@@ -87,6 +87,6 @@ block_tells for_dpmi (e ∷ es) segment start place h =
         let small = f.small in
         subst (λ (x : ℕ). HasBlock for_dpmi (e ∷ es) segment (suc x)) same (record { small = omega arith; kind = f.kind; starts = f.starts })
 
-pub found_block : (for_dpmi : Bool) (es : List DosEntry) (segment place : ℕ) → Some place ≡ block_place for_dpmi es segment 0 → HasBlock for_dpmi es segment place
+pub found_block : (for_dpmi : Bool) (es : List DosEntry) (segment place : ℕ) → Some place ≡ place_of_block for_dpmi es segment 0 → HasBlock for_dpmi es segment place
 found_block for_dpmi es segment place h =
     subst (λ (x : ℕ). HasBlock for_dpmi es segment x) (let same : place - 0 ≡ place = omega arith in same) (block_tells for_dpmi es segment 0 place (sym h)).1

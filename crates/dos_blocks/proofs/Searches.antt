@@ -1,7 +1,7 @@
 -- The searches over the entries of DOS memory, one entry after the other: what is found there, and what the rest finds.
 use Rattle.std.proofs.Common.{◌≡◌, ℕ, suc, ◌+◌, ◌<◌, ◌≤◌, Bool, true, false, max, List, [], ◌∷◌, length, get_or, drop, drop-cons, length-drop, refl, ap, ◌∙◌, sym, arith, Some, None}
 use Rattle.client_world.specs.declared.dos_memory.DosEntry.{DosEntry}
-use Rattle.dos_blocks.specs.Blocks.{fits, first_fit, free_paras, largest, starts_at, block_place}
+use Rattle.dos_blocks.specs.Blocks.{fits, first_fit, free_paras, largest, starts_at, place_of_block}
 
 pub dropped : (es : List DosEntry) (place : ℕ) (d : DosEntry) → place < length es → drop place es ≡ get_or es place d ∷ drop (place + 1) es
 dropped es place d small =
@@ -37,21 +37,21 @@ fit_none es n place past = ap (λ (xs : List DosEntry). first_fit xs n place) (n
 -- a block
 
 pub block_here : (for_dpmi : Bool) (es : List DosEntry) (segment place : ℕ) (entry : DosEntry) → place < length es → entry ≡ get_or es place entry →
-    starts_at for_dpmi entry segment ≡ true → block_place for_dpmi (drop place es) segment place ≡ Some place
-unfolding block_place
+    starts_at for_dpmi entry segment ≡ true → place_of_block for_dpmi (drop place es) segment place ≡ Some place
+unfolding place_of_block
 block_here for_dpmi es segment place entry small is test =
-    ap (λ (xs : List DosEntry). block_place for_dpmi xs segment place) (rest_is es place entry small is) ∙ rw test refl
+    ap (λ (xs : List DosEntry). place_of_block for_dpmi xs segment place) (rest_is es place entry small is) ∙ rw test refl
 
 pub block_next : (for_dpmi : Bool) (es : List DosEntry) (segment place : ℕ) (entry : DosEntry) → place < length es → entry ≡ get_or es place entry →
     starts_at for_dpmi entry segment ≡ false →
-    block_place for_dpmi (drop place es) segment place ≡ block_place for_dpmi (drop (place + 1) es) segment (place + 1)
-unfolding block_place
+    place_of_block for_dpmi (drop place es) segment place ≡ place_of_block for_dpmi (drop (place + 1) es) segment (place + 1)
+unfolding place_of_block
 block_next for_dpmi es segment place entry small is test =
-    ap (λ (xs : List DosEntry). block_place for_dpmi xs segment place) (rest_is es place entry small is) ∙ rw test refl
+    ap (λ (xs : List DosEntry). place_of_block for_dpmi xs segment place) (rest_is es place entry small is) ∙ rw test refl
 
-pub block_none : (for_dpmi : Bool) (es : List DosEntry) (segment place : ℕ) → length es ≤ place → block_place for_dpmi (drop place es) segment place ≡ None
-unfolding block_place
-block_none for_dpmi es segment place past = ap (λ (xs : List DosEntry). block_place for_dpmi xs segment place) (none_left es place past)
+pub block_none : (for_dpmi : Bool) (es : List DosEntry) (segment place : ℕ) → length es ≤ place → place_of_block for_dpmi (drop place es) segment place ≡ None
+unfolding place_of_block
+block_none for_dpmi es segment place past = ap (λ (xs : List DosEntry). place_of_block for_dpmi xs segment place) (none_left es place past)
 
 -- the largest free entry
 

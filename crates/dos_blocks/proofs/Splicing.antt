@@ -8,7 +8,7 @@ use Rattle.client_world.specs.DosMemory.{is_free, Fills, IsJoined, starts_free, 
 use Rattle.guest_space.specs.Arena.{spliced}
 use Rattle.dos_blocks.proofs.Searches.{dropped, none_left}
 
--- lists that fill paragraphs one behind the other fill them together, and the other way round
+-- lists that fill paragraphs one after another fill them together, and the other way round
 
 fills-append : (xs ys : List DosEntry) (from mid to : ℕ) → Fills from xs mid → Fills mid ys to → Fills from (xs ++ ys) to
 fills-append [] ys from mid to f g = subst (λ (at : ℕ). Fills at ys to) (sym f) g
@@ -62,7 +62,7 @@ joined-append [] ys x y seam = y
 joined-append (e ∷ []) ys x y seam = (seam, y)
 joined-append (e ∷ f ∷ xs) ys x y seam = (x.0, joined-append (f ∷ xs) ys x.1 y seam)
 
--- behind a free entry stands none
+-- after a free entry there is none
 pub joined_next : (es : List DosEntry) (place : ℕ) (d : DosEntry) → IsJoined es → place + 1 < length es → is_free (get_or es place d).state ≡ true →
     is_free (get_or es (place + 1) d).state ≡ false
 joined_next [] place d j small free = absurd (omega arith)

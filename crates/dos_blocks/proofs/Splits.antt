@@ -1,4 +1,4 @@
--- A block at the front of some paragraphs, and the rest of them: together they fill the paragraphs, and only the rest is free.
+-- A block at the start of some paragraphs, and the rest of them: together they fill the paragraphs, and only the rest is free.
 use Rattle.std.proofs.Common.{◌≡◌, ℕ, ◌+◌, ◌<◌, ◌≤◌, inl, inr, false, length, refl, ◌∙◌, sym, arith}
 use Rattle.std.proofs.lemmas.Bool.{cases_eq, eq-eqb, ne_eqb, false≢true}
 use Rattle.client_world.specs.declared.dos_memory.DosState.{DosState}

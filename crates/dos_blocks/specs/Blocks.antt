@@ -21,8 +21,8 @@ pub record Done (A : Type 0) : Type 0 where
 abbrev pub nowhere : DosEntry
 nowhere = record { at = 0; paras = 0; state = Used }
 
-abbrev pub entry_of : List DosEntry → ℕ → DosEntry
-entry_of entries place = slice_index_or entries place nowhere
+abbrev pub entry_of_place : List DosEntry → ℕ → DosEntry
+entry_of_place entries place = slice_index_or entries place nowhere
 
 -- the state of a block that a DOS call makes, or INT 31h function 0100h
 abbrev pub block_state : Bool → DosState
@@ -34,7 +34,7 @@ block_state for_dpmi = if for_dpmi then Dpmi else Used
 abbrev pub fits : DosEntry → ℕ → Bool
 fits entry n = is_free entry.state && nat_le n entry.paras
 
--- the place of the first entry that fits, where the first of the list stands at a place
+-- the place of the first entry that fits, where the first of the list is at a place
 unfoldable pub first_fit : List DosEntry → ℕ → ℕ → Option ℕ
 first_fit [] n place = None
 first_fit (entry ∷ entries) n place = if fits entry n then Some place else first_fit entries n (place + 1)
@@ -48,7 +48,7 @@ unfoldable pub largest : List DosEntry → ℕ
 largest [] = 0
 largest (entry ∷ entries) = max (free_paras entry) (largest entries)
 
--- a block of n paragraphs at the front of so many, and the rest less a header as a free entry, where there is a rest
+-- a block of n paragraphs at the start of a free entry, and the rest, less a header, as a free entry, where there is a rest
 abbrev pub split : DosState → ℕ → ℕ → ℕ → List DosEntry
 split state at n paras =
     if nat_eq n paras then record { at = at; paras = n; state = state } ∷ [] else
@@ -57,9 +57,9 @@ split state at n paras =
 abbrev pub allocated_at : World → Bool → ℕ → Option ℕ → Done ℕ
 allocated_at w for_dpmi n None = record { answer = Err (NoMemory (largest w.arena)); world = w }
 allocated_at w for_dpmi n (Some place) = record {
-  answer = Ok (block_segment (entry_of w.arena place));
+  answer = Ok (block_segment (entry_of_place w.arena place));
   world = with_entries w place 1
-      (split (block_state for_dpmi) (entry_of w.arena place).at n (entry_of w.arena place).paras);
+      (split (block_state for_dpmi) (entry_of_place w.arena place).at n (entry_of_place w.arena place).paras);
 }
 
 -- n paragraphs are given: the first entry that fits, and the segment of its block is the answer
@@ -82,22 +82,22 @@ abbrev pub starts_at : Bool → DosEntry → ℕ → Bool
 starts_at for_dpmi entry segment = is_of_kind for_dpmi entry.state && nat_eq (block_segment entry) segment
 
 -- the place of the block of that kind which starts at a segment
-unfoldable pub block_place : Bool → List DosEntry → ℕ → ℕ → Option ℕ
-block_place for_dpmi [] segment place = None
-block_place for_dpmi (entry ∷ entries) segment place =
-    if starts_at for_dpmi entry segment then Some place else block_place for_dpmi entries segment (place + 1)
+unfoldable pub place_of_block : Bool → List DosEntry → ℕ → ℕ → Option ℕ
+place_of_block for_dpmi [] segment place = None
+place_of_block for_dpmi (entry ∷ entries) segment place =
+    if starts_at for_dpmi entry segment then Some place else place_of_block for_dpmi entries segment (place + 1)
 
--- how many free entries stand behind a place, one at most, and their paragraphs with the header's
+-- how many free entries follow a place, one at most, and their paragraphs with the header's
 abbrev pub free_behind : List DosEntry → ℕ → ℕ
-free_behind entries place = if is_free (entry_of entries (place + 1)).state then 1 else 0
+free_behind entries place = if is_free (entry_of_place entries (place + 1)).state then 1 else 0
 
 abbrev pub room_behind : List DosEntry → ℕ → ℕ
 room_behind entries place =
-    if is_free (entry_of entries (place + 1)).state then 1 + (entry_of entries (place + 1)).paras else 0
+    if is_free (entry_of_place entries (place + 1)).state then 1 + (entry_of_place entries (place + 1)).paras else 0
 
 -- the most paragraphs that the block at a place can have
 abbrev pub possible : List DosEntry → ℕ → ℕ
-possible entries place = (entry_of entries place).paras + room_behind entries place
+possible entries place = (entry_of_place entries place).paras + room_behind entries place
 
 -- ---- resizing
 
@@ -107,28 +107,28 @@ resized_at w for_dpmi n (Some place) =
     if nat_le n (possible w.arena place) then record {
       answer = Ok tt;
       world = with_entries w place (1 + free_behind w.arena place)
-          (split (block_state for_dpmi) (entry_of w.arena place).at n (possible w.arena place));
+          (split (block_state for_dpmi) (entry_of_place w.arena place).at n (possible w.arena place));
     }
     else record { answer = Err (NoMemory (possible w.arena place)); world = w }
 
--- the block gets n paragraphs where it stands. This writes the headers also where it has as many already
+-- the block gets n paragraphs where it is. This writes the headers also where it has as many already
 unfoldable pub resized : World → Bool → ℕ → ℕ → Done (Unit {0})
-resized w for_dpmi segment n = resized_at w for_dpmi n (block_place for_dpmi w.arena segment 0)
+resized w for_dpmi segment n = resized_at w for_dpmi n (place_of_block for_dpmi w.arena segment 0)
 
 -- ---- freeing
 
--- how many free entries stand before a place, one at most, and their paragraphs with the header's
+-- how many free entries come before a place, one at most, and their paragraphs with the header's
 abbrev pub free_before : List DosEntry → ℕ → ℕ
-free_before entries place = if nat_le 1 place && is_free (entry_of entries (place - 1)).state then 1 else 0
+free_before entries place = if nat_le 1 place && is_free (entry_of_place entries (place - 1)).state then 1 else 0
 
 abbrev pub room_before : List DosEntry → ℕ → ℕ
 room_before entries place =
-    if nat_le 1 place && is_free (entry_of entries (place - 1)).state then 1 + (entry_of entries (place - 1)).paras else 0
+    if nat_le 1 place && is_free (entry_of_place entries (place - 1)).state then 1 + (entry_of_place entries (place - 1)).paras else 0
 
 -- the block at a place and the free entries beside it as one free entry
 abbrev pub joined : List DosEntry → ℕ → DosEntry
 joined entries place = record {
-  at = (entry_of entries place).at - room_before entries place;
+  at = (entry_of_place entries place).at - room_before entries place;
   paras = room_before entries place + possible entries place;
   state = Free;
 }
@@ -143,4 +143,4 @@ freed_at w (Some place) = record {
 
 -- the block becomes free
 unfoldable pub freed : World → Bool → ℕ → Done (Unit {0})
-freed w for_dpmi segment = freed_at w (block_place for_dpmi w.arena segment 0)
+freed w for_dpmi segment = freed_at w (place_of_block for_dpmi w.arena segment 0)

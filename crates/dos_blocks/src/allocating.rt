@@ -19,7 +19,7 @@ fn block_state(for_dpmi: bool) -> DosState
     }
 }
 
-/// A block of n paragraphs at the front of so many, and the rest less a header as a free entry, where there is a rest.
+/// A block of n paragraphs at the start of a free entry, and the rest, less a header, as a free entry, where there is a rest.
 pub(crate) fn split(for_dpmi: bool, at: u16, n: u16, paras: u16) -> ArrayVec<DosEntry, 3>
     requires fits { n ≤ paras }
     requires room { at + 1 + paras ≤ ARENA_END }
@@ -41,7 +41,7 @@ pub(crate) fn split(for_dpmi: bool, at: u16, n: u16, paras: u16) -> ArrayVec<Dos
     entries
 }
 
-/// Gives a block of so many paragraphs, and answers its segment. Source: MS-DOS function 48h.
+/// Allocates a block of `paras` paragraphs, and returns its segment. Source: MS-DOS function 48h.
 #[tactic(auto, unfolding(crate::specs::Blocks::allocated))]
 pub fn dos_alloc(m: &mut Machine, paras: u16, for_dpmi: bool) -> Result<u16, DosRefusal>
     requires dos { for_dpmi ≡ false }

@@ -1,7 +1,7 @@
 // The entries that are sought: a free one with room, the largest free one, and that of a block.
 ghost use Rattle.std.specs.Prelude.{◌≡◌, max};
 ghost use Rattle.client_world.specs.DosMemory.{is_free, IsArena};
-ghost use Rattle.dos_blocks.specs.Blocks.{fits, first_fit, free_paras, largest, is_of_kind, starts_at, block_place};
+ghost use Rattle.dos_blocks.specs.Blocks.{fits, first_fit, free_paras, largest, is_of_kind, starts_at, place_of_block};
 
 use client_world::{DosEntry, DosState};
 use guest_space::Machine;
@@ -77,8 +77,8 @@ pub(crate) fn largest(m: &Machine) -> u16
 }
 
 /// The place of the block that starts at a segment.
-pub(crate) fn block_place(m: &Machine, for_dpmi: bool, segment: u16) -> Option<u16>
-    ensures found { result ≡ block_place for_dpmi m.now.world.arena segment 0 }
+pub(crate) fn place_of_block(m: &Machine, for_dpmi: bool, segment: u16) -> Option<u16>
+    ensures found { result ≡ place_of_block for_dpmi m.now.world.arena segment 0 }
     ensures sound { IsArena m.now.world.arena }
 {
     for place in 0..m.arena_len() {

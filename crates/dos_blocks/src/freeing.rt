@@ -3,7 +3,7 @@ ghost use Rattle.std.specs.Prelude.{◌≡◌, [], ◌∷◌, false, OnErr};
 ghost use Rattle.client_world.specs.declared.dos_memory.DosEntry.{DosEntry};
 ghost use Rattle.dos_blocks.specs.Blocks.{freed};
 
-use crate::finding::block_place;
+use crate::finding::place_of_block;
 use crate::neighbours::{free_before, free_behind, room_before, room_behind};
 use arrayvec::ArrayVec;
 use client_world::{DosEntry, DosRefusal, DosState};
@@ -26,7 +26,7 @@ pub fn dos_free(m: &mut Machine, seg: u16, for_dpmi: bool) -> Result<(), DosRefu
     ensures world { m.new.world ≡ (freed m.old.world for_dpmi seg).world }
     ensures refused { OnErr result (m.new ≡ m.old) }
 {
-    let Some(place) = block_place(m, for_dpmi, seg) else {
+    let Some(place) = place_of_block(m, for_dpmi, seg) else {
         return Err(DosRefusal::WrongBlock);
     };
     let entry = m.arena(place);

@@ -1,6 +1,6 @@
 //! Blocks of DOS memory: given, resized and freed.
 //! It promises that each call answers and changes the arena as its definition says, and that a refusal changes nothing.
-//! It stands on `guest_space`; the DOS calls stand on it.
+//! It uses `guest_space`; the DOS calls use it.
 #![tactic(auto)]
 
 mod allocating;

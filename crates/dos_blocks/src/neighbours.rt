@@ -1,7 +1,7 @@
 // What is free beside a block.
 ghost use Rattle.std.specs.Prelude.{◌≡◌, ◌≤◌, ◌<◌, length};
 ghost use Rattle.client_world.specs.declared.memory_map.TheConstants.{ARENA_END};
-ghost use Rattle.dos_blocks.specs.Blocks.{entry_of, free_behind, room_behind, free_before, room_before};
+ghost use Rattle.dos_blocks.specs.Blocks.{entry_of_place, free_behind, room_behind, free_before, room_before};
 
 use crate::finding::is_free;
 use client_world::{DosEntry, DosState};
@@ -9,8 +9,8 @@ use guest_space::Machine;
 
 // The entry at a place, or one that isn't free where there is none.
 #[tactic(auto, using(crate::proofs::NeighbourLaws::outside))]
-fn entry_of(m: &Machine, place: u16) -> DosEntry
-    ensures entry { result ≡ entry_of m.now.world.arena place }
+fn entry_of_place(m: &Machine, place: u16) -> DosEntry
+    ensures entry { result ≡ entry_of_place m.now.world.arena place }
     ensures small { result.paras ≤ ARENA_END }
 {
     if place < m.arena_len() {
@@ -24,13 +24,13 @@ fn entry_of(m: &Machine, place: u16) -> DosEntry
     }
 }
 
-/// How many free entries stand behind a place, one at most.
+/// How many free entries follow a place, one at most.
 pub(crate) fn free_behind(m: &Machine, place: u16) -> u16
     requires { place < length m.now.world.arena }
     ensures { result ≡ free_behind m.now.world.arena place }
 {
     let _count = m.arena_len();
-    if is_free(entry_of(m, place + 1).state) {
+    if is_free(entry_of_place(m, place + 1).state) {
         1
     } else {
         0
@@ -43,7 +43,7 @@ pub(crate) fn room_behind(m: &Machine, place: u16) -> u16
     ensures { result ≡ room_behind m.now.world.arena place }
 {
     let _count = m.arena_len();
-    let entry = entry_of(m, place + 1);
+    let entry = entry_of_place(m, place + 1);
     if is_free(entry.state) {
         1 + entry.paras
     } else {
@@ -51,11 +51,11 @@ pub(crate) fn room_behind(m: &Machine, place: u16) -> u16
     }
 }
 
-/// How many free entries stand before a place, one at most.
+/// How many free entries are before a place, one at most.
 pub(crate) fn free_before(m: &Machine, place: u16) -> u16
     ensures { result ≡ free_before m.now.world.arena place }
 {
-    if place >= 1 && is_free(entry_of(m, place - 1).state) {
+    if place >= 1 && is_free(entry_of_place(m, place - 1).state) {
         1
     } else {
         0
@@ -66,8 +66,8 @@ pub(crate) fn free_before(m: &Machine, place: u16) -> u16
 pub(crate) fn room_before(m: &Machine, place: u16) -> u16
     ensures { result ≡ room_before m.now.world.arena place }
 {
-    if place >= 1 && is_free(entry_of(m, place - 1).state) {
-        1 + entry_of(m, place - 1).paras
+    if place >= 1 && is_free(entry_of_place(m, place - 1).state) {
+        1 + entry_of_place(m, place - 1).paras
     } else {
         0
     }

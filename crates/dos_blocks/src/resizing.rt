@@ -3,12 +3,12 @@ ghost use Rattle.std.specs.Prelude.{◌≡◌, false, OnErr};
 ghost use Rattle.dos_blocks.specs.Blocks.{resized};
 
 use crate::allocating::split;
-use crate::finding::block_place;
+use crate::finding::place_of_block;
 use crate::neighbours::{free_behind, room_behind};
 use client_world::DosRefusal;
 use guest_space::Machine;
 
-/// Gives the block at a segment so many paragraphs, where it stands. Source: MS-DOS function 4Ah.
+/// Gives the block at a segment `paras` paragraphs, without moving it. Source: MS-DOS function 4Ah.
 #[tactic(auto, unfolding(crate::specs::Blocks::resized))]
 pub fn dos_resize(m: &mut Machine, seg: u16, paras: u16, for_dpmi: bool) -> Result<(), DosRefusal>
     requires dos { for_dpmi ≡ false }
@@ -16,7 +16,7 @@ pub fn dos_resize(m: &mut Machine, seg: u16, paras: u16, for_dpmi: bool) -> Resu
     ensures world { m.new.world ≡ (resized m.old.world for_dpmi seg paras).world }
     ensures refused { OnErr result (m.new ≡ m.old) }
 {
-    let Some(place) = block_place(m, for_dpmi, seg) else {
+    let Some(place) = place_of_block(m, for_dpmi, seg) else {
         return Err(DosRefusal::WrongBlock);
     };
     let entry = m.arena(place);

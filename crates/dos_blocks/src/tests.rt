@@ -17,7 +17,7 @@ fn blocks_are_given_resized_and_freed(rt: HostRuntime) -> Result<(), Fail> {
     );
     assert_eq!(rt; dos_alloc(&mut m, 0x1001, false), Ok(0x1065));
 
-    // The block before it is used, so it can't grow beyond what is free behind it.
+    // The block before it is used, so it can't grow beyond what is free after it.
     assert_eq!(rt;
         dos_resize(&mut m, 0x64, 0x1001, false),
         Err(DosRefusal::NoMemory { largest: 0x1000 })

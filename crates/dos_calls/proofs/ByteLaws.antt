@@ -5,42 +5,42 @@ use Rattle.std.proofs.lemmas.Bool.Decides.{nat_tests}
 use Rattle.std.proofs.lemmas.List.{drop_all}
 use Rattle.client_world.specs.World.{World}
 use Rattle.guest_space.specs.Dos.{with_dos_byte}
-use Rattle.dos_calls.specs.DosBytes.{address_at, byte_at, with_bytes_at, bytes_from, text_from}
+use Rattle.dos_calls.specs.DosBytes.{address_at, byte_at, with_dos_bytes_at, bytes_from, text_from}
 use Rattle.dos_calls.proofs.LineLaws.{rest_is}
 
 -- ---- bytes written
 
 pub put_next : (dos : List ℕ) (segment at : ℕ) (bytes : List ℕ) (n : ℕ) → n < length bytes →
-    with_bytes_at dos segment at (drop n bytes)
-    ≡ with_bytes_at (with_dos_byte dos (address_at segment at) (get_or bytes n 0)) segment (at + 1) (drop (n + 1) bytes)
-unfolding with_bytes_at
-put_next dos segment at bytes n small = ap (λ (xs : List ℕ). with_bytes_at dos segment at xs) (rest_is bytes n small)
+    with_dos_bytes_at dos segment at (drop n bytes)
+    ≡ with_dos_bytes_at (with_dos_byte dos (address_at segment at) (get_or bytes n 0)) segment (at + 1) (drop (n + 1) bytes)
+unfolding with_dos_bytes_at
+put_next dos segment at bytes n small = ap (λ (xs : List ℕ). with_dos_bytes_at dos segment at xs) (rest_is bytes n small)
 
 -- the world while they are written: its other parts stay
 pub only_bytes : (old now new : World) (dos : List ℕ) → now ≡ record old { dos = now.dos } → new ≡ record now { dos = dos } → new ≡ record old { dos = new.dos }
 only_bytes old now new dos kept written =
     written ∙ ap (λ (w : World). record w { dos = dos }) kept ∙ ap (λ (d : List ℕ). record old { dos = d }) (sym (ap (λ (w : World). w.dos) written))
 
-pub put_none : (dos : List ℕ) (segment at : ℕ) (bytes : List ℕ) (n : ℕ) → length bytes ≤ n → with_bytes_at dos segment at (drop n bytes) ≡ dos
-unfolding with_bytes_at
-put_none dos segment at bytes n past = ap (λ (xs : List ℕ). with_bytes_at dos segment at xs) (drop_all n bytes past)
+pub put_none : (dos : List ℕ) (segment at : ℕ) (bytes : List ℕ) (n : ℕ) → length bytes ≤ n → with_dos_bytes_at dos segment at (drop n bytes) ≡ dos
+unfolding with_dos_bytes_at
+put_none dos segment at bytes n past = ap (λ (xs : List ℕ). with_dos_bytes_at dos segment at xs) (drop_all n bytes past)
 
--- those behind others
+-- those after others
 pub put_append : (dos : List ℕ) (segment at : ℕ) (xs ys : List ℕ) →
-    with_bytes_at dos segment at (xs ++ ys) ≡ with_bytes_at (with_bytes_at dos segment at xs) segment (at + length xs) ys
-unfolding with_bytes_at
-put_append dos segment at [] ys = ap (λ (k : ℕ). with_bytes_at dos segment k ys) (let same : at ≡ at + 0 = omega arith in same)
+    with_dos_bytes_at dos segment at (xs ++ ys) ≡ with_dos_bytes_at (with_dos_bytes_at dos segment at xs) segment (at + length xs) ys
+unfolding with_dos_bytes_at
+put_append dos segment at [] ys = ap (λ (k : ℕ). with_dos_bytes_at dos segment k ys) (let same : at ≡ at + 0 = omega arith in same)
 put_append dos segment at (x ∷ xs) ys =
     put_append (with_dos_byte dos (address_at segment at) x) segment (at + 1) xs ys
-    ∙ ap (λ (k : ℕ). with_bytes_at (with_bytes_at (with_dos_byte dos (address_at segment at) x) segment (at + 1) xs) segment k ys)
+    ∙ ap (λ (k : ℕ). with_dos_bytes_at (with_dos_bytes_at (with_dos_byte dos (address_at segment at) x) segment (at + 1) xs) segment k ys)
     (let same : at + 1 + length xs ≡ at + suc (length xs) = omega arith in same)
 
 -- a line, its return, and its length
 pub put_line : (dos : List ℕ) (segment at : ℕ) (line : List ℕ) →
-    with_bytes_at (with_bytes_at (with_bytes_at dos segment (at + 2) line) segment (at + 2 + length line) (0x0D ∷ [])) segment (at + 1) (length line ∷ [])
-    ≡ with_bytes_at (with_bytes_at dos segment (at + 2) (line ++ 0x0D ∷ [])) segment (at + 1) (length line ∷ [])
+    with_dos_bytes_at (with_dos_bytes_at (with_dos_bytes_at dos segment (at + 2) line) segment (at + 2 + length line) (0x0D ∷ [])) segment (at + 1) (length line ∷ [])
+    ≡ with_dos_bytes_at (with_dos_bytes_at dos segment (at + 2) (line ++ 0x0D ∷ [])) segment (at + 1) (length line ∷ [])
 put_line dos segment at line =
-    ap (λ (d : List ℕ). with_bytes_at d segment (at + 1) (length line ∷ [])) (sym (put_append dos segment (at + 2) line (0x0D ∷ [])))
+    ap (λ (d : List ℕ). with_dos_bytes_at d segment (at + 1) (length line ∷ [])) (sym (put_append dos segment (at + 2) line (0x0D ∷ [])))
 
 -- ---- bytes read
 

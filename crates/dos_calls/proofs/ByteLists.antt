@@ -63,7 +63,7 @@ bytes_text dos segment offset (suc n) s =
     (more_bytes (byte_at dos segment offset) (text_from dos segment (offset + 1) n) (s.bytes (address_at segment offset))
     (bytes_text dos segment (offset + 1) n s))
 
--- ---- a line and the keys behind it
+-- ---- a line and the keys after it
 
 abbrev pub LineOfBytes : Option (List ℕ × List ℕ) → Type 0
 LineOfBytes None = Unit {0}

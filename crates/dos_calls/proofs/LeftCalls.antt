@@ -12,7 +12,7 @@ use Rattle.client_world.specs.declared.services.DosDone.TheVariants.{Ended}
 use Rattle.client_world.specs.Registers.{low_byte, high_byte, low_half}
 use Rattle.client_world.specs.World.{World}
 use Rattle.guest_space.specs.Arena.{with_entries}
-use Rattle.dos_blocks.specs.Blocks.{Done, first_fit, block_place, possible, allocated_at, allocated, resized_at, resized, freed_at, freed}
+use Rattle.dos_blocks.specs.Blocks.{Done, first_fit, place_of_block, possible, allocated_at, allocated, resized_at, resized, freed_at, freed}
 use Rattle.dos_calls.specs.Calls as calls
 use Rattle.dos_calls.specs.Calls.{CallResult, CallState, served, ended, printed, poll_key, line_read, line_of, keys_read, memory_refused, memory_given, memory_changed, dos_call}
 use Rattle.dos_calls.specs.DosBytes.{byte_at}
@@ -126,8 +126,8 @@ leaves_set_vector : (s : CallState) → Leaves s (calls.set_vector s)
 unfolding calls.set_vector
 leaves_set_vector s = leaves_served s _ s.keys refl
 
-leaves_version : (s : CallState) → Leaves s (calls.version s)
-unfolding calls.version
+leaves_version : (s : CallState) → Leaves s (calls.dos_version s)
+unfolding calls.dos_version
 leaves_version s = leaves_served s _ s.keys refl
 
 leaves_get_vector : (s : CallState) → Leaves s (calls.get_vector s)
@@ -200,7 +200,7 @@ leaves_allocate s =
 leaves_free : (s : CallState) → Leaves s (calls.free s)
 unfolding calls.free freed
 leaves_free s =
-    let o = block_place false s.world.arena s.world.regs.es 0 in
+    let o = place_of_block false s.world.arena s.world.regs.es 0 in
     let d = freed_at s.world o in
     leaves_served s (memory_changed d) s.keys (rest_changed d.answer d.world ∙ rest_freed s.world o)
 
@@ -208,7 +208,7 @@ leaves_resize : (s : CallState) → Leaves s (calls.resize s)
 unfolding calls.resize resized
 leaves_resize s =
     let n = low_half s.world.regs.ebx in
-    let o = block_place false s.world.arena s.world.regs.es 0 in
+    let o = place_of_block false s.world.arena s.world.regs.es 0 in
     let d = resized_at s.world false n o in
     leaves_served s (memory_changed d) s.keys (rest_changed d.answer d.world ∙ rest_resized s.world n o)
 

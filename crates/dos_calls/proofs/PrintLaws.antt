@@ -19,7 +19,7 @@ printed_is : (s : CallState) (bytes : List ℕ) (world : World) (keys : List ℕ
 unfolding printed
 printed_is s bytes world keys = grind (arith, Rattle.std.proofs.lemmas.Bool.Decides.nat_tests)
 
--- a line that was taken, of which a front went to the console
+-- a line that was taken, of which a first part went to the console
 pub line_goes : (s : CallState) (room count : ℕ) (line keys console : List ℕ) (all : Bool) →
     line_of s.keys ≡ Some (take count s.keys, drop (count + 1) s.keys) → line ≡ take (room - 1) (take count s.keys) →
     all ≡ has_room s.console (line ++ 0x0D ∷ []) → console ≡ added s.console (line ++ 0x0D ∷ []) → keys ≡ drop (count + 1) s.keys →

@@ -16,7 +16,7 @@ use Rattle.guest_ram.specs.Bytes.{AreBytes, word_of}
 use Rattle.host_memory.specs.Vectors.{word_bytes}
 use Rattle.dos_calls.specs.Calls as calls
 use Rattle.dos_calls.specs.Calls.{CallResult, CallState, served, ended, printed, with_al, with_ax, with_bx, with_error, without_carry, with_key, poll_key, with_line, line_read, line_of, keys_read, bad_handle, memory_refused, memory_given, memory_changed, no_memory, wrong_block, bad_function, dos_call}
-use Rattle.dos_calls.specs.DosBytes.{byte_at, address_at, with_bytes_at}
+use Rattle.dos_calls.specs.DosBytes.{byte_at, address_at, with_dos_bytes_at}
 use Rattle.dos_calls.specs.Multiplex.{with_entry, multiplex_call}
 use Rattle.dos_calls.proofs.ByteLists.{no_bytes, more_bytes, bytes_behind, bytes_append, bytes_take, bytes_drop, length-taken, bytes_word, bytes_read, bytes_text, LineOfBytes, bytes_line}
 use Rattle.dos_calls.proofs.SoundWorlds.{sound_bytes, sound_carry, sound_zero, sound_general, sound_es, sound_al, sound_ax, sound_bx, sound_error}
@@ -144,8 +144,8 @@ keeps_set_vector s seen =
     (bytes_append (word_bytes offset) (word_bytes w.regs.ds) (bytes_word offset (omega arith)) (bytes_word w.regs.ds seen.world.segments.ds))))
     seen.keys
 
-keeps_version : (s : CallState) → Seen s → Keeps s (calls.version s)
-unfolding calls.version
+keeps_version : (s : CallState) → Seen s → Keeps s (calls.dos_version s)
+unfolding calls.dos_version
 keeps_version s seen =
     let w = s.world in
     keeps_served s _ s.keys (sound_general w _ _ _ w.regs.edx w.regs.esi w.regs.edi seen.world) seen.keys
@@ -173,7 +173,7 @@ keeps_error s code seen = keeps_served s (with_error code s.world) s.keys (sound
 keeps_keys_read : (s : CallState) (keys : List ℕ) → Seen s → AreBytes keys → Keeps s (keys_read s keys)
 keeps_keys_read s keys seen bytes =
     let w = s.world in
-    let put = record w { dos = with_bytes_at w.dos w.regs.ds (low_half w.regs.edx) keys } in
+    let put = record w { dos = with_dos_bytes_at w.dos w.regs.ds (low_half w.regs.edx) keys } in
     keeps_served s (without_carry (with_ax (length keys) put)) (drop (length keys) s.keys)
     (sound_carry (with_ax (length keys) put) false (sound_ax put (length keys)
     (IsSound-dos w _ seen.world (sound_bytes w.dos w.regs.ds (low_half w.regs.edx) keys seen.world.megabyte bytes))))

@@ -9,7 +9,7 @@ use Rattle.client_world.proofs.SoundWrites.{IsSound-dos, IsSound-regs, SoundMega
 use Rattle.guest_space.specs.Dos.{with_dos_byte}
 use Rattle.dos_calls.specs.Calls.{with_al, with_ax, with_bx, with_error}
 use Rattle.guest_ram.specs.Bytes.{AreBytes}
-use Rattle.dos_calls.specs.DosBytes.{address_at, with_bit, with_bytes_at, with_stacked}
+use Rattle.dos_calls.specs.DosBytes.{address_at, with_bit, with_dos_bytes_at, with_stacked}
 use Rattle.dos_calls.proofs.ByteLists.{bytes_behind}
 
 -- ---- bytes
@@ -22,8 +22,8 @@ below_rom false dos at v e s small = s
 pub sound_byte : (dos : List ℕ) (at v : ℕ) → SoundMegabyte dos → v < 0x100 → SoundMegabyte (with_dos_byte dos at v)
 sound_byte dos at v s small = below_rom (nat_lt at ROM_START) dos at v refl s small
 
-pub sound_bytes : (dos : List ℕ) (segment offset : ℕ) (xs : List ℕ) → SoundMegabyte dos → AreBytes xs → SoundMegabyte (with_bytes_at dos segment offset xs)
-unfolding with_bytes_at
+pub sound_bytes : (dos : List ℕ) (segment offset : ℕ) (xs : List ℕ) → SoundMegabyte dos → AreBytes xs → SoundMegabyte (with_dos_bytes_at dos segment offset xs)
+unfolding with_dos_bytes_at
 sound_bytes dos segment offset [] s bytes = s
 sound_bytes dos segment offset (x ∷ xs) s bytes =
     sound_bytes (with_dos_byte dos (address_at segment offset) x) segment (offset + 1) xs

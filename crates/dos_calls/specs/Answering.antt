@@ -1,4 +1,4 @@
--- How the contracts of the calls are said: what is left behind the console, what a call serves, what ends. Source: own.
+-- How the contracts of the calls are said: what is left after the console, what a call serves, what ends. Source: own.
 use Rattle.std.specs.Prelude.{◌≡◌, ℕ, ◌+◌, ◌-◌, Bool, true, false, if◌then◌else◌, List, [], ◌∷◌, ◌++◌, length, take, drop, Some, None}
 use Rattle.std.specs.declared.option.Option.{Option}
 use Rattle.client_world.specs.declared.limits.TheConstants.{CONSOLE_ROOM}
@@ -7,7 +7,7 @@ use Rattle.client_world.specs.declared.services.DosDone.TheVariants.{Served, End
 use Rattle.client_world.specs.World.{World}
 use Rattle.dos_calls.specs.Calls.{CallResult, CallState, has_room}
 
--- the console with the bytes behind it, or with as many as fit
+-- the console with the bytes after it, or with as many as fit
 abbrev pub added : List ℕ → List ℕ → List ℕ
 added console bytes =
     if has_room console bytes then console ++ bytes else console ++ take (CONSOLE_ROOM - length console) bytes
@@ -17,7 +17,7 @@ abbrev pub any_left : List ℕ → Bool
 any_left [] = false
 any_left (key ∷ keys) = true
 
--- the keys of a line of that length without its return, and those behind the return
+-- the keys of a line of that length without its return, and those after the return
 abbrev pub line_at : List ℕ → Option ℕ → Option (List ℕ × List ℕ)
 line_at keys None = None
 line_at keys (Some n) = Some (take n keys, drop (n + 1) keys)

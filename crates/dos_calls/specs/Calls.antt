@@ -16,7 +16,7 @@ use Rattle.client_world.specs.World.{World}
 use Rattle.dos_blocks.specs.Blocks.{Done, allocated, freed, resized}
 use Rattle.guest_ram.specs.Bytes.{word_of}
 use Rattle.host_memory.specs.Vectors.{word_bytes}
-use Rattle.dos_calls.specs.DosBytes.{byte_at, with_bytes_at, bytes_from, text_from, with_stacked}
+use Rattle.dos_calls.specs.DosBytes.{byte_at, with_dos_bytes_at, bytes_from, text_from, with_stacked}
 
 -- what a call comes to
 pub record CallResult : Type 0 where
@@ -105,7 +105,7 @@ read_key s = with_key s (λ key keys. served s (with_al key s.world) keys)
 unfoldable pub write_text : CallState → CallResult
 write_text s = printed s (text_from s.world.dos s.world.regs.ds (low_half s.world.regs.edx) SEGMENT_SIZE) s.world s.keys
 
--- the keys before the first return, and those behind it, where there is one
+-- the keys before the first return, and those after it, where there is one
 unfoldable pub line_of : List ℕ → Option (List ℕ × List ℕ)
 line_of [] = None
 line_of (key ∷ keys) =
@@ -115,7 +115,7 @@ line_of (key ∷ keys) =
 -- the buffer at DS:DX with a line: its characters and a return from byte 2 on, and their number without it in byte 1
 abbrev pub with_line : World → List ℕ → World
 with_line w line = record w {
-  dos = with_bytes_at (with_bytes_at w.dos w.regs.ds (low_half w.regs.edx + 2) (line ++ 0x0D ∷ []))
+  dos = with_dos_bytes_at (with_dos_bytes_at w.dos w.regs.ds (low_half w.regs.edx + 2) (line ++ 0x0D ∷ []))
       w.regs.ds (low_half w.regs.edx + 1) (length line ∷ []);
 }
 
@@ -140,13 +140,13 @@ ask_key s = served s (with_al (elim s.keys [ [] ↦ 0 | key ∷ keys ↦ 0xFF ])
 -- 25h: vector AL of real mode becomes DS:DX
 unfoldable pub set_vector : CallState → CallResult
 set_vector s = served s (record s.world {
-  dos = with_bytes_at s.world.dos 0 (4 * low_byte s.world.regs.eax)
+  dos = with_dos_bytes_at s.world.dos 0 (4 * low_byte s.world.regs.eax)
       (word_bytes (low_half s.world.regs.edx) ++ word_bytes s.world.regs.ds);
 }) s.keys
 
 -- 30h: the version, 5.0
-unfoldable pub version : CallState → CallResult
-version s = served s (record s.world {
+unfoldable pub dos_version : CallState → CallResult
+dos_version s = served s (record s.world {
   regs = record s.world.regs {
     eax = with_low_half s.world.regs.eax 5;
     ebx = with_low_half s.world.regs.ebx 0;
@@ -177,7 +177,7 @@ bad_handle = 6
 -- 3Fh: the first CX keys, or all that are left, go to DS:DX, and AX is their number
 abbrev pub keys_read : CallState → List ℕ → CallResult
 keys_read s keys = served s (without_carry (with_ax (length keys) (record s.world {
-  dos = with_bytes_at s.world.dos s.world.regs.ds (low_half s.world.regs.edx) keys;
+  dos = with_dos_bytes_at s.world.dos s.world.regs.ds (low_half s.world.regs.edx) keys;
 }))) (drop (length keys) s.keys)
 
 unfoldable pub read_file : CallState → CallResult
@@ -201,7 +201,7 @@ no_memory = 8
 abbrev pub wrong_block : ℕ
 wrong_block = 9
 
--- a refusal: where there is no room BX tells the most paragraphs that there could be
+-- a refusal: where there is no room BX is the most paragraphs that there could be
 abbrev pub memory_refused : DosRefusal → World → World
 memory_refused (NoMemory largest) w = with_error no_memory (with_bx largest w)
 memory_refused WrongBlock w = with_error wrong_block w
@@ -247,7 +247,7 @@ dos_call s =
     if nat_eq ah 0x0A then read_line s else
     if nat_eq ah 0x0B then ask_key s else
     if nat_eq ah 0x25 then set_vector s else
-    if nat_eq ah 0x30 then version s else
+    if nat_eq ah 0x30 then dos_version s else
     if nat_eq ah 0x35 then get_vector s else
     if nat_eq ah 0x3F then read_file s else
     if nat_eq ah 0x40 then write_file s else

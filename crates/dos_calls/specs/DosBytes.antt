@@ -5,7 +5,7 @@ use Rattle.client_world.specs.Access.{dos_address, linear_address}
 use Rattle.client_world.specs.World.{World}
 use Rattle.guest_space.specs.Dos.{with_dos_byte}
 
--- where the byte at segment:offset stands
+-- where the byte at segment:offset is
 abbrev pub address_at : ℕ → ℕ → ℕ
 address_at segment offset = dos_address (linear_address segment (offset % SEGMENT_SIZE))
 
@@ -13,10 +13,10 @@ abbrev pub byte_at : List ℕ → ℕ → ℕ → ℕ
 byte_at dos segment offset = slice_index dos (address_at segment offset)
 
 -- the megabyte with other bytes from there on; those of read-only memory stay
-unfoldable pub with_bytes_at : List ℕ → ℕ → ℕ → List ℕ → List ℕ
-with_bytes_at dos segment offset [] = dos
-with_bytes_at dos segment offset (byte ∷ bytes) =
-    with_bytes_at (with_dos_byte dos (address_at segment offset) byte) segment (offset + 1) bytes
+unfoldable pub with_dos_bytes_at : List ℕ → ℕ → ℕ → List ℕ → List ℕ
+with_dos_bytes_at dos segment offset [] = dos
+with_dos_bytes_at dos segment offset (byte ∷ bytes) =
+    with_dos_bytes_at (with_dos_byte dos (address_at segment offset) byte) segment (offset + 1) bytes
 
 -- n bytes from there on
 unfoldable pub bytes_from : List ℕ → ℕ → ℕ → ℕ → List ℕ
@@ -34,7 +34,7 @@ text_from dos segment offset (suc n) =
 abbrev pub with_bit : ℕ → ℕ → Bool → ℕ
 with_bit byte bit on = byte / (2 * bit) * (2 * bit) + cond on bit 0 + byte % bit
 
--- the world with a flag changed in the flags image that the interrupt pushed: CF and ZF stand in its low byte, at SS:SP+4
+-- the world with a flag changed in the flags image that the interrupt pushed: CF and ZF lie in its low byte, at SS:SP+4
 abbrev pub with_stacked : ℕ → Bool → World → World
 with_stacked bit on w =
     let at = address_at w.regs.ss (w.regs.esp + 4) in

@@ -2,7 +2,7 @@
 ghost use Rattle.std.specs.Prelude.{◌≡◌, ◌≤◌, ◌<◌, ◌+◌, length};
 ghost use Rattle.client_world.specs.declared.memory_map.TheConstants.{DOS_SIZE};
 ghost use Rattle.guest_space.specs.Dos.{with_dos_byte};
-ghost use Rattle.dos_calls.specs.DosBytes.{address_at, byte_at, with_bytes_at, bytes_from, text_from};
+ghost use Rattle.dos_calls.specs.DosBytes.{address_at, byte_at, with_dos_bytes_at, bytes_from, text_from};
 ghost use Rattle.dos_calls.specs.Answering.{added};
 ghost use Rattle.dos_calls.specs.Calls.{has_room};
 
@@ -10,7 +10,7 @@ use crate::console::Console;
 use client_world::memory_map::{DOS_SIZE, PARAGRAPH_SIZE, SEGMENT_SIZE};
 use guest_space::Machine;
 
-// Where the byte at segment:offset stands.
+// Where the byte at segment:offset is.
 fn address_at(segment: u16, offset: u32) -> u32
     ensures at { result ≡ address_at segment offset }
     ensures within { result < DOS_SIZE }
@@ -18,7 +18,7 @@ fn address_at(segment: u16, offset: u32) -> u32
     (u32::from(segment) * PARAGRAPH_SIZE + offset % SEGMENT_SIZE) % DOS_SIZE
 }
 
-/// Where the low byte of the flags image stands that the interrupt pushed.
+/// Where the low byte of the flags image is that the interrupt pushed.
 pub(crate) fn stacked_flags(m: &Machine) -> u32
     ensures at { result ≡ address_at m.now.world.regs.ss (m.now.world.regs.esp + 4) }
     ensures within { result < DOS_SIZE }
@@ -44,7 +44,7 @@ fn set_byte_at(m: &mut Machine, segment: u16, offset: u32, v: u8)
 /// Puts bytes at segment:offset; those of read-only memory stay.
 pub(crate) fn put_bytes(m: &mut Machine, segment: u16, offset: u32, bytes: &[u8])
     requires { offset + length bytes.now ≤ 0xFFFF_FFFF }
-    ensures { m.new.world ≡ record m.old.world { dos = with_bytes_at m.old.world.dos segment offset bytes.now } }
+    ensures { m.new.world ≡ record m.old.world { dos = with_dos_bytes_at m.old.world.dos segment offset bytes.now } }
 {
     let mut at = offset;
     for byte in bytes {
@@ -53,7 +53,7 @@ pub(crate) fn put_bytes(m: &mut Machine, segment: u16, offset: u32, bytes: &[u8]
     }
 }
 
-/// Adds so many bytes from segment:offset on to the console, as many as fit, and tells whether all did.
+/// Adds n bytes from segment:offset on to the console, as many as fit, and returns whether all did.
 pub(crate) fn print_bytes(
     m: &Machine,
     console: &mut Console,
@@ -73,7 +73,7 @@ pub(crate) fn print_bytes(
     true
 }
 
-/// Adds the text at segment:offset up to its `$` to the console, as many bytes as fit, and tells whether all did.
+/// Adds the text at segment:offset up to its `$` to the console, as many bytes as fit, and returns whether all did.
 pub(crate) fn print_text(m: &Machine, console: &mut Console, segment: u16, offset: u16) -> bool
     ensures room { result ≡ has_room console.old (text_from m.now.world.dos segment offset SEGMENT_SIZE) }
     ensures bytes { console.new ≡ added console.old (text_from m.now.world.dos segment offset SEGMENT_SIZE) }

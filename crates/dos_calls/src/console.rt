@@ -46,7 +46,7 @@ impl Console {
         let _ = &self.written;
     }
 
-    /// Adds a byte, and tells whether there was room for it.
+    /// Adds a byte, and returns whether there was room for it.
     pub(crate) fn add(&mut self, byte: u8) -> bool
         ensures room { result ≡ nat_lt (length self.old) CONSOLE_ROOM }
         ensures bytes { self.new ≡ (if result then self.old ++ byte ∷ [] else self.old) }
@@ -58,7 +58,7 @@ impl Console {
         true
     }
 
-    /// Adds bytes, as many as fit, and tells whether all did.
+    /// Adds bytes, as many as fit, and returns whether all did.
     pub(crate) fn print(&mut self, bytes: &[u8]) -> bool
         ensures room { result ≡ has_room self.old bytes.now }
         ensures bytes { self.new ≡ added self.old bytes.now }

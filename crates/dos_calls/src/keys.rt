@@ -56,14 +56,14 @@ impl Keys {
         Some(key)
     }
 
-    /// The first of them, so many at most.
+    /// The first n of them at most.
     pub(crate) fn first(&self, most: usize) -> &[u8]
         ensures { result.now ≡ take most self.now }
     {
         first(self.left(), most)
     }
 
-    /// Drops so many.
+    /// Drops n of them.
     pub(crate) fn skip(&mut self, count: usize)
         requires { count ≤ length self.old }
         ensures { self.new ≡ drop count self.old }
@@ -71,7 +71,7 @@ impl Keys {
         self.next += count;
     }
 
-    /// Drops a line of so many, and its return.
+    /// Drops a line of n keys, and its return.
     pub(crate) fn skip_line(&mut self, count: usize)
         requires { count < length self.old }
         ensures { self.new ≡ drop (count + 1) self.old }
@@ -89,7 +89,7 @@ impl Keys {
     }
 }
 
-/// The first of some bytes, so many at most.
+/// The first n of some bytes at most.
 pub(crate) fn first(bytes: &[u8], most: usize) -> &[u8]
     ensures { result.now ≡ take most bytes.now }
 {

@@ -13,7 +13,7 @@ use guest_space::Machine;
 // The key that ends a line.
 const RETURN: u8 = 0x0D;
 
-// Adds a line and its return to the console, as many bytes as fit, and tells whether all did.
+// Adds a line and its return to the console, as many bytes as fit, and returns whether all did.
 fn print_line(console: &mut Console, line: &[u8]) -> bool
     ensures room { result ≡ has_room console.old (line.now ++ 0x0D ∷ []) }
     ensures bytes { console.new ≡ added console.old (line.now ++ 0x0D ∷ []) }
@@ -35,7 +35,7 @@ fn put_line(m: &mut Machine, line: &[u8])
     put_bytes(m, r.ds, at + 1, &[count as u8]);
 }
 
-// Takes the line of so many keys, of which the buffer has room for some with a return.
+// Takes a line of n keys, of which the buffer has room for some with a return.
 fn take_line(
     m: &mut Machine,
     keys: &mut Keys,

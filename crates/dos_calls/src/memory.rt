@@ -13,7 +13,7 @@ const NO_MEMORY: u16 = 8;
 
 const WRONG_BLOCK: u16 = 9;
 
-// Answers a refusal: where there is no room BX tells the most paragraphs that there could be.
+// Answers a refusal: where there is no room BX is the most paragraphs that there could be.
 fn refuse_memory(m: &mut Machine, refusal: DosRefusal)
     ensures { m.new.world ≡ memory_refused refusal m.old.world }
 {

@@ -8,7 +8,7 @@ use client_world::memory_map::{ROM_SEGMENT, ROM_START};
 use client_world::traps::ENTRY_TRAP;
 use guest_space::Machine;
 
-// The function that tells of the host and its entry, and what it answers of them: that programs may have 32 bits, the processor, the version.
+// The function that describes the host and its entry, and what it returns: that programs may have 32 bits, the processor, the version.
 const GET_ENTRY: u16 = 0x1687;
 
 const HAS_32_BITS: u16 = 1;
@@ -33,7 +33,7 @@ fn with_entry(r: Regs) -> Regs
     }
 }
 
-/// Serves INT 2Fh: function 1687h tells of the host, and others change nothing.
+/// Serves INT 2Fh: function 1687h describes the host, and others change nothing.
 /// Source: DPMI 0.9, INT 2Fh function 1687h, "Obtain Real to Protected Mode Switch Entry Point".
 #[tactic(auto, unfolding(crate::specs::Multiplex::multiplex_call))]
 pub fn int2f(m: &mut Machine)

@@ -10,7 +10,7 @@ use std::test::Fail;
 
 mod rows;
 
-// A console with room for so many bytes, and the number of those in it.
+// A console with room for n bytes, and the number of those in it.
 fn console_with_room(alloc: Global, room: u32) -> Result<(Console, usize), Fail> {
     let mut console = Console::new(alloc)?;
     for _ in room..CONSOLE_ROOM {

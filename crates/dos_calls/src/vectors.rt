@@ -1,6 +1,6 @@
 // The calls on vectors, the version, the prefix, and the end of the client.
 ghost use Rattle.std.specs.Prelude.{◌≡◌, List, ℕ};
-ghost use Rattle.dos_calls.specs.Calls.{set_vector, version, get_vector, get_prefix, terminate, unknown};
+ghost use Rattle.dos_calls.specs.Calls.{set_vector, dos_version, get_vector, get_prefix, terminate, unknown};
 ghost use Rattle.dos_calls.specs.Answering.{Serves};
 
 use crate::bytes::put_bytes;
@@ -29,9 +29,9 @@ pub(crate) fn set_vector(m: &mut Machine)
 }
 
 /// Function 30h: the version.
-#[tactic(auto, unfolding(crate::specs::Calls::version))]
+#[tactic(auto, unfolding(crate::specs::Calls::dos_version))]
 pub(crate) fn version(m: &mut Machine)
-    ensures { Serves version m.old.world m.new.world }
+    ensures { Serves dos_version m.old.world m.new.world }
 {
     let mut r = m.regs();
     r.eax = with_low_half(r.eax, 5);

@@ -55,7 +55,7 @@ verdict_sure (Some v) N before now m n result cause gave named calm = elim (eqb_
   ]
 ]
 
--- where no named file and no put failed and the files are told, the answer is given whole, or memory was wanting
+-- where no named file and no put failed and the files are known, the answer is given whole, or memory was short
 pub answers_of : (words : List (List ℕ)) (files : Option Files) (N : Type 0) (before now : Told) (m n result : ℕ) → (result ≡ 3 → N ⊎ IsAbsent words files) →
     (result ≢ 3 → result ≢ 5 → HasVerdict words files (λ v. Answers v before now m n result)) → (N → ⊥) → (Rose m n → ⊥) →
     IfSome files (λ fs. IfSome (answer words fs) (λ a. (result ≡ 5) ⊎ ((result ≡ a.status) × Gains before now a.text)))
@@ -88,7 +88,7 @@ only_verdict : (words : List (List ℕ)) (files : Option Files) (P : Verdict →
 only_verdict words None P none (fs, has) = some_is (verdict words fs) (Refuses Words) P (no_verdict words fs none) has
 only_verdict words (Some fs) P none has = some_is (verdict words fs) (Refuses Words) P (no_verdict words fs none) has
 
--- words that mean nothing are refused as such, or memory was wanting
+-- words that mean nothing are refused as such, or memory was short
 pub wrong_words : (words : List (List ℕ)) (files : Option Files) (fm fn : ℕ) (blamed : Option (List ℕ)) (before now : Told) (m n result : ℕ) →
     (result ≡ 3 → NamedFailed words fm fn blamed ⊎ IsAbsent words files) →
     (result ≢ 3 → result ≢ 5 → HasVerdict words files (λ v. Answers v before now m n result)) → meaning words ≡ None →

@@ -11,7 +11,7 @@ use Rattle.client_world.specs.declared.outcome.LoadFault.{LoadFault}
 use Rattle.client_world.specs.World.{HostWorld}
 use Rattle.host_memory.specs.Blank.{blank_world}
 use Rattle.mz_loader.specs.Refusal.{refusal}
-use Rattle.host_run.specs.Start.{started, blank, IsBlank}
+use Rattle.host_run.specs.Start.{started_host, blank, IsBlank}
 use Rattle.dpmi_io.specs.Causes.{Rose}
 use Rattle.dpmi_io.specs.Content.{Files, Lacks, Starts as Opens}
 use Rattle.dpmi_cli.specs.declared.prepare.Reason.TheVariants.{Words, FileTooLong, Load}
@@ -23,7 +23,7 @@ use Rattle.dpmi_cli.specs.Words.{meaning, file_names}
 
 -- the verdict by the refusal, and the verdict on a file where the longest has m bytes
 abbrev by_refusal : List ℕ → Option LoadFault → Verdict
-by_refusal file refused = elim refused [ None ↦ Starts (started 1024 [] 1000 file) | Some fault ↦ Refuses (Load fault) ]
+by_refusal file refused = elim refused [ None ↦ Starts (started_host 1024 [] 1000 file) | Some fault ↦ Refuses (Load fault) ]
 
 abbrev verdict_by : ℕ → List ℕ → Verdict
 verdict_by m file = if nat_lt m (length file) then Refuses FileTooLong else by_refusal file (refusal file)
@@ -58,12 +58,12 @@ is_blank pages keys keep w is =
 
 -- a file that is taken, in a host that is new
 pub front_starts : (bytes : List ℕ) (before w : HostWorld) → length bytes ≤ MAX_FILE → before ≡ blank 1024 [] 1000 →
-    refusal bytes ≡ None → w ≡ started before.machine.budget before.keys before.keep bytes →
+    refusal bytes ≡ None → w ≡ started_host before.machine.budget before.keys before.keep bytes →
     verdict_of bytes ≡ Starts w
 front_starts bytes before w short new taken is =
-    let usual : w ≡ started 1024 [] 1000 bytes =
-    is ∙ ap (λ (v : HostWorld). started v.machine.budget v.keys v.keep bytes) new
-    ∙ ap (λ n. started n [] 1000 bytes) (blank_budget 1024) in
+    let usual : w ≡ started_host 1024 [] 1000 bytes =
+    is ∙ ap (λ (v : HostWorld). started_host v.machine.budget v.keys v.keep bytes) new
+    ∙ ap (λ n. started_host n [] 1000 bytes) (blank_budget 1024) in
     verdict_short MAX_FILE bytes short ∙ ap (by_refusal bytes) taken ∙ ap Starts (sym usual)
 
 of_file : (found : Option (List ℕ)) (P : List ℕ → Type 0) (v : Verdict) → IsSomeAnd found P →

@@ -7,7 +7,7 @@ use Rattle.client_world.specs.declared.limits.TheConstants.{DEFAULT_BOUND}
 use Rattle.client_world.specs.World.{HostWorld}
 use Rattle.client_world.specs.Access.{IsHeld}
 use Rattle.host_run.specs.Run.{run, turns}
-use Rattle.host_run.specs.Touched.{touched}
+use Rattle.host_run.specs.Touched.{touched_by_turn}
 use Rattle.dpmi_io.specs.Causes.{Rose}
 use Rattle.dpmi_io.specs.Content.{Told, Gains, GainsPart}
 use Rattle.dpmi_cli.specs.Answer.{Starts, run_status, exit_status}
@@ -27,7 +27,7 @@ not_four s small four = omega arith
 
 -- at each turn of a run, the places that it touches are the client's
 abbrev TouchesHold : Type 0
-TouchesHold = (w : HostWorld) (n : ℕ) → All (IsHeld (turns w n).machine) (touched (turns w n))
+TouchesHold = (w : HostWorld) (n : ℕ) → All (IsHeld (turns w n).machine) (touched_by_turn (turns w n))
 
 -- the run ended so, and its text was written whole
 pub gives_run : (w after : HostWorld) (e : Exit) (before now : Told) (m n result : ℕ) → TouchesHold →

@@ -30,7 +30,7 @@ console_part w e console a b c is same head part =
     subst (λ l. GainsPart a c l) (sym (text_by w e console is same))
     (part_longer a c (head_text (length console) ++ console) (tail_text e w.steps) (part_then a b c (head_text (length console)) console head part))
 
--- the output failed behind the console's bytes
+-- the output failed after the console's bytes
 pub tail_part : (w : HostWorld) (e : Exit) (console : List ℕ) (n : ℕ) (a b c d : Told) → w.exit ≡ Some e →
     console ≡ w.console → n ≡ w.steps →
     Gains a b (head_text (length console)) → Gains b c console → GainsPart c d (tail_text e n) →

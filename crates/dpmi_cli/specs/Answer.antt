@@ -7,10 +7,10 @@ use Rattle.client_world.specs.declared.outcome.Exit.{Exit}
 use Rattle.client_world.specs.declared.outcome.Exit.TheVariants.{Exited, Fault, Bound, NoKeys, ConsoleFull, Deep, Stray, LostStructure, BadFrame, BadSwitch, Unbuilt}
 use Rattle.client_world.specs.World.{HostWorld}
 use Rattle.client_world.specs.Access.{IsHeld}
-use Rattle.host_run.specs.Start.{started}
+use Rattle.host_run.specs.Start.{started_host}
 use Rattle.mz_loader.specs.Refusal.{refusal}
 use Rattle.host_run.specs.Run.{run, turns}
-use Rattle.host_run.specs.Touched.{touched}
+use Rattle.host_run.specs.Touched.{touched_by_turn}
 use Rattle.dpmi_io.specs.Content.{Files}
 use Rattle.dpmi_cli.specs.declared.prepare.Reason.{Reason}
 use Rattle.dpmi_cli.specs.declared.prepare.Reason.TheVariants.{Words, FileTooLong, Load}
@@ -30,7 +30,7 @@ abbrev pub verdict_of : List ℕ → Verdict
 verdict_of file =
     if nat_lt MAX_FILE (length file) then Refuses FileTooLong else
     elim (refusal file) [
-      | None ↦ Starts (started DEFAULT_PAGES [] DEFAULT_TRACE file)
+      | None ↦ Starts (started_host DEFAULT_PAGES [] DEFAULT_TRACE file)
       | Some fault ↦ Refuses (Load fault)
     ]
 
@@ -82,4 +82,4 @@ answer words files = option_map answer_to (verdict words files)
 -- at each turn of the run that starts, every place that a client instruction touches is the client's
 abbrev pub TouchesWhatIsHeld : Verdict → Type 0
 TouchesWhatIsHeld (Refuses reason) = ⊤
-TouchesWhatIsHeld (Starts w) = (i : ℕ) → All (IsHeld (turns w i).machine) (touched (turns w i))
+TouchesWhatIsHeld (Starts w) = (i : ℕ) → All (IsHeld (turns w i).machine) (touched_by_turn (turns w i))

@@ -29,9 +29,9 @@ abbrev pub FailsAt : Option Files → List ℕ → ℕ → ℕ → Option (List 
 FailsAt files name before now blamed = (Rose before now × (blamed ≡ Some name)) ⊎ Lacks files name
 
 -- what a load came to
-abbrev pub loaded : Option Reason → HostWorld → Verdict
-loaded None w = Starts w
-loaded (Some reason) w = Refuses reason
+abbrev pub load_verdict : Option Reason → HostWorld → Verdict
+load_verdict None w = Starts w
+load_verdict (Some reason) w = Refuses reason
 
 -- a run that starts has made no turn, and its machine is sound
 abbrev pub IsNew : Verdict → Type 0

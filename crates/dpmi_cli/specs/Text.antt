@@ -40,7 +40,7 @@ exit_text Unbuilt = codes "unbuilt"
 abbrev pub head_text : ℕ → List ℕ
 head_text count = codes "console " ++ decimal count ++ line_end
 
--- the lines behind them, the end of their own line first: how the run ended, and after how many turns
+-- the lines after them, the end of their own line first: how the run ended, and after how many turns
 abbrev pub tail_text : Exit → ℕ → List ℕ
 tail_text exit steps =
     line_end ++ codes "exit " ++ exit_text exit ++ line_end ++ codes "steps " ++ decimal steps ++ line_end

@@ -1,4 +1,4 @@
--- What the words behind the program's name mean. Source: own.
+-- What the words after the program's name mean. Source: own.
 use Rattle.std.specs.Prelude.{ℕ, List, [], ◌∷◌, Bool, false, not, ◌&&◌, nat_eq, None, Some, codes, if◌then◌else◌}
 use Rattle.std.specs.Cmp.Lexicographic.{pointwise}
 use Rattle.std.specs.declared.option.Option.{Option}

@@ -77,7 +77,7 @@ fn answer_words<F: Shelf, O: Sink>(
     }
 }
 
-/// All that the program does. The words behind its name, the files and the output are handed in, and the status
+/// All that the program does. The words after its name, the files and the output are handed in, and the status
 /// is answered: 0 and 1 for a run by its exit, 2 for a refusal, 3 where a file that the words name failed or isn't
 /// there, 4 where the output failed, 5 for want of memory. With 3 and 5 nothing is written. All memory is taken
 /// before the load. Source: own.

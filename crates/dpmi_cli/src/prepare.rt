@@ -2,7 +2,7 @@
 ghost use Rattle.std.specs.Prelude.{◌≡◌, ◌≤◌, ◌⊎◌, [], map, string_bytes, None, Some, length, take, IfOk, OnErr, IsErrOf};
 ghost use Rattle.client_world.specs.declared.limits.TheConstants.{DEFAULT_PAGES, DEFAULT_TRACE};
 ghost use Rattle.dpmi_cli.specs.Answer.{verdict_in, verdict_of};
-ghost use Rattle.dpmi_cli.specs.Load.{HasFront, Comes, FailsAt, loaded, IsNew};
+ghost use Rattle.dpmi_cli.specs.Load.{HasFront, Comes, FailsAt, load_verdict, IsNew};
 ghost use Rattle.host_run.specs.Start.{blank};
 ghost use Rattle.dpmi_cli.specs.Causes.{NamedFailed, IsAbsent, HasVerdict};
 ghost use Rattle.dpmi_cli.specs.declared.prepare.Stop.TheVariants.{Memory};
@@ -32,7 +32,7 @@ pub enum Prepared {
     Ready(Host),
 }
 
-/// Why there is no answer: memory was wanting, or a file failed or wasn't there.
+/// Why there is no answer: out of memory, or a file failed or wasn't there.
 #[derive(Clone, Copy, Debug, PartialEq, Eq)]
 pub enum Stop {
     Memory,
@@ -68,8 +68,8 @@ fn read_front<F: Shelf>(shelf: &mut F, name: String, buf: &mut [u8]) -> Result<u
 // Loads a file's first bytes into a new host. None is answered where it is taken, else the reason.
 fn load_front(front: &[u8], host: &mut Host) -> Option<Reason>
     requires blank { host.old.world ≡ blank DEFAULT_PAGES [] DEFAULT_TRACE }
-    ensures told { verdict_of front.now ≡ loaded result host.new.world }
-    ensures new { IsNew (loaded result host.new.world) }
+    ensures told { verdict_of front.now ≡ load_verdict result host.new.world }
+    ensures new { IsNew (load_verdict result host.new.world) }
 {
     if front.len() > MAX_FILE as usize {
         return Some(Reason::FileTooLong);
@@ -90,8 +90,8 @@ fn load_file<F: Shelf>(
     requires room { length buf.old ≡ FRONT_SIZE }
     requires blank { host.old.world ≡ blank DEFAULT_PAGES [] DEFAULT_TRACE }
     ensures told { IfOk result (λ reason.
-        Comes (F.files shelf.old) (string_bytes name) (loaded reason host.new.world)) }
-    ensures new { IfOk result (λ reason. IsNew (loaded reason host.new.world)) }
+        Comes (F.files shelf.old) (string_bytes name) (load_verdict reason host.new.world)) }
+    ensures new { IfOk result (λ reason. IsNew (load_verdict reason host.new.world)) }
     ensures failed { OnErr result
         (FailsAt (F.files shelf.old) (string_bytes name) (F.faults shelf.old) (F.faults shelf.new) (F.blamed shelf.new)) }
 {

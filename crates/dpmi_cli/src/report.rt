@@ -98,7 +98,7 @@ fn add_exit(line: &mut Line, exit: Exit)
     }
 }
 
-// The lines behind the console's bytes.
+// The lines after the console's bytes.
 #[tactic(auto, using(crate::proofs::Decimal::decimal_short))]
 fn tail_lines(exit: Exit, steps: u32) -> Line
     ensures { result.items ≡ tail_text exit steps }
@@ -123,7 +123,7 @@ fn put_head<O: Sink>(count: u32, out: &mut O) -> Result<(), SinkFail>
     put_all(out, line.as_slice())
 }
 
-// Puts the lines behind them.
+// Puts the lines after them.
 fn put_tail<O: Sink>(exit: Exit, steps: u32, out: &mut O) -> Result<(), SinkFail>
     ensures whole { OnOk result (Gains (O.taken out.old) (O.taken out.new) (tail_text exit steps)) }
     ensures part { OnErr result (GainsPart (O.taken out.old) (O.taken out.new) (tail_text exit steps)) }
@@ -147,7 +147,7 @@ pub fn write_all_of<O: Sink>(host: &Host, out: &mut O) -> Result<(), SinkFail>
     }
 }
 
-// Writes the line before the console's bytes, those bytes, and the lines behind them.
+// Writes the line before the console's bytes, those bytes, and the lines after them.
 fn write_parts<O: Sink>(host: &Host, exit: Exit, out: &mut O) -> Result<(), SinkFail>
     requires { host.now.world.exit ≡ Some exit }
     ensures whole { OnOk result (Gains (O.taken out.old) (O.taken out.new) (text host.now.world)) }

@@ -15,5 +15,5 @@ pub const FILE_FAILED: u8 = 3;
 /// The output failed.
 pub const OUTPUT_FAILED: u8 = 4;
 
-/// Memory was wanting.
+/// Out of memory.
 pub const NO_MEMORY: u8 = 5;

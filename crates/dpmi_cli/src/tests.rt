@@ -64,7 +64,7 @@ fn a_file_of_too_many_bytes_is_refused(rt: HostRuntime) -> Result<(), Fail> {
     Ok(())
 }
 
-// The client of other code: in that client's header the bytes of the last page and SS, the paragraph behind the code, are others.
+// The client of other code: in that client's header the bytes of the last page and SS, the paragraph after the code, are others.
 fn client(rt: &(impl Abort + AllocGlobal), code: &[u8]) -> Result<Vec<u8>, Fail> {
     assert!(rt; code.len() <= 100);
     let mut file = ONE_LETTER[..32].to_vec(rt.alloc())?;
@@ -76,7 +76,7 @@ fn client(rt: &(impl Abort + AllocGlobal), code: &[u8]) -> Result<Vec<u8>, Fail>
 }
 
 // JMP F000h:0100h, which enters protected mode and goes on at the far address on top of the stack, 0000h:0000h: the interrupt vectors are
-// run, two instructions for each of the first five, and behind ADD AX,0000h stands LOCK PUSH ES, an exception; MOV AH,01h and INT 21h,
+// run, two instructions for each of the first five, and after ADD AX,0000h comes LOCK PUSH ES, an exception; MOV AH,01h and INT 21h,
 // which asks for a key; HLT.
 #[test]
 fn each_code_has_its_exit(rt: HostRuntime) -> Result<(), Fail> {
@@ -163,7 +163,7 @@ fn each_header_word_of_ffff_has_its_answer(rt: HostRuntime) -> Result<(), Fail> 
 }
 
 // Clients that mean harm: one fills all memory from 00000h on, itself too; one jumps into read-only memory; stacks at 1, at 0 and in
-// read-only memory; vectors that lead to trap bytes, of the entry and of DOS calls. Behind the entry the rest of the code segment is run,
+// read-only memory; vectors that lead to trap bytes, of the entry and of DOS calls. After the entry the rest of the code segment is run,
 // two bytes at a time, and the exception comes at its limit.
 const HOSTILE: [(&[u8], u8, &str); 7] = [
     (
@@ -277,7 +277,7 @@ fn a_file_fails(rt: HostRuntime) -> Result<(), Fail> {
     Ok(())
 }
 
-// The text is put in pieces of at most 8 bytes: two of the head, one of the console, three behind it.
+// The text is put in pieces of at most 8 bytes: two of the head, one of the console, three after it.
 #[test]
 fn each_put_fails_in_turn(rt: HostRuntime) -> Result<(), Fail> {
     let run = words(&rt, &["run", "A.EXE"])?;

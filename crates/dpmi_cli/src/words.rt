@@ -1,4 +1,4 @@
-// What the words behind the program's name mean.
+// What the words after the program's name mean.
 ghost use Rattle.std.specs.Prelude.{◌≡◌, map, string_bytes};
 ghost use Rattle.std.specs.Option.{option_copied};
 ghost use Rattle.dpmi_cli.specs.Words.{meaning, names_file};

@@ -5,6 +5,6 @@ use Rattle.std.specs.Prelude.{◌≤◌, ◌+◌, ◌-◌, ◌^◌, ℕ, min}
 abbrev pub greatest : ℕ
 greatest = 2 ^ 64 - 1
 
--- the count is greater now than before, or stands at its end
+-- the count is greater now than before, or is at its end
 abbrev pub Rose : ℕ → ℕ → Type 0
 Rose before now = min (before + 1) greatest ≤ now

@@ -23,13 +23,13 @@ Gives None now given = ⊤
 Gives (Some left) None given = ⊥
 Gives (Some left) (Some now) given = (left ≡ given ++ now) × (given ≡ [] → left ≡ [])
 
--- what a sink tells of what it took: the bytes, their number up to the greatest u64, or nothing
+-- what a sink shows of what it took: the bytes, their number up to the greatest u64, or nothing
 pub data Told : Type 0 where
   Bytes : List ℕ → Told
   Number : ℕ → Told
   Nothing : Told
 
--- what it tells once it took these as well
+-- what it shows once it took these as well
 abbrev pub gained : Told → List ℕ → Told
 gained (Bytes taken) more = Bytes (taken ++ more)
 gained (Number taken) more = Number (max taken (min (taken + length more) greatest))

@@ -26,8 +26,8 @@ abbrev pub is_listed : Plan → Bool
 is_listed p = list_any (λ call. nat_eq call (next_call p)) p.listed
 
 -- the plan after a call that did not fail
-abbrev pub after_call : Plan → Plan
-after_call p = record p { calls = next_call p }
+abbrev pub after_success : Plan → Plan
+after_success p = record p { calls = next_call p }
 
 -- the plan after one failure more
 abbrev pub after_fault : Plan → Plan

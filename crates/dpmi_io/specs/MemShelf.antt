@@ -6,7 +6,7 @@ use Rattle.std.specs.FinMap as map
 use Rattle.std.specs.Option.{option_map, option_and_then}
 use Rattle.std.specs.Ordering.{nat_cmp}
 use Rattle.std.specs.declared.option.Option.{Option}
-use Rattle.dpmi_io.specs.FaultPlan.{Plan, new_plan, is_listed, after_call, after_fault}
+use Rattle.dpmi_io.specs.FaultPlan.{Plan, new_plan, is_listed, after_success, after_fault}
 use Rattle.dpmi_io.specs.declared.outside.ShelfFail.{ShelfFail}
 use Rattle.dpmi_io.specs.declared.outside.ShelfFail.TheVariants.{Missing, Failed}
 
@@ -54,24 +54,24 @@ read_count s len = min len (length (unwrap_or (shelf_left s) []))
 -- the shelf after the file of that name was opened
 abbrev pub after_open : MemShelfState → List ℕ → MemShelfState
 after_open s name =
-    record s { current = Some (record { name = name; at = 0 }); plan = after_call s.plan }
+    record s { current = Some (record { name = name; at = 0 }); plan = after_success s.plan }
 
 -- the shelf after a call for a name that no file has
 abbrev pub after_missing : MemShelfState → MemShelfState
-after_missing s = record s { current = None; plan = after_call s.plan }
+after_missing s = record s { current = None; plan = after_success s.plan }
 
 -- the shelf after a call that failed at the file of that name
 abbrev pub after_failure : MemShelfState → Option (List ℕ) → MemShelfState
 after_failure s name =
-    record s { current = None; blamed = name; plan = after_fault (after_call s.plan) }
+    record s { current = None; blamed = name; plan = after_fault (after_success s.plan) }
 
--- the open file once so many bytes more are read
+-- the open file after n more bytes are read
 abbrev pub read_on : ℕ → OpenAt → OpenAt
 read_on n o = record o { at = o.at + n }
 
--- the shelf after so many bytes of the open file were given
+-- the shelf after n bytes of the open file were given
 abbrev pub after_read : MemShelfState → ℕ → MemShelfState
-after_read s n = record s { current = option_map (read_on n) s.current; plan = after_call s.plan }
+after_read s n = record s { current = option_map (read_on n) s.current; plan = after_success s.plan }
 
 -- the shelf once the file of that name has these bytes
 abbrev pub after_add : MemShelfState → List ℕ → List ℕ → MemShelfState

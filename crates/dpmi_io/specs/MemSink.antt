@@ -1,6 +1,6 @@
 -- What a sink in memory holds, and which of its calls fail. Source: own.
 use Rattle.std.specs.Prelude.{◌||◌, ◌++◌, ◌-◌, [], ℕ, List, length, min, Bool, nat_eq}
-use Rattle.dpmi_io.specs.FaultPlan.{Plan, new_plan, is_listed, after_call, after_fault}
+use Rattle.dpmi_io.specs.FaultPlan.{Plan, new_plan, is_listed, after_success, after_fault}
 
 -- the bytes taken, for how many more there is room, how many a put takes at most,
 -- and the calls that are to fail
@@ -25,8 +25,8 @@ put_count s bytes = min s.piece (min s.room (length bytes))
 -- the sink after a put that took these bytes
 abbrev pub after_put : MemSinkState → List ℕ → MemSinkState
 after_put s more =
-    record s { taken = s.taken ++ more; room = s.room - length more; plan = after_call s.plan }
+    record s { taken = s.taken ++ more; room = s.room - length more; plan = after_success s.plan }
 
 -- the sink after a put that failed
 abbrev pub after_failed_put : MemSinkState → MemSinkState
-after_failed_put s = record s { plan = after_fault (after_call s.plan) }
+after_failed_put s = record s { plan = after_fault (after_success s.plan) }

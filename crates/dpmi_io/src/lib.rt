@@ -1,6 +1,6 @@
 //! The outside of the host: the files that it reads and the bytes that it writes.
 //! It promises what each call of a shelf or a sink answers, when it may fail, and what it then leaves.
-//! It stands on nothing; `dpmi_cli` stands on it.
+//! It uses no other crate; `dpmi_cli` uses it.
 #![tactic(auto)]
 
 mod memory_shelf;

@@ -144,7 +144,7 @@ fn stored<'a>(files: &'a BTreeMap<String, Vec<u8>>, name: &str) -> Option<&'a [u
     }
 }
 
-// Moves bytes from a place on into the buffer, and the place behind them.
+// Moves bytes from a place on into the buffer, and the place after them.
 fn give(bytes: &[u8], at: &mut usize, buf: &mut [u8]) -> usize
     ensures bound { result ≤ length buf.new }
     ensures count { result ≡ min (length buf.old) (length (drop at.old bytes.now)) }

@@ -56,7 +56,7 @@ pub trait Shelf {
         ensures later { faults self.old ≤ faults self.new }
         ensures closed { OnErr result (open_name self.new ≡ None) };
 
-    /// Moves the first of the bytes left into the front of the buffer, and answers their number,
+    /// Moves the first of the bytes left to the start of the buffer, and answers their number,
     /// which is 0 only at the end. It fails as `Failed` alone, and the count of faults then rose.
     fn read(&mut self, buf: &mut [u8]) -> Result<usize, ShelfFail>
         requires opened { IsSome (open_name self.old) }

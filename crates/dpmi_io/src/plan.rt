@@ -1,6 +1,6 @@
 // The calls that are to fail, by their numbers.
 ghost use Rattle.std.specs.Prelude.{◌≡◌, ◌≤◌, ◌<◌, OnOk, OnErr};
-ghost use Rattle.dpmi_io.specs.FaultPlan.{new_plan, after_listing, after_call, after_fault, is_listed};
+ghost use Rattle.dpmi_io.specs.FaultPlan.{new_plan, after_listing, after_success, after_fault, is_listed};
 
 use std::alloc::{AllocError, Global};
 use std::marker::Model;
@@ -47,7 +47,7 @@ impl FaultPlan {
     /// Counts a call, and says whether it is to fail.
     pub(crate) fn count(&mut self) -> bool
         ensures listed { result ≡ is_listed self.old }
-        ensures counted { self.new ≡ after_call self.old }
+        ensures counted { self.new ≡ after_success self.old }
     {
         self.calls = self.calls.saturating_add(1);
         self.listed.contains(&self.calls)

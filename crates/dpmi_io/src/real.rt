@@ -14,7 +14,7 @@ struct Opened<F> {
     file: F,
 }
 
-/// The files of the system. It tells nothing of their content, and fails as `Failed` alone.
+/// The files of the system. It shows nothing of their content, and fails as `Failed` alone.
 /// Source: own.
 #[derive(Drop)]
 pub struct FileShelf<'a, R: Files> {
@@ -93,7 +93,7 @@ impl<R: Files> Shelf for FileShelf<'_, R> {
     }
 }
 
-/// A writer of the system, as the standard output. It tells nothing of what it took.
+/// A writer of the system, as the standard output. It shows nothing of what it took.
 /// Clauses see it as how many of its puts failed. Source: own.
 #[derive(Drop)]
 pub struct StdoutSink<W: Write> {

@@ -31,15 +31,15 @@ pub data Meaning : Type 0 where
   Soaks : ℕ → Meaning
 
 -- the bytes that were decoded
-abbrev pub decoded : {E : Type 0} → Result (List ℕ) E → Option Keys
-decoded (Ok bytes) = Some (Pressed bytes)
-decoded (Err e) = None
+abbrev pub pressed : {E : Type 0} → Result (List ℕ) E → Option Keys
+pressed (Ok bytes) = Some (Pressed bytes)
+pressed (Err e) = None
 
 -- the keystrokes of the values of `keys` and `keys-file`, which don't come together: an even number of hexadecimal digits, a name, or none
 abbrev pub keys_of : Option Text → Option Text → Option Keys
 keys_of None None = Some (Pressed [])
 keys_of None (Some name) = Some (Stored name)
-keys_of (Some digits) None = decoded (decode_of digits)
+keys_of (Some digits) None = pressed (decode_of digits)
 keys_of (Some digits) (Some name) = None
 
 -- the run of these values

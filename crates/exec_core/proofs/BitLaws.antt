@@ -16,7 +16,7 @@ room_above v b m pos below clear =
     let times = mul-le-mul_left b more in
     omega (arith, times, whole, down)
 
--- a number of so many bits with a clear bit has room for that bit
+-- a number of n bits with a clear bit has room for that bit
 room_among : (v n j k : ℕ) → k ≡ n + (1 + j) → v < 2 ^ k → v / 2 ^ n % 2 ≢ 1 → v + 2 ^ n < 2 ^ k
 room_among v n j k split below clear =
     let parts : 2 ^ k ≡ 2 ^ n * (2 * 2 ^ j) = rw (split, pow-add 2 n (1 + j), pow-add 2 1 j) refl in
@@ -34,7 +34,7 @@ weight_fits n h =
     let same : 1 * 2 ^ n % 0x100000000 ≡ 1 * 2 ^ n = mod-eq_of_lt small in
     omega (arith, same)
 
--- the lowest bit is at the place where the loop stands
+-- the lowest bit is at the place where the loop is
 pub lowest_here : (v k w : ℕ) → k < w → v % 2 ≡ 1 → k + lowest_bit v (w - k) ≡ k
 unfolding lowest_bit
 lowest_here v k w h odd =
@@ -49,7 +49,7 @@ lowest_further v k w h even =
     let zero_bit : v % 2 ≡ 0 = omega arith in
     rw (next, lowest_bit, zero_bit) (omega arith)
 
--- the highest bit is at the place where the loop stands
+-- the highest bit is at the place where the loop is
 pub highest_here : (v k w : ℕ) → k < w → v < 2 → k + highest_bit v (w - k) ≡ k
 unfolding highest_bit
 highest_here v k w h small =

@@ -1,4 +1,4 @@
--- The item at the top of the stack stands where the stack pointer points.
+-- The item at the top of the stack is where the stack pointer points.
 use Rattle.std.proofs.Common.{◌≡◌, ℕ, ◌+◌, ◌*◌, Bool, true, false, ap, arith}
 use Rattle.client_world.specs.declared.segments.SegReg.TheVariants.{Ss}
 use Rattle.client_world.specs.World.{World}

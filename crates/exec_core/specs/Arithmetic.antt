@@ -6,7 +6,7 @@ use Rattle.client_world.specs.World.{World}
 use Rattle.cpu_values.specs.Word.{cut}
 use Rattle.insn_forms.specs.declared.insn.Insn.{Insn}
 use Rattle.insn_plan.specs.Act.{Act, ◌>>=◌, done, with_flags}
-use Rattle.insn_plan.specs.Operands.{source, put}
+use Rattle.insn_plan.specs.Operands.{source, put_operand}
 
 -- a formula of two numbers at a width, with flags
 abbrev pub Formula : Type 0
@@ -22,7 +22,7 @@ binary formula w i = do
   a ← source w.regs i.addr32 i.width i.first
   b ← source w.regs i.addr32 i.width i.second
   let result = formula i.width (cut i.width a) (cut i.width b) w.regs.flags
-  done (put w.regs i.addr32 i.width i.first result.0 (with_flags result.1 w))
+  done (put_operand w.regs i.addr32 i.width i.first result.0 (with_flags result.1 w))
 
 -- CMP and TEST: the flags alone
 unfoldable pub compare : Formula → World → Insn → Act
@@ -37,4 +37,4 @@ unfoldable pub unary : SingleFormula → World → Insn → Act
 unary formula w i = do
   a ← source w.regs i.addr32 i.width i.first
   let result = formula i.width (cut i.width a) w.regs.flags
-  done (put w.regs i.addr32 i.width i.first result.0 (with_flags result.1 w))
+  done (put_operand w.regs i.addr32 i.width i.first result.0 (with_flags result.1 w))

@@ -11,18 +11,18 @@ use Rattle.insn_forms.specs.declared.insn.Operand.{Operand}
 use Rattle.insn_forms.specs.declared.insn.Operand.TheVariants.{Empty, Reg, Seg, Mem, Imm, Far}
 use Rattle.insn_plan.specs.Act.{Act, ◌>>=◌, done, unchanged, with_flags}
 use Rattle.insn_plan.specs.Conditions.{condition}
-use Rattle.insn_plan.specs.Operands.{source, put}
+use Rattle.insn_plan.specs.Operands.{source, put_operand}
 
 -- SETcc: the operand, a byte, becomes 1 where the condition holds, else 0
 unfoldable pub setcc : World → Insn → ℕ → Act
-setcc w i n = done (put w.regs i.addr32 8 i.first (cond (condition n w.regs.flags) 1 0) (unchanged w))
+setcc w i n = done (put_operand w.regs i.addr32 8 i.first (cond (condition n w.regs.flags) 1 0) (unchanged w))
 
 -- how far a bit's offset moves an operand in memory, in bytes: (width / 8) · floor (offset / width) of the signed offset, modulo 2^32
 abbrev pub bit_distance : ℕ → ℕ → ℕ
 bit_distance width offset =
     width / 8 * (offset / width) + (if nat_lt offset (2 ^ (width - 1)) then 0 else 2 ^ 32 - 2 ^ width / 8)
 
--- the operand in which the bit at an offset stands: memory moves with an offset in a register
+-- the operand in which the bit at an offset is: memory moves with an offset in a register
 abbrev pub moved_place : Insn → MemForm → ℕ → Operand → Operand
 moved_place i f offset Empty = Mem f
 moved_place i f offset (Reg own number) = Mem (record f { disp = (f.disp + bit_distance i.width offset) % 2 ^ 32 })
@@ -69,7 +69,7 @@ unfoldable pub bit_change : (ℕ → ℕ → ℕ) → World → Insn → Act
 bit_change change w i = do
   offset ← source w.regs i.addr32 i.width i.second
   a ← source w.regs i.addr32 i.width (bit_operand i (cut i.width offset) i.first)
-  done (put w.regs i.addr32 i.width (bit_operand i (cut i.width offset) i.first) (change a (cut i.width offset % i.width))
+  done (put_operand w.regs i.addr32 i.width (bit_operand i (cut i.width offset) i.first) (change a (cut i.width offset % i.width))
       (with_flags (with_bit_in_carry w (bit_at a (cut i.width offset % i.width))) w))
 
 -- the place of the lowest bit that is set, among n bits
@@ -87,4 +87,4 @@ unfoldable pub bit_scan : (ℕ → ℕ → ℕ) → World → Insn → Act
 bit_scan place w i = do
   v ← source w.regs i.addr32 i.width i.second
   (if nat_eq (cut i.width v) 0 then done (with_flags (record w.regs.flags { zf = true }) w) else
-      done (put w.regs i.addr32 i.width i.first (place (cut i.width v) i.width) (with_flags (record w.regs.flags { zf = false }) w)))
+      done (put_operand w.regs i.addr32 i.width i.first (place (cut i.width v) i.width) (with_flags (record w.regs.flags { zf = false }) w)))

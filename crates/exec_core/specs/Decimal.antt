@@ -18,23 +18,23 @@ use Rattle.insn_plan.specs.Registers.{with_register}
 abbrev pub with_ax_in : Regs → ℕ × Flags → Regs
 with_ax_in r result = with_register (record r { flags = result.1 }) 16 0 result.0
 
-abbrev pub with_ax : World → ℕ × Flags → Pending
-with_ax w result = with_regs (with_ax_in w.regs result) (unchanged w)
+abbrev pub with_ax_and_flags : World → ℕ × Flags → Pending
+with_ax_and_flags w result = with_regs (with_ax_in w.regs result) (unchanged w)
 
 -- DAA, DAS, AAA, AAS
 unfoldable pub adjust : (ℕ → Flags → ℕ × Flags) → World → Act
-adjust formula w = done (with_ax w (formula (low_half w.regs.eax) w.regs.flags))
+adjust formula w = done (with_ax_and_flags w (formula (low_half w.regs.eax) w.regs.flags))
 
 -- AAD: the operand is the base
 unfoldable pub aad : World → Insn → Act
 aad w i = do
   base ← source w.regs i.addr32 8 i.first
-  done (with_ax w (aad_of (low_half w.regs.eax) (cut 8 base) w.regs.flags))
+  done (with_ax_and_flags w (aad_of (low_half w.regs.eax) (cut 8 base) w.regs.flags))
 
 -- AAM: exception 0 for base 0
 abbrev pub aam_done : World → Option (ℕ × Flags) → Act
 aam_done w None = raise (fault_with DIVIDE_ERROR 0)
-aam_done w (Some result) = done (with_ax w result)
+aam_done w (Some result) = done (with_ax_and_flags w result)
 
 unfoldable pub aam : World → Insn → Act
 aam w i = do

@@ -8,20 +8,20 @@ use Rattle.insn_forms.specs.declared.insn.Insn.{Insn}
 use Rattle.insn_forms.specs.declared.insn.Operand.{Operand}
 use Rattle.insn_forms.specs.declared.insn.Operand.TheVariants.{Empty, Reg, Seg, Mem, Imm, Far}
 use Rattle.insn_plan.specs.Act.{Act, ◌>>=◌, From, done, unchanged, with_regs}
-use Rattle.insn_plan.specs.Operands.{source, put}
+use Rattle.insn_plan.specs.Operands.{source, put_operand}
 use Rattle.insn_plan.specs.Registers.{register, with_register, cut_address, offset_of}
 
 -- MOV: the destination becomes the source
 unfoldable pub mov : World → Insn → Act
 mov w i = do
   v ← source w.regs i.addr32 i.width i.second
-  done (put w.regs i.addr32 i.width i.first v (unchanged w))
+  done (put_operand w.regs i.addr32 i.width i.first v (unchanged w))
 
 -- MOVZX: a source of fewer bits, with zeros above it
 unfoldable pub movzx : World → Insn → ℕ → Act
 movzx w i from = do
   v ← source w.regs i.addr32 from i.second
-  done (put w.regs i.addr32 i.width i.first (cut from v) (unchanged w))
+  done (put_operand w.regs i.addr32 i.width i.first (cut from v) (unchanged w))
 
 -- a number of some bits with its sign in the bits above, up to a width
 abbrev pub sign_extended : ℕ → ℕ → ℕ → ℕ
@@ -31,14 +31,14 @@ sign_extended from width v = if nat_lt v (2 ^ (from - 1)) then v else v + 2 ^ wi
 unfoldable pub movsx : World → Insn → ℕ → Act
 movsx w i from = do
   v ← source w.regs i.addr32 from i.second
-  done (put w.regs i.addr32 i.width i.first (sign_extended from i.width (cut from v)) (unchanged w))
+  done (put_operand w.regs i.addr32 i.width i.first (sign_extended from i.width (cut from v)) (unchanged w))
 
 -- XCHG: each becomes the other; both are read before either is written
 unfoldable pub xchg : World → Insn → Act
 xchg w i = do
   a ← source w.regs i.addr32 i.width i.first
   b ← source w.regs i.addr32 i.width i.second
-  done (put w.regs i.addr32 i.width i.second a (put w.regs i.addr32 i.width i.first b (unchanged w)))
+  done (put_operand w.regs i.addr32 i.width i.second a (put_operand w.regs i.addr32 i.width i.first b (unchanged w)))
 
 -- the offset of an operand in memory
 abbrev pub operand_offset : World → Insn → Operand → ℕ
@@ -51,7 +51,7 @@ operand_offset w i (Far pointer) = 0
 
 -- LEA: the destination becomes the offset of the source, of which nothing is read
 unfoldable pub lea : World → Insn → Act
-lea w i = done (put w.regs i.addr32 i.width i.first (cut i.width (operand_offset w i i.second)) (unchanged w))
+lea w i = done (put_operand w.regs i.addr32 i.width i.first (cut i.width (operand_offset w i i.second)) (unchanged w))
 
 -- XLAT: AL becomes the byte at (E)BX plus AL, by address size
 unfoldable pub xlat : World → Insn → Act

@@ -1,4 +1,4 @@
--- Products and quotients. A double word stands in AX at 8 bits, in DX:AX at 16, and in EDX:EAX at 32.
+-- Products and quotients. A double word lies in AX at 8 bits, in DX:AX at 16, and in EDX:EAX at 32.
 -- Source: 80386 Programmer's Reference Manual, ch. 17, MUL, IMUL, DIV, IDIV.
 use Rattle.std.specs.Prelude.{ℕ, Bool, true, false, nat_eq, if◌then◌else◌, Option, None, Some}
 use Rattle.client_world.specs.declared.faults.TheConstants.{DIVIDE_ERROR}
@@ -12,7 +12,7 @@ use Rattle.insn_forms.specs.declared.insn.Insn.{Insn}
 use Rattle.insn_forms.specs.declared.insn.Operand.{Operand}
 use Rattle.insn_forms.specs.declared.insn.Operand.TheVariants.{Empty, Reg, Seg, Mem, Imm, Far}
 use Rattle.insn_plan.specs.Act.{Act, ◌>>=◌, done, raise, unchanged, with_regs, with_flags}
-use Rattle.insn_plan.specs.Operands.{source, put}
+use Rattle.insn_plan.specs.Operands.{source, put_operand}
 use Rattle.insn_plan.specs.Registers.{register, with_register}
 
 -- the register of the high half: AH at 8 bits, else (E)DX
@@ -40,7 +40,7 @@ multiply_two w i = do
   a ← source w.regs i.addr32 i.width i.first
   b ← source w.regs i.addr32 i.width i.second
   let result = imul_of i.width (cut i.width a) (cut i.width b) w.regs.flags
-  done (put w.regs i.addr32 i.width i.first result.0 (with_flags result.2 w))
+  done (put_operand w.regs i.addr32 i.width i.first result.0 (with_flags result.2 w))
 
 -- IMUL of three operands: the first one becomes the second times the third
 unfoldable pub multiply_three : World → Insn → Act
@@ -48,7 +48,7 @@ multiply_three w i = do
   a ← source w.regs i.addr32 i.width i.second
   b ← source w.regs i.addr32 i.width i.third
   let result = imul_of i.width (cut i.width a) (cut i.width b) w.regs.flags
-  done (put w.regs i.addr32 i.width i.first result.0 (with_flags result.2 w))
+  done (put_operand w.regs i.addr32 i.width i.first result.0 (with_flags result.2 w))
 
 -- the operand isn't there
 abbrev pub is_empty : Operand → Bool

@@ -6,7 +6,7 @@ use Rattle.client_world.specs.World.{World}
 use Rattle.cpu_values.specs.Word.{cut}
 use Rattle.insn_forms.specs.declared.insn.Insn.{Insn}
 use Rattle.insn_plan.specs.Act.{Act, ◌>>=◌, done, with_flags}
-use Rattle.insn_plan.specs.Operands.{source, put}
+use Rattle.insn_plan.specs.Operands.{source, put_operand}
 use Rattle.exec_core.specs.Arithmetic.{Formula}
 
 -- SHL, SHR, SAR, ROL, ROR, RCL, RCR: the first operand moved by the count in the second, a byte
@@ -15,7 +15,7 @@ shift formula w i = do
   a ← source w.regs i.addr32 i.width i.first
   count ← source w.regs i.addr32 8 i.second
   let result = formula i.width (cut i.width a) (cut 8 count) w.regs.flags
-  done (put w.regs i.addr32 i.width i.first result.0 (with_flags result.1 w))
+  done (put_operand w.regs i.addr32 i.width i.first result.0 (with_flags result.1 w))
 
 -- a formula of SHLD or SHRD
 abbrev pub DoubleFormula : Type 0
@@ -28,4 +28,4 @@ double_shift formula w i = do
   b ← source w.regs i.addr32 i.width i.second
   count ← source w.regs i.addr32 8 i.third
   let result = formula i.width (cut i.width a) (cut i.width b) (cut 8 count) w.regs.flags
-  done (put w.regs i.addr32 i.width i.first result.0 (with_flags result.1 w))
+  done (put_operand w.regs i.addr32 i.width i.first result.0 (with_flags result.1 w))

@@ -4,7 +4,7 @@ use Rattle.std.specs.Prelude.{ℕ}
 use Rattle.client_world.specs.World.{World}
 use Rattle.insn_forms.specs.declared.insn.Insn.{Insn}
 use Rattle.insn_plan.specs.Act.{Act, ◌>>=◌, Pending, done, unchanged, with_regs}
-use Rattle.insn_plan.specs.Operands.{source, put}
+use Rattle.insn_plan.specs.Operands.{source, put_operand}
 use Rattle.insn_plan.specs.Registers.{register, with_register}
 use Rattle.insn_plan.specs.Stack.{pushed, stack_item, items_popped}
 
@@ -19,7 +19,7 @@ unfoldable pub pop : World → Insn → Act
 pop w i = do
   v ← stack_item w i.width 0
   let r = items_popped w i.width 1 w.regs
-  done (put r i.addr32 i.width i.first v (with_regs r (unchanged w)))
+  done (put_operand r i.addr32 i.width i.first v (with_regs r (unchanged w)))
 
 -- a general register pushed, with the value from before
 abbrev pub register_pushed : World → ℕ → ℕ → Pending → Pending

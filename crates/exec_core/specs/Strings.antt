@@ -27,7 +27,7 @@ is_repeated reps.Repne = true
 abbrev pub is_over : World → Insn → Bool
 is_over w i = is_repeated i.rep && nat_eq (counter w i) 0
 
--- a string register behind the element, or before it where DF is set
+-- a string register after the element, or before it where DF is set
 abbrev pub next_element : World → Insn → ℕ → ℕ
 next_element w i at =
     with_address i.addr32 at
@@ -58,10 +58,10 @@ repeated w i len goes_on r =
     else r
 
 -- CMPS and SCAS go on while ZF is set (F3), or clear (F2)
-abbrev pub goes_on_with : Rep → Flags → Bool
-goes_on_with reps.Plain f = false
-goes_on_with reps.Rep f = f.zf
-goes_on_with reps.Repne f = not f.zf
+abbrev pub goes_on_while : Rep → Flags → Bool
+goes_on_while reps.Plain f = false
+goes_on_while reps.Rep f = f.zf
+goes_on_while reps.Repne f = not f.zf
 
 -- MOVS: the element at ES:(E)DI becomes the one at (E)SI
 unfoldable pub movs : World → Insn → ℕ → Act
@@ -77,7 +77,7 @@ cmps w i len = if is_over w i then done (unchanged w) else (do
   b ← destination_element w i
   let result = sub_of i.width (cut i.width a) (cut i.width b) w.regs.flags
   done (with_regs
-      (repeated w i len (goes_on_with i.rep result.1)
+      (repeated w i len (goes_on_while i.rep result.1)
       (with_source_next w i (with_destination_next w i (record w.regs { flags = result.1 }))))
       (unchanged w)))
 
@@ -99,5 +99,5 @@ scas w i len = if is_over w i then done (unchanged w) else (do
   b ← destination_element w i
   let result = sub_of i.width (cut i.width (register w.regs i.width 0)) (cut i.width b) w.regs.flags
   done (with_regs
-      (repeated w i len (goes_on_with i.rep result.1) (with_destination_next w i (record w.regs { flags = result.1 })))
+      (repeated w i len (goes_on_while i.rep result.1) (with_destination_next w i (record w.regs { flags = result.1 })))
       (unchanged w)))

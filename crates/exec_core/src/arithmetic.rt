@@ -7,7 +7,7 @@ ghost use Rattle.guest_space.specs.Registers.{with_registers};
 ghost use Rattle.insn_forms.specs.Kinds.{is_width};
 ghost use Rattle.insn_plan.specs.Act.{with_flags};
 ghost use Rattle.insn_plan.specs.Operands.{and_write};
-ghost use Rattle.insn_plan.specs.Plan.{CarriesOut, Follows, settled};
+ghost use Rattle.insn_plan.specs.Plan.{CarriesOut, Follows, after_commit};
 ghost use Rattle.insn_plan.specs.Registers.{offset_of};
 
 use crate::operations::{Binary, BinaryAt, Unary, UnaryAt};
@@ -48,7 +48,7 @@ fn set_binary_flags<const W: u8, O: BinaryAt<W>>(m: &mut Machine, a: u32, b: u32
 
 // Writes the result of an operation of two numbers to memory and sets the flags, or gives the fault of the write, which changes nothing.
 #[inline(never)]
-#[tactic(auto, unfolding(insn_plan::specs::Plan::settled))]
+#[tactic(auto, unfolding(insn_plan::specs::Plan::after_commit))]
 fn write_binary<const W: u8, O: BinaryAt<W>>(
     m: &mut Machine,
     addr32: bool,
@@ -58,7 +58,7 @@ fn write_binary<const W: u8, O: BinaryAt<W>>(
 ) -> Result<(), Event>
     requires { IsWidth W }
     ensures { let value = O.formula W (cut W a) (cut W b) m.old.world.regs.flags in
-        Follows m.old m.new result (settled m.old (and_write place.now.seg (offset_of m.old.world.regs addr32 place.now) W value.0
+        Follows m.old m.new result (after_commit m.old (and_write place.now.seg (offset_of m.old.world.regs addr32 place.now) W value.0
         (with_flags value.1 m.old.world))) }
 {
     let f = m.registers().flags;
@@ -71,7 +71,7 @@ fn write_binary<const W: u8, O: BinaryAt<W>>(
 
 /// ADD, OR, ADC, SBB, AND, SUB, XOR. Source: 80386 Programmer's Reference Manual, ch. 17.
 #[inline(never)]
-#[tactic(auto, unfolding(crate::specs::Arithmetic::binary, insn_plan::specs::Operands::put, insn_plan::specs::Plan::carried_out, insn_plan::specs::Plan::settled, guest_space::specs::Pending::first_refusal, guest_space::specs::Pending::all_written))]
+#[tactic(auto, unfolding(crate::specs::Arithmetic::binary, insn_plan::specs::Operands::put_operand, insn_plan::specs::Plan::carried_out, insn_plan::specs::Plan::after_commit, guest_space::specs::Pending::first_refusal, guest_space::specs::Pending::all_written))]
 pub(crate) fn binary<O: Binary>(m: &mut Machine, i: &Insn) -> Result<(), Event>
     requires { IsTrue (is_width i.now.width) }
     ensures { CarriesOut m.old m.new result (binary O.formula m.old.world i.now) }
@@ -92,7 +92,7 @@ pub(crate) fn binary<O: Binary>(m: &mut Machine, i: &Insn) -> Result<(), Event>
 
 /// CMP and TEST. Source: as above.
 #[inline(never)]
-#[tactic(auto, unfolding(crate::specs::Arithmetic::compare, insn_plan::specs::Plan::carried_out, insn_plan::specs::Plan::settled, guest_space::specs::Pending::first_refusal, guest_space::specs::Pending::all_written))]
+#[tactic(auto, unfolding(crate::specs::Arithmetic::compare, insn_plan::specs::Plan::carried_out, insn_plan::specs::Plan::after_commit, guest_space::specs::Pending::first_refusal, guest_space::specs::Pending::all_written))]
 pub(crate) fn compare<O: Binary>(m: &mut Machine, i: &Insn) -> Result<(), Event>
     requires { IsTrue (is_width i.now.width) }
     ensures { CarriesOut m.old m.new result (compare O.formula m.old.world i.now) }
@@ -132,7 +132,7 @@ fn set_unary_flags<const W: u8, O: UnaryAt<W>>(m: &mut Machine, a: u32) -> u32
 
 // Writes the result of an operation of one number to memory and sets the flags, or gives the fault of the write, which changes nothing.
 #[inline(never)]
-#[tactic(auto, unfolding(insn_plan::specs::Plan::settled))]
+#[tactic(auto, unfolding(insn_plan::specs::Plan::after_commit))]
 fn write_unary<const W: u8, O: UnaryAt<W>>(
     m: &mut Machine,
     addr32: bool,
@@ -141,7 +141,7 @@ fn write_unary<const W: u8, O: UnaryAt<W>>(
 ) -> Result<(), Event>
     requires { IsWidth W }
     ensures { let value = O.formula W (cut W a) m.old.world.regs.flags in
-        Follows m.old m.new result (settled m.old (and_write place.now.seg (offset_of m.old.world.regs addr32 place.now) W value.0
+        Follows m.old m.new result (after_commit m.old (and_write place.now.seg (offset_of m.old.world.regs addr32 place.now) W value.0
         (with_flags value.1 m.old.world))) }
 {
     let (v, flags) = O::apply(cut::<W>(u64::from(a)), m.registers().flags);
@@ -153,7 +153,7 @@ fn write_unary<const W: u8, O: UnaryAt<W>>(
 
 /// INC, DEC, NEG, NOT. Source: as above.
 #[inline(never)]
-#[tactic(auto, unfolding(crate::specs::Arithmetic::unary, insn_plan::specs::Operands::put, insn_plan::specs::Plan::carried_out, insn_plan::specs::Plan::settled, guest_space::specs::Pending::first_refusal, guest_space::specs::Pending::all_written))]
+#[tactic(auto, unfolding(crate::specs::Arithmetic::unary, insn_plan::specs::Operands::put_operand, insn_plan::specs::Plan::carried_out, insn_plan::specs::Plan::after_commit, guest_space::specs::Pending::first_refusal, guest_space::specs::Pending::all_written))]
 pub(crate) fn unary<O: Unary>(m: &mut Machine, i: &Insn) -> Result<(), Event>
     requires { IsTrue (is_width i.now.width) }
     ensures { CarriesOut m.old m.new result (unary O.formula m.old.world i.now) }

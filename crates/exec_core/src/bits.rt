@@ -49,7 +49,7 @@ fn bit_distance(width: u8, offset: u32) -> u64
     }
 }
 
-// A place in memory so many bytes further on, modulo 2^32.
+// A place in memory n bytes further on, modulo 2^32.
 fn moved_form(f: MemForm, distance: u64) -> MemForm
     requires { distance < 2 ^ 33 }
     ensures { result ≡ record f { disp = (f.disp + distance) % 2 ^ 32 } }
@@ -61,7 +61,7 @@ fn moved_form(f: MemForm, distance: u64) -> MemForm
     }
 }
 
-// The operand in which the bit at an offset stands: memory moves with an offset in a register.
+// The operand in which the bit at an offset is: memory moves with an offset in a register.
 fn bit_operand(i: &Insn, offset: u32) -> Operand
     requires { IsTrue (is_width i.now.width) }
     ensures { result ≡ bit_operand i.now offset i.now.first }
@@ -84,7 +84,7 @@ fn bit_at(v: u32, n: u8) -> bool
 
 /// BT. Source: as above.
 #[inline(never)]
-#[tactic(auto, unfolding(crate::specs::Bits::bit_test, insn_plan::specs::Plan::carried_out, insn_plan::specs::Plan::settled, guest_space::specs::Pending::first_refusal, guest_space::specs::Pending::all_written))]
+#[tactic(auto, unfolding(crate::specs::Bits::bit_test, insn_plan::specs::Plan::carried_out, insn_plan::specs::Plan::after_commit, guest_space::specs::Pending::first_refusal, guest_space::specs::Pending::all_written))]
 pub(crate) fn bit_test(m: &mut Machine, i: &Insn) -> Result<(), Event>
     requires { IsTrue (is_width i.now.width) }
     ensures { CarriesOut m.old m.new result (bit_test m.old.world i.now) }
@@ -166,7 +166,7 @@ pub(crate) fn bit_change<C: BitChange>(m: &mut Machine, i: &Insn) -> Result<(), 
     put_with_flags(m, flags, i.addr32, i.width, &operand, C::changed(a, n))
 }
 
-// The place of the lowest bit that is set, among so many bits; their number where none is.
+// The place of the lowest bit that is set, among the lowest n bits; their number where none is.
 fn lowest_bit(mut v: u32, width: u8) -> u32
     ensures { result ≡ lowest_bit v width }
 {
@@ -179,7 +179,7 @@ fn lowest_bit(mut v: u32, width: u8) -> u32
     u32::from(width)
 }
 
-// The place of the highest bit that is set, among so many bits.
+// The place of the highest bit that is set, among the lowest n bits.
 fn highest_bit(mut v: u32, width: u8) -> u32
     ensures { result ≡ highest_bit v width }
 {
@@ -194,7 +194,7 @@ fn highest_bit(mut v: u32, width: u8) -> u32
 
 /// BSF. Source: as above.
 #[inline(never)]
-#[tactic(auto, unfolding(crate::specs::Bits::bit_scan, insn_plan::specs::Plan::carried_out, insn_plan::specs::Plan::settled, guest_space::specs::Pending::first_refusal, guest_space::specs::Pending::all_written))]
+#[tactic(auto, unfolding(crate::specs::Bits::bit_scan, insn_plan::specs::Plan::carried_out, insn_plan::specs::Plan::after_commit, guest_space::specs::Pending::first_refusal, guest_space::specs::Pending::all_written))]
 pub(crate) fn bit_scan_forward(m: &mut Machine, i: &Insn) -> Result<(), Event>
     requires { IsTrue (is_width i.now.width) }
     ensures { CarriesOut m.old m.new result (bit_scan lowest_bit m.old.world i.now) }
@@ -214,7 +214,7 @@ pub(crate) fn bit_scan_forward(m: &mut Machine, i: &Insn) -> Result<(), Event>
 
 /// BSR. Source: as above.
 #[inline(never)]
-#[tactic(auto, unfolding(crate::specs::Bits::bit_scan, insn_plan::specs::Plan::carried_out, insn_plan::specs::Plan::settled, guest_space::specs::Pending::first_refusal, guest_space::specs::Pending::all_written))]
+#[tactic(auto, unfolding(crate::specs::Bits::bit_scan, insn_plan::specs::Plan::carried_out, insn_plan::specs::Plan::after_commit, guest_space::specs::Pending::first_refusal, guest_space::specs::Pending::all_written))]
 pub(crate) fn bit_scan_reverse(m: &mut Machine, i: &Insn) -> Result<(), Event>
     requires { IsTrue (is_width i.now.width) }
     ensures { CarriesOut m.old m.new result (bit_scan highest_bit m.old.world i.now) }

@@ -1,5 +1,5 @@
 // Decimal adjustment of AX.
-#![tactic(auto, unfolding(crate::specs::Decimal::adjust, crate::specs::Decimal::aad, crate::specs::Decimal::aam, insn_plan::specs::Plan::carried_out, insn_plan::specs::Plan::settled, guest_space::specs::Pending::first_refusal, guest_space::specs::Pending::all_written))]
+#![tactic(auto, unfolding(crate::specs::Decimal::adjust, crate::specs::Decimal::aad, crate::specs::Decimal::aam, insn_plan::specs::Plan::carried_out, insn_plan::specs::Plan::after_commit, guest_space::specs::Pending::first_refusal, guest_space::specs::Pending::all_written))]
 
 ghost use Rattle.std.specs.Prelude.{◌≡◌};
 ghost use Rattle.client_world.specs.Registers.{low_half};

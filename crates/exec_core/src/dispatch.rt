@@ -69,7 +69,7 @@ pub fn is_core(i: &Insn) -> bool
     }
 }
 
-/// Runs an instruction of this crate, whose EIP is already behind it. An event leaves the machine as it was.
+/// Runs an instruction of this crate, whose EIP is already after it. An event leaves the machine as it was.
 /// Source: 80386 Programmer's Reference Manual, ch. 17; that an instruction that faults changes nothing is own.
 #[inline(always)]
 #[tactic(auto, unfolding(crate::specs::Dispatch::is_core, crate::specs::Dispatch::core_row))]

@@ -1,6 +1,6 @@
 //! The data instructions: moves, arithmetic and logic, shifts, products, decimal rows, bits, strings, the stack's general rows, flags.
 //! It promises that an instruction does what its row says, or raises its fault and changes nothing.
-//! It stands on plans of instructions, and on the arithmetic.
+//! It uses plans of instructions and the arithmetic.
 #![tactic(auto)]
 
 mod arithmetic;

@@ -128,7 +128,7 @@ pub(crate) fn lea(m: &mut Machine, i: &Insn) -> Result<(), Event>
 
 /// XLAT. Source: as above.
 #[inline(never)]
-#[tactic(auto, unfolding(crate::specs::Moves::xlat, insn_plan::specs::Plan::carried_out, insn_plan::specs::Plan::settled, guest_space::specs::Pending::first_refusal, guest_space::specs::Pending::all_written))]
+#[tactic(auto, unfolding(crate::specs::Moves::xlat, insn_plan::specs::Plan::carried_out, insn_plan::specs::Plan::after_commit, guest_space::specs::Pending::first_refusal, guest_space::specs::Pending::all_written))]
 pub(crate) fn xlat(m: &mut Machine, i: &Insn) -> Result<(), Event>
     ensures { CarriesOut m.old m.new result (xlat m.old.world i.now) }
 {
@@ -149,7 +149,7 @@ fn half_width(width: u8) -> u8
 
 /// CBW and CWDE. Source: as above.
 #[inline(never)]
-#[tactic(auto, using(crate::proofs::Parts::half_fits), unfolding(crate::specs::Moves::cbw, insn_plan::specs::Plan::carried_out, insn_plan::specs::Plan::settled, guest_space::specs::Pending::first_refusal, guest_space::specs::Pending::all_written))]
+#[tactic(auto, using(crate::proofs::Parts::half_fits), unfolding(crate::specs::Moves::cbw, insn_plan::specs::Plan::carried_out, insn_plan::specs::Plan::after_commit, guest_space::specs::Pending::first_refusal, guest_space::specs::Pending::all_written))]
 pub(crate) fn cbw(m: &mut Machine, i: &Insn) -> Result<(), Event>
     requires { IsTrue (is_width i.now.width) }
     ensures { CarriesOut m.old m.new result (cbw m.old.world i.now) }
@@ -174,7 +174,7 @@ fn sign_bits(width: u8, v: u32) -> u32
 
 /// CWD and CDQ. Source: as above.
 #[inline(never)]
-#[tactic(auto, unfolding(crate::specs::Moves::cwd, insn_plan::specs::Plan::carried_out, insn_plan::specs::Plan::settled, guest_space::specs::Pending::first_refusal, guest_space::specs::Pending::all_written))]
+#[tactic(auto, unfolding(crate::specs::Moves::cwd, insn_plan::specs::Plan::carried_out, insn_plan::specs::Plan::after_commit, guest_space::specs::Pending::first_refusal, guest_space::specs::Pending::all_written))]
 pub(crate) fn cwd(m: &mut Machine, i: &Insn) -> Result<(), Event>
     requires { IsTrue (is_width i.now.width) }
     ensures { CarriesOut m.old m.new result (cwd m.old.world i.now) }

@@ -21,8 +21,8 @@ ghost use Rattle.exec_core.specs.Products.{
 ghost use Rattle.guest_space.specs.Registers.{with_registers};
 ghost use Rattle.insn_forms.specs.Kinds.{is_width};
 ghost use Rattle.insn_plan.specs.Act.{with_flags};
-ghost use Rattle.insn_plan.specs.Operands.{put};
-ghost use Rattle.insn_plan.specs.Plan.{CarriesOut, Follows, settled};
+ghost use Rattle.insn_plan.specs.Operands.{put_operand};
+ghost use Rattle.insn_plan.specs.Plan.{CarriesOut, Follows, after_commit};
 ghost use Rattle.insn_plan.specs.Registers.{register};
 
 use client_world::faults::DIVIDE_ERROR;
@@ -170,7 +170,7 @@ fn word_in(m: &Machine, width: u8, n: u8) -> u32
 
 /// MUL, and IMUL of one operand. Source: 80386 Programmer's Reference Manual, ch. 17.
 #[inline(never)]
-#[tactic(auto, unfolding(crate::specs::Products::multiply, insn_plan::specs::Plan::carried_out, insn_plan::specs::Plan::settled, guest_space::specs::Pending::first_refusal, guest_space::specs::Pending::all_written))]
+#[tactic(auto, unfolding(crate::specs::Products::multiply, insn_plan::specs::Plan::carried_out, insn_plan::specs::Plan::after_commit, guest_space::specs::Pending::first_refusal, guest_space::specs::Pending::all_written))]
 pub(crate) fn multiply<S: Sign>(m: &mut Machine, i: &Insn) -> Result<(), Event>
     requires { IsTrue (is_width i.now.width) }
     ensures { CarriesOut m.old m.new result (multiply S.product m.old.world i.now) }
@@ -188,7 +188,7 @@ fn put_low_product(m: &mut Machine, i: &Insn, a: u32, b: u32) -> Result<(), Even
     requires { IsTrue (is_width i.now.width) }
     ensures { let value = imul_of i.now.width (cut i.now.width a) (cut i.now.width b) m.old.world.regs.flags in
         Follows m.old m.new result
-        (settled m.old (put m.old.world.regs i.now.addr32 i.now.width i.now.first value.0 (with_flags value.2 m.old.world))) }
+        (after_commit m.old (put_operand m.old.world.regs i.now.addr32 i.now.width i.now.first value.0 (with_flags value.2 m.old.world))) }
 {
     let (low, _, flags) = Signed::product(i.width, a, b, m.registers().flags);
     put_with_flags(m, flags, i.addr32, i.width, &i.first, low)
@@ -234,7 +234,7 @@ pub(crate) fn multiply_signed(m: &mut Machine, i: &Insn) -> Result<(), Event>
 
 /// DIV and IDIV; exception 0 where there is no quotient. Source: as above.
 #[inline(never)]
-#[tactic(auto, unfolding(crate::specs::Products::divide, insn_plan::specs::Plan::carried_out, insn_plan::specs::Plan::settled, guest_space::specs::Pending::first_refusal, guest_space::specs::Pending::all_written))]
+#[tactic(auto, unfolding(crate::specs::Products::divide, insn_plan::specs::Plan::carried_out, insn_plan::specs::Plan::after_commit, guest_space::specs::Pending::first_refusal, guest_space::specs::Pending::all_written))]
 pub(crate) fn divide<S: Sign>(m: &mut Machine, i: &Insn) -> Result<(), Event>
     requires { IsTrue (is_width i.now.width) }
     ensures { CarriesOut m.old m.new result (divide S.quotient m.old.world i.now) }

@@ -7,7 +7,7 @@ ghost use Rattle.guest_space.specs.Registers.{with_registers};
 ghost use Rattle.insn_forms.specs.Kinds.{is_width};
 ghost use Rattle.insn_plan.specs.Act.{with_flags};
 ghost use Rattle.insn_plan.specs.Operands.{and_write};
-ghost use Rattle.insn_plan.specs.Plan.{CarriesOut, Follows, settled};
+ghost use Rattle.insn_plan.specs.Plan.{CarriesOut, Follows, after_commit};
 ghost use Rattle.insn_plan.specs.Registers.{offset_of};
 
 use crate::arithmetic::at_width;
@@ -35,7 +35,7 @@ fn set_shift_flags<const W: u8, O: ShiftAt<W>>(m: &mut Machine, a: u32, n: u8) -
 
 // Writes the result of a shift to memory and sets the flags, or gives the fault of the write, which changes nothing.
 #[inline(never)]
-#[tactic(auto, unfolding(insn_plan::specs::Plan::settled))]
+#[tactic(auto, unfolding(insn_plan::specs::Plan::after_commit))]
 fn write_shift<const W: u8, O: ShiftAt<W>>(
     m: &mut Machine,
     addr32: bool,
@@ -45,7 +45,7 @@ fn write_shift<const W: u8, O: ShiftAt<W>>(
 ) -> Result<(), Event>
     requires { IsWidth W }
     ensures { let value = O.formula W (cut W a) n m.old.world.regs.flags in
-        Follows m.old m.new result (settled m.old (and_write place.now.seg (offset_of m.old.world.regs addr32 place.now) W value.0
+        Follows m.old m.new result (after_commit m.old (and_write place.now.seg (offset_of m.old.world.regs addr32 place.now) W value.0
         (with_flags value.1 m.old.world))) }
 {
     let (v, flags) = O::apply(cut::<W>(u64::from(a)), n, m.registers().flags);
@@ -57,7 +57,7 @@ fn write_shift<const W: u8, O: ShiftAt<W>>(
 
 /// SHL, SHR, SAR, ROL, ROR, RCL, RCR. Source: 80386 Programmer's Reference Manual, ch. 17.
 #[inline(never)]
-#[tactic(auto, unfolding(crate::specs::Shifts::shift, insn_plan::specs::Operands::put, insn_plan::specs::Plan::carried_out, insn_plan::specs::Plan::settled, guest_space::specs::Pending::first_refusal, guest_space::specs::Pending::all_written))]
+#[tactic(auto, unfolding(crate::specs::Shifts::shift, insn_plan::specs::Operands::put_operand, insn_plan::specs::Plan::carried_out, insn_plan::specs::Plan::after_commit, guest_space::specs::Pending::first_refusal, guest_space::specs::Pending::all_written))]
 pub(crate) fn shift<O: Shift>(m: &mut Machine, i: &Insn) -> Result<(), Event>
     requires { IsTrue (is_width i.now.width) }
     ensures { CarriesOut m.old m.new result (shift O.formula m.old.world i.now) }

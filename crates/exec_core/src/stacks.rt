@@ -2,8 +2,8 @@
 ghost use Rattle.std.specs.Prelude.{◌≡◌};
 ghost use Rattle.exec_core.specs.Stacks.{push, pop, pusha, popa};
 ghost use Rattle.insn_plan.specs.Act.{unchanged, with_regs};
-ghost use Rattle.insn_plan.specs.Operands.{put};
-ghost use Rattle.insn_plan.specs.Plan.{CarriesOut, Follows, settled};
+ghost use Rattle.insn_plan.specs.Operands.{put_operand};
+ghost use Rattle.insn_plan.specs.Plan.{CarriesOut, Follows, after_commit};
 ghost use Rattle.insn_forms.specs.declared.insn.Operand.TheVariants.{Mem};
 
 use client_world::general::{EAX, EBP, EBX, ECX, EDI, EDX, ESI, ESP};
@@ -27,10 +27,10 @@ pub(crate) fn push(m: &mut Machine, i: &Insn) -> Result<(), Event>
 
 // Puts a number that was popped into memory, at the address that ESP gives after the pop.
 #[inline(never)]
-#[tactic(auto, unfolding(insn_plan::specs::Operands::put, insn_plan::specs::Plan::settled, client_world::specs::General::with_general))]
+#[tactic(auto, unfolding(insn_plan::specs::Operands::put_operand, insn_plan::specs::Plan::after_commit, client_world::specs::General::with_general))]
 fn pop_into_memory(m: &mut Machine, i: &Insn, f: &MemForm, esp: u32, v: u32) -> Result<(), Event>
     ensures { let r = record m.old.world.regs { esp = esp } in Follows m.old m.new result
-        (settled m.old (put r i.now.addr32 i.now.width (Mem f.now) v (with_regs r (unchanged m.old.world)))) }
+        (after_commit m.old (put_operand r i.now.addr32 i.now.width (Mem f.now) v (with_regs r (unchanged m.old.world)))) }
 {
     let r = Regs { esp, ..m.regs() };
     write_number(m, f.seg, offset_of(&r, i.addr32, f), i.width, v)?;
@@ -40,7 +40,7 @@ fn pop_into_memory(m: &mut Machine, i: &Insn, f: &MemForm, esp: u32, v: u32) -> 
 
 /// POP. Source: as above.
 #[inline(always)]
-#[tactic(auto, using(crate::proofs::TopItem::top_item), unfolding(crate::specs::Stacks::pop, insn_plan::specs::Stack::items_popped, insn_plan::specs::Operands::put, insn_plan::specs::Plan::carried_out, insn_plan::specs::Plan::settled, guest_space::specs::Pending::first_refusal, guest_space::specs::Pending::all_written, client_world::specs::General::with_general))]
+#[tactic(auto, using(crate::proofs::TopItem::top_item), unfolding(crate::specs::Stacks::pop, insn_plan::specs::Stack::items_popped, insn_plan::specs::Operands::put_operand, insn_plan::specs::Plan::carried_out, insn_plan::specs::Plan::after_commit, guest_space::specs::Pending::first_refusal, guest_space::specs::Pending::all_written, client_world::specs::General::with_general))]
 pub(crate) fn pop(m: &mut Machine, i: &Insn) -> Result<(), Event>
     ensures { CarriesOut m.old m.new result (pop m.old.world i.now) }
 {
@@ -84,7 +84,7 @@ pub(crate) fn pusha(m: &mut Machine, i: &Insn) -> Result<(), Event>
 
 /// POPA. Source: as above.
 #[inline(never)]
-#[tactic(auto, unfolding(crate::specs::Stacks::popa, insn_plan::specs::Stack::items_popped, insn_plan::specs::Plan::carried_out, insn_plan::specs::Plan::settled, guest_space::specs::Pending::first_refusal, guest_space::specs::Pending::all_written, client_world::specs::General::with_general))]
+#[tactic(auto, unfolding(crate::specs::Stacks::popa, insn_plan::specs::Stack::items_popped, insn_plan::specs::Plan::carried_out, insn_plan::specs::Plan::after_commit, guest_space::specs::Pending::first_refusal, guest_space::specs::Pending::all_written, client_world::specs::General::with_general))]
 pub(crate) fn popa(m: &mut Machine, i: &Insn) -> Result<(), Event>
     ensures { CarriesOut m.old m.new result (popa m.old.world i.now) }
 {

@@ -7,7 +7,7 @@ ghost use Rattle.exec_core.specs.Strings.{
   with_source_next,
   with_destination_next,
   repeated,
-  goes_on_with,
+  goes_on_while,
   movs,
   cmps,
   stos,
@@ -116,8 +116,8 @@ fn count_element(m: &mut Machine, i: &Insn, len: u8, goes_on: bool)
 
 // Whether CMPS and SCAS go on: while ZF is set (F3), or clear (F2).
 #[inline(always)]
-fn goes_on_with(rep: Rep, f: Flags) -> bool
-    ensures { result ≡ goes_on_with rep f }
+fn goes_on_while(rep: Rep, f: Flags) -> bool
+    ensures { result ≡ goes_on_while rep f }
 {
     match rep {
         Rep::Plain => false,
@@ -129,7 +129,7 @@ fn goes_on_with(rep: Rep, f: Flags) -> bool
 /// MOVS: the element at ES:(E)DI becomes the one at (E)SI.
 /// Source: 80386 Programmer's Reference Manual, ch. 17, "MOVS/MOVSB/MOVSW/MOVSD"; that a repetition is a step is own.
 #[inline(never)]
-#[tactic(auto, unfolding(crate::specs::Strings::movs, insn_plan::specs::Plan::carried_out, insn_plan::specs::Plan::settled, guest_space::specs::Pending::first_refusal, guest_space::specs::Pending::all_written))]
+#[tactic(auto, unfolding(crate::specs::Strings::movs, insn_plan::specs::Plan::carried_out, insn_plan::specs::Plan::after_commit, guest_space::specs::Pending::first_refusal, guest_space::specs::Pending::all_written))]
 pub(crate) fn movs(m: &mut Machine, i: &Insn, len: u8) -> Result<(), Event>
     ensures { CarriesOut m.old m.new result (movs m.old.world i.now len) }
 {
@@ -147,7 +147,7 @@ pub(crate) fn movs(m: &mut Machine, i: &Insn, len: u8) -> Result<(), Event>
 /// CMPS: the flags of the element at (E)SI less the one at ES:(E)DI.
 /// Source: 80386 Programmer's Reference Manual, ch. 17, "CMPS/CMPSB/CMPSW/CMPSD"; that a repetition is a step is own.
 #[inline(never)]
-#[tactic(auto, unfolding(crate::specs::Strings::cmps, insn_plan::specs::Plan::carried_out, insn_plan::specs::Plan::settled, guest_space::specs::Pending::first_refusal, guest_space::specs::Pending::all_written))]
+#[tactic(auto, unfolding(crate::specs::Strings::cmps, insn_plan::specs::Plan::carried_out, insn_plan::specs::Plan::after_commit, guest_space::specs::Pending::first_refusal, guest_space::specs::Pending::all_written))]
 pub(crate) fn cmps(m: &mut Machine, i: &Insn, len: u8) -> Result<(), Event>
     requires { IsTrue (is_width i.now.width) }
     ensures { CarriesOut m.old m.new result (cmps m.old.world i.now len) }
@@ -161,7 +161,7 @@ pub(crate) fn cmps(m: &mut Machine, i: &Insn, len: u8) -> Result<(), Event>
     let flags = difference_flags(i.width, a, b, m.registers().flags);
     move_source(m, i);
     move_destination(m, i);
-    count_element(m, i, len, goes_on_with(i.rep, flags));
+    count_element(m, i, len, goes_on_while(i.rep, flags));
     m.set_flags(flags);
     Ok(())
 }
@@ -169,7 +169,7 @@ pub(crate) fn cmps(m: &mut Machine, i: &Insn, len: u8) -> Result<(), Event>
 /// STOS: the element at ES:(E)DI becomes the accumulator.
 /// Source: 80386 Programmer's Reference Manual, ch. 17, "STOS/STOSB/STOSW/STOSD"; that a repetition is a step is own.
 #[inline(never)]
-#[tactic(auto, unfolding(crate::specs::Strings::stos, insn_plan::specs::Plan::carried_out, insn_plan::specs::Plan::settled, guest_space::specs::Pending::first_refusal, guest_space::specs::Pending::all_written))]
+#[tactic(auto, unfolding(crate::specs::Strings::stos, insn_plan::specs::Plan::carried_out, insn_plan::specs::Plan::after_commit, guest_space::specs::Pending::first_refusal, guest_space::specs::Pending::all_written))]
 pub(crate) fn stos(m: &mut Machine, i: &Insn, len: u8) -> Result<(), Event>
     ensures { CarriesOut m.old m.new result (stos m.old.world i.now len) }
 {
@@ -192,7 +192,7 @@ pub(crate) fn stos(m: &mut Machine, i: &Insn, len: u8) -> Result<(), Event>
 /// LODS: the accumulator becomes the element at (E)SI.
 /// Source: 80386 Programmer's Reference Manual, ch. 17, "LODS/LODSB/LODSW/LODSD"; that a repetition is a step is own.
 #[inline(never)]
-#[tactic(auto, unfolding(crate::specs::Strings::lods, insn_plan::specs::Plan::carried_out, insn_plan::specs::Plan::settled, guest_space::specs::Pending::first_refusal, guest_space::specs::Pending::all_written, client_world::specs::General::with_general, insn_plan::specs::Registers::with_register))]
+#[tactic(auto, unfolding(crate::specs::Strings::lods, insn_plan::specs::Plan::carried_out, insn_plan::specs::Plan::after_commit, guest_space::specs::Pending::first_refusal, guest_space::specs::Pending::all_written, client_world::specs::General::with_general, insn_plan::specs::Registers::with_register))]
 pub(crate) fn lods(m: &mut Machine, i: &Insn, len: u8) -> Result<(), Event>
     ensures { CarriesOut m.old m.new result (lods m.old.world i.now len) }
 {
@@ -209,7 +209,7 @@ pub(crate) fn lods(m: &mut Machine, i: &Insn, len: u8) -> Result<(), Event>
 /// SCAS: the flags of the accumulator less the element at ES:(E)DI.
 /// Source: 80386 Programmer's Reference Manual, ch. 17, "SCAS/SCASB/SCASW/SCASD"; that a repetition is a step is own.
 #[inline(never)]
-#[tactic(auto, unfolding(crate::specs::Strings::scas, insn_plan::specs::Plan::carried_out, insn_plan::specs::Plan::settled, guest_space::specs::Pending::first_refusal, guest_space::specs::Pending::all_written))]
+#[tactic(auto, unfolding(crate::specs::Strings::scas, insn_plan::specs::Plan::carried_out, insn_plan::specs::Plan::after_commit, guest_space::specs::Pending::first_refusal, guest_space::specs::Pending::all_written))]
 pub(crate) fn scas(m: &mut Machine, i: &Insn, len: u8) -> Result<(), Event>
     requires { IsTrue (is_width i.now.width) }
     ensures { CarriesOut m.old m.new result (scas m.old.world i.now len) }
@@ -221,7 +221,7 @@ pub(crate) fn scas(m: &mut Machine, i: &Insn, len: u8) -> Result<(), Event>
     let a = register(m.registers(), i.width, EAX);
     let flags = difference_flags(i.width, a, b, m.registers().flags);
     move_destination(m, i);
-    count_element(m, i, len, goes_on_with(i.rep, flags));
+    count_element(m, i, len, goes_on_while(i.rep, flags));
     m.set_flags(flags);
     Ok(())
 }

@@ -202,7 +202,7 @@ fn a_push_of_all_registers_is_all_or_nothing(rt: HostRuntime) -> Result<(), Fail
     Ok(())
 }
 
-// MOVS with REP and a counter of 2 is two steps: the instruction pointer is back at the instruction, and then behind it.
+// MOVS with REP and a counter of 2 is two steps: the instruction pointer is back at the instruction, and then after it.
 #[test]
 fn a_repetition_is_a_step_for_each_element(rt: HostRuntime) -> Result<(), Fail> {
     let mut m = Machine::new(rt.alloc(), 1)?;

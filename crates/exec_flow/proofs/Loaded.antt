@@ -13,7 +13,7 @@ use Rattle.guest_space.specs.Registers.{with_registers}
 use Rattle.host_memory.specs.View.{MachineView}
 use Rattle.insn_plan.proofs.Settled.{settled_with}
 use Rattle.insn_plan.specs.Act.{Pending, with_regs}
-use Rattle.insn_plan.specs.Plan.{settled, with_state}
+use Rattle.insn_plan.specs.Plan.{after_commit, with_state}
 
 granted_regs : (o : Option Fault) (v u : MachineView) →
     elim o as (λ _. Result MachineView Event) [ Some f ↦ Err (fault f) | None ↦ Ok v ] ≡ Ok u → v.world.regs ≡ u.world.regs
@@ -21,12 +21,12 @@ granted_regs None v u e = let same : v ≡ u = cc in ap (λ (x : MachineView). x
 granted_regs (Some f) v u e = absurd cc
 
 -- the registers are those that are left
-settled_regs : (v u : MachineView) (p : Pending) → settled v p ≡ Ok u → p.regs ≡ u.world.regs
-unfolding settled
+settled_regs : (v u : MachineView) (p : Pending) → after_commit v p ≡ Ok u → p.regs ≡ u.world.regs
+unfolding after_commit
 settled_regs v u p e = granted_regs (first_refusal v.world p.writes) (with_state p.regs p.vif (all_written v p.writes)) u e
 
-pub settled_with_selector : (v u : MachineView) (p : Pending) (seg : SegReg) (sel : ℕ) → settled v p ≡ Ok u →
-    settled v (with_regs (with_selector p.regs seg sel) p) ≡ Ok (with_registers (with_selector u.world.regs seg sel) u)
+pub settled_with_selector : (v u : MachineView) (p : Pending) (seg : SegReg) (sel : ℕ) → after_commit v p ≡ Ok u →
+    after_commit v (with_regs (with_selector p.regs seg sel) p) ≡ Ok (with_registers (with_selector u.world.regs seg sel) u)
 settled_with_selector v u p seg sel e =
     settled_with v (with_selector p.regs seg sel) p u e
     ∙ ap (λ (r : Regs). Ok (with_registers (with_selector r seg sel) u)) (settled_regs v u p e)

@@ -20,19 +20,19 @@ use Rattle.exec_flow.specs.Segments.{mov_segment, push_segment, pop_segment, loa
 use Rattle.exec_flow.specs.Transfers.{jcc, jcxz, loop_while, jmp, call, ret}
 
 -- the operand is a segment register
-abbrev pub is_segment : Operand → Bool
-is_segment Empty = false
-is_segment (Reg own number) = false
-is_segment (Seg seg) = true
-is_segment (Mem f) = false
-is_segment (Imm v) = false
-is_segment (Far pointer) = false
+abbrev pub is_segment_operand : Operand → Bool
+is_segment_operand Empty = false
+is_segment_operand (Reg own number) = false
+is_segment_operand (Seg seg) = true
+is_segment_operand (Mem f) = false
+is_segment_operand (Imm v) = false
+is_segment_operand (Far pointer) = false
 
 -- the instruction is one of this crate
 unfoldable pub is_flow : Op → Operand → Operand → Bool
-is_flow ops.Mov first second = is_segment first || is_segment second
-is_flow ops.Push first second = is_segment first
-is_flow ops.Pop first second = is_segment first
+is_flow ops.Mov first second = is_segment_operand first || is_segment_operand second
+is_flow ops.Push first second = is_segment_operand first
+is_flow ops.Pop first second = is_segment_operand first
 is_flow ops.Pushf first second = true
 is_flow ops.Popf first second = true
 is_flow (ops.Jcc n) first second = true

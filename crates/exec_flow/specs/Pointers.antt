@@ -23,15 +23,15 @@ abbrev pub offset_range : Insn → ℕ
 offset_range i = if nat_eq i.width 16 then 2 ^ 16 else 2 ^ 32
 
 -- the bytes of a far pointer in memory
-abbrev pub pointer_bytes : Insn → ℕ
-pointer_bytes i = if nat_eq i.width 16 then 4 else 6
+abbrev pub pointer_size : Insn → ℕ
+pointer_size i = if nat_eq i.width 16 then 4 else 6
 
 -- a far pointer as one number, the offset lowest: that of the instruction, or one in memory
 unfoldable pub pointer : World → Insn → Operand → Input
 pointer w i Empty = Given 0
 pointer w i (Reg own number) = Given 0
 pointer w i (Seg seg) = Given 0
-pointer w i (Mem f) = memory_bytes w i (pointer_bytes i) (Mem f)
+pointer w i (Mem f) = memory_bytes w i (pointer_size i) (Mem f)
 pointer w i (Imm v) = Given 0
 pointer w i (Far p) = Given (p.off + offset_range i * p.sel)
 

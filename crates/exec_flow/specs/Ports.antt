@@ -4,11 +4,11 @@ use Rattle.std.specs.Prelude.{◌-◌, ◌^◌}
 use Rattle.client_world.specs.World.{World}
 use Rattle.insn_forms.specs.declared.insn.Insn.{Insn}
 use Rattle.insn_plan.specs.Act.{Act, done, unchanged}
-use Rattle.insn_plan.specs.Operands.{put}
+use Rattle.insn_plan.specs.Operands.{put_operand}
 
 -- IN: the accumulator becomes all ones
 unfoldable pub input : World → Insn → Act
-input w i = done (put w.regs i.addr32 i.width i.first (2 ^ i.width - 1) (unchanged w))
+input w i = done (put_operand w.regs i.addr32 i.width i.first (2 ^ i.width - 1) (unchanged w))
 
 -- OUT
 unfoldable pub output : World → Act

@@ -10,7 +10,7 @@ use Rattle.client_world.specs.Selector.{Row, row_of_selector, privilege_of}
 use Rattle.client_world.specs.World.{World}
 use Rattle.insn_forms.specs.declared.insn.Insn.{Insn}
 use Rattle.insn_plan.specs.Act.{Act, ◌>>=◌, done, with_flags}
-use Rattle.insn_plan.specs.Operands.{source, put}
+use Rattle.insn_plan.specs.Operands.{source, put_operand}
 use Rattle.exec_flow.specs.Raising.{in_protected}
 
 -- the flags with another ZF
@@ -37,16 +37,16 @@ abbrev pub access_rights : Desc → ℕ
 access_rights d = access_byte d * 0x100 + flags_byte d / 0x10 * 0x100000
 
 -- what a descriptor says goes into the first operand, and ZF is set; where the selector isn't held ZF is cleared
-abbrev pub told : (Desc → ℕ) → World → Insn → Row → Act
-told number w i None = done (with_flags (with_zero w false) w)
-told number w i (Some row) =
-    done (put w.regs i.addr32 i.width i.first (number row.0) (with_flags (with_zero w true) w))
+abbrev pub descriptor_answer : (Desc → ℕ) → World → Insn → Row → Act
+descriptor_answer number w i None = done (with_flags (with_zero w false) w)
+descriptor_answer number w i (Some row) =
+    done (put_operand w.regs i.addr32 i.width i.first (number row.0) (with_flags (with_zero w true) w))
 
 -- LAR and LSL: the access rights, or the byte limit
 unfoldable pub tell : (Desc → ℕ) → World → Insn → Act
 tell number w i = in_protected w (do
   sel ← source w.regs i.addr32 16 i.second
-  told number w i (row_of_selector w.descriptors (low_half sel)))
+  descriptor_answer number w i (row_of_selector w.descriptors (low_half sel)))
 
 -- ARPL: where the privilege level in the first operand is below that in the second it becomes that one, and ZF is set; else ZF is cleared
 unfoldable pub arpl : World → Insn → Act
@@ -54,5 +54,5 @@ arpl w i = in_protected w (do
   a ← source w.regs i.addr32 16 i.first
   b ← source w.regs i.addr32 16 i.second
   (if nat_lt (privilege_of a) (privilege_of b) then
-      done (put w.regs i.addr32 16 i.first (a - privilege_of a + privilege_of b) (with_flags (with_zero w true) w))
+      done (put_operand w.regs i.addr32 16 i.first (a - privilege_of a + privilege_of b) (with_flags (with_zero w true) w))
       else done (with_flags (with_zero w false) w)))

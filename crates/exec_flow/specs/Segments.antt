@@ -10,7 +10,7 @@ use Rattle.client_world.specs.World.{World}
 use Rattle.insn_forms.specs.declared.insn.Insn.{Insn}
 use Rattle.insn_forms.specs.declared.insn.Operand.TheVariants.{Empty, Reg, Seg, Mem, Imm, Far}
 use Rattle.insn_plan.specs.Act.{Act, ◌>>=◌, Pending, done, unchanged, unless_fault, with_regs}
-use Rattle.insn_plan.specs.Operands.{source, put}
+use Rattle.insn_plan.specs.Operands.{source, put_operand}
 use Rattle.insn_plan.specs.Stack.{pushed, stack_item, items_popped}
 use Rattle.exec_flow.specs.Pointers.{pointer, pointer_selector, pointer_offset}
 
@@ -28,7 +28,7 @@ mov_to_segment w i seg = do
 unfoldable pub mov_from_segment : World → Insn → Act
 mov_from_segment w i = do
   v ← source w.regs i.addr32 16 i.second
-  done (put w.regs i.addr32 16 i.first v (unchanged w))
+  done (put_operand w.regs i.addr32 16 i.first v (unchanged w))
 
 -- MOV with a segment register
 unfoldable pub mov_segment : World → Insn → Act
@@ -68,4 +68,4 @@ pop_segment w i = elim i.first [
 unfoldable pub load_pointer : SegReg → World → Insn → Act
 load_pointer seg w i = do
   p ← pointer w i i.second
-  segment_loaded w seg (pointer_selector i p) (put w.regs i.addr32 i.width i.first (pointer_offset i p) (unchanged w))
+  segment_loaded w seg (pointer_selector i p) (put_operand w.regs i.addr32 i.width i.first (pointer_offset i p) (unchanged w))

@@ -55,7 +55,7 @@ fn far_transfer(m: &mut Machine, sel: u16, ip: u32, ret: bool) -> Result<(), Fau
 
 /// JMP far. Source: 80386 Programmer's Reference Manual, ch. 17.
 #[inline(never)]
-#[tactic(auto, unfolding(crate::specs::FarTransfers::jump_far, crate::specs::FarTransfers::far_transfer, insn_plan::specs::Plan::carried_out, insn_plan::specs::Plan::settled, guest_space::specs::Pending::first_refusal, guest_space::specs::Pending::all_written))]
+#[tactic(auto, unfolding(crate::specs::FarTransfers::jump_far, crate::specs::FarTransfers::far_transfer, insn_plan::specs::Plan::carried_out, insn_plan::specs::Plan::after_commit, guest_space::specs::Pending::first_refusal, guest_space::specs::Pending::all_written))]
 pub(crate) fn jump_far(m: &mut Machine, i: &Insn) -> Result<(), Event>
     ensures { CarriesOut m.old m.new result (jump_far m.old.world i.now) }
 {
@@ -88,7 +88,7 @@ pub(crate) fn call_far(m: &mut Machine, i: &Insn) -> Result<(), Event>
 /// Pops the frame of a far return, in items of n bits: the instruction pointer and CS; and drops a number of bytes after it. Or gives the event,
 /// which changes nothing. Source: 80386 Programmer's Reference Manual, ch. 17, RET.
 #[inline(always)]
-#[tactic(auto, unfolding(crate::specs::FarTransfers::far_frame_popped, crate::specs::FarTransfers::far_transfer, insn_plan::specs::Plan::carried_out, insn_plan::specs::Plan::settled, guest_space::specs::Pending::first_refusal, guest_space::specs::Pending::all_written, client_world::specs::General::with_general, insn_plan::specs::Stack::items_popped))]
+#[tactic(auto, unfolding(crate::specs::FarTransfers::far_frame_popped, crate::specs::FarTransfers::far_transfer, insn_plan::specs::Plan::carried_out, insn_plan::specs::Plan::after_commit, guest_space::specs::Pending::first_refusal, guest_space::specs::Pending::all_written, client_world::specs::General::with_general, insn_plan::specs::Stack::items_popped))]
 pub fn pop_far_frame(m: &mut Machine, bits: u8, bytes: u32) -> Result<(), Event>
     ensures { CarriesOut m.old m.new result (far_frame_popped m.old.world bits bytes) }
 {

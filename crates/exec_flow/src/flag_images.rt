@@ -57,7 +57,7 @@ pub(crate) fn set_popped_flags(m: &mut Machine, image: u32)
 
 /// POPF. Source: as above.
 #[inline(always)]
-#[tactic(auto, unfolding(crate::specs::FlagImages::popf, crate::specs::FlagImages::flags_popped, insn_plan::specs::Plan::carried_out, insn_plan::specs::Plan::settled, guest_space::specs::Pending::first_refusal, guest_space::specs::Pending::all_written, client_world::specs::General::with_general, insn_plan::specs::Stack::items_popped))]
+#[tactic(auto, unfolding(crate::specs::FlagImages::popf, crate::specs::FlagImages::flags_popped, insn_plan::specs::Plan::carried_out, insn_plan::specs::Plan::after_commit, guest_space::specs::Pending::first_refusal, guest_space::specs::Pending::all_written, client_world::specs::General::with_general, insn_plan::specs::Stack::items_popped))]
 pub(crate) fn popf(m: &mut Machine, i: &Insn) -> Result<(), Event>
     ensures { CarriesOut m.old m.new result (popf m.old.world i.now) }
 {
@@ -69,7 +69,7 @@ pub(crate) fn popf(m: &mut Machine, i: &Insn) -> Result<(), Event>
 
 /// CLI. Source: DPMI 0.9, "Interrupt State".
 #[inline(never)]
-#[tactic(auto, unfolding(crate::specs::FlagImages::cli, insn_plan::specs::Plan::carried_out, insn_plan::specs::Plan::settled, guest_space::specs::Pending::first_refusal, guest_space::specs::Pending::all_written))]
+#[tactic(auto, unfolding(crate::specs::FlagImages::cli, insn_plan::specs::Plan::carried_out, insn_plan::specs::Plan::after_commit, guest_space::specs::Pending::first_refusal, guest_space::specs::Pending::all_written))]
 pub(crate) fn cli(m: &mut Machine) -> Result<(), Event>
     ensures { CarriesOut m.old m.new result (cli m.old.world) }
 {
@@ -79,7 +79,7 @@ pub(crate) fn cli(m: &mut Machine) -> Result<(), Event>
 
 /// STI. Source: as above.
 #[inline(never)]
-#[tactic(auto, unfolding(crate::specs::FlagImages::sti, insn_plan::specs::Plan::carried_out, insn_plan::specs::Plan::settled, guest_space::specs::Pending::first_refusal, guest_space::specs::Pending::all_written))]
+#[tactic(auto, unfolding(crate::specs::FlagImages::sti, insn_plan::specs::Plan::carried_out, insn_plan::specs::Plan::after_commit, guest_space::specs::Pending::first_refusal, guest_space::specs::Pending::all_written))]
 pub(crate) fn sti(m: &mut Machine) -> Result<(), Event>
     ensures { CarriesOut m.old m.new result (sti m.old.world) }
 {

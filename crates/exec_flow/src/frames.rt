@@ -109,7 +109,7 @@ pub(crate) fn enter(m: &mut Machine, i: &Insn) -> Result<(), Event>
 
 /// LEAVE. Source: 80386 Programmer's Reference Manual, ch. 17.
 #[inline(always)]
-#[tactic(auto, unfolding(crate::specs::Frames::leave, insn_plan::specs::Plan::carried_out, insn_plan::specs::Plan::settled, guest_space::specs::Pending::first_refusal, guest_space::specs::Pending::all_written, client_world::specs::General::with_general, insn_plan::specs::Stack::items_popped))]
+#[tactic(auto, unfolding(crate::specs::Frames::leave, insn_plan::specs::Plan::carried_out, insn_plan::specs::Plan::after_commit, guest_space::specs::Pending::first_refusal, guest_space::specs::Pending::all_written, client_world::specs::General::with_general, insn_plan::specs::Stack::items_popped))]
 pub(crate) fn leave(m: &mut Machine, i: &Insn) -> Result<(), Event>
     ensures { CarriesOut m.old m.new result (leave m.old.world i.now) }
 {
@@ -145,7 +145,7 @@ fn is_less(width: u8, a: u64, b: u64) -> bool
 
 /// BOUND. Source: 80386 Programmer's Reference Manual, ch. 17; that the pair is one access is own.
 #[inline(never)]
-#[tactic(auto, unfolding(crate::specs::Frames::bound, insn_plan::specs::Plan::carried_out, insn_plan::specs::Plan::settled, guest_space::specs::Pending::first_refusal, guest_space::specs::Pending::all_written))]
+#[tactic(auto, unfolding(crate::specs::Frames::bound, insn_plan::specs::Plan::carried_out, insn_plan::specs::Plan::after_commit, guest_space::specs::Pending::first_refusal, guest_space::specs::Pending::all_written))]
 pub(crate) fn bound(m: &Machine, i: &Insn) -> Result<(), Event>
     requires { IsTrue (is_width i.now.width) }
     ensures { CarriesOut m.now m.now result (bound m.now.world i.now) }

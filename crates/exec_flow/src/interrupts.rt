@@ -34,7 +34,7 @@ pub(crate) fn int3(len: u8) -> Result<(), Event>
 
 /// INTO. Source: as above; that it is the client's interrupt 4 is own.
 #[inline(never)]
-#[tactic(auto, unfolding(crate::specs::Interrupts::into, insn_plan::specs::Plan::carried_out, insn_plan::specs::Plan::settled, guest_space::specs::Pending::first_refusal, guest_space::specs::Pending::all_written))]
+#[tactic(auto, unfolding(crate::specs::Interrupts::into, insn_plan::specs::Plan::carried_out, insn_plan::specs::Plan::after_commit, guest_space::specs::Pending::first_refusal, guest_space::specs::Pending::all_written))]
 pub(crate) fn into(m: &Machine, len: u8) -> Result<(), Event>
     ensures { CarriesOut m.now m.now result (into m.now.world len) }
 {

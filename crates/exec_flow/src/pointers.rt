@@ -1,6 +1,6 @@
 // Far pointers.
 ghost use Rattle.std.specs.Prelude.{◌≡◌};
-ghost use Rattle.exec_flow.specs.Pointers.{memory_bytes, offset_range, pointer, pointer_bytes, pointer_offset, pointer_selector};
+ghost use Rattle.exec_flow.specs.Pointers.{memory_bytes, offset_range, pointer, pointer_size, pointer_offset, pointer_selector};
 ghost use Rattle.insn_plan.specs.Act.{IsCount, value_of};
 
 use client_world::Event;
@@ -39,8 +39,8 @@ fn offset_range(i: &Insn) -> u64
 
 // The bytes of a far pointer in memory.
 #[inline(always)]
-fn pointer_bytes(i: &Insn) -> u8
-    ensures value { result ≡ pointer_bytes i.now }
+fn pointer_size(i: &Insn) -> u8
+    ensures value { result ≡ pointer_size i.now }
     ensures count { IsCount result }
 {
     if i.width == 16 { 4 } else { 6 }
@@ -54,7 +54,7 @@ pub(crate) fn pointer(m: &Machine, i: &Insn, operand: &Operand) -> Result<u64, E
     ensures { result ≡ value_of m.now.world (pointer m.now.world i.now operand.now) }
 {
     match operand {
-        Operand::Mem(_) => memory_bytes(m, i, pointer_bytes(i), operand),
+        Operand::Mem(_) => memory_bytes(m, i, pointer_size(i), operand),
         Operand::Far(p) => Ok(u64::from(p.off) + offset_range(i) * u64::from(p.sel)),
         Operand::Reg { .. } | Operand::Seg(_) | Operand::Imm(_) | Operand::Empty => Ok(0),
     }

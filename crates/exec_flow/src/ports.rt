@@ -29,7 +29,7 @@ pub(crate) fn input(m: &mut Machine, i: &Insn) -> Result<(), Event>
 
 /// OUT. Source: as above.
 #[inline(never)]
-#[tactic(auto, unfolding(crate::specs::Ports::output, insn_plan::specs::Plan::carried_out, insn_plan::specs::Plan::settled, guest_space::specs::Pending::first_refusal, guest_space::specs::Pending::all_written))]
+#[tactic(auto, unfolding(crate::specs::Ports::output, insn_plan::specs::Plan::carried_out, insn_plan::specs::Plan::after_commit, guest_space::specs::Pending::first_refusal, guest_space::specs::Pending::all_written))]
 pub(crate) fn output(m: &Machine) -> Result<(), Event>
     ensures { CarriesOut m.now m.now result (output m.now.world) }
 {

@@ -13,8 +13,8 @@ ghost use Rattle.exec_flow.specs.Questions.{
   arpl,
 };
 ghost use Rattle.insn_plan.specs.Act.{with_flags};
-ghost use Rattle.insn_plan.specs.Operands.{put};
-ghost use Rattle.insn_plan.specs.Plan.{CarriesOut, Follows, settled};
+ghost use Rattle.insn_plan.specs.Operands.{put_operand};
+ghost use Rattle.insn_plan.specs.Plan.{CarriesOut, Follows, after_commit};
 
 use crate::raising::exception;
 use client_world::faults::INVALID_OPCODE;
@@ -64,7 +64,7 @@ fn is_writable_row(row: Option<(Desc, Origin)>) -> bool
 
 /// VERR. Source: 80386 Programmer's Reference Manual, ch. 17.
 #[inline(never)]
-#[tactic(auto, unfolding(crate::specs::Questions::verify, crate::specs::Raising::in_protected, crate::specs::Raising::invalid_opcode, insn_plan::specs::Plan::carried_out, insn_plan::specs::Plan::settled, guest_space::specs::Pending::first_refusal, guest_space::specs::Pending::all_written))]
+#[tactic(auto, unfolding(crate::specs::Questions::verify, crate::specs::Raising::in_protected, crate::specs::Raising::invalid_opcode, insn_plan::specs::Plan::carried_out, insn_plan::specs::Plan::after_commit, guest_space::specs::Pending::first_refusal, guest_space::specs::Pending::all_written))]
 pub(crate) fn verify_readable(m: &mut Machine, i: &Insn) -> Result<(), Event>
     ensures { CarriesOut m.old m.new result (verify is_readable m.old.world i.now) }
 {
@@ -79,7 +79,7 @@ pub(crate) fn verify_readable(m: &mut Machine, i: &Insn) -> Result<(), Event>
 
 /// VERW. Source: as above.
 #[inline(never)]
-#[tactic(auto, unfolding(crate::specs::Questions::verify, crate::specs::Raising::in_protected, crate::specs::Raising::invalid_opcode, insn_plan::specs::Plan::carried_out, insn_plan::specs::Plan::settled, guest_space::specs::Pending::first_refusal, guest_space::specs::Pending::all_written))]
+#[tactic(auto, unfolding(crate::specs::Questions::verify, crate::specs::Raising::in_protected, crate::specs::Raising::invalid_opcode, insn_plan::specs::Plan::carried_out, insn_plan::specs::Plan::after_commit, guest_space::specs::Pending::first_refusal, guest_space::specs::Pending::all_written))]
 pub(crate) fn verify_writable(m: &mut Machine, i: &Insn) -> Result<(), Event>
     ensures { CarriesOut m.old m.new result (verify is_writable_row m.old.world i.now) }
 {
@@ -104,17 +104,17 @@ fn access_rights(d: &Desc) -> u32
 
 // Puts a number into the first operand and sets ZF, or gives the fault of the write, which changes nothing.
 fn tell_number(m: &mut Machine, i: &Insn, v: u32) -> Result<(), Event>
-    ensures { Follows m.old m.new result (settled m.old
-        (put m.old.world.regs i.now.addr32 i.now.width i.now.first v (with_flags (with_zero m.old.world true) m.old.world))) }
+    ensures { Follows m.old m.new result (after_commit m.old
+        (put_operand m.old.world.regs i.now.addr32 i.now.width i.now.first v (with_flags (with_zero m.old.world true) m.old.world))) }
 {
     let flags = with_zero(m, true);
     put_with_flags(m, flags, i.addr32, i.width, &i.first, v)
 }
 
 // Clears ZF.
-#[tactic(auto, unfolding(insn_plan::specs::Plan::settled, guest_space::specs::Pending::first_refusal, guest_space::specs::Pending::all_written))]
+#[tactic(auto, unfolding(insn_plan::specs::Plan::after_commit, guest_space::specs::Pending::first_refusal, guest_space::specs::Pending::all_written))]
 fn tell_nothing(m: &mut Machine) -> Result<(), Event>
-    ensures { Follows m.old m.new result (settled m.old (with_flags (with_zero m.old.world false) m.old.world)) }
+    ensures { Follows m.old m.new result (after_commit m.old (with_flags (with_zero m.old.world false) m.old.world)) }
 {
     let flags = with_zero(m, false);
     m.set_flags(flags);

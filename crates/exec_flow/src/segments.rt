@@ -49,7 +49,7 @@ fn load_segment(m: &mut Machine, seg: SegReg, sel: u16) -> Result<(), Fault>
 
 // MOV into a segment register.
 #[inline(always)]
-#[tactic(auto, unfolding(crate::specs::Segments::mov_to_segment, crate::specs::Segments::segment_loaded, insn_plan::specs::Plan::carried_out, insn_plan::specs::Plan::settled, guest_space::specs::Pending::first_refusal, guest_space::specs::Pending::all_written))]
+#[tactic(auto, unfolding(crate::specs::Segments::mov_to_segment, crate::specs::Segments::segment_loaded, insn_plan::specs::Plan::carried_out, insn_plan::specs::Plan::after_commit, guest_space::specs::Pending::first_refusal, guest_space::specs::Pending::all_written))]
 fn mov_to_segment(m: &mut Machine, i: &Insn, seg: SegReg) -> Result<(), Event>
     ensures { CarriesOut m.old m.new result (mov_to_segment m.old.world i.now seg) }
 {
@@ -96,7 +96,7 @@ pub(crate) fn push_segment(m: &mut Machine, i: &Insn) -> Result<(), Event>
 
 // POP into a segment register.
 #[inline(always)]
-#[tactic(auto, unfolding(crate::specs::Segments::pop_into, crate::specs::Segments::segment_loaded, insn_plan::specs::Plan::carried_out, insn_plan::specs::Plan::settled, guest_space::specs::Pending::first_refusal, guest_space::specs::Pending::all_written, client_world::specs::General::with_general, insn_plan::specs::Stack::items_popped))]
+#[tactic(auto, unfolding(crate::specs::Segments::pop_into, crate::specs::Segments::segment_loaded, insn_plan::specs::Plan::carried_out, insn_plan::specs::Plan::after_commit, guest_space::specs::Pending::first_refusal, guest_space::specs::Pending::all_written, client_world::specs::General::with_general, insn_plan::specs::Stack::items_popped))]
 fn pop_into(m: &mut Machine, i: &Insn, seg: SegReg) -> Result<(), Event>
     ensures { CarriesOut m.old m.new result (pop_into m.old.world i.now seg) }
 {
@@ -110,7 +110,7 @@ fn pop_into(m: &mut Machine, i: &Insn, seg: SegReg) -> Result<(), Event>
 
 /// POP of a segment register. Source: as above.
 #[inline(always)]
-#[tactic(auto, unfolding(crate::specs::Segments::pop_segment, insn_plan::specs::Plan::carried_out, insn_plan::specs::Plan::settled, guest_space::specs::Pending::first_refusal, guest_space::specs::Pending::all_written))]
+#[tactic(auto, unfolding(crate::specs::Segments::pop_segment, insn_plan::specs::Plan::carried_out, insn_plan::specs::Plan::after_commit, guest_space::specs::Pending::first_refusal, guest_space::specs::Pending::all_written))]
 pub(crate) fn pop_segment(m: &mut Machine, i: &Insn) -> Result<(), Event>
     ensures { CarriesOut m.old m.new result (pop_segment m.old.world i.now) }
 {

@@ -85,7 +85,7 @@ fn near_transfer(m: &mut Machine, i: &Insn, ip: u64) -> Result<(), Fault>
 
 /// Jcc. Source: 80386 Programmer's Reference Manual, ch. 17.
 #[inline(always)]
-#[tactic(auto, unfolding(crate::specs::Transfers::jcc, crate::specs::Transfers::near_transfer, insn_plan::specs::Plan::carried_out, insn_plan::specs::Plan::settled, guest_space::specs::Pending::first_refusal, guest_space::specs::Pending::all_written))]
+#[tactic(auto, unfolding(crate::specs::Transfers::jcc, crate::specs::Transfers::near_transfer, insn_plan::specs::Plan::carried_out, insn_plan::specs::Plan::after_commit, guest_space::specs::Pending::first_refusal, guest_space::specs::Pending::all_written))]
 pub(crate) fn jcc(m: &mut Machine, i: &Insn, n: u8) -> Result<(), Event>
     ensures { CarriesOut m.old m.new result (jcc m.old.world i.now n) }
 {
@@ -98,7 +98,7 @@ pub(crate) fn jcc(m: &mut Machine, i: &Insn, n: u8) -> Result<(), Event>
 
 /// JCXZ. Source: as above.
 #[inline(always)]
-#[tactic(auto, unfolding(crate::specs::Transfers::jcxz, crate::specs::Transfers::near_transfer, insn_plan::specs::Plan::carried_out, insn_plan::specs::Plan::settled, guest_space::specs::Pending::first_refusal, guest_space::specs::Pending::all_written))]
+#[tactic(auto, unfolding(crate::specs::Transfers::jcxz, crate::specs::Transfers::near_transfer, insn_plan::specs::Plan::carried_out, insn_plan::specs::Plan::after_commit, guest_space::specs::Pending::first_refusal, guest_space::specs::Pending::all_written))]
 pub(crate) fn jcxz(m: &mut Machine, i: &Insn) -> Result<(), Event>
     ensures { CarriesOut m.old m.new result (jcxz m.old.world i.now) }
 {
@@ -120,7 +120,7 @@ fn count_down(m: &Machine, i: &Insn) -> u32
 /// LOOP, and LOOPE and LOOPNE with their condition.
 /// Source: 80386 Programmer's Reference Manual, ch. 17, "LOOP/LOOPcond"; that a loop whose jump faults keeps its counter is own.
 #[inline(always)]
-#[tactic(auto, unfolding(crate::specs::Transfers::loop_while, crate::specs::Transfers::near_transfer, insn_plan::specs::Plan::carried_out, insn_plan::specs::Plan::settled, guest_space::specs::Pending::first_refusal, guest_space::specs::Pending::all_written, client_world::specs::General::with_general))]
+#[tactic(auto, unfolding(crate::specs::Transfers::loop_while, crate::specs::Transfers::near_transfer, insn_plan::specs::Plan::carried_out, insn_plan::specs::Plan::after_commit, guest_space::specs::Pending::first_refusal, guest_space::specs::Pending::all_written, client_world::specs::General::with_general))]
 pub(crate) fn loop_while(m: &mut Machine, i: &Insn, holds: bool) -> Result<(), Event>
     ensures { CarriesOut m.old m.new result (loop_while holds m.old.world i.now) }
 {
@@ -136,7 +136,7 @@ pub(crate) fn loop_while(m: &mut Machine, i: &Insn, holds: bool) -> Result<(), E
 
 /// JMP. Source: 80386 Programmer's Reference Manual, ch. 17.
 #[inline(always)]
-#[tactic(auto, unfolding(crate::specs::Transfers::jmp, crate::specs::Transfers::near_transfer, insn_plan::specs::Plan::carried_out, insn_plan::specs::Plan::settled, guest_space::specs::Pending::first_refusal, guest_space::specs::Pending::all_written))]
+#[tactic(auto, unfolding(crate::specs::Transfers::jmp, crate::specs::Transfers::near_transfer, insn_plan::specs::Plan::carried_out, insn_plan::specs::Plan::after_commit, guest_space::specs::Pending::first_refusal, guest_space::specs::Pending::all_written))]
 pub(crate) fn jmp(m: &mut Machine, i: &Insn) -> Result<(), Event>
     ensures { CarriesOut m.old m.new result (jmp m.old.world i.now) }
 {
@@ -172,7 +172,7 @@ pub(crate) fn immediate(operand: &Operand) -> u32
 
 /// RET. Source: as above.
 #[inline(always)]
-#[tactic(auto, unfolding(crate::specs::Transfers::ret, crate::specs::Transfers::near_transfer, insn_plan::specs::Plan::carried_out, insn_plan::specs::Plan::settled, guest_space::specs::Pending::first_refusal, guest_space::specs::Pending::all_written, client_world::specs::General::with_general, insn_plan::specs::Stack::items_popped))]
+#[tactic(auto, unfolding(crate::specs::Transfers::ret, crate::specs::Transfers::near_transfer, insn_plan::specs::Plan::carried_out, insn_plan::specs::Plan::after_commit, guest_space::specs::Pending::first_refusal, guest_space::specs::Pending::all_written, client_world::specs::General::with_general, insn_plan::specs::Stack::items_popped))]
 pub(crate) fn ret(m: &mut Machine, i: &Insn) -> Result<(), Event>
     ensures { CarriesOut m.old m.new result (ret m.old.world i.now) }
 {

@@ -21,7 +21,7 @@ use Rattle.insn_decode.specs.declared.decoding.Decoded.TheVariants.{Whole, More,
 use Rattle.insn_decode.specs.Decode.{decoded}
 use Rattle.insn_forms.specs.declared.insn.Insn.{Insn}
 use Rattle.insn_plan.specs.Act.{Pending}
-use Rattle.insn_plan.specs.Plan.{carried_out, planned, settled, with_state}
+use Rattle.insn_plan.specs.Plan.{carried_out, planned, after_commit, with_state}
 use Rattle.fault_service.specs.Delivery.{frame_pushed, handler_entered, handler_interrupts, has_real_vector, interrupt_of, interrupt_vector, interrupted, iret_popped, popped_or_bad, real_delivery, software_interrupt, unserved}
 use Rattle.fault_service.specs.Worlds.{bare, its_world, on_world, world_delivery, world_interrupt, world_popped, world_step}
 
@@ -50,8 +50,8 @@ settled_where : (o : Option Fault) (x y : MachineView) → x.world ≡ y.world �
 settled_where None x y same = ap (λ (w : World). Ok w) same
 settled_where (Some f) x y same = refl
 
-settled_alone : (v : MachineView) (p : Pending) → its_world (settled v p) ≡ its_world (settled (bare v.world) p)
-unfolding settled
+settled_alone : (v : MachineView) (p : Pending) → its_world (after_commit v p) ≡ its_world (after_commit (bare v.world) p)
+unfolding after_commit
 settled_alone v p =
     settled_where (first_refusal v.world p.writes) (with_state p.regs p.vif (all_written v p.writes))
     (with_state p.regs p.vif (all_written (bare v.world) p.writes))

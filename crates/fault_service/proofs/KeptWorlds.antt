@@ -19,7 +19,7 @@ use Rattle.insn_decode.specs.declared.decoding.Decoded.TheVariants.{Whole, More,
 use Rattle.insn_decode.specs.Decode.{decoded}
 use Rattle.insn_forms.specs.declared.insn.Insn.{Insn}
 use Rattle.insn_plan.specs.Act.{Pending}
-use Rattle.insn_plan.specs.Plan.{carried_out, planned, settled, with_state}
+use Rattle.insn_plan.specs.Plan.{carried_out, planned, after_commit, with_state}
 use Rattle.fault_service.specs.Delivery.{frame_pushed, handler_entered, handler_interrupts, has_real_vector, interrupt_vector, interrupted, iret_popped, real_delivery, software_interrupt}
 use Rattle.fault_service.specs.Worlds.{HasOtherRegisters, HasOtherRegistersAndMemory, HasOtherState, bare, world_delivery, world_interrupt, world_popped, world_step}
 use Rattle.fault_service.proofs.ReturnStates.{return_state}
@@ -36,8 +36,8 @@ with_writes : (v : MachineView) (r : Regs) (on : Bool) (xs : List Write) →
     HasOtherRegistersAndMemory v.world (with_state r on (all_written v xs)).world
 with_writes v r on xs = ap (λ (w : World). record w { regs = r; vif = on }) (other_all v xs)
 
-kept_settled : (v u : MachineView) (p : Pending) → settled v p ≡ Ok u → HasOtherRegistersAndMemory v.world u.world
-unfolding settled
+kept_settled : (v u : MachineView) (p : Pending) → after_commit v p ≡ Ok u → HasOtherRegistersAndMemory v.world u.world
+unfolding after_commit
 kept_settled v u p e =
     let x = with_state p.regs p.vif (all_written v p.writes) in
     holds_of_answer (λ (m : MachineView). HasOtherRegistersAndMemory v.world m.world) (Ok x) u (with_writes v p.regs p.vif p.writes)

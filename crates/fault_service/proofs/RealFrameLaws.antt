@@ -15,7 +15,7 @@ use Rattle.client_world.specs.declared.segments.SegReg.TheVariants.{Ss}
 use Rattle.client_world.specs.Soundness.{IsSound}
 use Rattle.client_world.specs.World.{World, MemoryBlock}
 use Rattle.exec_flow.specs.FarTransfers.{far_transfer, frame_popped}
-use Rattle.guest_space.specs.Transfer.{bytes_at, loaded}
+use Rattle.guest_space.specs.Transfer.{bytes_at, read_result}
 use Rattle.host_memory.specs.View.{MachineView}
 use Rattle.insn_plan.specs.Act.{Act, From, Read, number_read, value_of}
 use Rattle.insn_plan.specs.Plan.{planned}
@@ -50,7 +50,7 @@ word_in_view w at s below =
 
 word_where : (w : World) (offset : ℕ) (fits : Bool) → IsSound w → nat_le (offset + 2) SEGMENT_SIZE ≡ fits →
     IsWordWhere fits (value_of (real w) (From Ss offset 2))
-unfolding value_of loaded access segment_base
+unfolding value_of read_result access segment_base
 word_where w offset true s e =
     rw e (word_in_view w (w.regs.ss * PARAGRAPH_SIZE + offset) s (omega (arith, s.segments.ss, leb-true (offset + 2) SEGMENT_SIZE e)))
 word_where w offset false s e = rw e refl

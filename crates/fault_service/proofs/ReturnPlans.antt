@@ -14,7 +14,7 @@ use Rattle.guest_space.proofs.Writes.{first_none}
 use Rattle.guest_space.specs.Pending.{all_written, first_refusal}
 use Rattle.host_memory.specs.View.{MachineView}
 use Rattle.insn_plan.specs.Act.{Act, Input, Pending, Read, done, unchanged, unless_fault, value_of, with_regs}
-use Rattle.insn_plan.specs.Plan.{carried_out, planned, settled, with_state}
+use Rattle.insn_plan.specs.Plan.{carried_out, planned, after_commit, with_state}
 use Rattle.insn_plan.specs.Stack.{stack_item, items_popped}
 use Rattle.fault_service.specs.Delivery.{popped_or_bad, iret_popped}
 
@@ -81,8 +81,8 @@ popped_where_granted : (o : Option Fault) (v : MachineView) → o ≡ None →
 popped_where_granted None v e = refl
 popped_where_granted (Some f) v e = absurd cc
 
-quiet_settled : (v : MachineView) (p : Pending) → p.writes ≡ [] → is_ok (popped_or_bad (settled v p)) ≡ true
-unfolding settled
+quiet_settled : (v : MachineView) (p : Pending) → p.writes ≡ [] → is_ok (popped_or_bad (after_commit v p)) ≡ true
+unfolding after_commit
 quiet_settled v p none =
     popped_where_granted (first_refusal v.world p.writes) (with_state p.regs p.vif (all_written v p.writes))
     (ap (first_refusal v.world) none ∙ first_none v.world)

@@ -7,14 +7,14 @@ use Rattle.guest_space.proofs.Writes.{all_none}
 use Rattle.guest_space.specs.Pending.{all_written, first_refusal}
 use Rattle.host_memory.specs.View.{MachineView}
 use Rattle.insn_plan.specs.Act.{Pending}
-use Rattle.insn_plan.specs.Plan.{carried_out, settled, with_state}
+use Rattle.insn_plan.specs.Plan.{carried_out, after_commit, with_state}
 use Rattle.fault_service.specs.Delivery.{iret_popped}
 use Rattle.fault_service.specs.Worlds.{HasOtherState}
 use Rattle.fault_service.proofs.ReturnPlans.{WritesNothing, quiet_frame}
 use Rattle.fault_service.proofs.SoundAnswers.{granted_was, holds_of_answer, return_was}
 
-settled_state : (v u : MachineView) (p : Pending) → p.writes ≡ [] → settled v p ≡ Ok u → HasOtherState v u
-unfolding settled
+settled_state : (v u : MachineView) (p : Pending) → p.writes ≡ [] → after_commit v p ≡ Ok u → HasOtherState v u
+unfolding after_commit
 settled_state v u p none e =
     let x = with_state p.regs p.vif (all_written v p.writes) in
     holds_of_answer (HasOtherState v) (Ok x) u (ap (with_state p.regs p.vif) (ap (all_written v) none ∙ all_none v))

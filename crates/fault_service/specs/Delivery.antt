@@ -65,7 +65,7 @@ interrupted v n = elim (first_refusal v.world (interrupt_pushed v.world).writes)
   | None ↦ handler_entered (frame_pushed v) (interrupt_vector (frame_pushed v).world n)
 ]
 
--- the machine after the software interrupt n, whose instruction has so many bytes; or its fault, with nothing changed
+-- the machine after the software interrupt n, whose instruction has `len` bytes; or its fault, with nothing changed
 unfoldable pub software_interrupt : MachineView → ℕ → ℕ → Result MachineView Fault
 software_interrupt v n len = interrupted (behind len v) n
 

@@ -3,7 +3,7 @@
 use Rattle.std.specs.Prelude.{ℕ, ◌+◌, ◌*◌, ◌%◌, Bool, ◌&&◌, nat_le}
 use Rattle.client_world.specs.declared.memory_map.TheConstants.{SEGMENT_SIZE}
 
--- the word that stands so many words above the stack pointer lies inside the segment
+-- the word that is n words above the stack pointer lies inside the segment
 abbrev pub word_fits : ℕ → ℕ → Bool
 word_fits esp above = nat_le ((esp + 2 * above) % SEGMENT_SIZE + 2) SEGMENT_SIZE
 

@@ -89,7 +89,7 @@ fn check_handler(m: &Machine, next: &Next, n: u8) -> Result<(), Fault>
 
 // Pushes what an interrupt pushes, or gives the fault of the first push that has one, or else of loading the handler's address, which
 // changes nothing.
-#[tactic(auto, unfolding(insn_plan::specs::Plan::settled))]
+#[tactic(auto, unfolding(insn_plan::specs::Plan::after_commit))]
 fn push_frame(m: &mut Machine, n: u8) -> Result<(), Fault>
     ensures pushed { OnOk result ((first_refusal m.old.world (interrupt_pushed m.old.world).writes ≡ None)
         × (handler_fault m.old.world n ≡ None) × (m.new ≡ frame_pushed m.old)) }

@@ -103,7 +103,7 @@ const SERVED: [Served; 5] = [
         at: 0x3_02FA,
         bytes: &[0x52, 0, 0, 1, 0x03, 0x0A],
     },
-    // the instruction pointer behind the segment's last byte
+    // the instruction pointer after the segment's last byte
     Served {
         call: Call::Interrupt(0x21, 1),
         before: Regs {

@@ -1,4 +1,4 @@
--- The length of a list given by a function, what stands at each place, and when two are the same.
+-- The length of a list given by a function, what is at each place, and when two are the same.
 use Rattle.std.proofs.Common.{◌≡◌, ◌≢◌, ap, ℕ, ◌<◌, List, length, get_or, set, ◌∙◌, sym, arith, zero-add, get_or-set_same, get_or-set_other, length-set, inl, inr}
 use Rattle.std.proofs.lemmas.List.{same_lists, length-replicate, get_or-replicate}
 use Rattle.std.proofs.lemmas.List.FromFn.{length-map-range_with_len, get_or-map-range_with_len}

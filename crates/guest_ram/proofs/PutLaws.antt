@@ -14,7 +14,7 @@ put-sets : (b : List ℕ) (at : ℕ) (xs : List ℕ) → put b at xs ≡ sets b 
 put-sets b at [] = refl
 put-sets b at (x ∷ xs) = put-sets (set b at x) (at + 1) xs ∙ ap (λ (j : ℕ). sets (set b at x) j xs) (add-one at)
 
--- a run that is put stands between what was before it and behind it
+-- a run that is put is between what was before it and after it
 pub put_is : (b : List ℕ) (at : ℕ) (xs : List ℕ) → at + length xs ≤ length b → put b at xs ≡ take at b ++ (xs ++ drop (at + length xs) b)
 put_is b at xs room = put-sets b at xs ∙ sets-eq xs b at room ∙ append_assoc (take at b) xs (drop (at + length xs) b)
 

@@ -1,4 +1,4 @@
--- Long lists, given by a length and by what stands at each place. They stay closed, since the length may be large.
+-- Long lists, given by a length and by what is at each place. They stay closed, since the length may be large.
 -- Source: own.
 use Rattle.std.specs.Prelude.{ℕ, List, map, replicate}
 use Rattle.std.specs.List.{range_with_len}

@@ -1,6 +1,6 @@
 //! The memory of the machine: a list of bytes, in frames.
-//! It promises that a read answers the bytes that stand there, and that a write changes its bytes alone.
-//! It stands on nothing; every crate that keeps the client's memory stands on it.
+//! It promises that a read answers the bytes that are there, and that a write changes its bytes alone.
+//! It uses no other crate; every crate that keeps the client's memory uses it.
 #![tactic(auto)]
 
 mod ram;

@@ -135,7 +135,7 @@ impl Ram {
         self.bytes[at..at + bytes.len()].copy_from_slice(bytes);
     }
 
-    /// Copies so many bytes from an address to another; the two ranges may overlap.
+    /// Copies n bytes from an address to another; the two ranges may overlap.
     pub fn copy(&mut self, from: u32, to: u32, n: u32)
         requires source { from + n ≤ length self.old }
         requires target { to + n ≤ length self.old }
@@ -146,7 +146,7 @@ impl Ram {
         self.bytes.copy_within(from..from + n as usize, to as usize);
     }
 
-    /// Puts so many copies of a byte from an address on.
+    /// Puts n copies of a byte from an address on.
     pub fn fill(&mut self, at: u32, n: u32, v: u8)
         requires { at + n ≤ length self.old }
         ensures bytes { self.new ≡ put self.old at (copies n v) }

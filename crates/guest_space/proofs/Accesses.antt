@@ -8,7 +8,7 @@ use Rattle.client_world.specs.declared.segments.SegReg.{SegReg}
 use Rattle.client_world.specs.Access.{access, segment_base, places_from, places_at, touched_places, first_forbidden, unless_forbidden}
 use Rattle.client_world.specs.World.{World}
 use Rattle.host_memory.specs.View.{MachineView}
-use Rattle.guest_space.specs.Transfer.{loaded, refusal, stored, linear_access, bytes_at, fault_of, with_places, places_of_access}
+use Rattle.guest_space.specs.Transfer.{read_result, access_fault, stored, linear_access, bytes_at, fault_of, with_places, places_of_access}
 use Rattle.guest_space.proofs.Runs.{linear_run}
 
 -- the places from a base and an offset are those from the linear address
@@ -30,19 +30,19 @@ access_refused w seg offset n write f e = ap (λ (r : Result ℕ Fault). places_
 
 -- what is read, and what is refused
 pub loaded_linear : (w : World) (seg : SegReg) (offset n base : ℕ) → segment_base w.mode w.regs w.descriptors seg offset n false ≡ Ok base →
-    bytes_at w (linear_access w ((base + offset) % 2 ^ 32) n false) ≡ loaded w seg offset n
-unfolding loaded
+    bytes_at w (linear_access w ((base + offset) % 2 ^ 32) n false) ≡ read_result w seg offset n
+unfolding read_result
 loaded_linear w seg offset n base e = ap (bytes_at w) (sym (access_linear w seg offset n base false e))
 
 pub refusal_linear : (w : World) (seg : SegReg) (offset n base : ℕ) (write : Bool) →
     segment_base w.mode w.regs w.descriptors seg offset n write ≡ Ok base →
-    refusal w seg offset n write ≡ fault_of (linear_access w ((base + offset) % 2 ^ 32) n write)
-unfolding refusal
+    access_fault w seg offset n write ≡ fault_of (linear_access w ((base + offset) % 2 ^ 32) n write)
+unfolding access_fault
 refusal_linear w seg offset n base write e = ap fault_of (access_linear w seg offset n base write e)
 
 pub refusal_refused : (w : World) (seg : SegReg) (offset n : ℕ) (write : Bool) (f : Fault) →
-    segment_base w.mode w.regs w.descriptors seg offset n write ≡ Err f → refusal w seg offset n write ≡ Some f
-unfolding refusal
+    segment_base w.mode w.regs w.descriptors seg offset n write ≡ Err f → access_fault w seg offset n write ≡ Some f
+unfolding access_fault
 refusal_refused w seg offset n write f e = ap fault_of (access_refused w seg offset n write f e)
 
 -- the places of an access without a fault
@@ -69,7 +69,7 @@ pub write_done : (v new : MachineView) (seg : SegReg) (offset n base : ℕ) (byt
     segment_base v.world.mode v.world.regs v.world.descriptors seg offset n true ≡ Ok base →
     OnOk r ((fault_of (linear_access v.world ((base + offset) % 2 ^ 32) n true) ≡ None)
     × (new ≡ with_places v (places_from v.world.blocks ((base + offset) % 2 ^ 32) n) bytes)) →
-    OnOk r ((refusal v.world seg offset n true ≡ None) × (new ≡ stored v seg offset n bytes))
+    OnOk r ((access_fault v.world seg offset n true ≡ None) × (new ≡ stored v seg offset n bytes))
 write_done v new seg offset n base bytes (Ok u) e done =
     (refusal_linear v.world seg offset n base true e ∙ done.0, done.1 ∙ stored_linear v seg offset n base bytes e done.0)
 write_done v new seg offset n base bytes (Err f) e done = tt
@@ -77,6 +77,6 @@ write_done v new seg offset n base bytes (Err f) e done = tt
 pub write_refused : (v new : MachineView) (seg : SegReg) (offset n base : ℕ) (r : Result (Unit {0}) Fault) →
     segment_base v.world.mode v.world.regs v.world.descriptors seg offset n true ≡ Ok base →
     IfErr r (λ fault. (fault_of (linear_access v.world ((base + offset) % 2 ^ 32) n true) ≡ Some fault) × (new ≡ v)) →
-    IfErr r (λ fault. (refusal v.world seg offset n true ≡ Some fault) × (new ≡ v))
+    IfErr r (λ fault. (access_fault v.world seg offset n true ≡ Some fault) × (new ≡ v))
 write_refused v new seg offset n base (Ok u) e refused = tt
 write_refused v new seg offset n base (Err f) e refused = (refusal_linear v.world seg offset n base true e ∙ refused.0, refused.1)

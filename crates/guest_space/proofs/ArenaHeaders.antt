@@ -12,7 +12,7 @@ use Rattle.client_world.proofs.SoundWrites.{SoundMegabyte-set}
 use Rattle.guest_ram.specs.Bytes.{put}
 use Rattle.guest_ram.proofs.PutLaws.{length-put, region-put_below}
 use Rattle.host_memory.specs.DosList.{entry_at, entry_count, entry_size, arena_in}
-use Rattle.host_memory.specs.Headers.{header_letter, header_bytes, owner_of, with_headers}
+use Rattle.host_memory.specs.Headers.{header_letter, dos_header, owner_of, with_headers}
 use Rattle.host_memory.specs.Layout.{arena_part, dos_part}
 use Rattle.host_memory.proofs.Parts.{MemoryParts, parts_of, HasSize}
 use Rattle.host_memory.proofs.PutParts.{put_dos, size_put}
@@ -20,8 +20,8 @@ use Rattle.guest_space.proofs.ArenaLists.{length-arena_in}
 use Rattle.guest_space.proofs.ArenaReads.{HasFrames, entry_there}
 use Rattle.guest_space.proofs.Fills.{fills_at}
 
-pub length-header : (letter : ℕ) (entry : DosEntry) → length (header_bytes letter entry) ≡ 16
-unfolding header_bytes
+pub length-header : (letter : ℕ) (entry : DosEntry) → length (dos_header letter entry) ≡ 16
+unfolding dos_header
 length-header letter entry = refl
 
 -- the bytes of a header are bytes
@@ -42,11 +42,11 @@ owner_small Dpmi = omega arith
 zero_fits : 0 < 0x100
 zero_fits = omega arith
 
-header_fits : (letter : ℕ) (entry : DosEntry) → letter < 0x100 → entry.paras < 0x10000 → (k : ℕ) → slice_index (header_bytes letter entry) k < 0x100
-unfolding header_bytes
+header_fits : (letter : ℕ) (entry : DosEntry) → letter < 0x100 → entry.paras < 0x10000 → (k : ℕ) → slice_index (dos_header letter entry) k < 0x100
+unfolding dos_header
 header_fits letter entry small paras =
     let owner = owner_small entry.state in
-    each_byte (header_bytes letter entry) (
+    each_byte (dos_header letter entry) (
       small,
       (
         omega arith,
@@ -98,8 +98,8 @@ SoundMegabyte-headers dos (e ∷ es) from sound fills =
     let room = fills_at (e ∷ es) from ARENA_END 0 e fills (omega arith) in
     let ends = room.ends in
     let long = length-header (header_letter es) e in
-    SoundMegabyte-headers (put dos (PARAGRAPH_SIZE * e.at) (header_bytes (header_letter es) e)) es (from + 1 + e.paras)
-    (SoundMegabyte-put dos (PARAGRAPH_SIZE * e.at) (header_bytes (header_letter es) e) sound (omega arith)
+    SoundMegabyte-headers (put dos (PARAGRAPH_SIZE * e.at) (dos_header (header_letter es) e)) es (from + 1 + e.paras)
+    (SoundMegabyte-put dos (PARAGRAPH_SIZE * e.at) (dos_header (header_letter es) e) sound (omega arith)
     (header_fits (header_letter es) e (letter_fits es) (omega arith)))
     fills.1
 
@@ -107,8 +107,8 @@ SoundMegabyte-headers dos (e ∷ es) from sound fills =
 pub length-headers : (b : List ℕ) (es : List DosEntry) → length (with_headers b es) ≡ length b
 length-headers b [] = refl
 length-headers b (e ∷ es) =
-    length-headers (put b (PARAGRAPH_SIZE * e.at) (header_bytes (header_letter es) e)) es
-    ∙ length-put b (PARAGRAPH_SIZE * e.at) (header_bytes (header_letter es) e)
+    length-headers (put b (PARAGRAPH_SIZE * e.at) (dos_header (header_letter es) e)) es
+    ∙ length-put b (PARAGRAPH_SIZE * e.at) (dos_header (header_letter es) e)
 
 pub headers_parts : (b : List ℕ) (budget : ℕ) (es : List DosEntry) (from : ℕ) → HasSize b budget → Fills from es ARENA_END →
     parts_of (with_headers b es) budget ≡ record (parts_of b budget) { dos = with_headers (dos_part b) es }
@@ -118,11 +118,11 @@ headers_parts b budget (e ∷ es) from size fills =
     let ends = room.ends in
     let long = length-header (header_letter es) e in
     let at = PARAGRAPH_SIZE * e.at in
-    let xs = header_bytes (header_letter es) e in
+    let xs = dos_header (header_letter es) e in
     headers_parts (put b at xs) budget es (from + 1 + e.paras) (size_put b budget at xs size) fills.1
     ∙ ap (λ (p : MemoryParts). record p { dos = with_headers p.dos es }) (put_dos b budget at at xs size refl (omega arith))
 
--- where the header of the entry that is read stands
+-- where the header of the entry that is read is
 pub header_room : (b c : List ℕ) (place : ℕ) (entry : DosEntry) → IsArena (arena_in (arena_part b)) → arena_part c ≡ arena_part b →
     place < entry_count (arena_part b) → entry ≡ entry_at c (PAGE_SIZE * DOS_LIST + entry_size * place) → PARAGRAPH_SIZE * entry.at + 16 ≤ PARAGRAPH_SIZE * ARENA_END
 header_room b c place entry arena same small is =
@@ -132,7 +132,7 @@ header_room b c place entry arena same small is =
     let at = ap (λ (e : DosEntry). e.at) (is ∙ entry_there b c place entry same small) in
     omega arith
 
--- the letter by the entries behind
+-- the letter by the entries after
 letter_is : (es : List DosEntry) (place n : ℕ) → length es ≡ n → place < n → (if nat_eq (place + 1) n then 0x5A else 0x4D) ≡ header_letter (drop (place + 1) es)
 letter_is es place n e small = elim (cases_eq (place + 1) n) [
   | inl last ↦ rw (eq-eqb (place + 1) n last) (none (drop (place + 1) es) (omega (arith, length-drop (place + 1) es)))
@@ -150,7 +150,7 @@ letter_is es place n e small = elim (cases_eq (place + 1) n) [
 pub one_header : (b c last : List ℕ) (n place : ℕ) (entry : DosEntry) (letter : ℕ) → n ≡ entry_count (arena_part b) → place < n →
     arena_part c ≡ arena_part b → entry ≡ entry_at c (PAGE_SIZE * DOS_LIST + entry_size * place) → letter ≡ (if nat_eq (place + 1) n then 0x5A else 0x4D) →
     with_headers c (drop place (arena_in (arena_part b))) ≡ last →
-    with_headers (put c (PARAGRAPH_SIZE * entry.at) (header_bytes letter entry)) (drop (place + 1) (arena_in (arena_part b))) ≡ last
+    with_headers (put c (PARAGRAPH_SIZE * entry.at) (dos_header letter entry)) (drop (place + 1) (arena_in (arena_part b))) ≡ last
 one_header b c last n place entry letter count small same is by so_far =
     let es = arena_in (arena_part b) in
     let long = length-arena_in (arena_part b) in
@@ -158,19 +158,19 @@ one_header b c last n place entry letter count small same is by so_far =
     let letter_here : letter ≡ header_letter (drop (place + 1) es) = by ∙ letter_is es place n (long ∙ sym count) small in
     let rest : drop place es ≡ get_or es place entry ∷ drop (place + 1) es = drop-cons es place entry (omega arith)
     ∙ ap (λ (k : ℕ). get_or es place entry ∷ drop k es) (let next : suc place ≡ place + 1 = omega arith in next) in
-    ap (λ (l : ℕ). with_headers (put c (PARAGRAPH_SIZE * entry.at) (header_bytes l entry)) (drop (place + 1) es)) letter_here
-    ∙ ap (λ (e : DosEntry). with_headers (put c (PARAGRAPH_SIZE * e.at) (header_bytes (header_letter (drop (place + 1) es)) e)) (drop (place + 1) es)) here
+    ap (λ (l : ℕ). with_headers (put c (PARAGRAPH_SIZE * entry.at) (dos_header l entry)) (drop (place + 1) es)) letter_here
+    ∙ ap (λ (e : DosEntry). with_headers (put c (PARAGRAPH_SIZE * e.at) (dos_header (header_letter (drop (place + 1) es)) e)) (drop (place + 1) es)) here
     ∙ ap (with_headers c) (sym rest)
     ∙ so_far
 
 -- it leaves the list
 pub header_away : (c : List ℕ) (at letter : ℕ) (entry : DosEntry) → HasFrames c → at + 16 ≤ PARAGRAPH_SIZE * ARENA_END →
-    arena_part (put c at (header_bytes letter entry)) ≡ arena_part c
+    arena_part (put c at (dos_header letter entry)) ≡ arena_part c
 header_away c at letter entry frames low =
     let long = length-header letter entry in
-    region-put_below c at (header_bytes letter entry) (PAGE_SIZE * DOS_LIST) (PAGE_SIZE * DOS_LIST_FRAMES) (omega arith) (omega arith)
+    region-put_below c at (dos_header letter entry) (PAGE_SIZE * DOS_LIST) (PAGE_SIZE * DOS_LIST_FRAMES) (omega arith) (omega arith)
 
--- and behind the last entry nothing is left
+-- and after the last entry nothing is left
 pub no_header_left : (c : List ℕ) (es : List DosEntry) (place : ℕ) → length es ≤ place → with_headers c (drop place es) ≡ c
 no_header_left c es place past = ap (with_headers c) (empty (drop place es) (omega (arith, length-drop place es)))
   where

@@ -44,7 +44,7 @@ code_some entry = some entry.state
     some Used = λ h. omega (arith, h)
     some Dpmi = λ h. omega (arith, h)
 
--- the bytes of entries, one behind the other
+-- the bytes of entries, one after another
 pub length-list_bytes : (es : List DosEntry) → length (list_bytes es) ≡ entry_size * length es
 length-list_bytes [] = refl
 length-list_bytes (e ∷ es) = let rest = length-list_bytes es in omega arith
@@ -85,7 +85,7 @@ bytes_right xs ys at from =
     ap (λ (bytes : List ℕ). get_or bytes at 0) (list_bytes-append xs ys)
     ∙ get_or-append_right (list_bytes xs) (list_bytes ys) (entry_size * length xs) at 0 (length-list_bytes xs) from
 
--- those of a list's front, and of what is behind it
+-- those of a list's first part, and of what follows it
 pub bytes_take : (es : List DosEntry) (n at : ℕ) → n ≤ length es → at < entry_size * n → get_or (list_bytes (take n es)) at 0 ≡ get_or (list_bytes es) at 0
 bytes_take es n at few small =
     sym (bytes_left (take n es) (drop n es) at (omega (arith, length-take n es)))

@@ -1,4 +1,4 @@
--- Entries of DOS memory read from the memory, where they stand one behind the other, and how many they are.
+-- Entries of DOS memory read from the memory, where they lie one after another, and how many they are.
 use Rattle.std.proofs.Common.{◌≡◌, ◌≢◌, ℕ, ◌+◌, ◌*◌, ◌<◌, ◌≤◌, ◌⊎◌, inl, inr, List, length, get_or, ap, ◌∙◌, sym, arith, add_assoc}
 use Rattle.std.proofs.lemmas.Bool.{cases_lt}
 use Rattle.client_world.specs.declared.dos_memory.DosEntry.{DosEntry}
@@ -13,7 +13,7 @@ use Rattle.guest_space.proofs.ArenaLists.{same_entry, at_arena_in, entries_are}
 abbrev pub HasFrames : List ℕ → Type 0
 HasFrames b = PAGE_SIZE * BUDGET_FRAMES ≤ length b
 
--- where the list stands
+-- where the list is
 abbrev pub list_start : ℕ
 list_start = PAGE_SIZE * DOS_LIST
 

@@ -32,7 +32,7 @@ has_either entry (x ∷ xs) ys (inr h) = elim (has_either entry xs ys h) [
   | inr right ↦ inr right
 ]
 
--- it stands at a place
+-- it is at a place
 record Stands (entry : DosEntry) (es : List DosEntry) : Type 0 where
   pub place : ℕ
   pub there : slice_get es place ≡ Some entry
@@ -53,7 +53,7 @@ none_made entry [] none made h = h
 none_made entry (e ∷ es) none made (inl same) = let plain = none.0 in cc
 none_made entry (e ∷ es) none made (inr h) = none_made entry es none.1 made h
 
--- the entries are those in front, the ones taken out, and those behind
+-- the entries are those before, the ones taken out, and those after
 parts_are : (es : List DosEntry) (place old : ℕ) → take place es ++ (take old (drop place es) ++ drop (place + old) es) ≡ es
 parts_are es place old =
     ap (λ (xs : List DosEntry). take place es ++ (take old (drop place es) ++ xs)) (sym (drop-drop old place es))

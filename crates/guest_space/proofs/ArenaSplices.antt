@@ -1,4 +1,4 @@
--- What moving the entries behind, writing the new ones and filling up with zeros does to the bytes of the frames: they are those of the
+-- What moving the entries after, writing the new ones and filling up with zeros does to the bytes of the frames: they are those of the
 -- entries after it.
 use Rattle.std.proofs.Common.{◌≡◌, ℕ, ◌+◌, ◌-◌, ◌*◌, ◌<◌, ◌≤◌, inl, inr, List, ◌++◌, length, get_or, take, drop, ap, ◌∙◌, sym, arith, length-append, length-drop}
 use Rattle.std.proofs.lemmas.Bool.{cases_lt}
@@ -23,7 +23,7 @@ length-spliced es place old new within =
     let behind = length-drop (place + old) es in
     omega arith
 
--- n entries stand there from `start` on
+-- n entries are there from `start` on
 abbrev pub spliced_bytes : List ℕ → ℕ → ℕ → ℕ → ℕ → List DosEntry → List ℕ
 spliced_bytes b start n place old new =
     put (put (put b (start + entry_size * (place + length new)) (region b (start + entry_size * (place + old)) (entry_size * (n - (place + old)))))

@@ -80,7 +80,7 @@ handle_few w (suc place) at sound has = elim (cases_lt place MAX_BLOCKS) [
       absurd (subst (λ (o : Option MemoryBlock). HasByte o at) (get_or_past w.blocks place None (omega arith)) has))
 ]
 
--- where it stands
+-- where it is
 pub record ReadsByte (b : List ℕ) (blocks : List (Option MemoryBlock)) (handle base at : ℕ) : Type 0 where
   pub from : BLOCK_REGION ≤ base
   pub to : base < BLOCK_REGION_END

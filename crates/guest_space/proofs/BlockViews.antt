@@ -10,7 +10,7 @@ use Rattle.host_memory.specs.View.{MachineView}
 use Rattle.host_memory.proofs.BlockRows.{HasRanges}
 use Rattle.host_memory.proofs.ClientPlaces.{ranges_of}
 use Rattle.host_memory.proofs.WorldParts.{blocks_is, budget_is}
-use Rattle.block_memory.specs.BlockChanges.{blocks_held, HoldsBlocks, ReplacesBlocks}
+use Rattle.block_memory.specs.BlockChanges.{blocks_held, HoldsSoundBlocks, ReplacesBlocks}
 use Rattle.block_memory.proofs.PageChanges.{held_in}
 use Rattle.block_memory.proofs.SizedSound.{sound_blocks}
 use Rattle.guest_space.specs.Machines.{Processor, held_world}
@@ -44,7 +44,7 @@ in_memory k b v is P own =
     subst (P (blocks_held b k.budget)) (held_budget k b)
     (subst (λ (bs : List (Option MemoryBlock)). P bs (held_world k b).budget) (held_blocks k b) (subst (λ (x : MachineView). P x.world.blocks x.world.budget) (sym is) own))
 
-pub holds_blocks : (k : Processor) (b : List ℕ) → Holds b k.budget → IsSound (held_world k b) → HoldsBlocks b k.budget
+pub holds_blocks : (k : Processor) (b : List ℕ) → Holds b k.budget → IsSound (held_world k b) → HoldsSoundBlocks b k.budget
 holds_blocks k b holds sound = record { holds = holds; sound = memory_blocks k b sound; fits = memory_bytes k b sound }
 
 -- the machine whose memory holds other blocks

@@ -15,11 +15,11 @@ use Rattle.client_world.specs.World.{World}
 use Rattle.guest_ram.specs.Bytes.{AreBytes, region}
 use Rattle.guest_ram.proofs.PutLaws.{length-region, at_region}
 use Rattle.guest_space.specs.Code.{code_from}
-use Rattle.guest_space.specs.Transfer.{loaded, bytes_at, linear_access}
+use Rattle.guest_space.specs.Transfer.{read_result, bytes_at, linear_access}
 use Rattle.guest_space.proofs.Accesses.{loaded_linear}
 use Rattle.guest_space.proofs.Codes.{whole_code}
 
--- a byte of a region, or 0 behind it
+-- a byte of a region, or 0 after it
 byte_of_region : (b : List ℕ) (at n i : ℕ) → AreBytes b → at + n ≤ length b → (i < n) ⊎ (n ≤ i) → get_or (region b at n) i 0 < 256
 byte_of_region b at n i bytes inside (inl within) = let same = at_region b at n i within in let small = bytes (at + i) in omega arith
 byte_of_region b at n i bytes inside (inr past) =
@@ -65,4 +65,4 @@ pub code_in_words : (w : World) (eip base : ℕ) (o : Option CodeWords) → eip 
 code_in_words w eip base None same e read = tt
 code_in_words w eip base (Some words) same e read =
     whole_code w 15 (code_bytes words) (length-code_bytes words)
-    (ap (λ (offset : ℕ). loaded w Cs offset 15) (sym same) ∙ sym (loaded_linear w Cs eip 15 base e) ∙ read)
+    (ap (λ (offset : ℕ). read_result w Cs offset 15) (sym same) ∙ sym (loaded_linear w Cs eip 15 base e) ∙ read)

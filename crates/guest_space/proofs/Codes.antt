@@ -12,7 +12,7 @@ use Rattle.client_world.specs.World.{World}
 use Rattle.client_world.proofs.PlaceLaws.{length-places_from, places_from-at}
 use Rattle.client_world.proofs.SoundWrites.{at_bytes_of}
 use Rattle.guest_space.specs.Code.{one_byte, code_byte, code_from}
-use Rattle.guest_space.specs.Transfer.{loaded, bytes_at, linear_access, fault_of}
+use Rattle.guest_space.specs.Transfer.{read_result, bytes_at, linear_access, fault_of}
 use Rattle.guest_space.proofs.Accesses.{loaded_linear, access_refused}
 use Rattle.guest_space.proofs.Parts.{code_base, segment_part}
 use Rattle.guest_space.proofs.Runs.{AllTouch, all_touch, access_ends}
@@ -27,8 +27,8 @@ fetched w at base e =
     ∙ ap one_byte (loaded_linear w Cs (w.regs.eip + at) 1 base (sym (code_base w.mode w.regs w.descriptors w.regs.eip at) ∙ e))
 
 loaded_refused : (w : World) (seg : SegReg) (offset n : ℕ) (f : Fault) → segment_base w.mode w.regs w.descriptors seg offset n false ≡ Err f →
-    loaded w seg offset n ≡ Err f
-unfolding loaded
+    read_result w seg offset n ≡ Err f
+unfolding read_result
 loaded_refused w seg offset n f e = ap (bytes_at w) (access_refused w seg offset n false f e)
 
 pub not_fetched : (w : World) (at : ℕ) (f : Fault) → segment_base w.mode w.regs w.descriptors Cs w.regs.eip (at + 1) false ≡ Err f →
@@ -85,8 +85,8 @@ whole_by w seg offset n bytes (Ok base) is e =
     }
 whole_by w seg offset n bytes (Err fault) is e = absurd cc
 
-pub whole_run : (w : World) (seg : SegReg) (offset n : ℕ) (bytes : List ℕ) → loaded w seg offset n ≡ Ok bytes → WholeRun w seg offset n bytes
-unfolding loaded access
+pub whole_run : (w : World) (seg : SegReg) (offset n : ℕ) (bytes : List ℕ) → read_result w seg offset n ≡ Ok bytes → WholeRun w seg offset n bytes
+unfolding read_result access
 whole_run w seg offset n bytes e = whole_by w seg offset n bytes (segment_base w.mode w.regs w.descriptors seg offset n false) refl e
 
 -- are what one reads one by one
@@ -133,7 +133,7 @@ all_code w at (suc n) (x ∷ bytes) size each =
     ∙ ap (λ (xs : List ℕ). x ∷ xs) (all_code w (at + 1) n bytes (omega arith)
     (λ i within. (let same : at + 1 + i ≡ at + suc i = omega arith in ap (code_byte w) same ∙ each (suc i) (omega arith))))
 
-pub whole_code : (w : World) (n : ℕ) (bytes : List ℕ) → length bytes ≡ n → loaded w Cs w.regs.eip n ≡ Ok bytes → code_from w 0 n ≡ bytes
+pub whole_code : (w : World) (n : ℕ) (bytes : List ℕ) → length bytes ≡ n → read_result w Cs w.regs.eip n ≡ Ok bytes → code_from w 0 n ≡ bytes
 whole_code w n bytes size e =
     let run = whole_run w Cs w.regs.eip n bytes e in
     all_code w 0 n bytes size (λ i within. (let same : 0 + i ≡ i = omega arith in ap (code_byte w) same ∙ whole_byte w n i bytes run within))

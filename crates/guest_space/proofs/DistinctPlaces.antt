@@ -1,4 +1,4 @@
--- Two bytes of a short run that the client may write stand at two places, so what was written there is read again.
+-- Two bytes of a short run that the client may write are at two places, so what was written there is read again.
 use Rattle.std.proofs.Common.{◌≡◌, ℕ, suc, ◌+◌, ◌-◌, ◌%◌, ◌<◌, ◌≤◌, ◌^◌, ◌⊎◌, inl, inr, true, false, List, [], ◌∷◌, get_or, refl, ap, ◌∙◌, sym, arith, None, Some, Option}
 use Rattle.std.proofs.lemmas.Bool.{cases_Bool, cases_lt}
 use Rattle.std.proofs.lemmas.Bool.Decides.{nat_tests}
@@ -10,7 +10,7 @@ use Rattle.client_world.specs.Access.{place_in, block_place, covers, dos_address
 use Rattle.client_world.specs.World.{MemoryBlock}
 use Rattle.client_world.proofs.PlaceLaws.{place-dos, place-gap, place-block, place-gap_above_blocks, place-host, place-above}
 
--- a byte of a block tells the block and the linear address
+-- a byte of a block determines the block and the linear address
 pub record OfBlock (blocks : List (Option MemoryBlock)) (start l number at : ℕ) : Type 0 where
   pub place : ℕ
   pub is : number ≡ start + place

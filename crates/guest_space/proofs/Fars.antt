@@ -26,7 +26,7 @@ pub far_refused : (w : World) (p : FarPtr) (n : ℕ) (write : Bool) (f : Fault) 
 unfolding far_access
 far_refused w p n write f e = ap (λ (r : Result ℕ Fault). places_at w.blocks r p.off n write) e
 
--- a check tells whether it has a fault
+-- a check says whether it has a fault
 checked : (r : Result (Unit {0}) Fault) (x : Result (List Place) Fault) → MatchResult r (λ _. fault_of x ≡ None) (λ fault. fault_of x ≡ Some fault) →
     is_ok r ≡ is_ok x
 checked (Ok u) (Ok places) h = refl

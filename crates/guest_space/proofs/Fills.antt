@@ -1,4 +1,4 @@
--- Entries that fill the paragraphs from one up to another: how many they are, where each stands, and what stands beside it.
+-- Entries that fill the paragraphs from one up to another: how many they are, where each is, and what is beside it.
 use Rattle.std.proofs.Common.{◌≡◌, ℕ, zero, suc, ◌+◌, ◌<◌, ◌≤◌, List, [], ◌∷◌, length, get_or, ap, ◌∙◌, sym, arith}
 use Rattle.client_world.specs.declared.dos_memory.DosEntry.{DosEntry}
 use Rattle.client_world.specs.DosMemory.{Fills}
@@ -8,7 +8,7 @@ pub fills_long : (es : List DosEntry) (from to : ℕ) → Fills from es to → f
 fills_long [] from to f = omega arith
 fills_long (e ∷ es) from to f = let i = fills_long es (from + 1 + e.paras) to f.1 in omega arith
 
--- an entry stands within them
+-- an entry is within them
 pub record IsWithin (entry : DosEntry) (from to : ℕ) : Type 0 where
   pub starts : from ≤ entry.at
   pub ends : entry.at + 1 + entry.paras ≤ to
@@ -24,7 +24,7 @@ fills_at (e ∷ es) from to (suc place) d f small =
     let starts = rest.starts in
     record { starts = omega arith; ends = rest.ends }
 
--- the next one stands behind it
+-- the next one follows it
 pub fills_next : (es : List DosEntry) (from to place : ℕ) (d : DosEntry) → Fills from es to → place + 1 < length es →
     (get_or es (place + 1) d).at ≡ (get_or es place d).at + 1 + (get_or es place d).paras
 fills_next [] from to place d f small = absurd (omega arith)

@@ -27,7 +27,7 @@ use Rattle.host_memory.specs.View.{MachineView, OnlyAt}
 use Rattle.host_memory.proofs.WorldParts.{budget_is}
 use Rattle.guest_space.specs.Far.{far_bytes, far_written}
 use Rattle.guest_space.specs.Machines.{Processor}
-use Rattle.guest_space.specs.Transfer.{bytes_at, loaded, with_places, places_of_access}
+use Rattle.guest_space.specs.Transfer.{bytes_at, read_result, with_places, places_of_access}
 use Rattle.guest_space.proofs.Fars.{far_places, reachable_linear, reachable_where}
 use Rattle.guest_space.proofs.Machines.{CanWriteAll}
 use Rattle.guest_space.proofs.OnlyWritten.{HoldsBlocks, only_places, can_write_at}
@@ -121,8 +121,8 @@ stacks_access w off n s mode ss some room =
     ∙ sym (stacks_base w.width w off n false s.width some room))
 
 pub stacks_loaded : (w : World) (off n : ℕ) → IsSound w → w.mode ≡ Protected → w.regs.ss ≡ selector_of HOST_STACKS → w.width ≢ None →
-    off + n ≤ GREATEST_DEPTH * PROTECTED_STACK_SIZE → loaded w Ss off n ≡ Ok (far_bytes w (stacks_at off) n)
-unfolding loaded far_bytes
+    off + n ≤ GREATEST_DEPTH * PROTECTED_STACK_SIZE → read_result w Ss off n ≡ Ok (far_bytes w (stacks_at off) n)
+unfolding read_result far_bytes
 stacks_loaded w off n s mode ss some room =
     ap (bytes_at w) (stacks_access w off n s mode ss some room)
     ∙ ok_bytes w (far_access w (stacks_at off) n false) (stacks_reachable w off n false s some room)

@@ -15,7 +15,7 @@ use Rattle.client_world.specs.World.{World, MemoryBlock}
 use Rattle.client_world.proofs.PlaceLaws.{place_in-with_byte_of, places_from-same}
 use Rattle.std.specs.declared.option.Option.{Option}
 use Rattle.host_memory.specs.View.{MachineView}
-use Rattle.guest_space.specs.Transfer.{with_places, stored, refusal, fault_of}
+use Rattle.guest_space.specs.Transfer.{with_places, stored, access_fault, fault_of}
 use Rattle.guest_space.proofs.Machines.{with_places_world}
 
 -- two worlds that an access can't tell apart
@@ -96,8 +96,8 @@ far_access_same w u same p n write =
     same_at w.blocks u.blocks same.places (protected_base u.descriptors Es p.sel p.off n write) p.off n write
     ∙ ap (λ (rows : List Row). places_at w.blocks (protected_base rows Es p.sel p.off n write) p.off n write) same.descriptors
 
-pub refusal_same : (w u : World) → SameAccess w u → (seg : SegReg) (offset n : ℕ) (write : Bool) → refusal u seg offset n write ≡ refusal w seg offset n write
-unfolding refusal
+pub refusal_same : (w u : World) → SameAccess w u → (seg : SegReg) (offset n : ℕ) (write : Bool) → access_fault u seg offset n write ≡ access_fault w seg offset n write
+unfolding access_fault
 refusal_same w u same seg offset n write = ap fault_of (access_same w u same seg offset n write)
 
 -- the laws of it

@@ -9,7 +9,7 @@ use Rattle.client_world.specs.Access.{access, far_access, may_touch, place_of}
 use Rattle.client_world.specs.Soundness.{IsSound, SoundBlocks}
 use Rattle.client_world.specs.World.{World}
 use Rattle.page_tables.specs.Walk.{walked}
-use Rattle.host_memory.specs.Law.{told, StandsAt}
+use Rattle.host_memory.specs.Law.{walk_result, StandsAt}
 use Rattle.host_memory.specs.View.{MachineView, OnlyAt}
 use Rattle.host_memory.proofs.OnlyAtLaws.{only_start}
 use Rattle.host_memory.proofs.WalkLaw.{walk_agrees}
@@ -17,7 +17,7 @@ use Rattle.guest_space.specs.declared.pending.Write.{Write}
 use Rattle.guest_space.specs.Far.{far_written}
 use Rattle.guest_space.specs.Machines.{Processor, IsMachine, HoldsItsWorld}
 use Rattle.guest_space.specs.Pending.{all_written, byte_count, first_refusal, number_bytes, places_of_writes, write_refusal, written}
-use Rattle.guest_space.specs.Transfer.{places_of_access, refusal, stored, with_places}
+use Rattle.guest_space.specs.Transfer.{places_of_access, access_fault, stored, with_places}
 use Rattle.guest_space.proofs.HostStacks.{only_far}
 use Rattle.guest_space.proofs.Machines.{CanWriteAll, sound_blocks, stands_there}
 use Rattle.guest_space.proofs.OnlyWritten.{HoldsBlocks, only_places, write_places}
@@ -26,12 +26,12 @@ use Rattle.guest_space.proofs.WritesOnly.{only_writes}
 
 -- a walk of the page tables ends where the client may touch, and else fails as the place says
 pub machine_walks : (v : MachineView) → HoldsItsWorld v → (lin : ℕ) (write : Bool) → lin < 2 ^ 32 →
-    walked v.bytes PAGE_DIRECTORY lin write ≡ told v.bytes (place_of v.world lin) write
+    walked v.bytes PAGE_DIRECTORY lin write ≡ walk_result v.bytes (place_of v.world lin) write
 machine_walks v h lin write small =
     let k = h.processor in
     let m = h.machine in
     walk_agrees v.bytes k.budget m.holds k.mode k.regs k.vif k.width (sound_blocks k v m) lin write small
-    ∙ ap (λ (w : World). told v.bytes (place_of w lin) write) (sym m.is)
+    ∙ ap (λ (w : World). walk_result v.bytes (place_of w lin) write) (sym m.is)
 
 -- and the byte at a place that the client may touch lies at its address
 pub machine_stands : (v : MachineView) → HoldsItsWorld v → (lin : ℕ) (write : Bool) → may_touch (place_of v.world lin) write ≡ true →
@@ -82,12 +82,12 @@ made_or_kept v u new places A B (Ok x) only made kept = subst (λ (w : MachineVi
 made_or_kept v u new places A B (Err f) only made kept = subst (λ (w : MachineView). OnlyAt places v.bytes w.bytes) (sym kept.1) (only_start places v.bytes)
 
 pub stored_or_kept : (v u : MachineView) → HoldsItsWorld v → (seg : SegReg) (offset n : ℕ) (bytes : List ℕ) (r : Result (Unit {0}) Fault) →
-    OnOk r ((refusal v.world seg offset n true ≡ None) × (u ≡ stored v seg offset n bytes)) →
-    IfErr r (λ fault. (refusal v.world seg offset n true ≡ Some fault) × (u ≡ v)) →
+    OnOk r ((access_fault v.world seg offset n true ≡ None) × (u ≡ stored v seg offset n bytes)) →
+    IfErr r (λ fault. (access_fault v.world seg offset n true ≡ Some fault) × (u ≡ v)) →
     OnlyAt (places_of_access (access v.world seg offset n true)) v.bytes u.bytes
 stored_or_kept v u h seg offset n bytes r =
-    made_or_kept v u (stored v seg offset n bytes) (places_of_access (access v.world seg offset n true)) (refusal v.world seg offset n true ≡ None)
-    (λ fault. refusal v.world seg offset n true ≡ Some fault) r (machine_near v h seg offset n bytes)
+    made_or_kept v u (stored v seg offset n bytes) (places_of_access (access v.world seg offset n true)) (access_fault v.world seg offset n true ≡ None)
+    (λ fault. access_fault v.world seg offset n true ≡ Some fault) r (machine_near v h seg offset n bytes)
 
 pub written_or_kept : (v u : MachineView) → HoldsItsWorld v → (x : Write) (r : Result (Unit {0}) Fault) → Answered v u x r →
     OnlyAt (places_of_access (access v.world x.seg x.off (byte_count x.width) true)) v.bytes u.bytes

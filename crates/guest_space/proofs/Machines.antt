@@ -71,7 +71,7 @@ written_addresses k v p x m can =
     let held : IsHeld (held_world k v.bytes) p = subst (λ (w : World). IsHeld w p) m.is (held_there v.world p can) in
     write_addresses v.bytes k.budget m.holds k.mode k.regs k.vif k.width p x can.may held
 
--- the byte of a place that may be touched stands at its address
+-- the byte of a place that may be touched is at its address
 pub stands_there : (k : Processor) (v : MachineView) (lin : ℕ) (write : Bool) → IsMachine k v →
     may_touch (place_in v.world.blocks lin) write ≡ true → StandsAt v.bytes v.world (place_in v.world.blocks lin)
 stands_there k v lin write m may =

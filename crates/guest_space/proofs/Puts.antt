@@ -33,7 +33,7 @@ put_is k v lin p x m touches small =
     ∙ ap (λ (a : ℕ). record { world = with_byte_of v.world (place_in v.world.blocks lin) x; bytes = slice_set v.bytes a x }) touches.address
     ∙ sym (with_places_first v (place_in v.world.blocks lin) [] x [] ∙ with_places_none (with_place v (place_in v.world.blocks lin) x) [])
 
--- a run of bytes whose places stand one behind the other
+-- a run of bytes whose places lie one after another
 pub put_run : (k : Processor) (v : MachineView) (places : List Place) (bytes : List ℕ) (p : ℕ) → IsMachine k v → CanWriteAll v.world places →
     AllBytes bytes → length bytes ≡ length places →
     ((i : ℕ) → i < length places → p + i ≡ address_of v.bytes (slice_index_or places i Nothing)) →

@@ -69,7 +69,7 @@ bytes_kept w (q ∷ places) [] p other = refl
 bytes_kept w (q ∷ places) (x ∷ bytes) p other =
     bytes_kept (with_byte_of w q x) places bytes p (λ i within. other (suc i) (omega arith)) ∙ byte_kept w q p x (other 0 (omega arith))
 
--- no place stands twice among them
+-- no place is twice among them
 abbrev pub AreDistinct : List Place → Type 0
 AreDistinct places = (i j : ℕ) → i < length places → j < length places → slice_index_or places i Nothing ≡ slice_index_or places j Nothing → i ≡ j
 

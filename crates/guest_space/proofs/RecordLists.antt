@@ -112,7 +112,7 @@ part_of_keeps part keeps =
       rest = λ at from to. keeps.rest at (omega arith) to;
     }
 
--- one record more: its bytes stand behind the others
+-- one record more: its bytes follow the others
 abbrev pub with_row : List ℕ → ℕ → List ℕ → List ℕ
 with_row part place xs = put part (record_size * place) xs
 
@@ -172,7 +172,7 @@ one_more part rs xs size h room long exact =
       rest = λ at from to. put_above part (record_size * length rs) xs at (omega arith) ∙ h.rest at (omega arith) to;
     }
 
--- one record less: zeros stand in its place
+-- one record less: zeros take its place
 pub one_less : (part : List ℕ) (rs : List Record) → length part ≡ PAGE_SIZE * RECORD_FRAMES → IsRecordPart part rs → 0 < length rs →
     IsRecordPart (with_row part (length rs - 1) (zeros record_size)) (take (length rs - 1) rs)
 one_less part rs size h some =

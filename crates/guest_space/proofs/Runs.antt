@@ -18,7 +18,7 @@ use Rattle.page_tables.specs.Walk.{walked}
 use Rattle.page_tables.proofs.PageRuns.{same_run, run_linear}
 use Rattle.guest_ram.specs.Bytes.{region}
 use Rattle.guest_ram.proofs.PutLaws.{length-region, at_region}
-use Rattle.host_memory.specs.Law.{told}
+use Rattle.host_memory.specs.Law.{walk_result}
 use Rattle.host_memory.specs.Layout.{address_of}
 use Rattle.host_memory.specs.View.{MachineView}
 use Rattle.host_memory.proofs.WalkAnswers.{TouchesAt, told_ends, told_fails, told_may}
@@ -29,10 +29,10 @@ use Rattle.guest_space.proofs.Machines.{sound_blocks, stands_there, CanWriteAll}
 
 -- a walk ends where the place says
 pub walk_of_place : (k : Processor) (v : MachineView) (lin : ℕ) (write : Bool) → IsMachine k v → lin < 2 ^ 32 →
-    walked v.bytes PAGE_DIRECTORY lin write ≡ told v.bytes (place_in v.world.blocks lin) write
+    walked v.bytes PAGE_DIRECTORY lin write ≡ walk_result v.bytes (place_in v.world.blocks lin) write
 walk_of_place k v lin write m small =
     walk_agrees v.bytes k.budget m.holds k.mode k.regs k.vif k.width (sound_blocks k v m) lin write small
-    ∙ sym (ap (λ (w : World). told v.bytes (place_of w lin) write) m.is)
+    ∙ sym (ap (λ (w : World). walk_result v.bytes (place_of w lin) write) m.is)
 
 -- a translation, by the walk
 pub translated_by_walk : (k : Processor) (v : MachineView) (lin : ℕ) (write : Bool) (p : ℕ) → IsMachine k v → lin < 2 ^ 32 →
@@ -49,7 +49,7 @@ translated_by_failure k v lin write f m small fails =
     let barred = told_fails v.bytes (place_in v.world.blocks lin) write f (sym (walk_of_place k v lin write m small) ∙ fails) in
     rw (barred.barred, barred.present)
 
--- what a translation tells of the place
+-- what a translation says of the place
 pub translated_ends : (v : MachineView) (lin : ℕ) (write : Bool) (p : ℕ) → translated v lin write ≡ Ok p →
     TouchesAt v.bytes (place_in v.world.blocks lin) write p
 unfolding translated

@@ -20,7 +20,7 @@ use Rattle.host_memory.proofs.WalkAnswers.{TouchesAt}
 use Rattle.guest_space.specs.declared.pending.Write.{Write}
 use Rattle.guest_space.specs.Machines.{Processor, held_world, IsMachine}
 use Rattle.guest_space.specs.Pending.{byte_count, number_bytes, write_refusal, written, first_refusal}
-use Rattle.guest_space.specs.Transfer.{translated, refusal, stored, with_places}
+use Rattle.guest_space.specs.Transfer.{translated, access_fault, stored, with_places}
 use Rattle.guest_space.specs.WriteRuns.{LiesIn, IsRun, AreRuns}
 use Rattle.guest_space.proofs.Accesses.{refusal_linear, stored_linear}
 use Rattle.guest_space.proofs.KeptAccess.{SameAccess, same_places}
@@ -94,7 +94,7 @@ write_in_run k v seg low high n at x machine run end small lies =
     (subst (λ (o : ℕ). IsRun v seg o (byte_count x.width) (at + (x.off - low))) offset part))
 
 -- none of the writes has a fault
-run_not_refused : (k : Processor) (v : MachineView) (seg : SegReg) (low n at : ℕ) → IsMachine k v → IsRun v seg low n at → refusal v.world seg low n true ≡ None
+run_not_refused : (k : Processor) (v : MachineView) (seg : SegReg) (low n at : ℕ) → IsMachine k v → IsRun v seg low n at → access_fault v.world seg low n true ≡ None
 run_not_refused k v seg low n at machine run =
     refusal_linear v.world seg low n run.base true run.allowed
     ∙ no_fault v.world (linear (run.base + low)) n true
@@ -111,7 +111,7 @@ runs_not_refused k v shift (x ∷ xs) machine runs =
     first_later v.world x xs (write_not_refused k v x (linear (x.off + shift)) machine (runs 0 x (omega arith)))
     ∙ runs_not_refused k v shift xs machine (λ i d within. runs (suc i) d (omega arith))
 
--- bytes that are put where a run stands
+-- bytes that are put where a run is
 pub run_stored : (k : Processor) (v : MachineView) (seg : SegReg) (low n at : ℕ) (bytes : List ℕ) → IsMachine k v → IsRun v seg low n at →
     length bytes ≡ n → AllBytes bytes →
     record { world = held_world k (put v.bytes at bytes); bytes = put v.bytes at bytes } ≡ stored v seg low n bytes

@@ -11,7 +11,7 @@ use Rattle.guest_ram.specs.Bytes.{dword_bytes}
 use Rattle.host_memory.specs.View.{MachineView}
 use Rattle.guest_space.specs.declared.pending.Write.{Write}
 use Rattle.guest_space.specs.Pending.{byte_count, number_bytes, write_refusal, written, first_refusal, all_written}
-use Rattle.guest_space.specs.Transfer.{refusal, stored}
+use Rattle.guest_space.specs.Transfer.{access_fault, stored}
 use Rattle.guest_space.proofs.KeptAccess.{SameAccess, same_stored, refusal_same}
 
 -- the fault of a write, by its probe
@@ -19,7 +19,7 @@ pub fault_of_probe : (o : Option Fault) (r : Result (Unit {0}) Fault) → MatchR
 fault_of_probe o (Ok u) h = sym h
 fault_of_probe o (Err f) h = sym h
 
-pub write_refusal_is : (w : World) (x : Write) → refusal w x.seg x.off (byte_count x.width) true ≡ write_refusal w x
+pub write_refusal_is : (w : World) (x : Write) → access_fault w x.seg x.off (byte_count x.width) true ≡ write_refusal w x
 unfolding write_refusal
 write_refusal_is w x = refl
 
@@ -30,14 +30,14 @@ Answered v new x r = MatchResult r (λ _. (write_refusal v.world x ≡ None) × 
 -- that of n bytes, where these are the bytes of the number
 pub answered : (v new : MachineView) (x : Write) (n : ℕ) (bytes : List ℕ) (r : Result (Unit {0}) Fault) → byte_count x.width ≡ n →
     number_bytes x.width x.value ≡ bytes →
-    OnOk r ((refusal v.world x.seg x.off n true ≡ None) × (new ≡ stored v x.seg x.off n bytes)) →
-    IfErr r (λ fault. (refusal v.world x.seg x.off n true ≡ Some fault) × (new ≡ v)) → Answered v new x r
+    OnOk r ((access_fault v.world x.seg x.off n true ≡ None) × (new ≡ stored v x.seg x.off n bytes)) →
+    IfErr r (λ fault. (access_fault v.world x.seg x.off n true ≡ Some fault) × (new ≡ v)) → Answered v new x r
 unfolding write_refusal written
 answered v new x n bytes (Ok u) count is done refused = (
-  ap (λ (k : ℕ). refusal v.world x.seg x.off k true) count ∙ done.0,
+  ap (λ (k : ℕ). access_fault v.world x.seg x.off k true) count ∙ done.0,
   done.1 ∙ sym (ap (λ (k : ℕ). stored v x.seg x.off k (number_bytes x.width x.value)) count ∙ ap (stored v x.seg x.off n) is),
 )
-answered v new x n bytes (Err f) count is done refused = (ap (λ (k : ℕ). refusal v.world x.seg x.off k true) count ∙ refused.0, refused.1)
+answered v new x n bytes (Err f) count is done refused = (ap (λ (k : ℕ). access_fault v.world x.seg x.off k true) count ∙ refused.0, refused.1)
 
 other_width : (width n : ℕ) → width ≢ n → nat_eq width n ≡ false
 other_width width n ne = grind (arith, Rattle.std.proofs.lemmas.Bool.Decides.nat_tests)

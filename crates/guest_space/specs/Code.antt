@@ -5,7 +5,7 @@ use Rattle.std.specs.declared.result.Result.{Result}
 use Rattle.client_world.specs.declared.faults.Fault.{Fault}
 use Rattle.client_world.specs.declared.segments.SegReg.TheVariants.{Cs}
 use Rattle.client_world.specs.World.{World}
-use Rattle.guest_space.specs.Transfer.{loaded}
+use Rattle.guest_space.specs.Transfer.{read_result}
 
 -- the most bytes of an instruction
 abbrev pub code_room : ℕ
@@ -16,9 +16,9 @@ abbrev pub one_byte : Result (List ℕ) Fault → Result ℕ Fault
 one_byte (Ok bytes) = Ok (slice_index bytes 0)
 one_byte (Err fault) = Err fault
 
--- the byte at CS:EIP and so many further, or the fault of its fetch. The offset doesn't wrap
+-- the byte at CS:EIP and n further, or the fault of its fetch. The offset doesn't wrap
 unfoldable pub code_byte : World → ℕ → Result ℕ Fault
-code_byte w at = one_byte (loaded w Cs (w.regs.eip + at) 1)
+code_byte w at = one_byte (read_result w Cs (w.regs.eip + at) 1)
 
 -- the bytes from a place on, n at most, up to the first that can't be fetched
 unfoldable pub code_from : World → ℕ → ℕ → List ℕ

@@ -19,6 +19,6 @@ far_put w p n bytes = with_bytes_of w (places_of_access (far_access w p n true))
 unfoldable pub far_written : MachineView → FarPtr → ℕ → List ℕ → MachineView
 far_written v p n bytes = with_places v (places_of_access (far_access v.world p n true)) bytes
 
--- the pointer so many bytes further on
+-- the pointer n bytes further on
 abbrev pub further : FarPtr → ℕ → FarPtr
 further p n = record { sel = p.sel; off = p.off + n }

@@ -9,7 +9,7 @@ use Rattle.guest_ram.specs.Bytes.{dword_bytes}
 use Rattle.host_memory.specs.Vectors.{word_bytes}
 use Rattle.host_memory.specs.View.{MachineView}
 use Rattle.guest_space.specs.declared.pending.Write.{Write}
-use Rattle.guest_space.specs.Transfer.{places_of_access, refusal, stored}
+use Rattle.guest_space.specs.Transfer.{places_of_access, access_fault, stored}
 
 -- the bytes of a number of 8, 16 or 32 bits, least byte first
 abbrev pub number_bytes : ℕ → ℕ → List ℕ
@@ -28,7 +28,7 @@ IsCountOfWidth n = (n ≡ 1) ⊎ (n ≡ 2) ⊎ (n ≡ 4)
 
 -- the fault of a write, if it has one
 unfoldable pub write_refusal : World → Write → Option Fault
-write_refusal w x = refusal w x.seg x.off (byte_count x.width) true
+write_refusal w x = access_fault w x.seg x.off (byte_count x.width) true
 
 -- the machine after it
 unfoldable pub written : MachineView → Write → MachineView

@@ -1,4 +1,4 @@
--- The records of calls in the memory: where each stands, and the machine with one more or one less. Source: own.
+-- The records of calls in the memory: where each is, and the machine with one more or one less. Source: own.
 use Rattle.std.specs.Prelude.{◌≡◌, ◌≢◌, ℕ, ◌+◌, ◌-◌, ◌*◌, ◌<◌, ◌≤◌, List, [], ◌∷◌, ◌++◌, length, take, slice_index, slice_index_or}
 use Rattle.client_world.specs.declared.calls.Record.{Record}
 use Rattle.client_world.specs.declared.host_frames.TheConstants.{PAGE_SIZE, BUDGET_FRAMES, RECORDS}
@@ -11,7 +11,7 @@ use Rattle.host_memory.specs.Layout.{address_of}
 use Rattle.host_memory.specs.Records.{record_size}
 use Rattle.host_memory.specs.View.{MachineView}
 
--- where a record stands in the memory, the outermost one at place 0
+-- where a record lies in the memory, the outermost one at place 0
 abbrev pub record_place : ℕ → ℕ
 record_place place = PAGE_SIZE * RECORDS + record_size * place
 

@@ -16,16 +16,16 @@ abbrev pub bytes_at : World → Result (List Place) Fault → Result (List ℕ) 
 bytes_at w (Ok places) = Ok (bytes_of w places)
 bytes_at w (Err fault) = Err fault
 
-unfoldable pub loaded : World → SegReg → ℕ → ℕ → Result (List ℕ) Fault
-loaded w seg offset n = bytes_at w (access w seg offset n false)
+unfoldable pub read_result : World → SegReg → ℕ → ℕ → Result (List ℕ) Fault
+read_result w seg offset n = bytes_at w (access w seg offset n false)
 
 -- the fault of an access to n bytes, if it has one
 abbrev pub fault_of : Result (List Place) Fault → Option Fault
 fault_of (Ok places) = None
 fault_of (Err fault) = Some fault
 
-unfoldable pub refusal : World → SegReg → ℕ → ℕ → Bool → Option Fault
-refusal w seg offset n write = fault_of (access w seg offset n write)
+unfoldable pub access_fault : World → SegReg → ℕ → ℕ → Bool → Option Fault
+access_fault w seg offset n write = fault_of (access w seg offset n write)
 
 -- the memory with other bytes at places, the first one first
 abbrev pub with_bytes_at : List ℕ → List Place → List ℕ → List ℕ
@@ -49,7 +49,7 @@ places_of_access (Err fault) = []
 unfoldable pub stored : MachineView → SegReg → ℕ → ℕ → List ℕ → MachineView
 stored v seg offset n bytes = with_places v (places_of_access (access v.world seg offset n true)) bytes
 
--- where the byte of a linear address stands in the memory, or the page fault of its access
+-- where the byte of a linear address lies in the memory, or the page fault of its access
 unfoldable pub translated : MachineView → ℕ → Bool → Result ℕ Fault
 translated v at write =
     if may_touch (place_of v.world at) write then Ok (address_of v.bytes (place_of v.world at))

@@ -1,4 +1,4 @@
-// The entries of DOS memory, which stand in the host's frames, and their headers in the megabyte.
+// The entries of DOS memory, which lie in the host's frames, and their headers in the megabyte.
 ghost use Rattle.std.specs.Prelude.{◌≡◌, ◌≤◌, ◌<◌, ◌+◌, ◌*◌, length, take, drop, slice_index_or, nat_eq, if◌then◌else◌};
 ghost use Rattle.client_world.specs.declared.dos_memory.DosEntry.{DosEntry};
 ghost use Rattle.client_world.specs.declared.host_frames.TheConstants.{PAGE_SIZE, BUDGET_FRAMES, DOS_LIST};
@@ -17,7 +17,7 @@ use client_world::{DosEntry, DosState};
 use guest_ram::Ram;
 use host_memory::{header, listed_entry};
 
-// Where the list stands in the memory.
+// Where the list lies in the memory.
 const LIST_START: u32 = PAGE_SIZE * DOS_LIST;
 
 // The entries for which there is room.
@@ -62,7 +62,7 @@ fn entry_count(ram: &Ram) -> u32
     ENTRY_ROOM
 }
 
-// Writes entries one behind the other.
+// Writes entries one after another.
 fn write_entries(ram: &mut Ram, at: u32, entries: &[DosEntry])
     requires { at + entry_size * length entries.now ≤ length ram.old }
     ensures bytes { ram.new ≡ put ram.old at (list_bytes entries.now) }
@@ -76,7 +76,7 @@ fn write_entries(ram: &mut Ram, at: u32, entries: &[DosEntry])
     }
 }
 
-// Puts entries in place of so many old ones, of n in all.
+// Puts entries in place of `old` others, of n in all.
 fn replace_entries(ram: &mut Ram, n: u32, place: u32, old: u32, new: &[DosEntry])
     requires frames { PAGE_SIZE * BUDGET_FRAMES ≤ length ram.old }
     requires keeps { KeepsArena (arena_part ram.old) }
@@ -135,7 +135,7 @@ impl Machine {
         entry(&self.ram, LIST_START + DOS_ENTRY_SIZE * place as u32)
     }
 
-    /// Puts entries of DOS memory in place of so many old ones from a place on, and writes the header of every entry. INT 31h function
+    /// Puts entries of DOS memory in place of `old` others from a place on, and writes the header of every entry. INT 31h function
     /// 0100h made none of them. Source: own.
     pub fn arena_put(&mut self, place: u16, old: u16, new: &ArrayVec<DosEntry, 3>)
         requires within { place + old ≤ length self.old.world.arena }

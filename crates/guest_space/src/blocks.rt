@@ -5,7 +5,7 @@ ghost use Rattle.client_world.specs.declared.place.Place.{Place};
 ghost use Rattle.client_world.specs.Access.{IsHeld, HasByte, bytes_of_block, place_of};
 ghost use Rattle.client_world.specs.Soundness.{pages_of_blocks};
 ghost use Rattle.client_world.specs.World.{block_at, with_block_at};
-ghost use Rattle.block_memory.specs.BlockSizes.{CanHold, CanMake, CanMove, CanSize, HasPages, longer, shorter, extended, at_base, resized, fresh_block, IsBlocks, lock_in, with_lock, row_seen, zeroed, locked_pages};
+ghost use Rattle.block_memory.specs.BlockSizes.{CanHold, CanMake, CanMove, CanSize, HasPages, longer, shorter, extended, at_base, sized_block, fresh_block, IsBlocks, lock_in, with_lock, row_seen, zeroed, locked_pages};
 ghost use Rattle.host_memory.specs.Layout.{address_of};
 
 use crate::machine::Machine;
@@ -56,7 +56,7 @@ impl Machine {
         requires most { handle ≤ MAX_BLOCKS }
         requires room { CanSize self.old.world.blocks self.old.world.budget handle base pages }
         ensures world { self.new.world ≡ record self.old.world {
-          blocks = with_block_at self.old.world.blocks handle (resized base pages (block_at self.old.world.blocks handle));
+          blocks = with_block_at self.old.world.blocks handle (sized_block base pages (block_at self.old.world.blocks handle));
         } }
         ensures addresses { (p : Place) → IsHeld self.old.world p → IsHeld self.new.world p →
             address_of self.new.bytes p ≡ address_of self.old.bytes p }

@@ -30,7 +30,7 @@ fn words_of(ram: &Ram, at: u32) -> CodeWords
 }
 
 impl Machine {
-    /// The code byte so many behind CS:EIP, or the fault of its fetch. The offset doesn't wrap.
+    /// The code byte at CS:EIP + `at`, or the fault of its fetch. The offset doesn't wrap.
     pub fn fetch(&self, at: u8) -> Result<u8, Fault>
         ensures { result ≡ code_byte self.now.world at }
     {

@@ -101,7 +101,7 @@ impl Machine {
         set(&mut self.ram, index, row);
     }
 
-    /// The first index from 64 on at which so many indices one behind the other are free. `None` where n is 0 or there is no such run.
+    /// The first index from 64 on at which n indices one after another are free. `None` where n is 0 or there is no such run.
     pub fn free_descs(&self, n: u16) -> Option<u16>
         ensures none { IsNone result ↔ ((n ≡ 0)
             ⊎ ((first : ℕ) → FIRST_FREE_DESCRIPTOR ≤ first → ¬ IsFreeRunOf self.now.world.descriptors first n)) }

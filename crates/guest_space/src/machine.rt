@@ -9,7 +9,7 @@ ghost use Rattle.client_world.specs.Segments.{with_selector};
 ghost use Rattle.client_world.specs.Soundness.{HasSegments, IsSound};
 ghost use Rattle.host_memory.specs.Blank.{blank_world};
 ghost use Rattle.host_memory.specs.HoldsWorld.{HoldsWorld};
-ghost use Rattle.host_memory.specs.Law.{told, StandsAt};
+ghost use Rattle.host_memory.specs.Law.{walk_result, StandsAt};
 ghost use Rattle.page_tables.specs.Walk.{walked};
 ghost use Rattle.guest_space.specs.Registers.{with_registers};
 
@@ -20,7 +20,7 @@ use host_memory::blank_memory;
 use std::alloc::{AllocError, Global};
 use std::marker::Model;
 
-/// A machine. Its descriptors, vectors, memory blocks, records, callbacks and the list of DOS memory stand in the bytes of its memory alone;
+/// A machine. Its descriptors, vectors, memory blocks, records, callbacks and the list of DOS memory lie in the bytes of its memory alone;
 /// contracts see the world that they hold, and the bytes.
 #[derive(Drop)]
 pub struct Machine {
@@ -71,7 +71,7 @@ impl Machine {
         ensures holds { HoldsWorld self.now.bytes self.now.world }
         ensures sound { IsSound self.now.world }
         ensures walks { (lin : ℕ) (write : Bool) → lin < 2 ^ 32 →
-            walked self.now.bytes PAGE_DIRECTORY lin write ≡ told self.now.bytes (place_of self.now.world lin) write }
+            walked self.now.bytes PAGE_DIRECTORY lin write ≡ walk_result self.now.bytes (place_of self.now.world lin) write }
         ensures places { (lin : ℕ) (write : Bool) → may_touch (place_of self.now.world lin) write ≡ true →
             StandsAt self.now.bytes self.now.world (place_of self.now.world lin) }
     {

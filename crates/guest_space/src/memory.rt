@@ -4,7 +4,7 @@ ghost use Rattle.client_world.specs.declared.host_frames.TheConstants.{PAGE_SIZE
 ghost use Rattle.client_world.specs.Access.{access, byte_of, bytes_of, may_touch, page_fault, place_of, places_from};
 ghost use Rattle.host_memory.specs.View.{OnlyAt};
 ghost use Rattle.guest_space.specs.Machines.{HoldsItsWorld};
-ghost use Rattle.guest_space.specs.Transfer.{loaded, places_of_access, refusal, stored, translated, linear_access, bytes_at, fault_of, with_places};
+ghost use Rattle.guest_space.specs.Transfer.{read_result, places_of_access, access_fault, stored, translated, linear_access, bytes_at, fault_of, with_places};
 
 use crate::machine::Machine;
 use crate::segments::fault_with;
@@ -45,7 +45,7 @@ impl Machine {
         let _pages = self.pages;
     }
 
-    /// Where the byte of a linear address stands in the memory, or the page fault of its access.
+    /// Where the byte of a linear address lies in the memory, or the page fault of its access.
     #[inline(always)]
     pub(crate) fn translate(&self, lin: u32, write: bool) -> Result<u32, Fault>
         ensures { result ≡ translated self.now lin write }
@@ -116,11 +116,11 @@ impl Machine {
     /// The N bytes at an offset of a segment register, or the fault of the access, 1 to 4096 of them.
     /// Source: 80386 Programmer's Reference Manual, ch. 5 and 6.
     #[inline(always)]
-    #[tactic(auto, unfolding(crate::specs::Transfer::loaded, client_world::specs::Access::access))]
+    #[tactic(auto, unfolding(crate::specs::Transfer::read_result, client_world::specs::Access::access))]
     pub fn read<const N: usize>(&self, seg: SegReg, off: u32) -> Result<[u8; N], Fault>
         requires some { 0 < N }
         requires few { N ≤ PAGE_SIZE }
-        ensures { result ≡ loaded self.now.world seg off N }
+        ensures { result ≡ read_result self.now.world seg off N }
     {
         match self.quick_base(seg, off, N as u32) {
             Some(base) => self.load(base.wrapping_add(off)),
@@ -130,11 +130,11 @@ impl Machine {
 
     // The same, by the segment's rules in either mode.
     #[inline(never)]
-    #[tactic(auto, unfolding(crate::specs::Transfer::loaded, client_world::specs::Access::access))]
+    #[tactic(auto, unfolding(crate::specs::Transfer::read_result, client_world::specs::Access::access))]
     fn read_checked<const N: usize>(&self, seg: SegReg, off: u32) -> Result<[u8; N], Fault>
         requires some { 0 < N }
         requires few { N ≤ PAGE_SIZE }
-        ensures { result ≡ loaded self.now.world seg off N }
+        ensures { result ≡ read_result self.now.world seg off N }
     {
         let base = self.segment_base(seg, off, N as u32, false)?;
         self.load(base.wrapping_add(off))
@@ -145,8 +145,8 @@ impl Machine {
     pub fn probe(&self, seg: SegReg, off: u32, n: u32, write: bool) -> Result<(), Fault>
         requires some { 0 < n }
         requires few { n ≤ PAGE_SIZE }
-        ensures { MatchResult result (λ _. refusal self.now.world seg off n write ≡ None)
-            (λ fault. refusal self.now.world seg off n write ≡ Some fault) }
+        ensures { MatchResult result (λ _. access_fault self.now.world seg off n write ≡ None)
+            (λ fault. access_fault self.now.world seg off n write ≡ Some fault) }
     {
         match self.quick_base(seg, off, n) {
             Some(base) => self.check(base.wrapping_add(off), n, write),
@@ -156,12 +156,12 @@ impl Machine {
 
     // The same, by the segment's rules in either mode.
     #[inline(never)]
-    #[tactic(auto, unfolding(crate::specs::Transfer::refusal, client_world::specs::Access::access))]
+    #[tactic(auto, unfolding(crate::specs::Transfer::access_fault, client_world::specs::Access::access))]
     fn probe_checked(&self, seg: SegReg, off: u32, n: u32, write: bool) -> Result<(), Fault>
         requires some { 0 < n }
         requires few { n ≤ PAGE_SIZE }
-        ensures { MatchResult result (λ _. refusal self.now.world seg off n write ≡ None)
-            (λ fault. refusal self.now.world seg off n write ≡ Some fault) }
+        ensures { MatchResult result (λ _. access_fault self.now.world seg off n write ≡ None)
+            (λ fault. access_fault self.now.world seg off n write ≡ Some fault) }
     {
         let base = self.segment_base(seg, off, n, write)?;
         self.check(base.wrapping_add(off), n, write)
@@ -222,10 +222,10 @@ impl Machine {
     pub fn write<const N: usize>(&mut self, seg: SegReg, off: u32, v: [u8; N]) -> Result<(), Fault>
         requires some { 0 < N }
         requires few { N ≤ PAGE_SIZE }
-        ensures done { OnOk result ((refusal self.old.world seg off N true ≡ None)
+        ensures done { OnOk result ((access_fault self.old.world seg off N true ≡ None)
             × (self.new ≡ stored self.old seg off N v.entry)) }
         ensures refused { IfErr result (λ fault.
-            (refusal self.old.world seg off N true ≡ Some fault) × (self.new ≡ self.old)) }
+            (access_fault self.old.world seg off N true ≡ Some fault) × (self.new ≡ self.old)) }
         ensures only { OnlyAt (places_of_access (access self.old.world seg off N true)) self.old.bytes self.new.bytes }
     {
         self.holds_world();
@@ -245,10 +245,10 @@ impl Machine {
     ) -> Result<(), Fault>
         requires some { 0 < N }
         requires few { N ≤ PAGE_SIZE }
-        ensures done { OnOk result ((refusal self.old.world seg off N true ≡ None)
+        ensures done { OnOk result ((access_fault self.old.world seg off N true ≡ None)
             × (self.new ≡ stored self.old seg off N v.entry)) }
         ensures refused { IfErr result (λ fault.
-            (refusal self.old.world seg off N true ≡ Some fault) × (self.new ≡ self.old)) }
+            (access_fault self.old.world seg off N true ≡ Some fault) × (self.new ≡ self.old)) }
     {
         let base = self.segment_base(seg, off, N as u32, true)?;
         self.store(base.wrapping_add(off), &v)

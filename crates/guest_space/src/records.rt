@@ -13,7 +13,7 @@ use client_world::host_frames::{PAGE_SIZE, RECORD_SIZE, RECORDS};
 use client_world::limits::GREATEST_DEPTH;
 use guest_ram::Ram;
 
-// Where the rows of the records stand in the memory.
+// Where the rows of the records lie in the memory.
 const ROWS_START: u32 = PAGE_SIZE * RECORDS;
 
 // The number of records.
@@ -42,7 +42,7 @@ impl Machine {
         self.ram.get(ROWS_START + RECORD_SIZE * slot as u32)
     }
 
-    /// Puts a record behind all others, by the bytes of its row.
+    /// Puts a record after all others, by the bytes of its row.
     pub fn put_record(&mut self, bytes: &[u8; 128])
         requires width { self.old.world.width ≢ None }
         requires depth { length self.old.world.calls < GREATEST_DEPTH }

@@ -92,7 +92,7 @@ fn accesses_in_protected_mode(rt: HostRuntime) -> Result<(), Fail> {
         Err(fault_with(0x0D, 0x234))
     );
 
-    // The megabyte's end, and its start behind that.
+    // The megabyte's end, and its start after that.
     assert_eq!(rt; machine.read(SegReg::Ds, 0xF_FFFE), Ok([0xF4, 0xF4, 0, 0]));
     assert_eq!(rt;
         machine.write(SegReg::Ds, 0xF_0000, [0]),

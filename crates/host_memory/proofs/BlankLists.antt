@@ -39,7 +39,7 @@ one_entry : (part : List ℕ) (n : ℕ) → slice_index part 4 ≡ 1 → slice_i
 unfolding entries_from
 one_entry part n e f = let none : entries_from part 1 n ≡ 0 = no_entry_more part n f in rw (e, none) refl
 
--- the bytes of a list with the one entry of a new memory, and zeros behind it
+-- the bytes of a list with the one entry of a new memory, and zeros after it
 pub record OneEntry (part : List ℕ) : Type 0 where
   pub each : (at : ℕ) → at < entry_size → slice_index part at ≡ slice_index (entry_bytes whole_arena) at
   pub zeros : (at : ℕ) → entry_size ≤ at → slice_index part at ≡ 0

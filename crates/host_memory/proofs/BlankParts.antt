@@ -80,7 +80,7 @@ no_row b budget h at =
     rows_zero b budget h (at + i) ∙ sym (ap (λ (k : ℕ). slice_index (row_bytes None) k) (zero-add i) ∙ free_row_byte i small))
     ∙ row_at-row_bytes None tt
 
--- the vectors: each is an offset behind 200h in the segment of the host's code
+-- the vectors: each is an offset after 200h in the segment of the host's code
 abbrev pub vector_of : ℕ → FarPtr
 vector_of offset = record { sel = selector_of HOST_CODE; off = offset }
 
@@ -151,7 +151,7 @@ vector_byte_is b budget h n at small within =
     ]
     ∙ ap (λ (p : FarPtr). slice_index (vector_bytes p) at) (sym (vector_is b budget h n small))
 
--- behind the vectors their frame is zero
+-- after the vectors their frame is zero
 pub rest_zero : (b : List ℕ) (budget : ℕ) → IsBlank b budget → (at : ℕ) → callbacks_start ≤ at → slice_index (vectors_part b) at ≡ 0
 rest_zero b budget h at from = elim (cases_lt at (PAGE_SIZE * VECTOR_FRAMES)) [
   | inl within ↦

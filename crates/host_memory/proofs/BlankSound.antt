@@ -19,7 +19,7 @@ use Rattle.guest_ram.specs.Listed.{listed}
 use Rattle.guest_ram.proofs.PutLaws.{length-put, put_away, put_within}
 use Rattle.guest_ram.proofs.ListedLaws.{length-listed, at_listed}
 use Rattle.host_memory.specs.Blank.{plain_byte, blank_arena, blank_megabyte, blank_world, host_pointer}
-use Rattle.host_memory.specs.Headers.{header_bytes}
+use Rattle.host_memory.specs.Headers.{dos_header}
 use Rattle.host_memory.proofs.FreshMemory.{whole_arena, plain_vector, plain_zero, plain_rom}
 
 -- a list of nothing
@@ -55,8 +55,8 @@ plain_fits k = elim (cases_lt k VECTOR_TABLE_SIZE) [
     below e h = omega arith
 
 -- the header of the one entry
-length-head : length (header_bytes 0x5A whole_arena) ≡ 16
-unfolding header_bytes
+length-head : length (dos_header 0x5A whole_arena) ≡ 16
+unfolding dos_header
 length-head = refl
 
 abbrev AllFit : List ℕ → Type 0
@@ -68,9 +68,9 @@ all_fit [] h k = omega arith
 all_fit (x ∷ xs) h zero = h.0
 all_fit (x ∷ xs) h (suc k) = all_fit xs h.1 k
 
-head_fits : (k : ℕ) → slice_index (header_bytes 0x5A whole_arena) k < 0x100
-unfolding header_bytes
-head_fits k = all_fit (header_bytes 0x5A whole_arena)
+head_fits : (k : ℕ) → slice_index (dos_header 0x5A whole_arena) k < 0x100
+unfolding dos_header
+head_fits k = all_fit (dos_header 0x5A whole_arena)
     (lit< tt, (lit< tt, (lit< tt, (lit< tt, (lit< tt, (lit< tt, (lit< tt, (lit< tt, (lit< tt, (lit< tt, (lit< tt, (lit< tt, (lit< tt, (lit< tt, (lit< tt, (lit< tt, tt)))))))))))))))) k
 
 -- megabytes with a run of other bytes in their low part
@@ -107,7 +107,7 @@ with_run run long fits = record {
 
 megabyte_sound : SoundMegabyte blank_megabyte
 unfolding blank_megabyte
-megabyte_sound = with_run (header_bytes 0x5A whole_arena) length-head head_fits
+megabyte_sound = with_run (dos_header 0x5A whole_arena) length-head head_fits
 
 -- no block
 no_block : (handle : ℕ) → block_at (listed MAX_BLOCKS nothing) handle ≡ None

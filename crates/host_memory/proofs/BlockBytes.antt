@@ -1,4 +1,4 @@
--- Where the bytes of blocks stand among the budget frames: two that differ at two addresses. So a byte that is written there changes one
+-- Where the bytes of blocks lie among the budget frames: two that differ at two addresses. So a byte that is written there changes one
 -- byte of one block.
 use Rattle.std.proofs.Common.{◌≡◌, ◌≢◌, ℕ, suc, ◌+◌, ◌-◌, ◌*◌, ◌/◌, ◌%◌, ◌<◌, ◌⊎◌, inl, inr, true, List, length, slice_set, ap, ◌∙◌, sym, arith, Option, Some, get_or-set_same, get_or-set_other}
 use Rattle.std.proofs.lemmas.Bool.{cases_eq}
@@ -65,7 +65,7 @@ page_small handles ranges place i within small =
     let whole = r.whole in let from = r.from in let to = r.to in
     omega arith
 
--- no two bytes of blocks stand at one spot
+-- no two bytes of blocks lie at one spot
 pub once_spot : (handles tables taken : List ℕ) (budget : ℕ) → HasRanges handles → HasBlockEntries handles tables taken budget →
     (place other at i : ℕ) → IsBlockByte handles place at → IsBlockByte handles other i → (place ≢ other) ⊎ (at ≢ i) →
     spot tables (first_page_of handles place) at ≢ spot tables (first_page_of handles other) i

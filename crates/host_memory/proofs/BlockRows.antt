@@ -1,4 +1,4 @@
--- The rows of the memory blocks and the blocks of the world that they give; what stands at a linear address of the block region.
+-- The rows of the memory blocks and the blocks of the world that they give; what is at a linear address of the block region.
 use Rattle.std.proofs.Common.{◌≡◌, ◌≢◌, ℕ, zero, suc, ◌+◌, ◌-◌, ◌*◌, ◌%◌, ◌<◌, ◌≤◌, ◌⊎◌, inl, inr, true, nat_lt, nat_le, List, length, slice_index, None, Some, refl, ap, ◌∙◌, sym, arith}
 use Rattle.std.proofs.lemmas.List.{get_or_past}
 use Rattle.std.proofs.lemmas.Bool.{lt-ltb, le-ltb, le-leb, eq-eqb, ne_eqb, cases_lt, cases_eq, ltb-true, leb-true, and_parts, and_from, false≢true}
@@ -93,7 +93,7 @@ row_gives handles tables locks budget place block e = elim (cases_eq (pages_of h
       })
 ]
 
--- the row behind a block of the world
+-- the row after a block of the world
 pub record HeldRow (handles tables locks budget : List ℕ) (handle : ℕ) (block : MemoryBlock) : Type 0 where
   pub place : ℕ
   pub named : handle ≡ suc place
@@ -160,7 +160,7 @@ pub record InRow (handles : List ℕ) (place lin : ℕ) : Type 0 where
   pub from : base_of handles place ≤ lin
   pub to : lin < base_of handles place + PAGE_SIZE * pages_of handles place
 
--- a byte of a block stands at the linear address
+-- a byte of a block is at the linear address
 pub record InBlock (handles tables locks budget : List ℕ) (lin : ℕ) : Type 0 where
   pub place : ℕ
   pub at : ℕ
@@ -170,7 +170,7 @@ pub record InBlock (handles tables locks budget : List ℕ) (lin : ℕ) : Type 0
   pub inside : at < PAGE_SIZE * pages_of handles place
   pub answer : place_in (blocks_in handles tables locks budget) lin ≡ Block (suc place) at
 
--- no row of a block covers it, and nothing stands there
+-- no row of a block covers it, and nothing is there
 pub record InNoBlock (handles tables locks budget : List ℕ) (lin : ℕ) : Type 0 where
   pub none : (place : ℕ) → InRow handles place lin → ⊥
   pub answer : place_in (blocks_in handles tables locks budget) lin ≡ Nothing
@@ -220,7 +220,7 @@ missed_rows handles tables locks budget lin missed place row =
     let over : covers block lin ≡ true = and_from _ _ (le-leb block.base lin base) (lt-ltb lin (block.base + length block.bytes) end) in
     false≢true (sym (missed.none place block within (block_there handles tables locks budget place row.within some)) ∙ over)
 
--- what stands at a linear address of the block region: a byte of a block, or nothing
+-- what is at a linear address of the block region: a byte of a block, or nothing
 pub over_tells : (handles tables locks budget : List ℕ) (lin : ℕ) → BLOCK_REGION ≤ lin → lin < BLOCK_REGION_END →
     InBlock handles tables locks budget lin ⊎ InNoBlock handles tables locks budget lin
 over_tells handles tables locks budget lin from to = elim (search_tells (blocks_in handles tables locks budget) 1 lin) [

@@ -21,7 +21,7 @@ use Rattle.host_memory.proofs.TablesClaim.{HasBlocks, row_of_block, page_of_row,
 abbrev pub frame_byte : List ℕ → ℕ → ℕ → ℕ
 frame_byte b entry at = slice_index b (frame_place (entry / PAGE_SIZE) (at % PAGE_SIZE))
 
--- each byte of a block stands in the frame of its page
+-- each byte of a block lies in the frame of its page
 pub byte_claim : (b : List ℕ) (budget : ℕ) (w : World) → Holds b budget → HasRanges (handles_part b) → HasBlocks b budget w →
     (handle at : ℕ) (block : MemoryBlock) → block_at w.blocks handle ≡ Some block → at < length block.bytes →
     frame_byte b (block_entry b (block_page block (at / PAGE_SIZE))) at ≡ slice_index block.bytes at

@@ -1,4 +1,4 @@
--- The world's byte at a place that the client may touch stands at the place's address, outside of the host's frames.
+-- The world's byte at a place that the client may touch is at the place's address, outside of the host's frames.
 use Rattle.std.proofs.Common.{◌≡◌, ℕ, suc, ◌+◌, ◌-◌, ◌*◌, ◌/◌, ◌%◌, ◌<◌, ◌⊎◌, inl, inr, Bool, true, false, List, slice_index, refl, ap, ◌∙◌, sym, arith, zero-add}
 use Rattle.std.proofs.lemmas.Bool.{cases_lt, false≢true}
 use Rattle.std.specs.declared.option.Option.{Option}
@@ -65,7 +65,7 @@ block_byte b budget mode regs vif width place at within inside =
     (block_there (handles_part b) (tables_part b) (locks_part b) (budget_part b budget) place within (omega arith))
     ∙ held_byte (handles_part b) (tables_part b) (locks_part b) (budget_part b budget) place at inside
 
--- it stands at its address
+-- it is at its address
 pub block_stands : (b : List ℕ) (budget : ℕ) (mode : Mode) (regs : Regs) (vif : Bool) (width : Option Width) (place at : ℕ) → Holds b budget →
     place < MAX_BLOCKS → at < PAGE_SIZE * pages_of (handles_part b) place →
     StandsAt b (world_of b budget mode regs vif width) (Block (suc place) at)
@@ -81,7 +81,7 @@ block_stands b budget mode regs vif width place at holds within inside =
       away = inr (omega arith);
     }
 
--- what is said of a place holds of the address where it stands
+-- what is said of a place holds of the address where it is
 stands_by : (b : List ℕ) (w : World) (lin : ℕ) (place : Place) → place_of w lin ≡ place → StandsAt b w place → StandsAt b w (place_of w lin)
 stands_by b w lin place e stands = rw e stands
 
@@ -104,7 +104,7 @@ region_byte b budget mode regs vif width lin write holds may (inr missed) =
     forbidden b (world_of b budget mode regs vif width) lin write Nothing
     (ap (λ (blocks : List (Option MemoryBlock)). place_in blocks lin) (blocks_is b budget mode regs vif width) ∙ missed.answer) refl may
 
--- what stands at a linear address where the client may touch stands at the address of its place
+-- what is at a linear address where the client may touch is at the address of its place
 pub byte_agrees : (b : List ℕ) (budget : ℕ) → Holds b budget → (mode : Mode) (regs : Regs) (vif : Bool) (width : Option Width) (lin : ℕ) (write : Bool) →
     may_touch (place_of (world_of b budget mode regs vif width) lin) write ≡ true →
     StandsAt b (world_of b budget mode regs vif width) (place_of (world_of b budget mode regs vif width) lin)

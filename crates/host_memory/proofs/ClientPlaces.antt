@@ -1,4 +1,4 @@
--- The places that the client may write, and where they stand in the memory.
+-- The places that the client may write, and where they lie in the memory.
 use Rattle.std.proofs.Common.{◌≡◌, ℕ, suc, ◌*◌, ◌<◌, ◌≤◌, ◌⊎◌, inl, inr, Bool, true, List, length, refl, ap, ◌∙◌, sym, subst, arith, Option, Some, None}
 use Rattle.std.proofs.lemmas.Bool.{ltb-true}
 use Rattle.client_world.specs.declared.registers.Mode.{Mode}
@@ -62,7 +62,7 @@ byte_in handles tables locks frames number at byte =
       byte = record { within = row.within; inside = omega arith };
     }
 
--- what the client holds of the world stands in the memory
+-- what the client holds of the world lies in the memory
 stands_in : (b : List ℕ) (budget : ℕ) (w : World) (p : Place) (bound : ℕ) →
     w.blocks ≡ blocks_in (handles_part b) (tables_part b) (locks_part b) (budget_part b budget) →
     ((at : ℕ) → p ≡ Dos at → at < bound) → IsHeld w p → StandsBelow (handles_part b) bound p
@@ -94,7 +94,7 @@ pub address_dos : (b : List ℕ) (at : ℕ) → address_of b (Dos at) ≡ at
 unfolding address_of
 address_dos b at = refl
 
--- the place stands in the megabyte below that bound, or among the budget frames
+-- the place lies in the megabyte below that bound, or among the budget frames
 pub address_outside : (b : List ℕ) (budget : ℕ) → Holds b budget → (bound : ℕ) (p : Place) → StandsBelow (handles_part b) bound p →
     (address_of b p < bound) ⊎ (PAGE_SIZE * BUDGET_FRAMES ≤ address_of b p)
 address_outside b budget holds bound p at = elim at [

@@ -1,4 +1,4 @@
--- A byte that the client may write, put where its place stands, is that byte in the world, and in nothing else: the memory still holds a
+-- A byte that the client may write, put where its place is, is that byte in the world, and in nothing else: the memory still holds a
 -- world, the host's frames keep their bytes and places their addresses.
 use Rattle.std.proofs.Common.{◌≡◌, ◌≢◌, ℕ, suc, ◌+◌, ◌*◌, ◌<◌, ◌≤◌, inl, inr, Bool, true, List, [], ◌∷◌, length, slice_index, slice_set, refl, ap, ◌∙◌, arith, Option, get_or-set_other}
 use Rattle.client_world.specs.declared.registers.Mode.{Mode}
@@ -121,7 +121,7 @@ store_addresses b budget holds p v at q = elim at [
   | inr block ↦ rw block.is (block_addresses b budget holds block.place block.at v block.byte q)
 ]
 
--- no such byte is the host's, or stands in read-only memory
+-- no such byte is the host's, or lies in read-only memory
 pub store_host : (b : List ℕ) (budget : ℕ) → Holds b budget → (p : Place) (v : ℕ) → IsWritable (handles_part b) p → (k : ℕ) →
     ROM_START ≤ k → k < PAGE_SIZE * BUDGET_FRAMES → slice_index (slice_set b (address_of b p) v) k ≡ slice_index b k
 store_host b budget holds p v at k from to =

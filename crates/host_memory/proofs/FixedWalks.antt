@@ -6,7 +6,7 @@ use Rattle.client_world.specs.declared.memory_map.TheConstants.{BLOCK_REGION, BL
 use Rattle.guest_ram.specs.Bytes.{dword}
 use Rattle.guest_ram.proofs.PutLaws.{dword-region}
 use Rattle.page_tables.specs.Entry.{page_entry}
-use Rattle.page_tables.specs.Walk.{walked, ended, fault, directory_entry, entry_place, frame_of}
+use Rattle.page_tables.specs.Walk.{walked, walk_end, fault, directory_entry, entry_place, frame_of}
 use Rattle.page_tables.specs.Mapping.{directory_word}
 use Rattle.page_tables.specs.declared.entry.TheConstants.{TABLE_SPAN}
 use Rattle.host_memory.specs.Layout.{fixed_part, tables_part, entry_of}
@@ -32,13 +32,13 @@ directory_of_none index from other =
 -- a walk whose directory entry is known
 walk_by : (b : List ℕ) (lin directory : ℕ) (write : Bool) → directory_entry b PAGE_DIRECTORY lin ≡ directory →
     walked b PAGE_DIRECTORY lin write
-    ≡ ended directory (dword b (entry_place (frame_of directory) (lin / PAGE_SIZE % TABLE_ENTRIES))) lin write
+    ≡ walk_end directory (dword b (entry_place (frame_of directory) (lin / PAGE_SIZE % TABLE_ENTRIES))) lin write
 unfolding walked
 walk_by b lin directory write e = rw e refl
 
 -- below 4 MB
 pub low_walk : (b : List ℕ) (lin : ℕ) (write : Bool) → HasFixedEntries (fixed_part b) → lin < BLOCK_REGION →
-    walked b PAGE_DIRECTORY lin write ≡ ended (page_entry LOW_TABLE true) (low_entry_at (lin / PAGE_SIZE)) lin write
+    walked b PAGE_DIRECTORY lin write ≡ walk_end (page_entry LOW_TABLE true) (low_entry_at (lin / PAGE_SIZE)) lin write
 low_walk b lin write fixed below =
     let first : lin / TABLE_SPAN ≡ 0 = omega arith in
     let directory : directory_entry b PAGE_DIRECTORY lin ≡ page_entry LOW_TABLE true =
@@ -46,7 +46,7 @@ low_walk b lin write fixed below =
     let page : lin / PAGE_SIZE % TABLE_ENTRIES ≡ lin / PAGE_SIZE = omega arith in
     let at : PAGE_SIZE * LOW_TABLE + PAGE_ENTRY_SIZE * (lin / PAGE_SIZE) ≡ PAGE_SIZE * PAGE_DIRECTORY + (low_table_start + PAGE_ENTRY_SIZE * (lin / PAGE_SIZE)) = omega arith in
     walk_by b lin (page_entry LOW_TABLE true) write directory
-    ∙ ap (λ (entry : ℕ). ended (page_entry LOW_TABLE true) entry lin write) (
+    ∙ ap (λ (entry : ℕ). walk_end (page_entry LOW_TABLE true) entry lin write) (
     ap (λ (k : ℕ). dword b (entry_place LOW_TABLE k)) page
     ∙ ap (dword b) at
     ∙ sym (dword-region b (PAGE_SIZE * PAGE_DIRECTORY) (PAGE_SIZE * FIXED_TABLE_FRAMES) (low_table_start + PAGE_ENTRY_SIZE * (lin / PAGE_SIZE)) (omega arith))
@@ -54,14 +54,14 @@ low_walk b lin write fixed below =
 
 -- in the 4 MB of the host's window
 pub window_walk : (b : List ℕ) (lin : ℕ) (write : Bool) → HasFixedEntries (fixed_part b) → HOST_WINDOW ≤ lin → lin < HOST_WINDOW + TABLE_SPAN →
-    walked b PAGE_DIRECTORY lin write ≡ ended (supervisor_entry WINDOW_TABLE) (window_entry_at (lin / PAGE_SIZE % TABLE_ENTRIES)) lin write
+    walked b PAGE_DIRECTORY lin write ≡ walk_end (supervisor_entry WINDOW_TABLE) (window_entry_at (lin / PAGE_SIZE % TABLE_ENTRIES)) lin write
 window_walk b lin write fixed from to =
     let index : lin / TABLE_SPAN ≡ HOST_WINDOW / TABLE_SPAN = omega arith in
     let directory : directory_entry b PAGE_DIRECTORY lin ≡ supervisor_entry WINDOW_TABLE =
     directory_is b (lin / TABLE_SPAN) fixed (omega arith) ∙ ap directory_entry_at index in
     let at : PAGE_SIZE * WINDOW_TABLE + PAGE_ENTRY_SIZE * (lin / PAGE_SIZE % TABLE_ENTRIES) ≡ PAGE_SIZE * PAGE_DIRECTORY + (window_table_start + PAGE_ENTRY_SIZE * (lin / PAGE_SIZE % TABLE_ENTRIES)) = omega arith in
     walk_by b lin (supervisor_entry WINDOW_TABLE) write directory
-    ∙ ap (λ (entry : ℕ). ended (supervisor_entry WINDOW_TABLE) entry lin write) (
+    ∙ ap (λ (entry : ℕ). walk_end (supervisor_entry WINDOW_TABLE) entry lin write) (
     ap (dword b) at
     ∙ sym (dword-region b (PAGE_SIZE * PAGE_DIRECTORY) (PAGE_SIZE * FIXED_TABLE_FRAMES) (window_table_start + PAGE_ENTRY_SIZE * (lin / PAGE_SIZE % TABLE_ENTRIES)) (omega arith))
     ∙ fixed.window (lin / PAGE_SIZE % TABLE_ENTRIES) (omega arith))
@@ -73,14 +73,14 @@ block_table lin = BLOCK_TABLES + (lin / TABLE_SPAN - 1)
 -- in the block region
 pub region_walk : (b : List ℕ) (lin : ℕ) (write : Bool) → HasFixedEntries (fixed_part b) → BLOCK_REGION ≤ lin → lin < BLOCK_REGION_END →
     walked b PAGE_DIRECTORY lin write
-    ≡ ended (page_entry (block_table lin) true) (entry_of (tables_part b) ((lin - BLOCK_REGION) / PAGE_SIZE)) lin write
+    ≡ walk_end (page_entry (block_table lin) true) (entry_of (tables_part b) ((lin - BLOCK_REGION) / PAGE_SIZE)) lin write
 region_walk b lin write fixed from to =
     let directory : directory_entry b PAGE_DIRECTORY lin ≡ page_entry (block_table lin) true =
     directory_is b (lin / TABLE_SPAN) fixed (omega arith) ∙ directory_of_block (lin / TABLE_SPAN) (omega arith) (omega arith) in
     let at : entry_place (frame_of (page_entry (block_table lin) true)) (lin / PAGE_SIZE % TABLE_ENTRIES)
     ≡ PAGE_SIZE * BLOCK_TABLES + PAGE_ENTRY_SIZE * ((lin - BLOCK_REGION) / PAGE_SIZE) = omega arith in
     walk_by b lin (page_entry (block_table lin) true) write directory
-    ∙ ap (λ (entry : ℕ). ended (page_entry (block_table lin) true) entry lin write) (
+    ∙ ap (λ (entry : ℕ). walk_end (page_entry (block_table lin) true) entry lin write) (
     ap (dword b) at
     ∙ sym (dword-region b (PAGE_SIZE * BLOCK_TABLES) (PAGE_SIZE * BLOCK_TABLE_FRAMES) (PAGE_ENTRY_SIZE * ((lin - BLOCK_REGION) / PAGE_SIZE)) (omega arith)))
 

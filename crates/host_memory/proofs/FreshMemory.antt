@@ -16,7 +16,7 @@ use Rattle.host_memory.specs.declared.blank.TheConstants.{VECTOR_HALVES}
 use Rattle.host_memory.specs.Blank.{plain_byte, vector_byte, blank_megabyte}
 use Rattle.host_memory.specs.DosList.{entry_bytes, entry_size}
 use Rattle.host_memory.specs.Filling.{Written, real_vector_at, vector_half_at}
-use Rattle.host_memory.specs.Headers.{header_bytes}
+use Rattle.host_memory.specs.Headers.{dos_header}
 use Rattle.host_memory.specs.Layout.{dos_part}
 use Rattle.host_memory.specs.Tables.{directory_entry_at, low_entry_at, window_entry_at}
 use Rattle.host_memory.proofs.Filling.{written_dword}
@@ -27,7 +27,7 @@ whole_arena = record { at = ARENA_START; paras = ARENA_END - ARENA_START - 1; st
 
 -- the writes; of the two runs of bytes that are put, what they are
 pub record Fresh (budget : ℕ) (header row b0 b1 b2 b3 b4 b5 b6 b7 b8 : List ℕ) : Type 0 where
-  pub header_is : header ≡ header_bytes 0x5A whole_arena
+  pub header_is : header ≡ dos_header 0x5A whole_arena
   pub row_is : row ≡ entry_bytes whole_arena
   pub size : length b0 ≡ (BUDGET_FRAMES + budget) * FRAME_SIZE
   pub zero : (at : ℕ) → slice_index b0 at ≡ 0
@@ -54,8 +54,8 @@ pub record IsBlank (b : List ℕ) (budget : ℕ) : Type 0 where
       (at < PAGE_SIZE * VECTORS) ⊎ (PAGE_SIZE * VECTORS + 4 * VECTOR_HALVES ≤ at) →
       (at < PAGE_SIZE * DOS_LIST) ⊎ (PAGE_SIZE * DOS_LIST + entry_size ≤ at) → slice_index b at ≡ 0
 
-length-header : (header : List ℕ) → header ≡ header_bytes 0x5A whole_arena → length header ≡ 16
-unfolding header_bytes
+length-header : (header : List ℕ) → header ≡ dos_header 0x5A whole_arena → length header ≡ 16
+unfolding dos_header
 length-header header e = ap length e
 
 -- the real vectors, byte by byte
@@ -98,7 +98,7 @@ vectors_and_rom b0 b1 b2 room blank rom reals k small = elim (cases_lt k VECTOR_
 ]
 
 -- with the header of DOS memory it is the megabyte of a new memory
-with_header : (header b2 b3 : List ℕ) → header ≡ header_bytes 0x5A whole_arena → DOS_SIZE ≤ length b2 →
+with_header : (header b2 b3 : List ℕ) → header ≡ dos_header 0x5A whole_arena → DOS_SIZE ≤ length b2 →
     ((k : ℕ) → k < DOS_SIZE → slice_index b2 k ≡ plain_byte k) → b3 ≡ put b2 (PARAGRAPH_SIZE * ARENA_START) header →
     dos_part b3 ≡ blank_megabyte
 unfolding blank_megabyte

@@ -19,7 +19,7 @@ use Rattle.host_memory.proofs.PartBytes.{part_byte, part_dword}
 abbrev pub HasBlocks : List ℕ → ℕ → World → Type 0
 HasBlocks b budget w = w.blocks ≡ blocks_in (handles_part b) (tables_part b) (locks_part b) (budget_part b budget)
 
--- the row behind a block of it
+-- the row after a block of it
 abbrev pub RowOf : List ℕ → ℕ → ℕ → MemoryBlock → Type 0
 RowOf b budget handle block = HeldRow (handles_part b) (tables_part b) (locks_part b) (budget_part b budget) handle block
 

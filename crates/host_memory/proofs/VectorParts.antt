@@ -112,7 +112,7 @@ pub same_exceptions : (b c : List ℕ) → ((k : ℕ) → exceptions_start ≤ k
 same_exceptions b c same = same_listed EXCEPTION_VECTORS (λ n. pointer_at b (exceptions_start + VECTOR_SIZE * n)) (λ n. pointer_at c (exceptions_start + VECTOR_SIZE * n))
     (λ n less. same_pointer b c (exceptions_start + VECTOR_SIZE * n) (λ i small. same (exceptions_start + VECTOR_SIZE * n + i) (omega arith) (omega arith)))
 
--- what the callbacks and the bytes behind them must keep
+-- what the callbacks and the bytes after them must keep
 keeps_callbacks : (part other : List ℕ) → KeepsVectors part → ((k : ℕ) → callbacks_start ≤ k → k < pageable_start → slice_index other k ≡ slice_index part k) →
     (slot at : ℕ) → slot < CALLBACKS → at < CALLBACK_SIZE →
     slice_index other (callbacks_start + (CALLBACK_SIZE * slot + at)) ≡ slice_index (callback_bytes (callback_at other (callbacks_start + CALLBACK_SIZE * slot))) at

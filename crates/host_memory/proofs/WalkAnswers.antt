@@ -1,10 +1,10 @@
--- What the answer of an access tells of the world.
+-- What the answer of an access says of the world.
 use Rattle.std.proofs.Common.{◌≡◌, ℕ, inl, inr, Bool, true, false, List, Ok, Err, refl, ap, sym}
 use Rattle.std.proofs.lemmas.Bool.{cases_Bool}
 use Rattle.client_world.specs.declared.faults.PageFault.{PageFault}
 use Rattle.client_world.specs.declared.place.Place.{Place}
 use Rattle.client_world.specs.Access.{may_touch, is_present}
-use Rattle.host_memory.specs.Law.{told}
+use Rattle.host_memory.specs.Law.{walk_result}
 use Rattle.host_memory.specs.Layout.{address_of}
 
 -- an access that ends: the client may touch the place, and it ends at the place's address
@@ -12,15 +12,15 @@ pub record TouchesAt (b : List ℕ) (place : Place) (write : Bool) (p : ℕ) : T
   pub may : may_touch place write ≡ true
   pub address : p ≡ address_of b place
 
-pub told_ends : (b : List ℕ) (place : Place) (write : Bool) (p : ℕ) → told b place write ≡ Ok p → TouchesAt b place write p
-unfolding told
+pub told_ends : (b : List ℕ) (place : Place) (write : Bool) (p : ℕ) → walk_result b place write ≡ Ok p → TouchesAt b place write p
+unfolding walk_result
 told_ends b place write p e = elim (cases_Bool (may_touch place write)) [
   | inl may ↦ (let same : Ok (address_of b place) ≡ Ok p = rw may at e in record { may = may; address = cc })
   | inr barred ↦ (let fails = rw barred at e in absurd cc)
 ]
 
-pub told_may : (b : List ℕ) (place : Place) (write : Bool) → may_touch place write ≡ true → told b place write ≡ Ok (address_of b place)
-unfolding told
+pub told_may : (b : List ℕ) (place : Place) (write : Bool) → may_touch place write ≡ true → walk_result b place write ≡ Ok (address_of b place)
+unfolding walk_result
 told_may b place write may = rw may refl
 
 -- one that fails: the client may not, and the fault says whether a page is there
@@ -28,8 +28,8 @@ pub record BarredAt (place : Place) (write : Bool) (f : PageFault) : Type 0 wher
   pub barred : may_touch place write ≡ false
   pub present : f.present ≡ is_present place
 
-pub told_fails : (b : List ℕ) (place : Place) (write : Bool) (f : PageFault) → told b place write ≡ Err f → BarredAt place write f
-unfolding told
+pub told_fails : (b : List ℕ) (place : Place) (write : Bool) (f : PageFault) → walk_result b place write ≡ Err f → BarredAt place write f
+unfolding walk_result
 told_fails b place write f e = elim (cases_Bool (may_touch place write)) [
   | inl may ↦ (let ends = rw may at e in absurd cc)
   | inr barred ↦ (

@@ -13,10 +13,10 @@ use Rattle.client_world.specs.Access.{place_in, place_of, dos_address}
 use Rattle.client_world.specs.Soundness.{SoundBlocks}
 use Rattle.client_world.specs.World.{MemoryBlock}
 use Rattle.page_tables.specs.Entry.{page_entry}
-use Rattle.page_tables.specs.Walk.{walked, ended}
+use Rattle.page_tables.specs.Walk.{walked, walk_end}
 use Rattle.page_tables.specs.declared.entry.TheConstants.{TABLE_SPAN}
 use Rattle.host_memory.specs.Holds.{Holds}
-use Rattle.host_memory.specs.Law.{told}
+use Rattle.host_memory.specs.Law.{walk_result}
 use Rattle.host_memory.specs.Layout.{world_of, fixed_part, tables_part, handles_part, locks_part, taken_part, budget_part, base_of, pages_of, first_page_of, entry_of, blocks_in}
 use Rattle.host_memory.specs.Tables.{HasFixedEntries, HasBlockEntries, IsOutside}
 use Rattle.host_memory.proofs.BlockRows.{HasRanges, InRow, InBlock, InNoBlock, over_tells, ranges}
@@ -25,15 +25,15 @@ use Rattle.host_memory.proofs.FixedWalks.{low_walk, window_walk, region_walk, no
 use Rattle.host_memory.proofs.PlaceRanges.{place_in_view, place_in_gap, place_below_window, place_in_window, place_above_window, told_dos, told_read, told_rom_write, told_block, told_host, told_nothing}
 use Rattle.host_memory.proofs.WorldParts.{blocks_is}
 
--- an access ends at the place that stands there
+-- an access ends at the place that is there
 to_place : (b : List ℕ) (blocks : List (Option MemoryBlock)) (lin : ℕ) (write : Bool) (place : Place) → place_in blocks lin ≡ place →
-    told b place write ≡ told b (place_in blocks lin) write
-to_place b blocks lin write place e = sym (ap (λ (p : Place). told b p write) e)
+    walk_result b place write ≡ walk_result b (place_in blocks lin) write
+to_place b blocks lin write place e = sym (ap (λ (p : Place). walk_result b p write) e)
 
 -- in the view of the DOS megabyte, below read-only memory
 writable_law : (b : List ℕ) (blocks : List (Option MemoryBlock)) (lin frame : ℕ) (write : Bool) → lin < 0x110000 →
     PAGE_SIZE * frame + lin % PAGE_SIZE ≡ dos_address lin → dos_address lin < ROM_START →
-    ended (page_entry LOW_TABLE true) (page_entry frame true) lin write ≡ told b (place_in blocks lin) write
+    walk_end (page_entry LOW_TABLE true) (page_entry frame true) lin write ≡ walk_result b (place_in blocks lin) write
 writable_law b blocks lin frame write shown e below =
     ends_in_page LOW_TABLE frame lin write
     ∙ ap (λ (p : ℕ). Ok p) e
@@ -42,7 +42,7 @@ writable_law b blocks lin frame write shown e below =
 
 -- in read-only memory
 rom_law : (b : List ℕ) (blocks : List (Option MemoryBlock)) (lin : ℕ) (write : Bool) → ROM_START ≤ lin → lin < 0x100000 →
-    ended (page_entry LOW_TABLE true) (page_entry (lin / PAGE_SIZE) false) lin write ≡ told b (place_in blocks lin) write
+    walk_end (page_entry LOW_TABLE true) (page_entry (lin / PAGE_SIZE) false) lin write ≡ walk_result b (place_in blocks lin) write
 rom_law b blocks lin true from to =
     forbids_write LOW_TABLE (lin / PAGE_SIZE) lin
     ∙ sym (told_rom_write b (dos_address lin) (omega arith))
@@ -55,7 +55,7 @@ rom_law b blocks lin false from to =
 
 -- below 4 MB
 pub low_law : (b : List ℕ) (blocks : List (Option MemoryBlock)) (lin : ℕ) (write : Bool) → HasFixedEntries (fixed_part b) → lin < BLOCK_REGION →
-    walked b PAGE_DIRECTORY lin write ≡ told b (place_in blocks lin) write
+    walked b PAGE_DIRECTORY lin write ≡ walk_result b (place_in blocks lin) write
 low_law b blocks lin write fixed below = low_walk b lin write fixed below ∙ elim (cases_lt (lin / PAGE_SIZE) (ROM_START / PAGE_SIZE)) [
   | inl writable ↦ rw (lt-ltb (lin / PAGE_SIZE) (ROM_START / PAGE_SIZE) writable)
       (writable_law b blocks lin (lin / PAGE_SIZE) write (omega arith) (omega arith) (omega arith))
@@ -80,9 +80,9 @@ low_law b blocks lin write fixed below = low_walk b lin write fixed below ∙ el
   ]
 ]
 
--- behind the block region
+-- after the block region
 pub high_law : (b : List ℕ) (blocks : List (Option MemoryBlock)) (lin : ℕ) (write : Bool) → HasFixedEntries (fixed_part b) →
-    BLOCK_REGION_END ≤ lin → lin < 2 ^ 32 → walked b PAGE_DIRECTORY lin write ≡ told b (place_in blocks lin) write
+    BLOCK_REGION_END ≤ lin → lin < 2 ^ 32 → walked b PAGE_DIRECTORY lin write ≡ walk_result b (place_in blocks lin) write
 high_law b blocks lin write fixed from small = elim (cases_lt lin HOST_WINDOW) [
   | inl below ↦ no_walk b lin write fixed small from (inl below) ∙ sym (told_nothing b write)
       ∙ to_place b blocks lin write _ (place_below_window blocks lin from below)
@@ -120,14 +120,14 @@ pub block_law : (b : List ℕ) (budget lin : ℕ) (write : Bool) → HasFixedEnt
     HasBlockEntries (handles_part b) (tables_part b) (taken_part b) budget → BLOCK_REGION ≤ lin → lin < BLOCK_REGION_END →
     InBlock (handles_part b) (tables_part b) (locks_part b) (budget_part b budget) lin →
     walked b PAGE_DIRECTORY lin write
-    ≡ told b (place_in (blocks_in (handles_part b) (tables_part b) (locks_part b) (budget_part b budget)) lin) write
+    ≡ walk_result b (place_in (blocks_in (handles_part b) (tables_part b) (locks_part b) (budget_part b budget)) lin) write
 block_law b budget lin write fixed ranged entries from to found =
     let is = in_pages (handles_part b) found.place found.at lin ranged found.within found.some found.offset found.inside in
     let entry = entry_of (tables_part b) (first_page_of (handles_part b) found.place + found.at / PAGE_SIZE) in
     let named = entries.named found.place (found.at / PAGE_SIZE) found.within is.page in
     region_walk b lin write fixed from to
-    ∙ ap (λ (page : ℕ). ended (page_entry (block_table lin) true) (entry_of (tables_part b) page) lin write) is.number
-    ∙ ap (λ (e : ℕ). ended (page_entry (block_table lin) true) e lin write) named.writable
+    ∙ ap (λ (page : ℕ). walk_end (page_entry (block_table lin) true) (entry_of (tables_part b) page) lin write) is.number
+    ∙ ap (λ (e : ℕ). walk_end (page_entry (block_table lin) true) e lin write) named.writable
     ∙ ends_in_page (block_table lin) (entry / PAGE_SIZE) lin write
     ∙ ap (λ (r : ℕ). Ok (PAGE_SIZE * (entry / PAGE_SIZE) + r)) (sym is.rest)
     ∙ sym (told_block b found.place found.at write)
@@ -143,16 +143,16 @@ outside_rows handles lin ranged from none place offset within inside e =
     let above = range.from in
     none place (record { within = within; from = omega arith; to = omega arith })
 
--- and where no block stands
+-- and where no block is
 pub no_block_law : (b : List ℕ) (budget lin : ℕ) (write : Bool) → HasFixedEntries (fixed_part b) → HasRanges (handles_part b) →
     HasBlockEntries (handles_part b) (tables_part b) (taken_part b) budget → BLOCK_REGION ≤ lin → lin < BLOCK_REGION_END →
     InNoBlock (handles_part b) (tables_part b) (locks_part b) (budget_part b budget) lin →
     walked b PAGE_DIRECTORY lin write
-    ≡ told b (place_in (blocks_in (handles_part b) (tables_part b) (locks_part b) (budget_part b budget)) lin) write
+    ≡ walk_result b (place_in (blocks_in (handles_part b) (tables_part b) (locks_part b) (budget_part b budget)) lin) write
 no_block_law b budget lin write fixed ranged entries from to missed =
     let absent = entries.absent ((lin - BLOCK_REGION) / PAGE_SIZE) (omega arith) (outside_rows (handles_part b) lin ranged from missed.none) in
     region_walk b lin write fixed from to
-    ∙ ap (λ (e : ℕ). ended (page_entry (block_table lin) true) e lin write) absent
+    ∙ ap (λ (e : ℕ). walk_end (page_entry (block_table lin) true) e lin write) absent
     ∙ finds_no_page (block_table lin) lin write
     ∙ sym (told_nothing b write)
     ∙ to_place b (blocks_in (handles_part b) (tables_part b) (locks_part b) (budget_part b budget)) lin write _ missed.answer
@@ -160,7 +160,7 @@ no_block_law b budget lin write fixed ranged entries from to missed =
 -- the law, of the blocks that the memory holds
 pub walk_in_blocks : (b : List ℕ) (budget lin : ℕ) (write : Bool) → Holds b budget → HasRanges (handles_part b) → lin < 2 ^ 32 →
     walked b PAGE_DIRECTORY lin write
-    ≡ told b (place_in (blocks_in (handles_part b) (tables_part b) (locks_part b) (budget_part b budget)) lin) write
+    ≡ walk_result b (place_in (blocks_in (handles_part b) (tables_part b) (locks_part b) (budget_part b budget)) lin) write
 walk_in_blocks b budget lin write holds ranged small = elim (cases_lt lin BLOCK_REGION) [
   | inl low ↦ low_law b _ lin write holds.fixed low
   | inr from ↦ elim (cases_lt lin BLOCK_REGION_END) [
@@ -181,7 +181,7 @@ world_ranges b budget mode regs vif width pages sound =
 -- the law
 pub walk_agrees : (b : List ℕ) (budget : ℕ) → Holds b budget → (mode : Mode) (regs : Regs) (vif : Bool) (width : Option Width) →
     SoundBlocks (world_of b budget mode regs vif width).blocks budget → (lin : ℕ) (write : Bool) → lin < 2 ^ 32 →
-    walked b PAGE_DIRECTORY lin write ≡ told b (place_of (world_of b budget mode regs vif width) lin) write
+    walked b PAGE_DIRECTORY lin write ≡ walk_result b (place_of (world_of b budget mode regs vif width) lin) write
 walk_agrees b budget holds mode regs vif width sound lin write small =
     walk_in_blocks b budget lin write holds (world_ranges b budget mode regs vif width budget sound) small
-    ∙ sym (ap (λ (blocks : List (Option MemoryBlock)). told b (place_in blocks lin) write) (blocks_is b budget mode regs vif width))
+    ∙ sym (ap (λ (blocks : List (Option MemoryBlock)). walk_result b (place_in blocks lin) write) (blocks_is b budget mode regs vif width))

@@ -39,7 +39,7 @@ entry_at part at = record {
 abbrev pub entry_bytes : DosEntry → List ℕ
 entry_bytes entry = word_bytes entry.at ++ word_bytes entry.paras ++ state_code entry.state ∷ 0 ∷ 0 ∷ 0 ∷ []
 
--- how many entries stand one behind the other from a place on, of n at most: up to the first state that is 0
+-- how many entries lie one after another from a place on, of n at most: up to the first state that is 0
 unfoldable pub entries_from : List ℕ → ℕ → ℕ → ℕ
 entries_from part place zero = 0
 entries_from part place (suc n) =
@@ -52,7 +52,7 @@ entry_count part = entries_from part 0 entry_room
 unfoldable pub arena_in : List ℕ → List DosEntry
 arena_in part = listed (entry_count part) (λ place. entry_at part (entry_size * place))
 
--- the bytes of the frames are exactly those of the entries, and zeros behind them
+-- the bytes of the frames are exactly those of the entries, and zeros after them
 pub record KeepsArena (part : List ℕ) : Type 0 where
   pub each : (place at : ℕ) → place < entry_count part → at < entry_size →
       slice_index part (entry_size * place + at) ≡ slice_index (entry_bytes (entry_at part (entry_size * place))) at

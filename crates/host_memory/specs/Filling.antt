@@ -6,7 +6,7 @@ use Rattle.client_world.specs.declared.traps.TheConstants.{PROTECTED_VECTOR_TRAP
 use Rattle.client_world.specs.Selector.{selector_of}
 use Rattle.guest_ram.specs.Bytes.{dword_bytes}
 
--- the doublewords f 0, f 1 and so on were written from an address on, so many of them, and nothing else
+-- the doublewords f 0, f 1 and so on were written from an address on, n of them, and nothing else
 pub record Written (f : ℕ → ℕ) (from count : ℕ) (old new : List ℕ) : Type 0 where
   pub size : length new ≡ length old
   pub each : (k at : ℕ) → k < count → at < 4 → slice_index new (from + (4 * k + at)) ≡ slice_index (dword_bytes (f k)) at
@@ -17,7 +17,7 @@ abbrev pub real_vector_at : ℕ → ℕ
 real_vector_at n = SEGMENT_SIZE * ROM_SEGMENT + n
 
 -- the doublewords of the protected vectors, two for each: an offset, and the selector of the host's code. The trap bytes of the exception
--- vectors stand behind those of the interrupt vectors, as their pointers do
+-- vectors follow those of the interrupt vectors, as their pointers do
 abbrev pub vector_half_at : ℕ → ℕ
 vector_half_at k =
     if nat_eq (k % 2) 0 then PROTECTED_VECTOR_TRAPS - ROM_START + k / 2 else selector_of HOST_CODE

@@ -19,8 +19,8 @@ owner_of Used = PSP_SEGMENT
 owner_of Dpmi = PSP_SEGMENT
 
 -- a header paragraph: the letter, the owner's word at 1, the paragraphs' word at 3, and zeros
-unfoldable pub header_bytes : ℕ → DosEntry → List ℕ
-header_bytes letter entry =
+unfoldable pub dos_header : ℕ → DosEntry → List ℕ
+dos_header letter entry =
     letter ∷ word_bytes (owner_of entry.state) ++ word_bytes entry.paras
     ++ 0 ∷ 0 ∷ 0 ∷ 0 ∷ 0 ∷ 0 ∷ 0 ∷ 0 ∷ 0 ∷ 0 ∷ 0 ∷ []
 
@@ -28,4 +28,4 @@ header_bytes letter entry =
 abbrev pub with_headers : List ℕ → List DosEntry → List ℕ
 with_headers dos [] = dos
 with_headers dos (entry ∷ behind) =
-    with_headers (put dos (PARAGRAPH_SIZE * entry.at) (header_bytes (header_letter behind) entry)) behind
+    with_headers (put dos (PARAGRAPH_SIZE * entry.at) (dos_header (header_letter behind) entry)) behind

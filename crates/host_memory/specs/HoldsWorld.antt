@@ -52,7 +52,7 @@ pub record HoldsTables (b : List ℕ) (w : World) : Type 0 where
   pub directory : (index : ℕ) → index < TABLE_ENTRIES → dword b (frame_place PAGE_DIRECTORY (PAGE_ENTRY_SIZE * index)) ≡ directory_entry_at index
   pub low : (page : ℕ) → page < TABLE_ENTRIES → dword b (frame_place LOW_TABLE (PAGE_ENTRY_SIZE * page)) ≡ low_entry_at page
   pub window : (page : ℕ) → page < TABLE_ENTRIES → dword b (frame_place WINDOW_TABLE (PAGE_ENTRY_SIZE * page)) ≡ window_entry_at page
-  -- each page of a block stands in a budget frame, which the client may read and write
+  -- each page of a block lies in a budget frame, which the client may read and write
   pub named : (handle page : ℕ) (block : MemoryBlock) → block_at w.blocks handle ≡ Some block → page < length block.locks →
       NamesBudgetFrame w.budget (block_entry b (block_page block page))
   -- each other page of the region is absent
@@ -61,7 +61,7 @@ pub record HoldsTables (b : List ℕ) (w : World) : Type 0 where
   pub once : (page other : ℕ) → page < BLOCK_REGION_PAGES → other < BLOCK_REGION_PAGES → page ≢ other →
       block_entry b page ≢ 0 → block_entry b page ≢ block_entry b other
 
--- what a taken byte says: 1 where a page of the block region stands in that frame of the budget, else 0
+-- what a taken byte says: 1 where a page of the block region lies in that frame of the budget, else 0
 pub record HoldsTaken (b : List ℕ) (w : World) : Type 0 where
   pub taken : (page frame : ℕ) → page < BLOCK_REGION_PAGES → frame < w.budget →
       block_entry b page ≡ page_entry (BUDGET_FRAMES + frame) true → slice_index b (frame_place TAKEN_FRAMES frame) ≡ 1
@@ -80,7 +80,7 @@ pub record HoldsBlocks (b : List ℕ) (w : World) : Type 0 where
       word_of b (frame_place LOCK_COUNTS (LOCK_COUNT_SIZE * block_page block page)) ≡ slice_index block.locks page
   pub unlocked : (page : ℕ) → page < BLOCK_REGION_PAGES → IsNoBlocks w page → word_of b (frame_place LOCK_COUNTS (LOCK_COUNT_SIZE * page)) ≡ 0
 
--- the frame of the vectors: each list in its place, and zeros behind them
+-- the frame of the vectors: each list in its place, and zeros after them
 pub record HoldsVectors (b : List ℕ) (w : World) : Type 0 where
   pub interrupts : (n at : ℕ) (p : FarPtr) → slice_get w.interrupt_vectors n ≡ Some p → at < VECTOR_SIZE →
       slice_index b (frame_place VECTORS (VECTOR_SIZE * n + at)) ≡ slice_index (vector_bytes p) at
@@ -92,7 +92,7 @@ pub record HoldsVectors (b : List ℕ) (w : World) : Type 0 where
       slice_index b (frame_place VECTORS (pageable_start + page)) ≡ cond (slice_index_or w.pageable page false) 1 0
   pub rest : (at : ℕ) → pageable_start + DOS_VIEW_PAGES ≤ at → at < PAGE_SIZE * VECTOR_FRAMES → slice_index b (frame_place VECTORS at) ≡ 0
 
--- lists whose length the world gives: their items one behind the other, and zeros behind them
+-- lists whose length the world gives: their items one after another, and zeros after them
 pub record HoldsLists (b : List ℕ) (w : World) : Type 0 where
   pub records : (place at : ℕ) (r : Record) → slice_get w.calls place ≡ Some r → at < record_size →
       slice_index b (frame_place RECORDS (record_size * place + at)) ≡ slice_index (record_bytes r) at

@@ -11,10 +11,10 @@ use Rattle.page_tables.specs.Walk.{fault}
 use Rattle.host_memory.specs.Layout.{address_of}
 
 -- where an access to a place ends, or how it fails
-unfoldable pub told : List ℕ → Place → Bool → Result ℕ PageFault
-told b place write = if may_touch place write then Ok (address_of b place) else fault (is_present place)
+unfoldable pub walk_result : List ℕ → Place → Bool → Result ℕ PageFault
+walk_result b place write = if may_touch place write then Ok (address_of b place) else fault (is_present place)
 
--- the world's byte at a place stands at the place's address, which lies inside the memory and in none of the host's frames
+-- the world's byte at a place is at the place's address, which lies inside the memory and in none of the host's frames
 pub record StandsAt (b : List ℕ) (w : World) (place : Place) : Type 0 where
   pub byte : slice_index b (address_of b place) ≡ byte_of w place
   pub inside : address_of b place < length b

@@ -123,7 +123,7 @@ world_of b budget mode regs vif width = record {
   calls = calls_in (records_part b);
 }
 
--- where the byte of a place stands in the memory; of a block through its row and its page's entry
+-- where the byte of a place lies in the memory; of a block through its row and its page's entry
 abbrev pub block_address : List ℕ → ℕ → ℕ → ℕ
 block_address b zero at = 0
 block_address b (suc place) at =

@@ -90,7 +90,7 @@ record_bytes (Sim call saved vif at) =
 record_bytes (Back slot at) = record_head 5 slot false 0 at ++ zeros 112
 record_bytes (Exc number code) = record_head 6 number false code no_pointer ++ zeros 112
 
--- how many records stand one behind the other from a place on, of n at most: up to the first kind that is 0
+-- how many records lie one after another from a place on, of n at most: up to the first kind that is 0
 unfoldable pub records_from : List ℕ → ℕ → ℕ → ℕ
 records_from part place zero = 0
 records_from part place (suc n) =
@@ -103,7 +103,7 @@ record_count part = records_from part 0 GREATEST_DEPTH
 unfoldable pub calls_in : List ℕ → List Record
 calls_in part = listed (record_count part) (λ place. record_at part (record_size * place))
 
--- the bytes of the frame are exactly those of its records, and zeros behind them
+-- the bytes of the frame are exactly those of its records, and zeros after them
 pub record KeepsRecords (part : List ℕ) : Type 0 where
   pub each : (place at : ℕ) → place < record_count part → at < record_size →
       slice_index part (record_size * place + at) ≡ slice_index (record_bytes (record_at part (record_size * place))) at

@@ -12,7 +12,7 @@ use Rattle.host_memory.specs.Layout.{entry_of, pages_of, first_page_of}
 abbrev pub supervisor_entry : ℕ → ℕ
 supervisor_entry frame = PAGE_SIZE * frame + SUPERVISOR_WRITABLE
 
--- the directory: the table of the first 4 MB, those of the block region behind it, and that of the host's window
+-- the directory: the table of the first 4 MB, those of the block region after it, and that of the host's window
 abbrev pub directory_entry_at : ℕ → ℕ
 directory_entry_at index =
     if nat_eq index 0 then page_entry LOW_TABLE true else
@@ -20,7 +20,7 @@ directory_entry_at index =
     if nat_eq index (HOST_WINDOW / TABLE_SPAN) then supervisor_entry WINDOW_TABLE else
     0
 
--- the first 4 MB: the DOS megabyte, read-only from F0000h on, and behind it its first 64 KB again
+-- the first 4 MB: the DOS megabyte, read-only from F0000h on, and after it its first 64 KB again
 abbrev pub low_entry_at : ℕ → ℕ
 low_entry_at page =
     if nat_lt page (ROM_START / PAGE_SIZE) then page_entry page true else
@@ -39,7 +39,7 @@ low_table_start = PAGE_SIZE * (LOW_TABLE - PAGE_DIRECTORY)
 abbrev pub window_table_start : ℕ
 window_table_start = PAGE_SIZE * (WINDOW_TABLE - PAGE_DIRECTORY)
 
--- the entries that never change stand in the directory and in the two tables behind it
+-- the entries that never change lie in the directory and in the two tables after it
 pub record HasFixedEntries (fixed : List ℕ) : Type 0 where
   pub directory : (index : ℕ) → index < TABLE_ENTRIES → dword fixed (PAGE_ENTRY_SIZE * index) ≡ directory_entry_at index
   pub low : (page : ℕ) → page < TABLE_ENTRIES → dword fixed (low_table_start + PAGE_ENTRY_SIZE * page) ≡ low_entry_at page
@@ -62,7 +62,7 @@ pub record NamesFrame (tables : List ℕ) (frame : ℕ) : Type 0 where
   pub inside : page < BLOCK_REGION_PAGES
   pub named : entry_of tables page ≡ page_entry (BUDGET_FRAMES + frame) true
 
--- the pages of blocks stand in budget frames, each in one of its own, and exactly these frames are taken
+-- the pages of blocks lie in budget frames, each in one of its own, and exactly these frames are taken
 pub record HasBlockEntries (handles tables taken : List ℕ) (budget : ℕ) : Type 0 where
   pub named : (place offset : ℕ) → place < MAX_BLOCKS → offset < pages_of handles place →
       NamesBudgetFrame budget (entry_of tables (first_page_of handles place + offset))

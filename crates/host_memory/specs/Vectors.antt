@@ -19,7 +19,7 @@ callbacks_start = exceptions_start + VECTOR_SIZE * EXCEPTION_VECTORS
 abbrev pub pageable_start : ℕ
 pageable_start = callbacks_start + CALLBACK_SIZE * CALLBACKS
 
--- a far pointer: its offset, and behind it its selector
+-- a far pointer: its offset, and after it its selector
 abbrev pub pointer_at : List ℕ → ℕ → FarPtr
 pointer_at part at = record { sel = word_of part (at + 4); off = dword part at }
 
@@ -56,7 +56,7 @@ callbacks_in part = listed CALLBACKS (λ slot. callback_at part (callbacks_start
 abbrev pub pageable_in : List ℕ → List Bool
 pageable_in part = listed DOS_VIEW_PAGES (λ page. nat_eq (slice_index part (pageable_start + page)) 1)
 
--- the bytes of the frame are exactly those of its lists, and zeros behind them
+-- the bytes of the frame are exactly those of its lists, and zeros after them
 pub record KeepsVectors (part : List ℕ) : Type 0 where
   pub vectors : (n at : ℕ) → n < INTERRUPT_VECTORS + EXCEPTION_VECTORS → at < VECTOR_SIZE →
       slice_index part (VECTOR_SIZE * n + at) ≡ slice_index (vector_bytes (pointer_at part (VECTOR_SIZE * n))) at

@@ -1,7 +1,7 @@
 // The bytes of an entry of DOS memory: in the frames of the list, and in its header.
 ghost use Rattle.std.specs.Prelude.{◌≡◌};
 ghost use Rattle.host_memory.specs.DosList.{state_code, entry_bytes};
-ghost use Rattle.host_memory.specs.Headers.{owner_of, header_bytes};
+ghost use Rattle.host_memory.specs.Headers.{owner_of, dos_header};
 
 use client_world::memory_map::PSP_SEGMENT;
 use client_world::{DosEntry, DosState};
@@ -17,9 +17,9 @@ fn owner(state: DosState) -> u16
 }
 
 /// The sixteen bytes of an entry's header. Source: MS-DOS memory control blocks.
-#[tactic(auto, unfolding(crate::specs::Headers::header_bytes))]
+#[tactic(auto, unfolding(crate::specs::Headers::dos_header))]
 pub fn header(letter: u8, entry: DosEntry) -> [u8; 16]
-    ensures { result ≡ header_bytes letter entry }
+    ensures { result ≡ dos_header letter entry }
 {
     let mut bytes = [0; 16];
     bytes[0] = letter;

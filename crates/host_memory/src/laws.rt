@@ -10,15 +10,15 @@ ghost use Rattle.client_world.specs.declared.registers.Width.{Width};
 ghost use Rattle.page_tables.specs.Walk.{walked};
 ghost use Rattle.host_memory.specs.Holds.{Holds};
 ghost use Rattle.host_memory.specs.HoldsWorld.{HoldsWorld};
-ghost use Rattle.host_memory.specs.Law.{told, StandsAt};
+ghost use Rattle.host_memory.specs.Law.{walk_result, StandsAt};
 ghost use Rattle.host_memory.specs.Layout.{world_of};
 
 /// A walk of the page tables of a memory that holds a sound world ends exactly where the client may touch, at the address of the place, and
-/// else fails as the place says. The world's byte at a place that the client may touch stands at that address, in none of the host's frames.
+/// else fails as the place says. The world's byte at a place that the client may touch is at that address, in none of the host's frames.
 pub fn every_walk_ends_where_the_client_may_touch()
     ensures walks { (b : List ℕ) (budget : ℕ) (mode : Mode) (regs : Regs) (vif : Bool) (width : Option Width) →
         Holds b budget → IsSound (world_of b budget mode regs vif width) → (lin : ℕ) (write : Bool) → lin < 2 ^ 32 →
-        walked b PAGE_DIRECTORY lin write ≡ told b (place_of (world_of b budget mode regs vif width) lin) write }
+        walked b PAGE_DIRECTORY lin write ≡ walk_result b (place_of (world_of b budget mode regs vif width) lin) write }
     ensures bytes { (b : List ℕ) (budget : ℕ) (mode : Mode) (regs : Regs) (vif : Bool) (width : Option Width) →
         Holds b budget → (lin : ℕ) (write : Bool) →
         may_touch (place_of (world_of b budget mode regs vif width) lin) write ≡ true →

@@ -1,6 +1,6 @@
-//! The world in the bytes of the memory: where each part of it stands in the host's frames, and what the bytes must be.
+//! The world in the bytes of the memory: where each part of it lies in the host's frames, and what the bytes must be.
 //! It promises, in laws over its definitions, that a walk of the page tables ends exactly where the client may touch, at the world's byte,
-//! and that a new memory holds the blank world. It stands on the descriptor table and the page tables, and has no state of its own.
+//! and that a new memory holds the blank world. It uses the descriptor table and the page tables, and has no state of its own.
 #![tactic(auto)]
 
 mod blank;

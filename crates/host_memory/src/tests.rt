@@ -3,7 +3,7 @@ use crate::blank_memory;
 use guest_ram::Ram;
 use std::test::Fail;
 
-// The doubleword at an address, where it and a byte behind it are there.
+// The doubleword at an address, where it and a byte after it are there.
 fn word(ram: &Ram, at: u32) -> Option<u32> {
     if ram.len() > 4 && at < ram.len() - 4 {
         Some(ram.get32(at))
@@ -14,7 +14,7 @@ fn word(ram: &Ram, at: u32) -> Option<u32> {
 
 // Doublewords of a new memory, by their addresses.
 const DOUBLEWORDS: [(u32, u32); 31] = [
-    // Real vectors 21h and FFh, and what stands behind them.
+    // Real vectors 21h and FFh, and what follows them.
     (0x84, 0xF000_0021),
     (0x3FC, 0xF000_00FF),
     (0x400, 0),
@@ -44,7 +44,7 @@ const DOUBLEWORDS: [(u32, u32); 31] = [
     // The first and the last page of the block region.
     (0x10_3000, 0),
     (0x11_2FFC, 0),
-    // The protected vector 31h, the exception vector 0, and what stands behind exception vector 31.
+    // The protected vector 31h, the exception vector 0, and what follows exception vector 31.
     (0x13_3188, 0x231),
     (0x13_318C, 0x87),
     (0x13_3800, 0x300),

@@ -19,7 +19,7 @@ same_outcome : (r : Result MachineView Exit) → is_ok (its_world r) ≡ is_ok r
 same_outcome (Ok v) = refl
 same_outcome (Err e) = refl
 
--- the world tells whether it can
+-- the world determines whether it can
 pub can_by_world : (v : MachineView) → its_world (iret_popped v) ≡ world_popped v.world → is_ok (iret_popped v) ≡ is_ok (world_popped v.world)
 can_by_world v same = sym (same_outcome (iret_popped v)) ∙ ap (λ (r : Result World Exit). is_ok r) same
 

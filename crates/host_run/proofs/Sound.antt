@@ -14,7 +14,7 @@ use Rattle.host_memory.proofs.BlankSound.{blank_is_sound}
 use Rattle.mz_loader.specs.Refusal.{refusal}
 use Rattle.mz_loader.proofs.SoundStart.{sound_start}
 use Rattle.host_run.specs.Keys.{HasKeys}
-use Rattle.host_run.specs.Start.{blank, started}
+use Rattle.host_run.specs.Start.{blank, started_host}
 use Rattle.host_run.specs.Run.{turns, run}
 use Rattle.host_run.specs.Turn.{turn}
 use Rattle.host_run.proofs.TurnLaws.{IsReached, LeavesAll, LeavesBy, turn_keeps}
@@ -121,5 +121,5 @@ pub blank_sound : (pages keep : ℕ) (keys : List ℕ) → IsSoundHost (blank pa
 blank_sound pages keep keys = record { machine = blank_is_sound pages; lines = omega arith }
 
 -- so is the world that a file starts, if the file is one of bytes and is taken
-pub started_sound : (pages keep : ℕ) (keys file : List ℕ) → AreBytes file → refusal file ≡ None → IsSoundHost (started pages keys keep file)
+pub started_sound : (pages keep : ℕ) (keys file : List ℕ) → AreBytes file → refusal file ≡ None → IsSoundHost (started_host pages keys keep file)
 started_sound pages keep keys file small none = record { machine = sound_start file pages small none; lines = omega arith }

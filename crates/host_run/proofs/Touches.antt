@@ -9,14 +9,14 @@ use Rattle.client_world.specs.World.{World, HostWorld}
 use Rattle.cpu_step.specs.Touched.{touched as step_touches}
 use Rattle.host_run.specs.declared.traps.Trap.{Trap}
 use Rattle.host_run.specs.declared.traps.Trap.TheVariants.{NoTrap}
-use Rattle.host_run.specs.Touched.{touched, unless_trapped}
+use Rattle.host_run.specs.Touched.{touched_by_turn, unless_trapped}
 use Rattle.host_run.specs.Traps.{current_trap}
 
 unless_held : (w : World) (t : Trap) → All (IsHeld w) (step_touches w) → All (IsHeld w) (unless_trapped w t)
 unless_held w NoTrap held = held
 unless_held w _ held = All-nil (IsHeld w)
 
-pub touch_held : ((w : World) → All (IsHeld w) (step_touches w)) → (w : HostWorld) → All (IsHeld w.machine) (touched w)
+pub touch_held : ((w : World) → All (IsHeld w) (step_touches w)) → (w : HostWorld) → All (IsHeld w.machine) (touched_by_turn w)
 touch_held steps w =
     let m = w.machine in
     elim (w.exit) as (λ (o : Option Exit). All (IsHeld m) (elim o [ Some _ ↦ [] | None ↦ unless_trapped m (current_trap m) ])) [

@@ -39,7 +39,7 @@ use Rattle.host_run.specs.declared.traps.Trap.{Trap}
 use Rattle.host_run.specs.declared.traps.Trap.TheVariants.{RealVector, Entry, ProtectedVector, NoTrap}
 use Rattle.host_run.specs.Keys.{HasKeys}
 use Rattle.host_run.specs.Traps.{current_trap}
-use Rattle.host_run.specs.Turn.{Outcome, goes_on, ends, with_machine, noted, popped, seen, dos_served, multiplex_served, ends_client, vector_served, entry_line, after_entry, after_entry_trap, is_served, goes_on_with, after_presence_call, is_set, after_int31, after_protected_call, after_protected_pop, after_protected_vector, delivered_in, interrupted, after_step, stepped, trapped, work, with_turn_counted, settled, turn}
+use Rattle.host_run.specs.Turn.{Outcome, goes_on, ends, with_machine, noted, popped, seen, dos_served, multiplex_served, ends_client, vector_served, entry_line, after_entry, after_entry_trap, is_served, goes_on_with, after_presence_call, is_set, after_int31, after_protected_call, after_protected_pop, after_protected_vector, delivered_in, after_interrupt, after_step, stepped, trapped, work, with_turn_counted, settled, turn}
 use Rattle.host_run.proofs.Frames.{still_popped}
 use Rattle.host_run.proofs.KindModes.{Suits, trap_suits}
 
@@ -255,7 +255,7 @@ delivered_keeps Real h f s =
     }))
 delivered_keeps Protected h f s = stops_same h exits.Unbuilt s
 
-interrupted_keeps : (h : HostWorld) (r : Result World Fault) → IsReached h → IfOk r (IsNext h.machine) → TurnKeeps h (interrupted h r)
+interrupted_keeps : (h : HostWorld) (r : Result World Fault) → IsReached h → IfOk r (IsNext h.machine) → TurnKeeps h (after_interrupt h r)
 interrupted_keeps h (Ok w) s next = goes_with h w s next
 interrupted_keeps h (Err f) s next = delivered_keeps h.machine.mode h f s
 

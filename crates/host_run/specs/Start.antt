@@ -4,7 +4,7 @@ use Rattle.client_world.specs.World.{World, HostWorld}
 use Rattle.host_memory.specs.Blank.{blank_world}
 use Rattle.mz_loader.specs.Start.{started as client_started}
 
--- a host that has run nothing, on that machine, with these keystrokes, and a trace that keeps so many lines at most
+-- a host that has run nothing, on that machine, with these keystrokes, and a trace that keeps a number of lines at most
 abbrev pub new_host : World → List ℕ → ℕ → HostWorld
 new_host machine keys keep = record {
   machine = machine;
@@ -26,5 +26,5 @@ abbrev pub IsBlank : HostWorld → Type 0
 IsBlank w = w ≡ blank w.machine.budget w.keys w.keep
 
 -- the world that a file starts
-abbrev pub started : ℕ → List ℕ → ℕ → List ℕ → HostWorld
-started pages keys keep file = new_host (client_started file (blank_world pages)) keys keep
+abbrev pub started_host : ℕ → List ℕ → ℕ → List ℕ → HostWorld
+started_host pages keys keep file = new_host (client_started file (blank_world pages)) keys keep

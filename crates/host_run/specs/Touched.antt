@@ -13,5 +13,5 @@ unless_trapped w NoTrap = step_touches w
 unless_trapped w _ = []
 
 -- none where the run has ended
-abbrev pub touched : HostWorld → List Place
-touched w = elim w.exit [ Some _ ↦ [] | None ↦ unless_trapped w.machine (current_trap w.machine) ]
+abbrev pub touched_by_turn : HostWorld → List Place
+touched_by_turn w = elim w.exit [ Some _ ↦ [] | None ↦ unless_trapped w.machine (current_trap w.machine) ]

@@ -165,15 +165,15 @@ abbrev pub delivered : HostWorld → Fault → Outcome
 delivered h f = delivered_in h.machine.mode h f
 
 -- a software interrupt, or the exception that it raises
-abbrev pub interrupted : HostWorld → Result World Fault → Outcome
-interrupted h (Ok w) = goes_on (record h { machine = w })
-interrupted h (Err f) = delivered h f
+abbrev pub after_interrupt : HostWorld → Result World Fault → Outcome
+after_interrupt h (Ok w) = goes_on (record h { machine = w })
+after_interrupt h (Err f) = delivered h f
 
 -- what a client instruction comes to
 abbrev pub after_step : HostWorld → Result World Event → Outcome
 after_step h (Ok w) = goes_on (record h { machine = w })
 after_step h (Err (events.Fault f)) = delivered h f
-after_step h (Err (events.Soft number len)) = interrupted h (world_interrupt h.machine number len)
+after_step h (Err (events.Soft number len)) = after_interrupt h (world_interrupt h.machine number len)
 
 -- the next instruction
 unfoldable pub stepped : HostWorld → Outcome

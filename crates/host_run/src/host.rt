@@ -5,10 +5,10 @@ ghost use Rattle.client_world.specs.Soundness.{IsSound};
 ghost use Rattle.fault_service.specs.Worlds.{world_interrupt};
 ghost use Rattle.mz_loader.specs.Refusal.{refusal};
 ghost use Rattle.host_run.specs.Run.{run};
-ghost use Rattle.host_run.specs.Start.{blank, IsBlank, started};
+ghost use Rattle.host_run.specs.Start.{blank, IsBlank, started_host};
 ghost use Rattle.host_run.specs.Traps.{current_trap};
 ghost use Rattle.host_run.specs.View.{ComesTo, HostView};
-ghost use Rattle.host_run.specs.Turn.{delivered, interrupted, stepped, trapped, work, turn};
+ghost use Rattle.host_run.specs.Turn.{delivered, after_interrupt, stepped, trapped, work, turn};
 
 use crate::serving::step_machine;
 use crate::traps::{Trap, current_trap};
@@ -90,7 +90,7 @@ impl Host {
         requires { IsBlank self.old.world }
         ensures taken { OnOk result (refusal file.now ≡ None) }
         ensures started { OnOk result (self.new.world
-            ≡ started self.old.world.machine.budget self.old.world.keys self.old.world.keep file.now) }
+            ≡ started_host self.old.world.machine.budget self.old.world.keys self.old.world.keep file.now) }
         ensures sound { OnOk result (IsSound self.new.world.machine) }
         ensures refused { IfErr result (λ fault. refusal file.now ≡ Some fault) }
         ensures kept { IfErr result (λ _. self.new ≡ self.old) }
@@ -192,7 +192,7 @@ impl Host {
 
     // A software interrupt, or the exception that it raises.
     fn interrupted(&mut self, number: u8, len: u8) -> Result<(), Exit>
-        ensures { ComesTo self.old self.new result (interrupted self.old.world (world_interrupt self.old.world.machine number len)) }
+        ensures { ComesTo self.old self.new result (after_interrupt self.old.world (world_interrupt self.old.world.machine number len)) }
     {
         match soft_int(&mut self.machine, number, len) {
             Ok(()) => Ok(()),

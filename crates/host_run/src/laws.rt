@@ -10,15 +10,15 @@ ghost use Rattle.guest_ram.specs.Bytes.{AreBytes};
 ghost use Rattle.mz_loader.specs.Refusal.{refusal};
 ghost use Rattle.host_run.specs.Keys.{HasKeys};
 ghost use Rattle.host_run.specs.Run.{turns, run};
-ghost use Rattle.host_run.specs.Start.{blank, started};
-ghost use Rattle.host_run.specs.Touched.{touched};
+ghost use Rattle.host_run.specs.Start.{blank, started_host};
+ghost use Rattle.host_run.specs.Touched.{touched_by_turn};
 ghost use Rattle.host_run.specs.Turn.{turn};
 
 use cpu_step::every_touched_place_is_held;
 
 /// Each place that the client instruction of a turn fetches, reads or writes lies in memory that the client holds.
 pub fn every_touch_is_held()
-    ensures { (w : HostWorld) → All (IsHeld w.machine) (touched w) }
+    ensures { (w : HostWorld) → All (IsHeld w.machine) (touched_by_turn w) }
 {
     every_touched_place_is_held();
 }
@@ -57,7 +57,7 @@ pub fn every_turn_extends_the_console()
 
 /// However many turns were made, the next touches memory that the client holds, and no other.
 pub fn every_touch_of_a_run_is_held()
-    ensures { (w : HostWorld) (n : ℕ) → All (IsHeld (turns w n).machine) (touched (turns w n)) }
+    ensures { (w : HostWorld) (n : ℕ) → All (IsHeld (turns w n).machine) (touched_by_turn (turns w n)) }
 {
     every_touch_is_held();
 }
@@ -65,7 +65,7 @@ pub fn every_touch_of_a_run_is_held()
 /// The world of a new host is sound, and so is the world that a file starts, if the file is one of bytes and is taken.
 pub fn every_start_is_sound()
     ensures blank { (pages keep : ℕ) (keys : List ℕ) → IsSoundHost (blank pages keys keep) }
-    ensures started { (pages keep : ℕ) (keys file : List ℕ) → AreBytes file → refusal file ≡ None → IsSoundHost (started pages keys keep file) }
+    ensures started { (pages keep : ℕ) (keys file : List ℕ) → AreBytes file → refusal file ≡ None → IsSoundHost (started_host pages keys keep file) }
 {}
 
 /// A turn that ends the run leaves the machine, and but for a full console the keystrokes and the console too.

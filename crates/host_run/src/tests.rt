@@ -19,7 +19,7 @@ struct Case {
     flags: u16,
 }
 
-// The start of a client with 1 to 16 bytes: the prefix at 64h, the image 10h paragraphs behind it, the stack a paragraph behind that, with
+// The start of a client with 1 to 16 bytes: the prefix at 64h, the image 10h paragraphs after it, the stack a paragraph after that, with
 // the header's SP.
 const START: Regs = Regs {
     esp: 0x100,
@@ -63,7 +63,7 @@ const TWO_KEYS: &[u8] = &[
     0xB8, 0x55, 0x06, 0xB2, 0xFF, 0xCD, 0x21, 0xB4, 0x01, 0xCD, 0x21,
 ];
 
-// Each software interrupt and each trap is a turn. At vector n the client stands at F000h:n, with the flags, CS and IP on its stack, so that
+// Each software interrupt and each trap is a turn. At vector n the client is at F000h:n, with the flags, CS and IP on its stack, so that
 // SP is 100h - 6. The flags image is 2, with 1 for CF, 40h for ZF and 200h for IF, which is set at the start, cleared by an interrupt and
 // set again by its return.
 const CASES: [Case; 13] = [
@@ -74,11 +74,11 @@ const CASES: [Case; 13] = [
     case!(KEY, [eax: 0x4C58, esp: 0xFA, eip: 0x21, cs: 0xF000],
         keys: &[0x58], bound: 6, exit: Exit::Exited(0x58), steps: 6, console: b"X"),
     case!(KEY, [eax: 0x100, esp: 0xFA, eip: 0x21, cs: 0xF000], bound: 6, exit: Exit::NoKeys, steps: 3),
-    // Without a key function 06h with DL = FFh makes AL 0, which was 55h, and sets ZF. So it is behind its INT, at 7, and still where function
+    // Without a key function 06h with DL = FFh makes AL 0, which was 55h, and sets ZF. So it is after its INT, at 7, and still where function
     // 01h ends the run.
     case!(TWO_KEYS, [eax: 0x600, edx: 0xFF, eip: 7], bound: 4, exit: Exit::Bound, steps: 4, flags: 0x0242),
     case!(TWO_KEYS, [eax: 0x100, edx: 0xFF, esp: 0xFA, eip: 0x21, cs: 0xF000], exit: Exit::NoKeys, steps: 7, flags: 0x0042),
-    // Its block shrinks to 1000h paragraphs, 64h to 1063h. Behind the next header, 1064h, there are 8F9Bh up to 9FFFh: FFFFh are refused
+    // Its block shrinks to 1000h paragraphs, 64h to 1063h. After the next header, 1064h, there are 8F9Bh up to 9FFFh: FFFFh are refused
     // with carry, AX = 8 and BX = 8F9Bh. The code ends at 14.
     case!(&[0xBB, 0x00, 0x10, 0xB4, 0x4A, 0xCD, 0x21, 0xBB, 0xFF, 0xFF, 0xB4, 0x48, 0xCD, 0x21],
         [eax: 8, ebx: 0x8F9B, eip: 14], bound: 8, exit: Exit::Bound, steps: 8, flags: 0x0203),
@@ -96,7 +96,7 @@ const CASES: [Case; 13] = [
     case!(&[0xEB, 0xFE], [], bound: 1000, exit: Exit::Bound, steps: 1000, flags: 0x0202),
 ];
 
-// The header of a file: 2 paragraphs, 10h to FFFFh paragraphs behind the image, SP = 100h. The words of the pages and SS come from the code.
+// The header of a file: 2 paragraphs, 10h to FFFFh paragraphs after the image, SP = 100h. The words of the pages and SS come from the code.
 const HEADER: [u8; 32] = [
     b'M', b'Z', 0, 0, 0, 0, 0, 0, 2, 0, 0x10, 0, 0xFF, 0xFF, // to the maximum
     0, 0, 0, 1, 0, 0, 0, 0, 0, 0, 0x1C, 0, 0, 0, // SS, SP, the checksum, IP, CS, the relocation table
@@ -111,7 +111,7 @@ fn put_word(rt: &impl Abort, file: &mut [u8], at: usize, word: u16) {
     file[at + 1] = high;
 }
 
-// The file of a client: the bytes of the last page, the pages, and a stack in the first paragraph behind the code.
+// The file of a client: the bytes of the last page, the pages, and a stack in the first paragraph after the code.
 fn file(rt: &impl Abort, alloc: Global, code: &[u8]) -> Result<Vec<u8>, AllocError> {
     assert!(rt; code.len() <= 480);
     let size = HEADER.len() + code.len();
@@ -226,7 +226,7 @@ fn expect_load(
 }
 
 // A file of 512 bytes with one page: a last page of 0 bytes is a whole one, as one of 512, and 513 are more than a page has. The image is all
-// that is behind the header, 480 bytes.
+// that is after the header, 480 bytes.
 #[test]
 fn a_whole_page_is_told_in_two_ways(rt: HostRuntime) -> Result<(), Fail> {
     let mut code = [0; 480];
@@ -240,7 +240,7 @@ fn a_whole_page_is_told_in_two_ways(rt: HostRuntime) -> Result<(), Fail> {
 }
 
 // With a maximum of 10h the program has 33 paragraphs: 10h of its prefix, 1 of its image and 10h more. They are told at 3 in its header
-// paragraph, 630h. At 2 in its prefix, 640h, their end is told, paragraph 64h + 33 = 85h. There, 272 bytes behind 740h, is the header of the
+// paragraph, 630h. At 2 in its prefix, 640h, their end is told, paragraph 64h + 33 = 85h. There, 272 bytes after 740h, is the header of the
 // free ones up to 9FFFh, 9F7Ah. A relocation in the last word of the 272 bytes, at 10Eh, makes it 74h; a byte further it is refused.
 #[test]
 fn a_program_has_33_paragraphs(rt: HostRuntime) -> Result<(), Fail> {

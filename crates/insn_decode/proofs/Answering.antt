@@ -27,14 +27,14 @@ read_cases (Err stops.Invalid) = inr (inr refl)
 
 -- ---- the readers, by the grammar
 
--- what is read is spelled so
+-- what is read is what the bytes encode
 read_is : (big : Bool) (bytes : List ℕ) (insn : Insn) (rest : List ℕ) → AreBytes bytes → insn_at big bytes ≡ Ok (insn, rest)
     → (front : List ℕ) × Spelling big insn front × (bytes ≡ front ++ rest)
 read_is big bytes insn rest are e =
     let f = (insn_reads big).found bytes insn rest e in
     (f.0, from_readers big insn f.0 (bytes_front f.0 rest (subst AreBytes f.2 are)) f.1, f.2)
 
--- what is spelled so is read
+-- what the bytes encode is read
 is_read : (big : Bool) (insn : Insn) (front rest : List ℕ) → Spelling big insn front
     → insn_at big (front ++ rest) ≡ Ok (insn, rest)
 is_read big insn front rest s = (insn_reads big).again insn front rest (to_readers big insn front s)

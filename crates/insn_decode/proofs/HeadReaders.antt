@@ -8,7 +8,7 @@ use Rattle.insn_forms.specs.declared.rows.OpMap.TheVariants.{One, Two}
 use Rattle.insn_forms.specs.declared.pieces.Prefixes.{Prefixes}
 use Rattle.insn_forms.specs.declared.pieces.Head.{Head}
 use Rattle.insn_forms.specs.declared.rows.Row.{Row}
-use Rattle.insn_forms.specs.OpcodeMap.{row_at, row_one, row_two, map_one_00, map_one_20, map_one_60, map_one_e0, map_two_a0, group_0fba}
+use Rattle.insn_forms.specs.OpcodeMap.{opcode_row, row_one, row_two, map_one_00, map_one_20, map_one_60, map_one_e0, map_two_a0, group_0fba}
 use Rattle.insn_forms.specs.Prefixes.{is_prefix, is_one_of}
 use Rattle.insn_forms.specs.Addressing.{modrm_size}
 use Rattle.insn_forms.specs.Operands.{has_op, is_row}
@@ -84,13 +84,13 @@ no_row lock r in_memory e = rw e refl
 
 -- the row that a head has
 pub some_row : (head : Head) → any_row head ≡ true
-    → (reg : ℕ) × (reg < 8) × (is_row head.prefixes.lock (row_at head.map head.opcode reg) true ≡ true)
+    → (reg : ℕ) × (reg < 8) × (is_row head.prefixes.lock (opcode_row head.map head.opcode reg) true ≡ true)
 unfolding any_row
 some_row head e =
     elim (chosen (eqb (modrm_size head.map head.opcode) 0) (is_row_with head 0)
-    (any_below 8 (λ reg. is_row head.prefixes.lock (row_at head.map head.opcode reg) true)) true e) [
+    (any_below 8 (λ reg. is_row head.prefixes.lock (opcode_row head.map head.opcode reg) true)) true e) [
       | inl a ↦ (0, omega arith, a.1)
-      | inr a ↦ any_found 8 (λ reg. is_row head.prefixes.lock (row_at head.map head.opcode reg) true) a.1
+      | inr a ↦ any_found 8 (λ reg. is_row head.prefixes.lock (opcode_row head.map head.opcode reg) true) a.1
     ]
 
 no_row_at_0f : (b : ℕ) → eqb b 0x0f ≡ true → (reg : ℕ) → has_op (row_one b reg) ≡ false
@@ -98,7 +98,7 @@ unfolding row_one map_one_00
 no_row_at_0f b e reg = rw (eqb-true b 0x0f e) refl
 
 starts : (m : Prefixes) (b : ℕ) → any_row (made m One b) ≡ true → Starts b
-unfolding row_at
+unfolding opcode_row
 starts m b e =
     let r = some_row (made m One b) e in
     record {
@@ -157,22 +157,22 @@ checked_stays head bytes more e =
     ]
 
 -- every mark leaves some opcode, in either map
-lock_in_one : (lock : Bool) → any_below 8 (λ reg. is_row lock (row_at One 0 reg) true) ≡ true
-unfolding is_row row_at row_one map_one_00
+lock_in_one : (lock : Bool) → any_below 8 (λ reg. is_row lock (opcode_row One 0 reg) true) ≡ true
+unfolding is_row opcode_row row_one map_one_00
 lock_in_one true = refl
 lock_in_one false = refl
 
 some_in_one : (m : Prefixes) → any_row (made m One 0) ≡ true
-unfolding any_row modrm_size row_at row_one map_one_00
+unfolding any_row modrm_size opcode_row row_one map_one_00
 some_in_one m = lock_in_one m.lock
 
-lock_in_two : (lock : Bool) → any_below 8 (λ reg. is_row lock (row_at Two 0xba reg) true) ≡ true
-unfolding is_row row_at row_two map_two_a0 group_0fba
+lock_in_two : (lock : Bool) → any_below 8 (λ reg. is_row lock (opcode_row Two 0xba reg) true) ≡ true
+unfolding is_row opcode_row row_two map_two_a0 group_0fba
 lock_in_two true = refl
 lock_in_two false = refl
 
 some_in_two : (m : Prefixes) → any_row (made m Two 0xba) ≡ true
-unfolding any_row modrm_size row_at row_two map_two_a0 group_0fba
+unfolding any_row modrm_size opcode_row row_two map_two_a0 group_0fba
 some_in_two m = lock_in_two m.lock
 
 -- a head that was made is the one that was read

@@ -10,7 +10,7 @@ use Rattle.insn_forms.specs.declared.insn.Operand.{Operand}
 use Rattle.insn_forms.specs.declared.rows.Form.{Form}
 use Rattle.insn_forms.specs.declared.insn.Insn.{Insn}
 use Rattle.insn_forms.specs.declared.rows.Row.{Row}
-use Rattle.insn_forms.specs.OpcodeMap.{row_at}
+use Rattle.insn_forms.specs.OpcodeMap.{opcode_row}
 use Rattle.insn_forms.specs.Addressing.{has_modrm, modrm_size, sib_size, disp_size, mod_of, reg_of}
 use Rattle.insn_forms.specs.Operands.{has_op, may_lock, is_m, is_row, imm_size, operand, insn_of}
 use Rattle.insn_forms.specs.Grammar.{AreBytes, little, wide_of, addr32_of, row_with, is_row_with}
@@ -33,10 +33,10 @@ one_or_none false = inl refl
 
 size_cases : (map : OpMap) (opcode : ℕ) → (modrm_size map opcode ≡ 0) ⊎ (modrm_size map opcode ≡ 1)
 unfolding modrm_size
-size_cases map opcode = one_or_none (has_modrm (row_at map opcode 0).first || has_modrm (row_at map opcode 0).second)
+size_cases map opcode = one_or_none (has_modrm (opcode_row map opcode 0).first || has_modrm (opcode_row map opcode 0).second)
 
 -- a ModRM byte with this reg field, and memory
-made_byte : (head : Head) (reg : ℕ) → reg < 8 → is_row head.prefixes.lock (row_at head.map head.opcode reg) true ≡ true
+made_byte : (head : Head) (reg : ℕ) → reg < 8 → is_row head.prefixes.lock (opcode_row head.map head.opcode reg) true ≡ true
     → is_row_with head (8 * reg) ≡ true
 made_byte head reg lt e =
     let r : reg_of (8 * reg) ≡ reg = omega arith in
@@ -47,17 +47,17 @@ size_one : (n : ℕ) → eqb n 0 ≡ false → (n ≡ 0) ⊎ (n ≡ 1) → n ≡
 size_one n e (inl z) = absurd (eqb-false n 0 e z)
 size_one n e (inr o) = o
 
-reg_row : (head : Head) → any_below 8 (λ reg. is_row head.prefixes.lock (row_at head.map head.opcode reg) true) ≡ true
+reg_row : (head : Head) → any_below 8 (λ reg. is_row head.prefixes.lock (opcode_row head.map head.opcode reg) true) ≡ true
     → (m : ℕ) × (m < 256) × (is_row_with head m ≡ true)
 reg_row head e =
-    let r = any_found 8 (λ reg. is_row head.prefixes.lock (row_at head.map head.opcode reg) true) e in
+    let r = any_found 8 (λ reg. is_row head.prefixes.lock (opcode_row head.map head.opcode reg) true) e in
     (8 * r.0, omega (arith, r.1), made_byte head r.0 r.1 r.2)
 
 some_modrm : (head : Head) → any_row head ≡ true → (m : ℕ) × (g : List ℕ) × SpellsModrm head m g × AreBytes g
 unfolding any_row
 some_modrm head e =
     elim (chosen (eqb (modrm_size head.map head.opcode) 0) (is_row_with head 0)
-    (any_below 8 (λ reg. is_row head.prefixes.lock (row_at head.map head.opcode reg) true)) true e) [
+    (any_below 8 (λ reg. is_row head.prefixes.lock (opcode_row head.map head.opcode reg) true)) true e) [
       | inl a ↦ (0, [], record { number = record { size = sym (eqb-true _ 0 a.0); value_is = refl }; has_row = a.1 }, tt)
       | inr a ↦
           let r = reg_row head a.1 in
@@ -91,7 +91,7 @@ row_any head m bytes h =
           rw none row
       | inr one ↦
           let row = row_up head.prefixes.lock (row_with head m) (not (eqb (mod_of m) 3)) h.has_row in
-          rw one (any_from 8 (λ reg. is_row head.prefixes.lock (row_at head.map head.opcode reg) true) (reg_of m)
+          rw one (any_from 8 (λ reg. is_row head.prefixes.lock (opcode_row head.map head.opcode reg) true) (reg_of m)
           (omega arith) row)
     ]
 

@@ -5,7 +5,7 @@ use Rattle.insn_decode.specs.declared.stop.Stop.TheVariants.{More, Invalid}
 use Rattle.insn_forms.specs.Grammar.{AreBytes, little}
 use Rattle.insn_decode.specs.Reading.{◌>>=◌, Read, number_at}
 
--- What a reader gives is spelled so; what is spelled so it gives; at More the bytes can be completed; and Invalid stays.
+-- What a reader gives is what the bytes encode; what they encode it gives; at More the bytes can be completed; and Invalid stays.
 pub record Reads {A : Type 0} (S : A → List ℕ → Type 0) (r : List ℕ → Read A) : Type 0 where
   pub found : (bytes : List ℕ) (x : A) (rest : List ℕ) → r bytes ≡ Ok (x, rest)
       → (front : List ℕ) × S x front × (bytes ≡ front ++ rest)

@@ -11,7 +11,7 @@ use Rattle.insn_forms.specs.declared.insn.Insn.{Insn}
 use Rattle.insn_forms.specs.Prefixes.{segment_of, repeat_of, or_else, last_of, has, rep_or_plain, prefixes_of}
 use Rattle.insn_forms.specs.Addressing.{sib_size, disp_size}
 use Rattle.insn_forms.specs.Operands.{operand, insn_of}
-use Rattle.insn_forms.specs.Grammar.{AreBytes, opcode_bytes, little, Pieces, head_of, addressing_of, AreRow, meaning, Spelling, row_with, is_row_with, wide_of, addr32_of}
+use Rattle.insn_forms.specs.Grammar.{AreBytes, opcode_bytes, little, Pieces, head_of, addressing_of, AreRow, insn_of_pieces, Spelling, row_with, is_row_with, wide_of, addr32_of}
 use Rattle.insn_decode.specs.Reading.{no_prefixes, with_prefix, made}
 use Rattle.insn_decode.proofs.LawfulReaders.{Number}
 use Rattle.insn_decode.proofs.HeadReaders.{folded}
@@ -244,7 +244,7 @@ from_readers big insn bytes are h =
       second = two.first.first.size;
       third = three.first.first.size;
     } in
-    let meant : insn ≡ meaning big head address (little p.first) (little p.second) (little p.third) =
+    let meant : insn ≡ insn_of_pieces big head address (little p.first) (little p.second) (little p.third) =
     three.second.same ∙ same_insn big head address one.middle two.middle three.middle _ _ _
     (one.first.second.same
     ∙ ap (λ (n : ℕ). operand head (wide_of big head) (addr32_of big head) address (row_with head address.modrm).first n)
@@ -265,8 +265,8 @@ from_readers big insn bytes are h =
       are_row = subst (λ (q : Head). AreRow big q (addressing_of p) p) head_is
           (subst (λ (q : Addressing). AreRow big head q p) address_is row_here);
       means = subst (λ (q : Head). insn
-          ≡ meaning big q (addressing_of p) (little p.first) (little p.second) (little p.third)) head_is
-          (subst (λ (q : Addressing). insn ≡ meaning big head q (little p.first) (little p.second) (little p.third))
+          ≡ insn_of_pieces big q (addressing_of p) (little p.first) (little p.second) (little p.third)) head_is
+          (subst (λ (q : Addressing). insn ≡ insn_of_pieces big head q (little p.first) (little p.second) (little p.third))
           address_is meant);
       are_bytes = are;
     }

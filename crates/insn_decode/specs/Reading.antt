@@ -12,7 +12,7 @@ use Rattle.insn_forms.specs.declared.pieces.Addressing.{Addressing}
 use Rattle.insn_forms.specs.declared.insn.Insn.{Insn}
 use Rattle.insn_forms.specs.declared.rows.Form.{Form}
 use Rattle.insn_forms.specs.declared.insn.Operand.{Operand}
-use Rattle.insn_forms.specs.OpcodeMap.{row_at}
+use Rattle.insn_forms.specs.OpcodeMap.{opcode_row}
 use Rattle.insn_forms.specs.Prefixes.{segment_of, repeat_of, is_prefix, or_else, rep_or_plain}
 use Rattle.insn_forms.specs.Addressing.{modrm_size, sib_size, disp_size}
 use Rattle.insn_forms.specs.Operands.{is_row, imm_size, operand, insn_of}
@@ -25,15 +25,15 @@ abbrev pub ◌>>=◌ : {A B : Type 0} → Result A Stop → (A → Result B Stop
 (Err e) >>= f = Err e
 
 -- what a function returned, seen by view, is what reading gives
-abbrev pub Gives : {X Y : Type 0} → (X → Y) → Result X Stop → Result Y Stop → Type 0
-Gives view (Ok x) read = read ≡ Ok (view x)
-Gives view (Err e) read = read ≡ Err e
+abbrev pub IsReading : {X Y : Type 0} → (X → Y) → Result X Stop → Result Y Stop → Type 0
+IsReading view (Ok x) read = read ≡ Ok (view x)
+IsReading view (Err e) read = read ≡ Err e
 
 -- what was read and the bytes after it, or why nothing was
 abbrev pub Read : Type 0 → Type 0
 Read A = Result (A × List ℕ) Stop
 
--- a number of so many bytes, least first
+-- a number of n bytes, least first
 unfoldable pub number_at : ℕ → List ℕ → Read ℕ
 number_at zero bytes = Ok (0, bytes)
 number_at (suc n) [] = Err More
@@ -62,7 +62,7 @@ any_below (suc n) f = f n || any_below n f
 unfoldable pub any_row : Head → Bool
 any_row head =
     if modrm_size head.map head.opcode == 0 then is_row_with head 0
-    else any_below 8 (λ reg. is_row head.prefixes.lock (row_at head.map head.opcode reg) true)
+    else any_below 8 (λ reg. is_row head.prefixes.lock (opcode_row head.map head.opcode reg) true)
 
 -- the head of an opcode after these prefixes
 abbrev pub made : Prefixes → OpMap → ℕ → Head

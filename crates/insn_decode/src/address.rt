@@ -1,8 +1,8 @@
 // ModRM, SIB and displacement, and the place in memory that they name.
 ghost use Rattle.std.specs.Prelude.{◌≡◌, ◌≤◌, IfOk};
-ghost use Rattle.insn_forms.specs.Addressing.{in_memory, is_lone, sib_size, disp_size, sign_extended, base16, index16, base32, index32, scale_of, place, displacement, memory};
+ghost use Rattle.insn_forms.specs.Addressing.{in_memory, is_lone, sib_size, disp_size, sign_extended_byte, base16, index16, base32, index32, scale_of, place, displacement, memory};
 ghost use Rattle.insn_forms.specs.Grammar.{row_with};
-ghost use Rattle.insn_decode.specs.Reading.{Gives, modrm_at, addressing_at};
+ghost use Rattle.insn_decode.specs.Reading.{IsReading, modrm_at, addressing_at};
 
 use crate::head::{row_stands, size_of_modrm};
 use crate::number::{byte, number};
@@ -14,7 +14,7 @@ use insn_forms::{Addressing, Form, Head, MemForm, Prefixes, Row, row_of};
 #[inline(always)]
 #[tactic(auto, unfolding(crate::specs::Reading::addressing_at))]
 pub fn addressing(addr32: bool, head: Head, bytes: &[u8]) -> Result<(Addressing, Row, &[u8]), Stop>
-    ensures gives { Gives (λ x. (x.0, x.2.now)) result (addressing_at addr32 head bytes.now) }
+    ensures gives { IsReading (λ x. (x.0, x.2.now)) result (addressing_at addr32 head bytes.now) }
     ensures row { IfOk result (λ x. x.1 ≡ row_with head x.0.modrm) }
 {
     let (modrm, row, rest) = modrm(head, bytes)?;
@@ -28,7 +28,7 @@ pub fn addressing(addr32: bool, head: Head, bytes: &[u8]) -> Result<(Addressing,
 #[inline(always)]
 #[tactic(auto, unfolding(crate::specs::Reading::modrm_at))]
 fn modrm(head: Head, bytes: &[u8]) -> Result<(u8, Row, &[u8]), Stop>
-    ensures gives { Gives (λ x. (x.0, x.2.now)) result (modrm_at head bytes.now) }
+    ensures gives { IsReading (λ x. (x.0, x.2.now)) result (modrm_at head bytes.now) }
     ensures row { IfOk result (λ x. x.1 ≡ row_with head x.0) }
 {
     let (modrm, rest) = byte(size_of_modrm(head.map, head.opcode), bytes)?;
@@ -137,7 +137,7 @@ fn distance(address: Addressing) -> u32
 /// The low byte of a number, sign-extended to 32 bits.
 #[inline(always)]
 pub fn extended(value: u32) -> u32
-    ensures { result ≡ sign_extended value }
+    ensures { result ≡ sign_extended_byte value }
 {
     let low = value % 0x100;
     if low < 0x80 { low } else { low + 0xffff_ff00 }

@@ -1,4 +1,4 @@
-// The instruction at the front of some bytes.
+// The instruction that some bytes start with.
 ghost use Rattle.std.specs.Prelude.{◌≡◌, ◌≤◌, ◌↔◌, ℕ, List, ◌++◌, length, take};
 ghost use Rattle.insn_forms.specs.Grammar.{AreBytes, Spelling, HasSpelling, BeginsSpelling};
 ghost use Rattle.insn_forms.specs.declared.insn.Insn.{Insn as AnInsn};
@@ -19,19 +19,19 @@ pub enum Decoded {
     Invalid,
 }
 
-/// The instruction at the front of the bytes, where operands and addresses have 32 bits by default if `big`, else 16.
+/// The instruction that the bytes start with, where operands and addresses have 32 bits by default if `big`, else 16.
 /// Source: 80386 Programmer's Reference Manual, ch. 17.
 #[inline(never)]
 pub fn decode(bytes: &ArrayVec<u8, 15>, big: bool) -> Decoded
-    // What is read is spelled so.
+    // What is read is what the bytes encode.
     ensures whole { (insn : AnInsn) (len : ℕ) → result ≡ Decoded.Whole insn len →
         Spelling big insn (take len bytes.now.items) × (len ≤ length bytes.now.items) }
-    // What is spelled so is read.
+    // What the bytes encode is read.
     ensures only { (insn : AnInsn) (front rest : List ℕ) → bytes.now.items ≡ front ++ rest →
         Spelling big insn front → result ≡ Decoded.Whole insn (length front) }
     // The bytes are the first of a spelling, and not all of it.
     ensures more { result ≡ Decoded.More ↔ BeginsSpelling big bytes.now.items }
-    // No front of the bytes is a spelling, and they begin none.
+    // The bytes neither start with an encoding nor are a prefix of one.
     ensures invalid { result ≡ Decoded.Invalid ↔
         (¬ HasSpelling big bytes.now.items × ¬ BeginsSpelling big bytes.now.items) }
     // The same as a function of the bytes: they are read from left to right.

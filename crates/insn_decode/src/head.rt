@@ -1,20 +1,20 @@
 // The prefixes and the opcode.
 ghost use Rattle.std.specs.Prelude.{◌≡◌, ◌≤◌, ◌||◌, IsTrue, true};
-ghost use Rattle.insn_forms.specs.OpcodeMap.{row_at};
+ghost use Rattle.insn_forms.specs.OpcodeMap.{opcode_row};
 ghost use Rattle.insn_forms.specs.Prefixes.{is_prefix, segment_of};
 ghost use Rattle.insn_forms.specs.Addressing.{has_modrm, modrm_size};
 ghost use Rattle.insn_forms.specs.Operands.{takes_lock, has_op, may_lock, is_m, is_row};
-ghost use Rattle.insn_decode.specs.Reading.{Gives, with_prefix, any_below, any_row, checked, two_at, opcode_at, head_at, no_prefixes};
+ghost use Rattle.insn_decode.specs.Reading.{IsReading, with_prefix, any_below, any_row, checked, two_at, opcode_at, head_at, no_prefixes};
 
 use crate::stop::Stop;
 use client_world::SegReg;
 use insn_forms::{Form, Head, Op, OpMap, Prefixes, Rep, Row, row_of};
 
-/// The prefixes and the opcode at the front, and the bytes after them.
+/// The prefixes and the opcode at the start, and the bytes after them.
 #[inline(always)]
 #[tactic(auto, unfolding(crate::specs::Reading::head_at))]
 pub fn head(bytes: &[u8]) -> Result<(Head, &[u8]), Stop>
-    ensures { Gives (λ x. (x.0, x.1.now)) result (head_at no_prefixes bytes.now) }
+    ensures { IsReading (λ x. (x.0, x.1.now)) result (head_at no_prefixes bytes.now) }
 {
     let mut prefixes = Prefixes {
         seg: None,
@@ -104,7 +104,7 @@ fn segment_of_prefix(byte: u8) -> Option<SegReg>
 #[inline(always)]
 #[tactic(auto, unfolding(crate::specs::Reading::opcode_at))]
 fn opcode(prefixes: Prefixes, first: u8, bytes: &[u8]) -> Result<(Head, &[u8]), Stop>
-    ensures { Gives (λ x. (x.0, x.1.now)) result (opcode_at prefixes first bytes.now) }
+    ensures { IsReading (λ x. (x.0, x.1.now)) result (opcode_at prefixes first bytes.now) }
 {
     if first == 0x0f {
         second_byte(prefixes, bytes)
@@ -123,7 +123,7 @@ fn opcode(prefixes: Prefixes, first: u8, bytes: &[u8]) -> Result<(Head, &[u8]), 
 // The opcode after 0F.
 #[tactic(auto, unfolding(crate::specs::Reading::two_at))]
 fn second_byte(prefixes: Prefixes, bytes: &[u8]) -> Result<(Head, &[u8]), Stop>
-    ensures { Gives (λ x. (x.0, x.1.now)) result (two_at prefixes bytes.now) }
+    ensures { IsReading (λ x. (x.0, x.1.now)) result (two_at prefixes bytes.now) }
 {
     match bytes {
         [] => Err(Stop::More),
@@ -142,7 +142,7 @@ fn second_byte(prefixes: Prefixes, bytes: &[u8]) -> Result<(Head, &[u8]), Stop>
 #[inline(always)]
 #[tactic(auto, unfolding(crate::specs::Reading::checked))]
 fn checked_head(head: Head, bytes: &[u8]) -> Result<(Head, &[u8]), Stop>
-    ensures { Gives (λ x. (x.0, x.1.now)) result (checked head bytes.now) }
+    ensures { IsReading (λ x. (x.0, x.1.now)) result (checked head bytes.now) }
 {
     if has_some_row(head) {
         Ok((head, bytes))
@@ -167,7 +167,7 @@ fn has_some_row(head: Head) -> bool
 // Whether there is a row for some reg field, with an operand in memory; 0 is tried first.
 #[inline(always)]
 fn has_row_at_some_reg(head: Head) -> bool
-    ensures { result ≡ any_below 8 (λ reg. is_row head.prefixes.lock (row_at head.map head.opcode reg) true) }
+    ensures { result ≡ any_below 8 (λ reg. is_row head.prefixes.lock (opcode_row head.map head.opcode reg) true) }
 {
     if row_stands(head.prefixes.lock, row_of(head.map, head.opcode, 0), true) {
         return true;
@@ -178,7 +178,7 @@ fn has_row_at_some_reg(head: Head) -> bool
 // The same, one reg field after another.
 #[inline(never)]
 fn is_in_group(head: Head) -> bool
-    ensures { result ≡ any_below 8 (λ reg. is_row head.prefixes.lock (row_at head.map head.opcode reg) true) }
+    ensures { result ≡ any_below 8 (λ reg. is_row head.prefixes.lock (opcode_row head.map head.opcode reg) true) }
 {
     for reg in 0..8 {
         if row_stands(head.prefixes.lock, row_of(head.map, head.opcode, reg), true) {
@@ -240,7 +240,7 @@ fn has_operation(row: Row) -> bool
     row.op.is_some()
 }
 
-// Whether LOCK may stand before it, with its destination in memory.
+// Whether LOCK may be before it, with its destination in memory.
 #[inline(never)]
 fn is_lockable(row: Row) -> bool
     ensures { result ≡ may_lock row }

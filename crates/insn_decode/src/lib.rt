@@ -1,6 +1,6 @@
-//! The decoder: the instruction at the front of some bytes.
+//! The decoder: the instruction that some bytes start with.
 //! It promises that `decode` is insn_forms' grammar in both directions, and that bytes spell at most one instruction.
-//! It stands on insn_forms, client_world and arrayvec; the client's step hands it the code bytes that can be fetched, 15 at most.
+//! It uses insn_forms, client_world and arrayvec; the client's step hands it the code bytes that can be fetched, 15 at most.
 #![tactic(auto)]
 
 mod address;

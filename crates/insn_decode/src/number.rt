@@ -1,6 +1,6 @@
 // Numbers of a few bytes, least byte first.
 ghost use Rattle.std.specs.Prelude.{◌≡◌, ◌≤◌, ◌<◌, ◌^◌, IfOk};
-ghost use Rattle.insn_decode.specs.Reading.{Gives, number_at};
+ghost use Rattle.insn_decode.specs.Reading.{IsReading, number_at};
 
 use crate::stop::Stop;
 
@@ -9,7 +9,7 @@ use crate::stop::Stop;
 #[tactic(auto, unfolding(crate::specs::Reading::number_at))]
 pub fn number(size: u8, bytes: &[u8]) -> Result<(u64, &[u8]), Stop>
     requires { size ≤ 6 }
-    ensures gives { Gives (λ x. (x.0, x.1.now)) result (number_at size bytes.now) }
+    ensures gives { IsReading (λ x. (x.0, x.1.now)) result (number_at size bytes.now) }
     ensures below { IfOk result (λ x. x.0 < 256 ^ size) }
 {
     match size {
@@ -25,7 +25,7 @@ pub fn number(size: u8, bytes: &[u8]) -> Result<(u64, &[u8]), Stop>
 #[inline(always)]
 pub fn byte(size: u8, bytes: &[u8]) -> Result<(u8, &[u8]), Stop>
     requires { size ≤ 1 }
-    ensures { Gives (λ x. (x.0, x.1.now)) result (number_at size bytes.now) }
+    ensures { IsReading (λ x. (x.0, x.1.now)) result (number_at size bytes.now) }
 {
     let (value, rest) = number(size, bytes)?;
     Ok((value as u8, rest))
@@ -33,7 +33,7 @@ pub fn byte(size: u8, bytes: &[u8]) -> Result<(u8, &[u8]), Stop>
 
 #[inline(always)]
 fn one(bytes: &[u8]) -> Result<(u64, &[u8]), Stop>
-    ensures gives { Gives (λ x. (x.0, x.1.now)) result (number_at 1 bytes.now) }
+    ensures gives { IsReading (λ x. (x.0, x.1.now)) result (number_at 1 bytes.now) }
     ensures below { IfOk result (λ x. x.0 < 256 ^ 1) }
 {
     if bytes.len() < 1 {
@@ -44,7 +44,7 @@ fn one(bytes: &[u8]) -> Result<(u64, &[u8]), Stop>
 
 #[inline(always)]
 fn two(bytes: &[u8]) -> Result<(u64, &[u8]), Stop>
-    ensures gives { Gives (λ x. (x.0, x.1.now)) result (number_at 2 bytes.now) }
+    ensures gives { IsReading (λ x. (x.0, x.1.now)) result (number_at 2 bytes.now) }
     ensures below { IfOk result (λ x. x.0 < 256 ^ 2) }
 {
     if bytes.len() < 2 {
@@ -56,7 +56,7 @@ fn two(bytes: &[u8]) -> Result<(u64, &[u8]), Stop>
 
 #[inline(always)]
 fn four(bytes: &[u8]) -> Result<(u64, &[u8]), Stop>
-    ensures gives { Gives (λ x. (x.0, x.1.now)) result (number_at 4 bytes.now) }
+    ensures gives { IsReading (λ x. (x.0, x.1.now)) result (number_at 4 bytes.now) }
     ensures below { IfOk result (λ x. x.0 < 256 ^ 4) }
 {
     if bytes.len() < 4 {
@@ -71,7 +71,7 @@ fn four(bytes: &[u8]) -> Result<(u64, &[u8]), Stop>
 #[tactic(auto, unfolding(crate::specs::Reading::number_at))]
 fn many(size: u8, bytes: &[u8]) -> Result<(u64, &[u8]), Stop>
     requires { size ≤ 6 }
-    ensures gives { Gives (λ x. (x.0, x.1.now)) result (number_at size bytes.now) }
+    ensures gives { IsReading (λ x. (x.0, x.1.now)) result (number_at size bytes.now) }
     ensures below { IfOk result (λ x. x.0 < 256 ^ size) }
 {
     if size == 0 {

@@ -1,7 +1,7 @@
-// What the forms of a row stand for.
+// What the forms of a row denote.
 ghost use Rattle.std.specs.Prelude.{◌≡◌, ◌<◌, ◌≤◌, ◌^◌, ◌%◌, if◌then◌else◌, false};
 ghost use Rattle.insn_forms.specs.declared.rows.Form.TheVariants.{Ip};
-ghost use Rattle.insn_forms.specs.Prefixes.{turned};
+ghost use Rattle.insn_forms.specs.Prefixes.{toggled};
 ghost use Rattle.insn_forms.specs.Operands.{operand, width_of, register_or_memory, segment_register, far_pointer, imm_size, form_width, row_width, insn_of};
 
 use crate::address::{extended, place_in_memory, place_of};
@@ -11,7 +11,7 @@ use insn_forms::{Addressing, Form, Head, Insn, Op, Operand, Prefixes, Row};
 /// Whether a size is 32 bits: a prefix turns the default.
 #[inline(always)]
 pub fn is_turned(prefix: bool, big: bool) -> bool
-    ensures { result ≡ turned prefix big }
+    ensures { result ≡ toggled prefix big }
 {
     prefix != big
 }
@@ -32,7 +32,7 @@ pub fn size_of_own(wide: bool, addr32: bool, form: Form) -> u8
     }
 }
 
-/// Writes what a form stands for, where its own bytes are the number `value`.
+/// Writes what a form denotes, where its own bytes are the number `value`.
 #[inline(never)]
 #[tactic(auto, unfolding(insn_forms::specs::Operands::operand))]
 pub fn put(
@@ -160,7 +160,7 @@ fn far(wide: bool, value: u64) -> FarPtr
     }
 }
 
-/// Makes the instruction of a row around its operands, which stand there already.
+/// Makes the instruction of a row around its operands, which are there already.
 #[inline(always)]
 #[tactic(auto, unfolding(insn_forms::specs::Operands::insn_of))]
 pub fn finish(out: &mut Insn, head: Head, wide: bool, addr32: bool, row: Row)

@@ -1,7 +1,7 @@
 // One instruction, read from left to right into its place.
 ghost use Rattle.std.specs.Prelude.{◌≡◌};
 ghost use Rattle.insn_forms.specs.Grammar.{row_with};
-ghost use Rattle.insn_decode.specs.Reading.{Gives, operand_at, rest_at, insn_at};
+ghost use Rattle.insn_decode.specs.Reading.{IsReading, operand_at, rest_at, insn_at};
 
 use crate::address::addressing;
 use crate::head::head;
@@ -10,11 +10,11 @@ use crate::operand::{finish, is_turned, put, size_of_own};
 use crate::stop::Stop;
 use insn_forms::{Addressing, Form, Head, Insn, Operand, Row};
 
-/// Reads one instruction at the front, and answers the bytes after it.
+/// Reads the instruction that some bytes start with, and returns the bytes after it.
 #[inline(always)]
 #[tactic(auto, unfolding(crate::specs::Reading::insn_at))]
 pub fn insn<'a>(out: &mut Insn, big: bool, bytes: &'a [u8]) -> Result<&'a [u8], Stop>
-    ensures { Gives (λ x. (out.new, x.now)) result (insn_at big bytes.now) }
+    ensures { IsReading (λ x. (out.new, x.now)) result (insn_at big bytes.now) }
 {
     let (head, after) = head(bytes)?;
     let wide = is_turned(head.prefixes.operand_size, big);
@@ -36,7 +36,7 @@ fn operands<'a>(
     bytes: &'a [u8],
 ) -> Result<&'a [u8], Stop>
     requires { row ≡ row_with head address.modrm }
-    ensures { Gives (λ x. (out.new, x.now)) result (rest_at wide addr32 head address bytes.now) }
+    ensures { IsReading (λ x. (out.new, x.now)) result (rest_at wide addr32 head address bytes.now) }
 {
     let bytes = operand(
         &mut out.first,
@@ -81,7 +81,7 @@ fn operand<'a>(
     form: Form,
     bytes: &'a [u8],
 ) -> Result<&'a [u8], Stop>
-    ensures { Gives (λ x. (out.new, x.now)) result (operand_at wide addr32 head address form bytes.now) }
+    ensures { IsReading (λ x. (out.new, x.now)) result (operand_at wide addr32 head address form bytes.now) }
 {
     match form {
         Form::Empty => {

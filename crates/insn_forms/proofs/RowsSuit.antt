@@ -1,5 +1,5 @@
 -- What a test finds of each line of a map it finds of each row, and what it finds of each row's forms it finds of what
--- they stand for.
+-- they denote.
 use Rattle.std.proofs.Common.{◌≡◌, ℕ, zero, suc, ◌+◌, ◌%◌, ◌<◌, Bool, true, false, ◌&&◌, ◌||◌, not, List, [], ◌∷◌, refl, ap, ◌∙◌, arith}
 use Rattle.std.specs.Prelude.{nat_le, nat_lt, ◌==◌}
 use Rattle.std.proofs.lemmas.Bool.{cond_both, and_parts, cases_eq}
@@ -9,7 +9,7 @@ use Rattle.insn_forms.specs.declared.rows.OpMap.TheVariants.{One, Two}
 use Rattle.insn_forms.specs.declared.rows.Form.{Form}
 use Rattle.insn_forms.specs.declared.rows.Form.TheVariants as forms
 use Rattle.insn_forms.specs.declared.rows.Row.{Row}
-use Rattle.insn_forms.specs.OpcodeMap.{Line, at, span, six, conditions, group, pick, look, no_row, usual_rows, row_at, row_one, row_two, map_one_00, map_one_20, map_one_40, map_one_60, map_one_80, map_one_a0, map_one_c0, map_one_e0, map_two_00, map_two_80, map_two_a0, arithmetic, shifts, unary, alone, group_8c, group_8e, group_fe, group_ff, group_0f00, group_0f01, group_0fba}
+use Rattle.insn_forms.specs.OpcodeMap.{Line, at, span, six, conditions, group, pick, look, no_row, usual_rows, opcode_row, row_one, row_two, map_one_00, map_one_20, map_one_40, map_one_60, map_one_80, map_one_a0, map_one_c0, map_one_e0, map_two_00, map_two_80, map_two_a0, arithmetic, shifts, unary_group, alone, group_8c, group_8e, group_fe, group_ff, group_0f00, group_0f01, group_0fba}
 use Rattle.insn_forms.specs.Operands.{op_of, has_op, row_width}
 use Rattle.insn_forms.specs.Kinds.{Kind, nothing, register, segment, memory, immediate, far, suits, has_good_number, is_wide_only}
 
@@ -116,7 +116,7 @@ abbrev pub all_of : (Kind → Bool) → List Kind → Bool
 all_of p [] = true
 all_of p (k ∷ ks) = p k && all_of p ks
 
--- whatever the forms stand for, it suits the operation, and the width is one that the operation has
+-- whatever the forms denote, it suits the operation, and the width is one that the operation has
 abbrev pub row_suits : Row → Bool
 row_suits r =
     not (has_op r)
@@ -126,47 +126,47 @@ row_suits r =
     && (not (is_wide_only (op_of r)) || not (row_width false r.first r.second == 8)))))
 
 suits_one_00 : every_line row_suits map_one_00 ≡ true
-unfolding map_one_00 arithmetic shifts unary alone group_8c group_8e group_fe group_ff group_0f00 group_0f01 group_0fba suits is_wide_only
+unfolding map_one_00 arithmetic shifts unary_group alone group_8c group_8e group_fe group_ff group_0f00 group_0f01 group_0fba suits is_wide_only
 suits_one_00 = refl
 
 suits_one_20 : every_line row_suits map_one_20 ≡ true
-unfolding map_one_20 arithmetic shifts unary alone group_8c group_8e group_fe group_ff group_0f00 group_0f01 group_0fba suits is_wide_only
+unfolding map_one_20 arithmetic shifts unary_group alone group_8c group_8e group_fe group_ff group_0f00 group_0f01 group_0fba suits is_wide_only
 suits_one_20 = refl
 
 suits_one_40 : every_line row_suits map_one_40 ≡ true
-unfolding map_one_40 arithmetic shifts unary alone group_8c group_8e group_fe group_ff group_0f00 group_0f01 group_0fba suits is_wide_only
+unfolding map_one_40 arithmetic shifts unary_group alone group_8c group_8e group_fe group_ff group_0f00 group_0f01 group_0fba suits is_wide_only
 suits_one_40 = refl
 
 suits_one_60 : every_line row_suits map_one_60 ≡ true
-unfolding map_one_60 arithmetic shifts unary alone group_8c group_8e group_fe group_ff group_0f00 group_0f01 group_0fba suits is_wide_only
+unfolding map_one_60 arithmetic shifts unary_group alone group_8c group_8e group_fe group_ff group_0f00 group_0f01 group_0fba suits is_wide_only
 suits_one_60 = refl
 
 suits_one_80 : every_line row_suits map_one_80 ≡ true
-unfolding map_one_80 arithmetic shifts unary alone group_8c group_8e group_fe group_ff group_0f00 group_0f01 group_0fba suits is_wide_only
+unfolding map_one_80 arithmetic shifts unary_group alone group_8c group_8e group_fe group_ff group_0f00 group_0f01 group_0fba suits is_wide_only
 suits_one_80 = refl
 
 suits_one_a0 : every_line row_suits map_one_a0 ≡ true
-unfolding map_one_a0 arithmetic shifts unary alone group_8c group_8e group_fe group_ff group_0f00 group_0f01 group_0fba suits is_wide_only
+unfolding map_one_a0 arithmetic shifts unary_group alone group_8c group_8e group_fe group_ff group_0f00 group_0f01 group_0fba suits is_wide_only
 suits_one_a0 = refl
 
 suits_one_c0 : every_line row_suits map_one_c0 ≡ true
-unfolding map_one_c0 arithmetic shifts unary alone group_8c group_8e group_fe group_ff group_0f00 group_0f01 group_0fba suits is_wide_only
+unfolding map_one_c0 arithmetic shifts unary_group alone group_8c group_8e group_fe group_ff group_0f00 group_0f01 group_0fba suits is_wide_only
 suits_one_c0 = refl
 
 suits_one_e0 : every_line row_suits map_one_e0 ≡ true
-unfolding map_one_e0 arithmetic shifts unary alone group_8c group_8e group_fe group_ff group_0f00 group_0f01 group_0fba suits is_wide_only
+unfolding map_one_e0 arithmetic shifts unary_group alone group_8c group_8e group_fe group_ff group_0f00 group_0f01 group_0fba suits is_wide_only
 suits_one_e0 = refl
 
 suits_two_00 : every_line row_suits map_two_00 ≡ true
-unfolding map_two_00 arithmetic shifts unary alone group_8c group_8e group_fe group_ff group_0f00 group_0f01 group_0fba suits is_wide_only
+unfolding map_two_00 arithmetic shifts unary_group alone group_8c group_8e group_fe group_ff group_0f00 group_0f01 group_0fba suits is_wide_only
 suits_two_00 = refl
 
 suits_two_80 : every_line row_suits map_two_80 ≡ true
-unfolding map_two_80 arithmetic shifts unary alone group_8c group_8e group_fe group_ff group_0f00 group_0f01 group_0fba suits is_wide_only
+unfolding map_two_80 arithmetic shifts unary_group alone group_8c group_8e group_fe group_ff group_0f00 group_0f01 group_0fba suits is_wide_only
 suits_two_80 = refl
 
 suits_two_a0 : every_line row_suits map_two_a0 ≡ true
-unfolding map_two_a0 arithmetic shifts unary alone group_8c group_8e group_fe group_ff group_0f00 group_0f01 group_0fba suits is_wide_only
+unfolding map_two_a0 arithmetic shifts unary_group alone group_8c group_8e group_fe group_ff group_0f00 group_0f01 group_0fba suits is_wide_only
 suits_two_a0 = refl
 
 row_one_suits : (opcode reg : ℕ) → row_suits (row_one opcode reg) ≡ true
@@ -192,7 +192,7 @@ row_two_suits opcode reg =
     cond_both (nat_lt opcode 0xa0) _ _ (Passes row_suits) (λ _. p map_two_80 suits_two_80) (λ _. p map_two_a0 suits_two_a0))
 
 -- every row suits its operation
-pub every_row_suits : (map : OpMap) (opcode reg : ℕ) → row_suits (row_at map opcode reg) ≡ true
-unfolding row_at
+pub every_row_suits : (map : OpMap) (opcode reg : ℕ) → row_suits (opcode_row map opcode reg) ≡ true
+unfolding opcode_row
 every_row_suits One opcode reg = row_one_suits opcode reg
 every_row_suits Two opcode reg = row_two_suits opcode reg

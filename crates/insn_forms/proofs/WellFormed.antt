@@ -14,8 +14,8 @@ use Rattle.insn_forms.specs.declared.pieces.Head.{Head}
 use Rattle.insn_forms.specs.declared.pieces.Addressing.{Addressing}
 use Rattle.insn_forms.specs.Addressing.{mod_of, reg_of, rm_of, in_memory, base16, index16, base32, index32, scale_of, place, displacement, memory}
 use Rattle.insn_forms.specs.Operands.{has_op, may_lock, takes_lock, is_e, is_m, is_row, op_of, operand, register_or_memory, width_of, form_width, row_width, insn_of}
-use Rattle.insn_forms.specs.Grammar.{little, head_of, addressing_of, row_with, is_row_with, wide_of, addr32_of, meaning, IsInsn}
-use Rattle.insn_forms.specs.Kinds.{Kind, kind_of, is_memory, is_width, is_number, is_place_in_memory, is_good, suits, has_good_number, is_wide_only, IsWellFormed}
+use Rattle.insn_forms.specs.Grammar.{little, head_of, addressing_of, row_with, is_row_with, wide_of, addr32_of, insn_of_pieces, IsInsn}
+use Rattle.insn_forms.specs.Kinds.{Kind, operand_kind, is_memory, is_width, is_number, is_place_in_memory, is_good, suits, has_good_number, is_wide_only, IsWellFormed}
 use Rattle.insn_forms.proofs.RowsSuit.{kinds, all_of, row_suits, every_row_suits}
 
 -- ---- kinds
@@ -30,16 +30,16 @@ only : (p : Kind → Bool) (a : Kind) → all_of p (a ∷ []) ≡ true → p a �
 only p a e = (and_parts (p a) true e).0
 
 either_kind : (p : Kind → Bool) (width : ℕ) (prefixes : Prefixes) (addr32 : Bool) (address : Addressing)
-    → all_of p (kinds forms.Eb) ≡ true → p (kind_of (register_or_memory width prefixes addr32 address)) ≡ true
+    → all_of p (kinds forms.Eb) ≡ true → p (operand_kind (register_or_memory width prefixes addr32 address)) ≡ true
 either_kind p width prefixes addr32 address e =
     let s = first_of_two p _ _ e in
     cond_both (eqb (mod_of address.modrm) 3) (operands.Reg width (rm_of address.modrm))
     (operands.Mem (memory prefixes addr32 address))
-    (λ o. p (kind_of o) ≡ true) (λ _. s.0) (λ _. s.1)
+    (λ o. p (operand_kind o) ≡ true) (λ _. s.0) (λ _. s.1)
 
 -- what holds of each kind of a form holds of its operand
 kind_in : (p : Kind → Bool) (head : Head) (wide addr32 : Bool) (address : Addressing) (form : Form) (v : ℕ)
-    → all_of p (kinds form) ≡ true → p (kind_of (operand head wide addr32 address form v)) ≡ true
+    → all_of p (kinds form) ≡ true → p (operand_kind (operand head wide addr32 address form v)) ≡ true
 unfolding operand
 kind_in p head wide addr32 address forms.Empty v e = only p _ e
 kind_in p head wide addr32 address forms.Eb v e = either_kind p 8 head.prefixes addr32 address e
@@ -218,11 +218,11 @@ not_cases false e = refl
 not_cases true e = absurd (false≢true e)
 
 locked_either : (width : ℕ) (prefixes : Prefixes) (addr32 : Bool) (address : Addressing) → in_memory address.modrm ≡ true
-    → is_memory (kind_of (register_or_memory width prefixes addr32 address)) ≡ true
+    → is_memory (operand_kind (register_or_memory width prefixes addr32 address)) ≡ true
 locked_either width prefixes addr32 address e = rw (not_cases (eqb (mod_of address.modrm) 3) e) refl
 
 locked_operand : (head : Head) (wide addr32 : Bool) (address : Addressing) (form : Form) (v : ℕ) → is_e form ≡ true
-    → in_memory address.modrm ≡ true → is_memory (kind_of (operand head wide addr32 address form v)) ≡ true
+    → in_memory address.modrm ≡ true → is_memory (operand_kind (operand head wide addr32 address form v)) ≡ true
 unfolding operand
 locked_operand head wide addr32 address forms.Eb v e m = locked_either 8 head.prefixes addr32 address m
 locked_operand head wide addr32 address forms.Ev v e m = locked_either (width_of wide) head.prefixes addr32 address m
@@ -242,7 +242,7 @@ or_right false y e = e
 
 locked_memory : (head : Head) (wide addr32 : Bool) (address : Addressing) (v : ℕ) → is_row_with head address.modrm ≡ true
     → (not head.prefixes.lock
-    || is_memory (kind_of (operand head wide addr32 address (row_with head address.modrm).first v))) ≡ true
+    || is_memory (operand_kind (operand head wide addr32 address (row_with head address.modrm).first v))) ≡ true
 unfolding is_row
 locked_memory head wide addr32 address v e =
     elim (cases_Bool head.prefixes.lock) [
@@ -255,10 +255,10 @@ locked_memory head wide addr32 address v e =
           let both : (may_lock r && in_memory address.modrm) ≡ true =
           subst (λ (b : Bool). (not b || (may_lock r && in_memory address.modrm)) ≡ true) lock locks in
           let s = and_parts (may_lock r) (in_memory address.modrm) both in
-          or_right (not head.prefixes.lock) (is_memory (kind_of (operand head wide addr32 address r.first v)))
+          or_right (not head.prefixes.lock) (is_memory (operand_kind (operand head wide addr32 address r.first v)))
           (locked_operand head wide addr32 address r.first v (may_lock_e r s.0) s.1)
       | inr free ↦ or_left (not head.prefixes.lock)
-          (is_memory (kind_of (operand head wide addr32 address (row_with head address.modrm).first v))) (ap not free)
+          (is_memory (operand_kind (operand head wide addr32 address (row_with head address.modrm).first v))) (ap not free)
     ]
 
 -- ---- the whole
@@ -294,7 +294,7 @@ suits_row r has e =
     both_sizes w false t f = f
 
 meaning_well_formed : (big : Bool) (head : Head) (address : Addressing) (v1 v2 v3 : ℕ)
-    → is_row_with head address.modrm ≡ true → IsWellFormed (meaning big head address v1 v2 v3)
+    → is_row_with head address.modrm ≡ true → IsWellFormed (insn_of_pieces big head address v1 v2 v3)
 unfolding insn_of
 meaning_well_formed big head address v1 v2 v3 e =
     let r = row_with head address.modrm in
@@ -306,9 +306,9 @@ meaning_well_formed big head address v1 v2 v3 e =
     let b = operand head wide addr32 address r.second v2 in
     let one = kind_in (λ a. all_of (λ b. all_of (λ c. suits (op_of r) a b c) (kinds r.third)) (kinds r.second)) head wide
     addr32 address r.first v1 s.kinds in
-    let two = kind_in (λ b. all_of (λ c. suits (op_of r) (kind_of a) b c) (kinds r.third)) head wide addr32 address r.second
+    let two = kind_in (λ b. all_of (λ c. suits (op_of r) (operand_kind a) b c) (kinds r.third)) head wide addr32 address r.second
     v2 one in
-    let three = kind_in (λ c. suits (op_of r) (kind_of a) (kind_of b) c) head wide addr32 address r.third v3 two in
+    let three = kind_in (λ c. suits (op_of r) (operand_kind a) (operand_kind b) c) head wide addr32 address r.third v3 two in
     record {
       kinds = three;
       number = s.number;

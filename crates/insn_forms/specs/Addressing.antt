@@ -10,7 +10,7 @@ use Rattle.insn_forms.specs.declared.rows.Row.{Row}
 use Rattle.insn_forms.specs.declared.insn.MemForm.{MemForm}
 use Rattle.insn_forms.specs.declared.pieces.Prefixes.{Prefixes}
 use Rattle.insn_forms.specs.declared.pieces.Addressing.{Addressing}
-use Rattle.insn_forms.specs.OpcodeMap.{row_at}
+use Rattle.insn_forms.specs.OpcodeMap.{opcode_row}
 
 -- ---- the bytes
 
@@ -47,7 +47,7 @@ has_modrm _ = false
 -- an opcode has a ModRM byte where its row at reg 0 has one; the rows of a group agree in it
 unfoldable pub modrm_size : OpMap → ℕ → ℕ
 modrm_size map opcode =
-    let r = row_at map opcode 0 in
+    let r = opcode_row map opcode 0 in
     if has_modrm r.first || has_modrm r.second then 1 else 0
 
 -- of the moves of control, debug and test registers the ModRM byte is the last one, whatever it says
@@ -70,8 +70,8 @@ disp_size addr32 r modrm sib =
 -- ---- the place in memory
 
 -- a byte, sign-extended to 32 bits
-abbrev pub sign_extended : ℕ → ℕ
-sign_extended v = if nat_lt (v % 256) 128 then v % 256 else v % 256 + 0xffffff00
+abbrev pub sign_extended_byte : ℕ → ℕ
+sign_extended_byte v = if nat_lt (v % 256) 128 then v % 256 else v % 256 + 0xffffff00
 
 -- the base register of 16-bit addressing: BX is 3, BP 5, SI 6, DI 7
 abbrev pub base16 : ℕ → ℕ → Option ℕ
@@ -122,7 +122,7 @@ place seg base index scale disp =
 
 -- the displacement: one of a byte is sign-extended
 abbrev pub displacement : Addressing → ℕ
-displacement address = if mod_of address.modrm == 1 then sign_extended address.disp else address.disp
+displacement address = if mod_of address.modrm == 1 then sign_extended_byte address.disp else address.disp
 
 -- the place in memory that ModRM, SIB and displacement name
 unfoldable pub memory : Prefixes → Bool → Addressing → MemForm

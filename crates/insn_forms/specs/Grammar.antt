@@ -9,8 +9,8 @@ use Rattle.insn_forms.specs.declared.rows.Row.{Row}
 use Rattle.insn_forms.specs.declared.insn.Insn.{Insn}
 use Rattle.insn_forms.specs.declared.pieces.Head.{Head}
 use Rattle.insn_forms.specs.declared.pieces.Addressing.{Addressing}
-use Rattle.insn_forms.specs.OpcodeMap.{row_at}
-use Rattle.insn_forms.specs.Prefixes.{is_prefix, prefixes_of, turned}
+use Rattle.insn_forms.specs.OpcodeMap.{opcode_row}
+use Rattle.insn_forms.specs.Prefixes.{is_prefix, prefixes_of, toggled}
 use Rattle.insn_forms.specs.Addressing.{reg_of, in_memory, modrm_size, sib_size, disp_size}
 use Rattle.insn_forms.specs.Operands.{is_row, imm_size, operand, insn_of}
 
@@ -38,15 +38,15 @@ opcode_bytes Two opcode = 0x0f ∷ opcode ∷ []
 
 -- operands have 32 bits
 abbrev pub wide_of : Bool → Head → Bool
-wide_of big head = turned head.prefixes.operand_size big
+wide_of big head = toggled head.prefixes.operand_size big
 
 -- addresses have 32 bits
 abbrev pub addr32_of : Bool → Head → Bool
-addr32_of big head = turned head.prefixes.address_size big
+addr32_of big head = toggled head.prefixes.address_size big
 
 -- the row of an opcode and its ModRM byte, which is 0 where there is none
 abbrev pub row_with : Head → ℕ → Row
-row_with head modrm = row_at head.map head.opcode (reg_of modrm)
+row_with head modrm = opcode_row head.map head.opcode (reg_of modrm)
 
 -- there is a row for this ModRM byte
 abbrev pub is_row_with : Head → ℕ → Bool
@@ -68,8 +68,8 @@ pub record Pieces : Type 0 where
   pub third : List ℕ
 
 -- the bytes of the pieces
-abbrev pub bytes_of : Pieces → List ℕ
-bytes_of p =
+abbrev pub piece_bytes : Pieces → List ℕ
+piece_bytes p =
     p.prefixes ++ (opcode_bytes p.map p.opcode ++ (p.modrm ++ (p.sib ++ (p.disp ++ (p.first ++ (p.second ++ p.third))))))
 
 -- what the prefixes and the opcode say
@@ -91,8 +91,8 @@ pub record AreRow (big : Bool) (head : Head) (address : Addressing) (p : Pieces)
   pub third : length p.third ≡ imm_size (wide_of big head) (addr32_of big head) (row_with head address.modrm).third
 
 -- the instruction of the pieces; the last three are the numbers of the forms' own bytes
-abbrev pub meaning : Bool → Head → Addressing → ℕ → ℕ → ℕ → Insn
-meaning big head address first second third =
+abbrev pub insn_of_pieces : Bool → Head → Addressing → ℕ → ℕ → ℕ → Insn
+insn_of_pieces big head address first second third =
     let r = row_with head address.modrm in
     insn_of head (wide_of big head) (addr32_of big head) r
     (operand head (wide_of big head) (addr32_of big head) address r.first first)
@@ -102,10 +102,10 @@ meaning big head address first second third =
 -- the bytes spell the instruction, where sizes are 32 bits by default if `big`, else 16
 pub record Spelling (big : Bool) (insn : Insn) (bytes : List ℕ) : Type 0 where
   pub pieces : Pieces
-  pub whole : bytes ≡ bytes_of pieces
+  pub whole : bytes ≡ piece_bytes pieces
   pub prefixes : ArePrefixes pieces.prefixes
   pub are_row : AreRow big (head_of pieces) (addressing_of pieces) pieces
-  pub means : insn ≡ meaning big (head_of pieces) (addressing_of pieces)
+  pub means : insn ≡ insn_of_pieces big (head_of pieces) (addressing_of pieces)
       (little pieces.first) (little pieces.second) (little pieces.third)
   pub are_bytes : AreBytes bytes
 

@@ -18,13 +18,13 @@ pub data Kind : Type 0 where
   far : Kind
 
 -- the kind of an operand
-abbrev pub kind_of : Operand → Kind
-kind_of operands.Empty = nothing
-kind_of (operands.Reg width number) = register
-kind_of (operands.Seg seg) = segment
-kind_of (operands.Mem place) = memory
-kind_of (operands.Imm v) = immediate
-kind_of (operands.Far pointer) = far
+abbrev pub operand_kind : Operand → Kind
+operand_kind operands.Empty = nothing
+operand_kind (operands.Reg width number) = register
+operand_kind (operands.Seg seg) = segment
+operand_kind (operands.Mem place) = memory
+operand_kind (operands.Imm v) = immediate
+operand_kind (operands.Far pointer) = far
 
 -- there is no operand
 abbrev pub is_nothing : Kind → Bool
@@ -260,11 +260,11 @@ is_good _ = true
 
 -- the instruction has an operation's operands, width and numbers; with LOCK its destination is in memory
 pub record IsWellFormed (insn : Insn) : Type 0 where
-  pub kinds : IsTrue (suits insn.op (kind_of insn.first) (kind_of insn.second) (kind_of insn.third))
+  pub kinds : IsTrue (suits insn.op (operand_kind insn.first) (operand_kind insn.second) (operand_kind insn.third))
   pub number : IsTrue (has_good_number insn.op)
   pub width : IsTrue (is_width insn.width)
   pub wide : IsTrue (not (is_wide_only insn.op) || not (insn.width == 8))
   pub first : IsTrue (is_good insn.first)
   pub second : IsTrue (is_good insn.second)
   pub third : IsTrue (is_good insn.third)
-  pub locked : IsTrue (not insn.locked || is_memory (kind_of insn.first))
+  pub locked : IsTrue (not insn.locked || is_memory (operand_kind insn.first))

@@ -83,8 +83,8 @@ shifts first count =
     []
 
 -- group 3: operations on one operand, and TEST with an immediate
-unfoldable pub unary : Form → Form → List Row
-unary first immediate =
+unfoldable pub unary_group : Form → Form → List Row
+unary_group first immediate =
     row ops.Test first immediate Empty ∷
     no_row first Empty ∷
     row ops.Not first Empty Empty ∷
@@ -358,8 +358,8 @@ map_one_e0 =
     at 0xef (row ops.Out Dx Ax Empty) ∷
     at 0xf4 (row ops.Hlt Empty Empty Empty) ∷
     at 0xf5 (row ops.Cmc Empty Empty Empty) ∷
-    group 0xf6 (unary Eb Ib) ∷
-    group 0xf7 (unary Ev Iz) ∷
+    group 0xf6 (unary_group Eb Ib) ∷
+    group 0xf7 (unary_group Ev Iz) ∷
     at 0xf8 (row ops.Clc Empty Empty Empty) ∷
     at 0xf9 (row ops.Stc Empty Empty Empty) ∷
     at 0xfa (row ops.Cli Empty Empty Empty) ∷
@@ -443,6 +443,6 @@ row_two opcode reg =
     look map_two_a0 opcode reg
 
 -- the row of an opcode of a map and a reg field
-unfoldable pub row_at : OpMap → ℕ → ℕ → Row
-row_at One opcode reg = row_one opcode reg
-row_at Two opcode reg = row_two opcode reg
+unfoldable pub opcode_row : OpMap → ℕ → ℕ → Row
+opcode_row One opcode reg = row_one opcode reg
+opcode_row Two opcode reg = row_two opcode reg

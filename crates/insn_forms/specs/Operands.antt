@@ -1,4 +1,4 @@
--- What the forms of a row stand for, and the instruction that they make.
+-- What the forms of a row denote, and the instruction that they make.
 -- Source: 80386 Programmer's Reference Manual, ch. 17 and appendix A.
 use Rattle.std.specs.Prelude.{ℕ, ◌/◌, ◌%◌, Bool, true, false, not, Some, None, ◌==◌, ◌&&◌, ◌||◌, if◌then◌else◌}
 use Rattle.client_world.specs.declared.segments.SegReg.{SegReg}
@@ -15,9 +15,9 @@ use Rattle.insn_forms.specs.declared.insn.Insn.{Insn}
 use Rattle.insn_forms.specs.declared.pieces.Prefixes.{Prefixes}
 use Rattle.insn_forms.specs.declared.pieces.Head.{Head}
 use Rattle.insn_forms.specs.declared.pieces.Addressing.{Addressing}
-use Rattle.insn_forms.specs.Addressing.{mod_of, reg_of, rm_of, sign_extended, segment_or, place, memory}
+use Rattle.insn_forms.specs.Addressing.{mod_of, reg_of, rm_of, sign_extended_byte, segment_or, place, memory}
 
--- ---- which rows stand
+-- ---- which rows there are
 
 -- the operations that may be locked (ch. 17, "LOCK")
 abbrev pub takes_lock : Op → Bool
@@ -128,8 +128,8 @@ operand head wide addr32 address Const1 v = operands.Imm 1
 operand head wide addr32 address Ib v = operands.Imm v
 operand head wide addr32 address Iw v = operands.Imm v
 operand head wide addr32 address Iz v = operands.Imm v
-operand head wide addr32 address Is v = operands.Imm (if wide then sign_extended v else sign_extended v % 0x10000)
-operand head wide addr32 address Jb v = operands.Imm (sign_extended v)
+operand head wide addr32 address Is v = operands.Imm (if wide then sign_extended_byte v else sign_extended_byte v % 0x10000)
+operand head wide addr32 address Jb v = operands.Imm (sign_extended_byte v)
 operand head wide addr32 address Jz v = operands.Imm v
 operand head wide addr32 address Ip v = operands.Far (far_pointer wide v)
 operand head wide addr32 address Ob v = direct head.prefixes v
@@ -167,7 +167,7 @@ row_width wide Ib second = form_width wide second
 row_width wide Dx second = form_width wide second
 row_width wide first second = form_width wide first
 
--- the operation of a row; one without an operation spells nothing, and its answer here counts for nothing
+-- the operation of a row; one without an operation encodes nothing, and its answer here counts for nothing
 abbrev pub op_of : Row → Op
 op_of r = elim r.op [ Some op ↦ op | None ↦ ops.Esc ]
 

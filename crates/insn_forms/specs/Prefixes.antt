@@ -65,5 +65,5 @@ prefixes_of bytes = record {
 }
 
 -- 66 and 67 turn the default size, which is 32 bits where it is true, into the other
-abbrev pub turned : Bool → Bool → Bool
-turned prefix big = if prefix then not big else big
+abbrev pub toggled : Bool → Bool → Bool
+toggled prefix big = if prefix then not big else big

@@ -1,4 +1,4 @@
--- The rows for which an entry of a static table stands (own).
+-- The rows that an entry of a static table covers (own).
 use Rattle.std.specs.Prelude.{ℕ, Bool, true, nat_lt, [], slice_index_or}
 use Rattle.insn_forms.specs.declared.rows.Row.{Row}
 use Rattle.insn_forms.specs.declared.rows.Slot.{Slot}

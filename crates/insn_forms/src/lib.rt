@@ -1,6 +1,6 @@
 //! The instructions of the 80386: their rows in the two opcode maps, and the grammar of their bytes.
 //! It promises that `row_of` is the opcode map of `specs/`, and that whatever bytes spell fits its operation.
-//! It stands on client_world; the decoder reads by it, and the executing crates carry its instructions out.
+//! It uses client_world; the decoder reads by it, and the executing crates carry its instructions out.
 #![tactic(auto)]
 
 mod insn;

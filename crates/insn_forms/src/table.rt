@@ -1,6 +1,6 @@
 // The opcode maps looked up.
 ghost use Rattle.std.specs.Prelude.{◌≡◌, ◌<◌, IsTrue};
-ghost use Rattle.insn_forms.specs.OpcodeMap.{row_at, pick};
+ghost use Rattle.insn_forms.specs.OpcodeMap.{opcode_row, pick};
 ghost use Rattle.insn_forms.specs.Slots.{row_in, has_rows};
 
 use crate::maps::{GROUPS, ONE_BYTE_MAP, TWO_BYTE_MAP};
@@ -11,7 +11,7 @@ use crate::rows::{OpMap, Row, Slot};
 #[inline(always)]
 pub fn row_of(map: OpMap, opcode: u8, reg: u8) -> Row
     requires { reg < 8 }
-    ensures { result ≡ row_at map opcode reg }
+    ensures { result ≡ opcode_row map opcode reg }
 {
     match map {
         OpMap::One => row_in_slot(ONE_BYTE_MAP[opcode as usize], reg),

@@ -7,17 +7,17 @@ use Rattle.guest_space.specs.Pending.{first_refusal, all_written}
 use Rattle.host_memory.specs.View.{MachineView}
 use Rattle.insn_forms.specs.declared.insn.Operand.TheVariants.{Reg}
 use Rattle.insn_plan.specs.Act.{unchanged, with_flags}
-use Rattle.insn_plan.specs.Operands.{put}
-use Rattle.insn_plan.specs.Plan.{settled}
+use Rattle.insn_plan.specs.Operands.{put_operand}
+use Rattle.insn_plan.specs.Plan.{after_commit}
 use Rattle.insn_plan.specs.Registers.{with_register}
 
 pub put_with_flags_in_register : (v : MachineView) (f : Flags) (r : Regs) (addr32 : Bool) (width own number x : ℕ) →
-    settled v (put r addr32 width (Reg own number) x (with_flags f v.world))
+    after_commit v (put_operand r addr32 width (Reg own number) x (with_flags f v.world))
     ≡ Ok (with_registers (with_register (record v.world.regs { flags = f }) own number x) v)
-unfolding settled put first_refusal all_written
+unfolding after_commit put_operand first_refusal all_written
 put_with_flags_in_register v f r addr32 width own number x = refl
 
 pub put_in_register : (v : MachineView) (r : Regs) (addr32 : Bool) (width own number x : ℕ) →
-    settled v (put r addr32 width (Reg own number) x (unchanged v.world)) ≡ Ok (with_registers (with_register v.world.regs own number x) v)
-unfolding settled put first_refusal all_written
+    after_commit v (put_operand r addr32 width (Reg own number) x (unchanged v.world)) ≡ Ok (with_registers (with_register v.world.regs own number x) v)
+unfolding after_commit put_operand first_refusal all_written
 put_in_register v r addr32 width own number x = refl

@@ -13,12 +13,12 @@ use Rattle.guest_space.specs.Pending.{first_refusal, all_written}
 use Rattle.guest_space.specs.Registers.{with_registers}
 use Rattle.host_memory.specs.View.{MachineView}
 use Rattle.insn_plan.specs.Act.{Pending, with_regs}
-use Rattle.insn_plan.specs.Plan.{carried_out, settled, with_state}
+use Rattle.insn_plan.specs.Plan.{carried_out, after_commit, with_state}
 use Rattle.insn_plan.specs.Stack.{pushes_made}
 use Rattle.insn_plan.proofs.WrittenState.{all_state}
 
 -- it is what its plan leaves
-pub carried_by : (v : MachineView) (plan : Result Pending Event) (p : Pending) → plan ≡ Ok p → carried_out v plan ≡ settled v p
+pub carried_by : (v : MachineView) (plan : Result Pending Event) (p : Pending) → plan ≡ Ok p → carried_out v plan ≡ after_commit v p
 unfolding carried_out
 carried_by v (Ok q) p e = cc
 carried_by v (Err event) p e = absurd cc
@@ -38,8 +38,8 @@ settled_is None u = refl
 settled_is (Some f) u = refl
 
 settled_unless : (v : MachineView) (p : Pending) →
-    settled v p ≡ unless (first_refusal v.world p.writes) (with_state p.regs p.vif (all_written v p.writes))
-unfolding settled
+    after_commit v p ≡ unless (first_refusal v.world p.writes) (with_state p.regs p.vif (all_written v p.writes))
+unfolding after_commit
 settled_unless v p = settled_is (first_refusal v.world p.writes) (with_state p.regs p.vif (all_written v p.writes))
 
 settled_by : (o : Option Fault) (v : MachineView) (r : Regs) (p : Pending) (u : MachineView) →
@@ -48,8 +48,8 @@ settled_by None v r p u e = cc
 settled_by (Some f) v r p u e = absurd cc
 
 -- and with other registers
-pub settled_with : (v : MachineView) (r : Regs) (p : Pending) (u : MachineView) → settled v p ≡ Ok u →
-    settled v (with_regs r p) ≡ Ok (with_registers r u)
+pub settled_with : (v : MachineView) (r : Regs) (p : Pending) (u : MachineView) → after_commit v p ≡ Ok u →
+    after_commit v (with_regs r p) ≡ Ok (with_registers r u)
 settled_with v r p u e =
     settled_unless v (with_regs r p)
     ∙ settled_by (first_refusal v.world p.writes) (all_written v p.writes) r p u (sym (settled_unless v p) ∙ e)
@@ -58,7 +58,7 @@ refused_by : (o : Option Fault) (u w : MachineView) (event : Event) → unless o
 refused_by None u w event e = absurd cc
 refused_by (Some f) u w event e = cc
 
-pub refused_with : (v : MachineView) (r : Regs) (p : Pending) (event : Event) → settled v p ≡ Err event → settled v (with_regs r p) ≡ Err event
+pub refused_with : (v : MachineView) (r : Regs) (p : Pending) (event : Event) → after_commit v p ≡ Err event → after_commit v (with_regs r p) ≡ Err event
 refused_with v r p event e = settled_unless v (with_regs r p) ∙ refused_by (first_refusal v.world p.writes) _ _ event (sym (settled_unless v p) ∙ e)
 
 -- some pushes: their writes, and then ESP
@@ -73,7 +73,7 @@ esp_set v mid xs esp is =
     ∙ ap (λ (m : MachineView). with_registers (record m.world.regs { esp = esp }) m) (sym is)
 
 pub pushes_settled : (v mid new : MachineView) (xs : List Write) (esp : ℕ) → first_refusal v.world xs ≡ None → mid ≡ all_written v xs →
-    new ≡ with_registers (with_general mid.world.regs ESP esp) mid → settled v (pushes_made v.world xs esp) ≡ Ok new
+    new ≡ with_registers (with_general mid.world.regs ESP esp) mid → after_commit v (pushes_made v.world xs esp) ≡ Ok new
 pushes_settled v mid new xs esp none made is =
     let p = pushes_made v.world xs esp in
     settled_unless v p

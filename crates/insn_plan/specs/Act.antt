@@ -10,9 +10,9 @@ use Rattle.client_world.specs.declared.faults.Event.{Event}
 use Rattle.client_world.specs.declared.faults.Event.TheVariants.{Fault as fault}
 use Rattle.client_world.specs.World.{World}
 use Rattle.guest_space.specs.declared.pending.Write.{Write}
-use Rattle.guest_space.specs.Transfer.{loaded}
+use Rattle.guest_space.specs.Transfer.{read_result}
 
--- what an instruction reads: a number that is known, or the number of so many bytes at an offset of a segment register
+-- what an instruction reads: a number that is known, or the number of n bytes at an offset of a segment register
 pub data Input : Type 0 where
   Given : ℕ → Input
   From : SegReg → ℕ → ℕ → Input
@@ -24,14 +24,14 @@ pub record Pending : Type 0 where
   pub writes : List Write
 
 -- how an instruction ends: it is done, or it raises an exception, or it is the software interrupt of a number, with its own length in bytes
-pub data Outcome : Type 0 where
-  Done : Pending → Outcome
-  Raise : Fault → Outcome
-  Interrupt : ℕ → ℕ → Outcome
+pub data Ending : Type 0 where
+  Done : Pending → Ending
+  Raise : Fault → Ending
+  Interrupt : ℕ → ℕ → Ending
 
 -- an instruction: its reads, and then its outcome
 pub data Act : Type 0 where
-  End : Outcome → Act
+  End : Ending → Act
   Read : Input → (ℕ → Act) → Act
 
 infixl 10 ◌>>=◌
@@ -75,7 +75,7 @@ abbrev pub number_read : Result (List ℕ) Fault → Result ℕ Event
 number_read (Ok bytes) = Ok (number_of bytes)
 number_read (Err f) = Err (fault f)
 
--- the number that an input stands for, or the fault of its read
+-- the number that an input denotes, or the fault of its read
 unfoldable pub value_of : World → Input → Result ℕ Event
 value_of w (Given v) = Ok v
-value_of w (From seg off n) = number_read (loaded w seg off n)
+value_of w (From seg off n) = number_read (read_result w seg off n)

@@ -24,10 +24,10 @@ abbrev pub and_write : SegReg → ℕ → ℕ → ℕ → Pending → Pending
 and_write seg off width v p = record p { writes = p.writes ++ record { seg = seg; off = off; width = width; value = v } ∷ [] }
 
 -- a number put where an operand names, in memory at that width; its address is that of the registers r
-unfoldable pub put : Regs → Bool → ℕ → Operand → ℕ → Pending → Pending
-put r addr32 width Empty v p = p
-put r addr32 width (Reg own number) v p = record p { regs = with_register p.regs own number v }
-put r addr32 width (Seg seg) v p = p
-put r addr32 width (Mem f) v p = and_write f.seg (offset_of r addr32 f) width v p
-put r addr32 width (Imm x) v p = p
-put r addr32 width (Far pointer) v p = p
+unfoldable pub put_operand : Regs → Bool → ℕ → Operand → ℕ → Pending → Pending
+put_operand r addr32 width Empty v p = p
+put_operand r addr32 width (Reg own number) v p = record p { regs = with_register p.regs own number v }
+put_operand r addr32 width (Seg seg) v p = p
+put_operand r addr32 width (Mem f) v p = and_write f.seg (offset_of r addr32 f) width v p
+put_operand r addr32 width (Imm x) v p = p
+put_operand r addr32 width (Far pointer) v p = p

@@ -26,15 +26,15 @@ abbrev pub with_state : Regs → Bool → MachineView → MachineView
 with_state r on v = record v { world = record v.world { regs = r; vif = on } }
 
 -- the machine after what an instruction leaves, or the fault of the first of its writes that has one
-unfoldable pub settled : MachineView → Pending → Result MachineView Event
-settled v p = elim (first_refusal v.world p.writes) [
+unfoldable pub after_commit : MachineView → Pending → Result MachineView Event
+after_commit v p = elim (first_refusal v.world p.writes) [
   | Some f ↦ Err (fault f)
   | None ↦ Ok (with_state p.regs p.vif (all_written v p.writes))
 ]
 
 -- the machine after a plan is carried out, or its event
 unfoldable pub carried_out : MachineView → Result Pending Event → Result MachineView Event
-carried_out v (Ok p) = settled v p
+carried_out v (Ok p) = after_commit v p
 carried_out v (Err e) = Err e
 
 -- an answer, and the machine after it, are what is expected; an event changes nothing

@@ -26,7 +26,7 @@ has_big_stack w = elim w.mode [ Real ↦ false | Protected ↦ has_size_bit (row
 abbrev pub with_pointer : Bool → ℕ → ℕ → ℕ
 with_pointer big esp sp = if big then sp else with_low_half esp sp
 
--- ESP with the stack pointer so many bytes further up
+-- ESP with the stack pointer n bytes further up
 abbrev pub esp_up : Bool → ℕ → ℕ → ℕ
 esp_up big n esp = with_pointer big esp (cut_address big (cut_address big esp + n))
 
@@ -38,7 +38,7 @@ stack_pointer w r = cut_address (has_big_stack w) r.esp
 abbrev pub with_stack_pointer : World → ℕ → Regs → Regs
 with_stack_pointer w sp r = record r { esp = with_pointer (has_big_stack w) r.esp sp }
 
--- a number of a width pushed: the stack pointer goes down by its bytes, and it stands there
+-- a number of a width pushed: the stack pointer goes down by its bytes, and it is there
 unfoldable pub pushed : World → ℕ → ℕ → Pending → Pending
 pushed w width v p =
     let sp = cut_address (has_big_stack w) (stack_pointer w p.regs + 2 ^ 32 - byte_count width) in
@@ -52,7 +52,7 @@ with_push x esp p = record p { regs = record p.regs { esp = esp }; writes = p.wr
 abbrev pub pushes_made : World → List Write → ℕ → Pending
 pushes_made w writes esp = record { regs = record w.regs { esp = esp }; vif = w.vif; writes = writes }
 
--- the stack pointer so many bytes further up
+-- the stack pointer n bytes further up
 abbrev pub stack_pointer_up : World → ℕ → Regs → ℕ
 stack_pointer_up w n r = cut_address (has_big_stack w) (stack_pointer w r + n)
 
@@ -60,6 +60,6 @@ stack_pointer_up w n r = cut_address (has_big_stack w) (stack_pointer w r + n)
 unfoldable pub stack_item : World → ℕ → ℕ → Input
 stack_item w width place = From Ss (stack_pointer_up w (byte_count width * place) w.regs) (byte_count width)
 
--- the registers after so many items of a width were popped
+-- the registers after n items of a width were popped
 unfoldable pub items_popped : World → ℕ → ℕ → Regs → Regs
 items_popped w width n r = with_stack_pointer w (stack_pointer_up w (byte_count width * n) r) r

@@ -1,6 +1,6 @@
 //! Instructions as plans: what an instruction reads, one after another, and what it leaves, before anything is written.
 //! It promises that each call that the executing crates share is the word of its name, and that writes are made all together or not at all.
-//! It stands on the machine, and on the instruction's types.
+//! It uses the machine and the instruction's types.
 #![tactic(auto)]
 
 mod conditions;

@@ -2,8 +2,8 @@
 ghost use Rattle.std.specs.Prelude.{◌≡◌, ◌+◌, ◌<◌, ◌≤◌, length};
 ghost use Rattle.guest_space.specs.Pending.{first_refusal};
 ghost use Rattle.insn_plan.specs.Act.{unchanged};
-ghost use Rattle.insn_plan.specs.Operands.{and_write, put};
-ghost use Rattle.insn_plan.specs.Plan.{Follows, settled};
+ghost use Rattle.insn_plan.specs.Operands.{and_write, put_operand};
+ghost use Rattle.insn_plan.specs.Plan.{Follows, after_commit};
 
 use crate::registers::{offset_of, set_register};
 use client_world::{Event, Fault, Regs, SegReg};
@@ -14,7 +14,7 @@ use std::marker::Model;
 /// The most writes of an instruction: ENTER at level 31 makes 32.
 pub const MAX_WRITES: usize = 33;
 
-// What stands in the places that are not used yet.
+// What lies in the places that are not used yet.
 const NO_WRITE: Write = Write {
     seg: SegReg::Es,
     width: 0,
@@ -110,10 +110,10 @@ impl Next {
     }
 
     /// Puts a number where an operand names; its address is that of the registers `r`.
-    #[tactic(auto, unfolding(crate::specs::Operands::put))]
+    #[tactic(auto, unfolding(crate::specs::Operands::put_operand))]
     pub fn put(&mut self, r: &Regs, addr32: bool, width: u8, operand: &Operand, v: u32)
         requires { length self.old.writes < MAX_WRITES }
-        ensures put { self.new ≡ put r.now addr32 width operand.now v self.old }
+        ensures put { self.new ≡ put_operand r.now addr32 width operand.now v self.old }
         ensures room { length self.new.writes ≤ length self.old.writes + 1 }
     {
         match operand {
@@ -132,9 +132,9 @@ impl Next {
 
     /// Makes all the writes, and then sets the registers and the virtual interrupt flag; or, where one of the writes has a fault, does
     /// nothing at all.
-    #[tactic(auto, unfolding(crate::specs::Plan::settled))]
+    #[tactic(auto, unfolding(crate::specs::Plan::after_commit))]
     pub fn settle(&self, m: &mut Machine) -> Result<(), Event>
-        ensures { Follows m.old m.new result (settled m.old self.now) }
+        ensures { Follows m.old m.new result (after_commit m.old self.now) }
     {
         m.write_all(&self.writes[..self.write_count])?;
         m.set_regs(self.regs);

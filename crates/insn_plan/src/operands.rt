@@ -3,8 +3,8 @@ ghost use Rattle.std.specs.Prelude.{◌≡◌, OnOk, IfErr};
 ghost use Rattle.guest_space.specs.Pending.{byte_count};
 ghost use Rattle.guest_space.specs.Registers.{with_registers};
 ghost use Rattle.insn_plan.specs.Act.{From, unchanged, value_of, with_flags};
-ghost use Rattle.insn_plan.specs.Operands.{and_write, put, source};
-ghost use Rattle.insn_plan.specs.Plan.{Follows, settled};
+ghost use Rattle.insn_plan.specs.Operands.{and_write, put_operand, source};
+ghost use Rattle.insn_plan.specs.Plan.{Follows, after_commit};
 ghost use Rattle.insn_plan.specs.Registers.{offset_of, with_register};
 ghost use Rattle.insn_plan.specs.Written.{IsRefused, IsWritten};
 
@@ -87,7 +87,7 @@ pub fn write_number(
 
 // Puts a number into memory, and sets the flags.
 #[inline(never)]
-#[tactic(auto, unfolding(crate::specs::Plan::settled))]
+#[tactic(auto, unfolding(crate::specs::Plan::after_commit))]
 fn put_in_memory(
     m: &mut Machine,
     flags: Flags,
@@ -96,7 +96,7 @@ fn put_in_memory(
     f: &MemForm,
     v: u32,
 ) -> Result<(), Event>
-    ensures { Follows m.old m.new result (settled m.old
+    ensures { Follows m.old m.new result (after_commit m.old
         (and_write f.now.seg (offset_of m.old.world.regs addr32 f.now) width v (with_flags flags m.old.world))) }
 {
     let off = offset_of(m.registers(), addr32, f);
@@ -107,7 +107,7 @@ fn put_in_memory(
 
 /// Puts a number where an operand names and sets the flags, or gives the fault of the write, which changes nothing.
 #[inline(always)]
-#[tactic(auto, unfolding(crate::specs::Operands::put, crate::specs::Plan::settled, guest_space::specs::Pending::first_refusal, guest_space::specs::Pending::all_written))]
+#[tactic(auto, unfolding(crate::specs::Operands::put_operand, crate::specs::Plan::after_commit, guest_space::specs::Pending::first_refusal, guest_space::specs::Pending::all_written))]
 pub fn put_with_flags(
     m: &mut Machine,
     flags: Flags,
@@ -117,7 +117,7 @@ pub fn put_with_flags(
     v: u32,
 ) -> Result<(), Event>
     ensures { Follows m.old m.new result
-        (settled m.old (put m.old.world.regs addr32 width operand.now v (with_flags flags m.old.world))) }
+        (after_commit m.old (put_operand m.old.world.regs addr32 width operand.now v (with_flags flags m.old.world))) }
 {
     match operand {
         Operand::Reg { width, number } => {
@@ -135,7 +135,7 @@ pub fn put_with_flags(
 
 /// Puts a number where an operand names, or gives the fault of the write, which changes nothing.
 #[inline(always)]
-#[tactic(auto, unfolding(crate::specs::Operands::put, crate::specs::Plan::settled, guest_space::specs::Pending::first_refusal, guest_space::specs::Pending::all_written))]
+#[tactic(auto, unfolding(crate::specs::Operands::put_operand, crate::specs::Plan::after_commit, guest_space::specs::Pending::first_refusal, guest_space::specs::Pending::all_written))]
 pub fn put_operand(
     m: &mut Machine,
     addr32: bool,
@@ -144,7 +144,7 @@ pub fn put_operand(
     v: u32,
 ) -> Result<(), Event>
     ensures { Follows m.old m.new result
-        (settled m.old (put m.old.world.regs addr32 width operand.now v (unchanged m.old.world))) }
+        (after_commit m.old (put_operand m.old.world.regs addr32 width operand.now v (unchanged m.old.world))) }
 {
     match operand {
         Operand::Reg { width, number } => {

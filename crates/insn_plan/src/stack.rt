@@ -2,7 +2,7 @@
 ghost use Rattle.std.specs.Prelude.{◌≡◌, ◌+◌, ◌-◌, ◌<◌, ◌^◌, ◌⊎◌, IsTrue, length};
 ghost use Rattle.client_world.specs.World.{World};
 ghost use Rattle.insn_plan.specs.Act.{Pending, unchanged, value_of};
-ghost use Rattle.insn_plan.specs.Plan.{Follows, settled};
+ghost use Rattle.insn_plan.specs.Plan.{Follows, after_commit};
 ghost use Rattle.insn_plan.specs.Registers.{cut_address};
 ghost use Rattle.insn_plan.specs.Stack.{
   has_big_stack,
@@ -53,7 +53,7 @@ pub fn with_pointer(big: bool, esp: u32, sp: u32) -> u32
     }
 }
 
-/// ESP with the stack pointer so many bytes further up.
+/// ESP with the stack pointer n bytes further up.
 #[inline(always)]
 pub fn esp_up(big: bool, n: u32, esp: u32) -> u32
     ensures { result ≡ esp_up big n esp }
@@ -65,7 +65,7 @@ pub fn esp_up(big: bool, n: u32, esp: u32) -> u32
     with_pointer(big, esp, sp)
 }
 
-// The stack pointer of an item that is pushed, so many bytes further down.
+// The stack pointer of an item that is pushed, n bytes further down.
 #[inline(always)]
 fn pointer_down(big: bool, n: u8, esp: u32) -> u32
     requires { n < 2 ^ 8 }
@@ -99,9 +99,9 @@ pub fn stack_item(m: &Machine, width: u8, place: u8) -> Result<u32, Event>
 /// Pushes a number of a width, or gives the fault of the write, which changes nothing.
 /// Source: 80386 Programmer's Reference Manual, ch. 17, PUSH.
 #[inline(always)]
-#[tactic(auto, unfolding(crate::specs::Stack::pushed, crate::specs::Plan::settled, client_world::specs::General::with_general))]
+#[tactic(auto, unfolding(crate::specs::Stack::pushed, crate::specs::Plan::after_commit, client_world::specs::General::with_general))]
 pub fn push_item(m: &mut Machine, width: u8, v: u32) -> Result<(), Event>
-    ensures { Follows m.old m.new result (settled m.old (pushed m.old.world width v (unchanged m.old.world))) }
+    ensures { Follows m.old m.new result (after_commit m.old (pushed m.old.world width v (unchanged m.old.world))) }
 {
     let big = has_big_stack(m);
     let esp = m.registers().esp;
@@ -130,9 +130,9 @@ pub fn item_pushed(big: bool, width: u8, esp: u32, v: u32) -> (Write, u32)
 
 /// Makes the writes of some pushes and then sets ESP; or, where one of them has a fault, does nothing at all.
 #[inline(always)]
-#[tactic(auto, unfolding(crate::specs::Plan::settled, client_world::specs::General::with_general))]
+#[tactic(auto, unfolding(crate::specs::Plan::after_commit, client_world::specs::General::with_general))]
 pub fn settle_pushes(m: &mut Machine, writes: &[Write], esp: u32) -> Result<(), Event>
-    ensures { Follows m.old m.new result (settled m.old (pushes_made m.old.world writes.now esp)) }
+    ensures { Follows m.old m.new result (after_commit m.old (pushes_made m.old.world writes.now esp)) }
 {
     m.write_all(writes)?;
     m.set_general(ESP, esp);

@@ -27,7 +27,7 @@ use Rattle.host_memory.specs.View.{MachineView}
 use Rattle.insn_plan.specs.Plan.{planned, carried_out}
 use Rattle.fault_service.specs.Worlds.{bare}
 use Rattle.fault_service.proofs.SoundAnswers.{holds_of_world, return_was}
-use Rattle.mode_gates.specs.Entry.{asked_width, code_at, data_at, after_first_entry, entry, entry_after, entry_registers, entry_rows, entry_answer, environment, environment_word, host_rows, with_carry}
+use Rattle.mode_gates.specs.Entry.{asked_width, code_of_segment, data_of_segment, after_first_entry, entry, entry_after, entry_registers, entry_rows, entry_answer, environment_of, environment_word, host_rows, with_carry}
 use Rattle.mode_gates.specs.FarFrames.{after_far_return, world_after_far_return}
 use Rattle.mode_gates.specs.Rows.{AreFreeFrom}
 use Rattle.mode_gates.proofs.EntryRows.{free_at_first, free_after, may_put}
@@ -70,15 +70,15 @@ unfolding entry_rows
 sound_rows w width s e =
     let w0 : World = record w { width = Some width; descriptors = host_rows w.descriptors width } in
     let r0 : IsReady w0 64 = record { sound = IsSound-width w width s e; width = λ none. cc; free = free_at_first w width s e } in
-    let w1 = with_row w0 ENTRY_CODE (code_at w.regs.cs) Entry in
-    let r1 : IsReady w1 65 = next_ready w0 64 (code_at w.regs.cs) Entry r0 (omega arith) (omega arith) (omega arith) tt in
-    let w2 = with_row w1 ENTRY_STACK (data_at w.regs.ss 0xFFFF width) Entry in
-    let r2 : IsReady w2 66 = next_ready w1 65 (data_at w.regs.ss 0xFFFF width) Entry r1 (omega arith) (omega arith) (omega arith) tt in
-    let w3 = with_row w2 ENTRY_DATA (data_at w.regs.ds 0xFFFF width) Entry in
-    let r3 : IsReady w3 67 = next_ready w2 66 (data_at w.regs.ds 0xFFFF width) Entry r2 (omega arith) (omega arith) (omega arith) tt in
-    let w4 = with_row w3 ENTRY_PSP (data_at PSP_SEGMENT 0xFF Sixteen) Psp in
-    let r4 : IsReady w4 68 = next_ready w3 67 (data_at PSP_SEGMENT 0xFF Sixteen) Psp r3 (omega arith) (omega arith) (omega arith) tt in
-    (next_ready w4 68 (data_at (environment w) 0xFFFF Sixteen) Psp r4 (omega arith) (omega arith) (omega arith) tt).sound
+    let w1 = with_row w0 ENTRY_CODE (code_of_segment w.regs.cs) Entry in
+    let r1 : IsReady w1 65 = next_ready w0 64 (code_of_segment w.regs.cs) Entry r0 (omega arith) (omega arith) (omega arith) tt in
+    let w2 = with_row w1 ENTRY_STACK (data_of_segment w.regs.ss 0xFFFF width) Entry in
+    let r2 : IsReady w2 66 = next_ready w1 65 (data_of_segment w.regs.ss 0xFFFF width) Entry r1 (omega arith) (omega arith) (omega arith) tt in
+    let w3 = with_row w2 ENTRY_DATA (data_of_segment w.regs.ds 0xFFFF width) Entry in
+    let r3 : IsReady w3 67 = next_ready w2 66 (data_of_segment w.regs.ds 0xFFFF width) Entry r2 (omega arith) (omega arith) (omega arith) tt in
+    let w4 = with_row w3 ENTRY_PSP (data_of_segment PSP_SEGMENT 0xFF Sixteen) Psp in
+    let r4 : IsReady w4 68 = next_ready w3 67 (data_of_segment PSP_SEGMENT 0xFF Sixteen) Psp r3 (omega arith) (omega arith) (omega arith) tt in
+    (next_ready w4 68 (data_of_segment (environment_of w) 0xFFFF Sixteen) Psp r4 (omega arith) (omega arith) (omega arith) tt).sound
 
 -- ---- the entry
 

@@ -29,12 +29,12 @@ asked_width w = if nat_eq (w.regs.eax % 2) 0 then Sixteen else ThirtyTwo
 abbrev pub environment_word : ℕ
 environment_word = PSP_SEGMENT * PARAGRAPH_SIZE + 0x2C
 
-abbrev pub environment : World → ℕ
-environment w = word_of w.dos environment_word
+abbrev pub environment_of : World → ℕ
+environment_of w = word_of w.dos environment_word
 
 -- a descriptor of what starts at a real segment, with a limit in bytes
-abbrev pub code_at : ℕ → Desc
-code_at segment = record {
+abbrev pub code_of_segment : ℕ → Desc
+code_of_segment segment = record {
   base = segment * PARAGRAPH_SIZE;
   limit = 0xFFFF;
   gran = false;
@@ -44,8 +44,8 @@ code_at segment = record {
   kind = Code;
 }
 
-abbrev pub data_at : ℕ → ℕ → Width → Desc
-data_at segment limit width = record {
+abbrev pub data_of_segment : ℕ → ℕ → Width → Desc
+data_of_segment segment limit width = record {
   base = segment * PARAGRAPH_SIZE;
   limit = limit;
   gran = false;
@@ -56,21 +56,21 @@ data_at segment limit width = record {
 }
 
 -- the rows with another one at an index
-abbrev pub with_row : ℕ → Row → List Row → List Row
-with_row index row rows = slice_set rows index row
+abbrev pub with_row_at : ℕ → Row → List Row → List Row
+with_row_at index row rows = slice_set rows index row
 
 -- the rows with the two descriptors of the host
 abbrev pub host_rows : List Row → Width → List Row
-host_rows rows width = with_row HOST_STACKS (host_stacks width) (with_row HOST_CODE host_code rows)
+host_rows rows width = with_row_at HOST_STACKS (host_stacks width) (with_row_at HOST_CODE host_code rows)
 
 -- and with the five of the client: code, stack and data where the real registers point, the prefix and the environment
 unfoldable pub entry_rows : World → Width → List Row
 entry_rows w width =
-    with_row ENTRY_ENVIRONMENT (Some (data_at (environment w) 0xFFFF Sixteen, Psp))
-    (with_row ENTRY_PSP (Some (data_at PSP_SEGMENT 0xFF Sixteen, Psp))
-    (with_row ENTRY_DATA (Some (data_at w.regs.ds 0xFFFF width, Entry))
-    (with_row ENTRY_STACK (Some (data_at w.regs.ss 0xFFFF width, Entry))
-    (with_row ENTRY_CODE (Some (code_at w.regs.cs, Entry))
+    with_row_at ENTRY_ENVIRONMENT (Some (data_of_segment (environment_of w) 0xFFFF Sixteen, Psp))
+    (with_row_at ENTRY_PSP (Some (data_of_segment PSP_SEGMENT 0xFF Sixteen, Psp))
+    (with_row_at ENTRY_DATA (Some (data_of_segment w.regs.ds 0xFFFF width, Entry))
+    (with_row_at ENTRY_STACK (Some (data_of_segment w.regs.ss 0xFFFF width, Entry))
+    (with_row_at ENTRY_CODE (Some (code_of_segment w.regs.cs, Entry))
     (host_rows w.descriptors width)))))
 
 -- the registers with carry

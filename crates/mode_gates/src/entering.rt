@@ -10,8 +10,8 @@ ghost use Rattle.client_world.specs.Soundness.{IsPlainOrigin};
 ghost use Rattle.guest_ram.specs.Bytes.{with_word};
 ghost use Rattle.mode_gates.specs.Entry.{
   asked_width,
-  code_at,
-  data_at,
+  code_of_segment,
+  data_of_segment,
   after_first_entry,
   entry,
   entry_registers,
@@ -45,8 +45,8 @@ pub fn asked_width(m: &Machine) -> Width
 }
 
 // A descriptor of the code that starts at a real segment.
-fn code_at(segment: u16) -> Desc
-    ensures { result ≡ code_at segment }
+fn code_of_segment(segment: u16) -> Desc
+    ensures { result ≡ code_of_segment segment }
 {
     Desc {
         base: u32::from(segment) * PARAGRAPH_SIZE,
@@ -60,8 +60,8 @@ fn code_at(segment: u16) -> Desc
 }
 
 // A descriptor of the data that starts at a real segment.
-fn data_at(segment: u16, limit: u32, width: Width) -> Desc
-    ensures { result ≡ data_at segment limit width }
+fn data_of_segment(segment: u16, limit: u32, width: Width) -> Desc
+    ensures { result ≡ data_of_segment segment limit width }
 {
     Desc {
         base: u32::from(segment) * PARAGRAPH_SIZE,
@@ -117,19 +117,29 @@ fn make_rows(m: &mut Machine, width: Width)
     let r = m.regs();
     let environment = m.dos16(ENVIRONMENT_WORD);
     make_host_rows(m, width);
-    make(m, ENTRY_CODE, code_at(r.cs), Origin::Entry);
-    make(m, ENTRY_STACK, data_at(r.ss, 0xFFFF, width), Origin::Entry);
-    make(m, ENTRY_DATA, data_at(r.ds, 0xFFFF, width), Origin::Entry);
+    make(m, ENTRY_CODE, code_of_segment(r.cs), Origin::Entry);
+    make(
+        m,
+        ENTRY_STACK,
+        data_of_segment(r.ss, 0xFFFF, width),
+        Origin::Entry,
+    );
+    make(
+        m,
+        ENTRY_DATA,
+        data_of_segment(r.ds, 0xFFFF, width),
+        Origin::Entry,
+    );
     make(
         m,
         ENTRY_PSP,
-        data_at(PSP_SEGMENT, 0xFF, Width::Sixteen),
+        data_of_segment(PSP_SEGMENT, 0xFF, Width::Sixteen),
         Origin::Psp,
     );
     make(
         m,
         ENTRY_ENVIRONMENT,
-        data_at(environment, 0xFFFF, Width::Sixteen),
+        data_of_segment(environment, 0xFFFF, Width::Sixteen),
         Origin::Psp,
     );
 }

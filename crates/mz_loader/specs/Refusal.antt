@@ -33,7 +33,7 @@ has_bad_table file =
 abbrev pub has_no_room : List ℕ → Bool
 has_no_room file = nat_lt most_paras (needed_paras file)
 
--- the place in the image which the relocation at an address of the file names: an offset, and a segment behind it
+-- the place in the image which the relocation at an address of the file names: an offset, and a segment after it
 abbrev pub relocation_target : List ℕ → ℕ → ℕ
 relocation_target file at = PARAGRAPH_SIZE * word_of file (at + 2) + word_of file at
 
@@ -48,7 +48,7 @@ abbrev pub has_bad_target : List ℕ → Bool
 has_bad_target file =
     some_beyond file (PARAGRAPH_SIZE * (block_paras file - psp_paras)) (relocation_table file) (relocations file)
 
--- where the first instruction stands: CS, and its linear address
+-- where the first instruction is: CS, and its linear address
 abbrev pub first_segment : List ℕ → ℕ
 first_segment file = (IMAGE_SEGMENT + word_of file 0x16) % 0x10000
 

@@ -19,7 +19,7 @@ environment_paras = 2
 abbrev pub environment_segment : ℕ
 environment_segment = ARENA_START + 1
 
--- the blocks: the environment, the program with so many paragraphs, and what is left
+-- the blocks: the environment, the program with n paragraphs, and what is left
 abbrev pub start_blocks : ℕ → List DosEntry
 start_blocks paras =
     record { at = ARENA_START; paras = environment_paras; state = Used } ∷
@@ -27,12 +27,12 @@ start_blocks paras =
     (if nat_eq paras most_paras then []
     else record { at = PSP_SEGMENT + paras; paras = ARENA_END - PSP_SEGMENT - paras - 1; state = Free } ∷ [])
 
--- the environment: no variables, one string behind them, `C:\CLIENT.EXE`
+-- the environment: no variables, one string after them, `C:\CLIENT.EXE`
 unfoldable pub environment : List ℕ
 environment =
     0 ∷ 0 ∷ 1 ∷ 0 ∷ 0x43 ∷ 0x3A ∷ 0x5C ∷ 0x43 ∷ 0x4C ∷ 0x49 ∷ 0x45 ∷ 0x4E ∷ 0x54 ∷ 0x2E ∷ 0x45 ∷ 0x58 ∷ 0x45 ∷ 0 ∷ []
 
--- the program segment prefix: INT 20h and the segment behind the block at 00, the environment's segment at 2C, an empty command line at 80
+-- the program segment prefix: INT 20h and the segment after the block at 00, the environment's segment at 2C, an empty command line at 80
 unfoldable pub psp_front : ℕ → List ℕ
 psp_front paras = 0xCD ∷ 0x20 ∷ word_bytes (PSP_SEGMENT + paras)
 
@@ -51,7 +51,7 @@ with_psp paras dos =
     put (put (put (put dos (PARAGRAPH_SIZE * environment_segment) environment)
     psp_address (psp_front paras)) (psp_address + 0x2C) psp_environment) (psp_address + 0x80) psp_command
 
--- the image: the file's bytes behind the header; past the file's end they are zeros
+-- the image: the file's bytes after the header; past the file's end they are zeros
 unfoldable pub image : List ℕ → List ℕ
 image file = listed (image_length file) (λ at. slice_index file (header_length file + at))
 

@@ -17,7 +17,7 @@ pub(crate) const ENVIRONMENT_SEGMENT: u16 = ARENA_START as u16 + 1;
 // The paragraphs of the environment's block.
 const ENVIRONMENT_PARAS: u16 = 2;
 
-// The blocks: the environment, the program with so many paragraphs, and what is left.
+// The blocks: the environment, the program with n paragraphs, and what is left.
 fn start_blocks(paras: u16) -> ArrayVec<DosEntry, 3>
     requires { paras ≤ most_paras }
     ensures { result.items ≡ start_blocks paras }

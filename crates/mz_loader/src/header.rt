@@ -19,7 +19,7 @@ pub(crate) const PSP_PARAS: u32 = 16;
 /// The most paragraphs of a program block: all from the prefix on.
 pub(crate) const MOST_PARAS: u32 = ARENA_END - PSP_SEGMENT as u32;
 
-/// The most bytes of a program block behind its prefix.
+/// The most bytes of a program block after its prefix.
 pub(crate) const MOST_BYTES: u32 = PARAGRAPH_SIZE * (MOST_PARAS - PSP_PARAS);
 
 /// The word at an address of the file.
@@ -55,7 +55,7 @@ pub(crate) fn relocations(file: &[u8]) -> u16
     word_of(file, 0x06)
 }
 
-// The paragraphs that the program needs behind its image.
+// The paragraphs that the program needs after its image.
 fn minimum(file: &[u8]) -> u16
     requires { header_bytes ≤ length file.now }
     ensures { result ≡ minimum file.now }
@@ -71,7 +71,7 @@ fn maximum(file: &[u8]) -> u16
     word_of(file, 0x0C)
 }
 
-/// Where the relocations stand in the file.
+/// Where the relocations lie in the file.
 pub(crate) fn relocation_table(file: &[u8]) -> u16
     requires { header_bytes ≤ length file.now }
     ensures { result ≡ relocation_table file.now }

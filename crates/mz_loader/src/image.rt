@@ -19,7 +19,7 @@ fn byte_of(file: &[u8], at: usize) -> u8
     if at < file.len() { file[at] } else { 0 }
 }
 
-// Writes n bytes of the file to where the image stands.
+// Writes n bytes of the file to where the image is.
 fn write_part(m: &mut Machine, file: &[u8], from: u32, n: u32)
     requires room { n ≤ MOST_BYTES }
     ensures { m.new.world ≡ record m.old.world {

@@ -1,7 +1,7 @@
 //! The loader of MZ files.
 //! It promises that a client starts in the world that its file defines, which is sound, and that a file is refused for the first reason and
 //! changes nothing.
-//! It stands on `guest_space`, whose machine it fills: bytes of the DOS megabyte, entries of DOS memory, and registers.
+//! It uses `guest_space`, whose machine it fills: bytes of the DOS megabyte, entries of DOS memory, and registers.
 #![tactic(auto)]
 
 mod blocks;

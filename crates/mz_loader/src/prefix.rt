@@ -10,10 +10,10 @@ use crate::writing::write_run;
 use client_world::memory_map::{PARAGRAPH_SIZE, PSP_SEGMENT};
 use guest_space::Machine;
 
-// Where the prefix stands.
+// Where the prefix is.
 const PSP_ADDRESS: u32 = PARAGRAPH_SIZE * PSP_SEGMENT as u32;
 
-// Writes the environment: no variables, one string behind them, `C:\CLIENT.EXE`.
+// Writes the environment: no variables, one string after them, `C:\CLIENT.EXE`.
 #[tactic(auto, unfolding(crate::specs::Start::environment))]
 fn write_environment(m: &mut Machine)
     ensures { m.new.world ≡ record m.old.world {
@@ -24,7 +24,7 @@ fn write_environment(m: &mut Machine)
     write_run(m, PARAGRAPH_SIZE * ENVIRONMENT_SEGMENT as u32, bytes);
 }
 
-// Writes INT 20h, and the segment behind the program's block.
+// Writes INT 20h, and the segment after the program's block.
 #[tactic(auto, unfolding(crate::specs::Start::psp_front))]
 fn write_front(m: &mut Machine, paras: u16)
     requires { paras ≤ most_paras }
@@ -52,7 +52,7 @@ fn write_command(m: &mut Machine)
     write_run(m, PSP_ADDRESS + 0x80, &[0, b'\r']);
 }
 
-/// Writes the environment and the prefix of a program whose block has so many paragraphs.
+/// Writes the environment and the prefix of a program whose block has n paragraphs.
 /// Source: MS-DOS program segment prefix and environment.
 #[tactic(auto, unfolding(crate::specs::Start::with_psp))]
 pub(crate) fn write_psp(m: &mut Machine, paras: u16)

@@ -75,7 +75,7 @@ fn some_beyond(file: &[u8], limit: u32, at: u16, n: u16) -> bool
     false
 }
 
-/// The bytes of the program block behind its prefix.
+/// The bytes of the program block after its prefix.
 pub(crate) fn image_room(file: &[u8]) -> u32
     requires { header_bytes ≤ length file.now }
     ensures room { result ≡ PARAGRAPH_SIZE * (block_paras file.now - psp_paras) }

@@ -5,7 +5,7 @@ use guest_space::Machine;
 use std::alloc::{AllocError, Global};
 use std::test::Fail;
 
-// A header of two paragraphs with one relocation behind it, and an image of 6 bytes, whose last word the relocation names. The program
+// A header of two paragraphs with one relocation after it, and an image of 6 bytes, whose last word the relocation names. The program
 // needs 10h paragraphs more, and may use 20h.
 const FILE: [u8; 38] = [
     b'M', b'Z', 38, 0, 1, 0, 1, 0, 2, 0, 0x10, 0, 0x20, 0, // to the maximum

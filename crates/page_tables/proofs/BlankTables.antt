@@ -1,4 +1,4 @@
--- The tables of a memory in which one doubleword of the directory stands, or none.
+-- The tables of a memory in which one doubleword of the directory is, or none.
 use Rattle.std.proofs.Common.{◌≡◌, ◌≢◌, ℕ, ◌+◌, ◌*◌, ◌/◌, ◌<◌, ◌≤◌, inl, inr, List, length, get_or, true, false, refl, ◌∙◌, arith, add-zero, set, get_or-set_other}
 use Rattle.std.proofs.lemmas.Bool.{cases_eq}
 use Rattle.client_world.specs.declared.host_frames.TheConstants.{TABLE_ENTRIES}
@@ -40,7 +40,7 @@ one_table b long first others = record {
   ];
 }
 
--- where only a byte behind the directory isn't 0, no page stands in a frame
+-- where only a byte after the directory isn't 0, no page lies in a frame
 pub named_nowhere : (b c : List ℕ) (at v frame : ℕ) → ((k : ℕ) → get_or b k 0 ≡ 0) → c ≡ set b at v → 0x101000 ≤ at → IsNamedNowhere c frame
 named_nowhere b c at v frame blank e behind = λ lin l mapped named.
     names_none c (lin / TABLE_SPAN)

@@ -2,7 +2,7 @@
 use Rattle.std.proofs.Common.{◌≡◌, ℕ, Bool, true, false, nat_eq, refl, ap, arith}
 use Rattle.client_world.specs.Registers.{has_bit}
 use Rattle.page_tables.specs.Entry.{page_entry}
-use Rattle.page_tables.specs.Walk.{ended, fault, frame_of}
+use Rattle.page_tables.specs.Walk.{walk_end, fault, frame_of}
 use Rattle.page_tables.specs.Mapping.{ended_in_frame}
 use Rattle.page_tables.specs.declared.entry.TheConstants.{PRESENT, USER, WRITABLE}
 
@@ -30,12 +30,12 @@ page_entry_frame frame false = omega arith
 
 -- an access through a present directory entry and a page's entry
 pub ended-page_entry : (directory frame : ℕ) (writable : Bool) (lin : ℕ) (write : Bool) → has_bit directory PRESENT ≡ true →
-    ended directory (page_entry frame writable) lin write ≡ ended_in_frame directory frame writable lin write
-unfolding ended ended_in_frame
+    walk_end directory (page_entry frame writable) lin write ≡ ended_in_frame directory frame writable lin write
+unfolding walk_end ended_in_frame
 ended-page_entry directory frame writable lin write h =
     rw (h, page_entry_present frame writable, page_entry_user frame writable, page_entry_writable frame writable, page_entry_frame frame writable) refl
 
 -- and through an entry that is absent
-pub ended-absent : (directory lin : ℕ) (write : Bool) → has_bit directory PRESENT ≡ true → ended directory 0 lin write ≡ fault false
-unfolding ended
+pub ended-absent : (directory lin : ℕ) (write : Bool) → has_bit directory PRESENT ≡ true → walk_end directory 0 lin write ≡ fault false
+unfolding walk_end
 ended-absent directory lin write h = rw h refl

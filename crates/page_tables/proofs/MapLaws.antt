@@ -6,7 +6,7 @@ use Rattle.client_world.specs.declared.host_frames.TheConstants.{PAGE_SIZE, PAGE
 use Rattle.guest_ram.specs.Bytes.{put, dword, dword_bytes}
 use Rattle.guest_ram.proofs.PutLaws.{length-put, dword_put, dword_put_other}
 use Rattle.page_tables.specs.Entry.{page_entry}
-use Rattle.page_tables.specs.Walk.{walked, ended, fault, frame_of, page_of, entry_place, directory_entry, table_place, table_entry}
+use Rattle.page_tables.specs.Walk.{walked, walk_end, fault, frame_of, page_of, entry_place, directory_entry, table_place, table_entry}
 use Rattle.page_tables.specs.Mapping.{HasTables, IsCovered, IsMapped, IsUnmapped, directory_word, EndsInFrame, EndsNowhere, KeepsOtherPages}
 use Rattle.page_tables.specs.declared.entry.TheConstants.{PRESENT, TABLE_SPAN}
 use Rattle.page_tables.proofs.EntryLaws.{page_entry_present, ended-page_entry, ended-absent}
@@ -60,12 +60,12 @@ same_walk b c root lin write e f = rw (e, f) refl
 
 absent_walk : (b : List ℕ) (root lin : ℕ) (write : Bool) → has_bit (directory_entry b root lin) PRESENT ≡ false →
     walked b root lin write ≡ fault false
-unfolding walked ended
+unfolding walked walk_end
 absent_walk b root lin write h = rw h refl
 
 walk_of : (c : List ℕ) (root lin directory v : ℕ) (write : Bool) → directory_entry c root lin ≡ directory →
     dword c (entry_place (frame_of directory) (lin / PAGE_SIZE % TABLE_ENTRIES)) ≡ v →
-    walked c root lin write ≡ ended directory v lin write
+    walked c root lin write ≡ walk_end directory v lin write
 unfolding walked
 walk_of c root lin directory v write e f = rw (e, f) refl
 
@@ -101,7 +101,7 @@ pub KeepsOtherPages-with_entry : (b : List ℕ) (lin v : ℕ) → HasTables b �
 KeepsOtherPages-with_entry b lin v t small covered = λ other write within ne.
     other_walk b lin v other write (has_bit (directory_entry b PAGE_DIRECTORY other) PRESENT) t small within covered ne refl
 
--- what stands at the page's place now
+-- what is at the page's place now
 table_entry-with_entry : (b : List ℕ) (lin v : ℕ) → HasTables b → lin < 2 ^ 32 → IsCovered b lin →
     table_entry (with_entry b lin v) PAGE_DIRECTORY lin ≡ v
 table_entry-with_entry b lin v t small covered =
@@ -124,7 +124,7 @@ IsUnmapped-with_entry b lin t small covered = rw (table_entry-with_entry b lin 0
 
 -- the walk of the page meets the new entry
 page_walk : (b : List ℕ) (lin v other : ℕ) (write : Bool) → HasTables b → lin < 2 ^ 32 → IsCovered b lin → page_of other ≡ page_of lin →
-    walked (with_entry b lin v) PAGE_DIRECTORY other write ≡ ended (directory_entry b PAGE_DIRECTORY lin) v other write
+    walked (with_entry b lin v) PAGE_DIRECTORY other write ≡ walk_end (directory_entry b PAGE_DIRECTORY lin) v other write
 page_walk b lin v other write t small covered e =
     walk_of (with_entry b lin v) PAGE_DIRECTORY other (directory_entry b PAGE_DIRECTORY lin) v write
     (ap (λ (i : ℕ). directory_word (with_entry b lin v) i) table

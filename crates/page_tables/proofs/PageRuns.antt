@@ -6,12 +6,12 @@ use Rattle.client_world.specs.Registers.{has_bit}
 use Rattle.client_world.specs.declared.host_frames.TheConstants.{PAGE_SIZE, TABLE_ENTRIES}
 use Rattle.guest_ram.specs.Bytes.{dword}
 use Rattle.page_tables.specs.Entry.{allows}
-use Rattle.page_tables.specs.Walk.{walked, ended, frame_of, page_of, entry_place, directory_entry, table_entry}
+use Rattle.page_tables.specs.Walk.{walked, walk_end, frame_of, page_of, entry_place, directory_entry, table_entry}
 use Rattle.page_tables.specs.declared.entry.TheConstants.{PRESENT, TABLE_SPAN}
 
 -- two addresses of one page meet the same entries
 pub same_entries : (b : List ℕ) (root lin other : ℕ) (write : Bool) → page_of other ≡ page_of lin →
-    walked b root other write ≡ ended (directory_entry b root lin) (table_entry b root lin) other write
+    walked b root other write ≡ walk_end (directory_entry b root lin) (table_entry b root lin) other write
 unfolding walked
 same_entries b root lin other write e =
     let table : other / TABLE_SPAN ≡ lin / TABLE_SPAN = omega arith in
@@ -19,8 +19,8 @@ same_entries b root lin other write e =
     let entry : table_entry b root other ≡ table_entry b root lin =
     ap (λ (d : ℕ). dword b (entry_place (frame_of d) (other / PAGE_SIZE % TABLE_ENTRIES))) directory
     ∙ ap (λ (page : ℕ). dword b (entry_place (frame_of (directory_entry b root lin)) (page % TABLE_ENTRIES))) e in
-    ap (λ (d : ℕ). ended d (table_entry b root other) other write) directory
-    ∙ ap (λ (t : ℕ). ended (directory_entry b root lin) t other write) entry
+    ap (λ (d : ℕ). walk_end d (table_entry b root other) other write) directory
+    ∙ ap (λ (t : ℕ). walk_end (directory_entry b root lin) t other write) entry
 
 -- where a walk ends, and where one ends to another address of that page
 pub record EndsBeside (b : List ℕ) (root lin other p : ℕ) (write : Bool) : Type 0 where
@@ -30,11 +30,11 @@ pub record EndsBeside (b : List ℕ) (root lin other p : ℕ) (write : Bool) : T
 
 record EndedBeside (directory table lin other p : ℕ) (write : Bool) : Type 0 where
   here : p ≡ PAGE_SIZE * frame_of table + lin % PAGE_SIZE
-  there : ended directory table other write ≡ Ok (PAGE_SIZE * frame_of table + other % PAGE_SIZE)
+  there : walk_end directory table other write ≡ Ok (PAGE_SIZE * frame_of table + other % PAGE_SIZE)
 
-ended_beside : (directory table lin other p : ℕ) (write : Bool) → ended directory table lin write ≡ Ok p →
+ended_beside : (directory table lin other p : ℕ) (write : Bool) → walk_end directory table lin write ≡ Ok p →
     EndedBeside directory table lin other p write
-unfolding ended
+unfolding walk_end
 ended_beside directory table lin other p write e = elim (cases_Bool (not (has_bit directory PRESENT) || not (has_bit table PRESENT))) [
   | inl absent ↦ (let fails = rw absent at e in absurd cc)
   | inr present ↦ elim (cases_Bool (allows directory write && allows table write)) [

@@ -1,11 +1,11 @@
--- The frames of the page budget, which stand behind the host's. Source: own.
+-- The frames of the page budget, which follow the host's. Source: own.
 use Rattle.std.specs.Prelude.{◌≡◌, ◌≢◌, ℕ, ◌+◌, ◌-◌, ◌*◌, ◌<◌, ◌≤◌, ◌^◌, List, length, slice_index}
 use Rattle.client_world.specs.declared.host_frames.TheConstants.{PAGE_SIZE, PAGE_DIRECTORY, TAKEN_FRAMES, BUDGET_FRAMES}
 use Rattle.client_world.specs.declared.limits.TheConstants.{MAX_PAGES}
 use Rattle.page_tables.specs.Walk.{IsFrame, frame_of, table_entry}
 use Rattle.page_tables.specs.Mapping.{IsMapped}
 
--- the memory has the frames of the host, and behind them a budget that its taken bytes have room for
+-- the memory has the frames of the host, and after them a budget that its taken bytes have room for
 pub record HasBudget (bytes : List ℕ) : Type 0 where
   pub host : PAGE_SIZE * BUDGET_FRAMES ≤ length bytes
   pub most : length bytes ≤ PAGE_SIZE * (BUDGET_FRAMES + MAX_PAGES)
@@ -35,7 +35,7 @@ AllTaken bytes = (frame : ℕ) → IsBudgetFrame bytes frame → IsTaken bytes f
 abbrev pub AllTakenBelow : List ℕ → ℕ → Type 0
 AllTakenBelow bytes end = (frame : ℕ) → BUDGET_FRAMES ≤ frame → frame < end → IsTaken bytes frame
 
--- no page stands in the frame
+-- no page lies in the frame
 abbrev pub IsNamedNowhere : List ℕ → ℕ → Type 0
 IsNamedNowhere bytes frame = (lin : ℕ) → lin < 2 ^ 32 → IsMapped bytes lin →
     frame_of (table_entry bytes PAGE_DIRECTORY lin) ≢ frame

@@ -9,6 +9,6 @@ use Rattle.page_tables.specs.declared.entry.TheConstants.{WRITABLE, USER, USER_W
 abbrev pub allows : ℕ → Bool → Bool
 allows entry write = has_bit entry USER && (not write || has_bit entry WRITABLE)
 
--- the entry of a page that stands in a frame, for the user
+-- the entry of a page that lies in a frame, for the user
 abbrev pub page_entry : ℕ → Bool → ℕ
 page_entry frame writable = PAGE_SIZE * frame + cond writable USER_WRITABLE USER_READ_ONLY

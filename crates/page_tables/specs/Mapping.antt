@@ -31,11 +31,11 @@ pub record HasTables (bytes : List ℕ) : Type 0 where
 abbrev pub IsCovered : List ℕ → ℕ → Type 0
 IsCovered bytes lin = IsTrue (has_bit (directory_entry bytes PAGE_DIRECTORY lin) PRESENT)
 
--- its page stands nowhere
+-- its page is nowhere
 abbrev pub IsUnmapped : List ℕ → ℕ → Type 0
 IsUnmapped bytes lin = has_bit (table_entry bytes PAGE_DIRECTORY lin) PRESENT ≡ false
 
--- its page stands in a frame
+-- its page lies in a frame
 pub record IsMapped (bytes : List ℕ) (lin : ℕ) : Type 0 where
   pub covered : IsCovered bytes lin
   pub present : IsTrue (has_bit (table_entry bytes PAGE_DIRECTORY lin) PRESENT)

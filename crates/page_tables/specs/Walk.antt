@@ -47,12 +47,12 @@ abbrev pub fault : Bool → Result ℕ PageFault
 fault both = Err (record { present = both })
 
 -- where an access ends that meets these two entries. Presence is asked of both before rights of both
-unfoldable pub ended : ℕ → ℕ → ℕ → Bool → Result ℕ PageFault
-ended directory table lin write =
+unfoldable pub walk_end : ℕ → ℕ → ℕ → Bool → Result ℕ PageFault
+walk_end directory table lin write =
     if not (has_bit directory PRESENT) || not (has_bit table PRESENT) then fault false
     else if allows directory write && allows table write then Ok (PAGE_SIZE * frame_of table + lin % PAGE_SIZE)
     else fault true
 
 -- where an access to a linear address ends, by the directory in frame root
 unfoldable pub walked : List ℕ → ℕ → ℕ → Bool → Result ℕ PageFault
-walked bytes root lin write = ended (directory_entry bytes root lin) (table_entry bytes root lin) lin write
+walked bytes root lin write = walk_end (directory_entry bytes root lin) (table_entry bytes root lin) lin write

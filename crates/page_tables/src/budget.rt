@@ -1,4 +1,4 @@
-// The frames of the page budget: which are taken stands in a byte for each.
+// The frames of the page budget: a byte for each says which are taken.
 ghost use Rattle.std.specs.Prelude.{◌≡◌, ◌↔◌, ◌<◌, ◌≤◌, IsNone, IfSome, IfNone, slice_set, length};
 ghost use Rattle.page_tables.specs.Budget.{HasBudget, IsBudgetFrame, IsFree, IsTaken, AllTaken, AllTakenBelow, IsNamedNowhere, taken_place};
 

@@ -49,7 +49,7 @@ pub(crate) fn is_allowed(entry: u32, write: bool) -> bool
     is_set(entry, USER) && (!write || is_set(entry, WRITABLE))
 }
 
-// The entry of a page that stands in a frame.
+// The entry of a page that lies in a frame.
 pub(crate) fn page_entry(frame: u32, writable: bool) -> u32
     requires { PAGE_SIZE * frame + PAGE_SIZE < 2 ^ 32 }
     ensures { result ≡ page_entry frame writable }

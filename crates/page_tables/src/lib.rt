@@ -1,6 +1,6 @@
 //! The two-level page tables of the machine, and the frames of its page budget.
 //! It promises that `map` and `unmap` change the manual's walk at one page alone, and that no frame is taken twice.
-//! It stands on `client_world` and `guest_ram`; what reaches the client's memory through pages stands on it.
+//! It uses `client_world` and `guest_ram`; what reaches the client's memory through pages uses it.
 #![tactic(auto)]
 
 mod budget;

@@ -11,7 +11,7 @@ use crate::translation::place_of;
 use client_world::host_frames::{PAGE_DIRECTORY, PAGE_SIZE};
 use guest_ram::Ram;
 
-/// Lets the page of a linear address stand in a frame, for the user to read, or to read and write.
+/// Maps the page of a linear address to a frame, for the user to read, or to read and write.
 /// Source: 80386 Programmer's Reference Manual, ch. 5, "Page Translation".
 pub fn map(ram: &mut Ram, lin: u32, frame: u32, writable: bool)
     requires tables { HasTables ram.old }
@@ -31,7 +31,7 @@ pub fn map(ram: &mut Ram, lin: u32, frame: u32, writable: bool)
     ram.set32(place, page_entry(frame, writable));
 }
 
-/// Lets the page of a linear address stand nowhere, and answers the frame in which it stood.
+/// Unmaps the page of a linear address, and returns its frame.
 /// Source: 80386 Programmer's Reference Manual, ch. 5, "Page Translation".
 pub fn unmap(ram: &mut Ram, lin: u32) -> u32
     requires tables { HasTables ram.old }

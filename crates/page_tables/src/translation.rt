@@ -2,7 +2,7 @@
 ghost use Rattle.std.specs.Prelude.{◌≡◌, ◌≤◌, ◌<◌, ◌+◌, ◌*◌, ◌^◌, ℕ, length};
 ghost use Rattle.client_world.specs.declared.host_frames.TheConstants.{PAGE_SIZE};
 ghost use Rattle.guest_ram.specs.Bytes.{dword};
-ghost use Rattle.page_tables.specs.Walk.{IsFrame, TablesInside, ended, entry_place, directory_entry, table_place, walked};
+ghost use Rattle.page_tables.specs.Walk.{IsFrame, TablesInside, walk_end, entry_place, directory_entry, table_place, walked};
 
 use crate::entry::{PRESENT, TABLE_SPAN, is_allowed, is_set};
 use client_world::PageFault;
@@ -11,9 +11,9 @@ use guest_ram::Ram;
 
 // Where an access ends that meets these two entries.
 #[inline(always)]
-#[tactic(auto, unfolding(crate::specs::Walk::ended))]
+#[tactic(auto, unfolding(crate::specs::Walk::walk_end))]
 fn end(directory: u32, table: u32, lin: u32, write: bool) -> Result<u32, PageFault>
-    ensures { result ≡ ended directory table lin write }
+    ensures { result ≡ walk_end directory table lin write }
 {
     if !is_set(directory, PRESENT) || !is_set(table, PRESENT) {
         Err(PageFault { present: false })
@@ -48,7 +48,7 @@ pub(crate) fn place_of(ram: &Ram, root: u32, lin: u32) -> u32
 }
 
 /// Where in the memory a user's access to a linear address ends, by the page directory in frame `root`.
-/// A `PageFault` tells whether both entries were present. No entry's accessed or dirty bit changes.
+/// A `PageFault` says whether both entries were present. No entry's accessed or dirty bit changes.
 /// Source: 80386 Programmer's Reference Manual, ch. 5, "Page Translation", and ch. 6, "Page-Level Protection".
 #[inline(always)]
 #[tactic(auto, unfolding(crate::specs::Walk::walked))]

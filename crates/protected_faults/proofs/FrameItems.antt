@@ -16,7 +16,7 @@ use Rattle.client_world.specs.World.{World}
 use Rattle.guest_ram.specs.Bytes.{region}
 use Rattle.guest_space.specs.Far.{far_bytes}
 use Rattle.guest_space.specs.Pending.{byte_count, number_bytes}
-use Rattle.guest_space.specs.Transfer.{loaded}
+use Rattle.guest_space.specs.Transfer.{read_result}
 use Rattle.guest_space.proofs.FarLaws.{part_is_read}
 use Rattle.guest_space.proofs.HostStacks.{stacks_at, stacks_loaded, stacks_reachable}
 use Rattle.host_memory.specs.View.{MachineView}
@@ -50,10 +50,10 @@ pointer_is w n esp e small =
     ∙ cut_small (has_big_stack w) (esp + n) small
 
 value_is : (w : World) (bits place off : ℕ) (bytes : List ℕ) → stack_pointer_up w (byte_count bits * place) w.regs ≡ off →
-    loaded w Ss off (byte_count bits) ≡ Ok bytes → value_of w (stack_item w bits place) ≡ Ok (number_of bytes)
+    read_result w Ss off (byte_count bits) ≡ Ok bytes → value_of w (stack_item w bits place) ≡ Ok (number_of bytes)
 unfolding value_of stack_item
 value_is w bits place off bytes pointer e =
-    ap (λ (a : ℕ). number_read (loaded w Ss a (byte_count bits))) pointer ∙ ap number_read e
+    ap (λ (a : ℕ). number_read (read_result w Ss a (byte_count bits))) pointer ∙ ap number_read e
 
 item_is : (w : World) (bits offset : ℕ) (frame : List ℕ) (place at : ℕ) → AtFrame w bits offset frame →
     offset + 2 * byte_count bits + byte_count bits * place ≡ offset + at → at + byte_count bits ≤ 8 * byte_count bits →

@@ -14,7 +14,7 @@ use Rattle.guest_space.proofs.Writes.{all_none, first_none}
 use Rattle.guest_space.specs.Pending.{all_written, first_refusal}
 use Rattle.host_memory.specs.View.{MachineView}
 use Rattle.insn_plan.specs.Act.{Act, Input, Pending, Read, unless_fault, value_of}
-use Rattle.insn_plan.specs.Plan.{carried_out, planned, settled, with_state}
+use Rattle.insn_plan.specs.Plan.{carried_out, planned, after_commit, with_state}
 use Rattle.insn_plan.specs.Stack.{stack_item}
 use Rattle.protected_faults.specs.Return.{exception_left, exception_popped}
 
@@ -75,14 +75,14 @@ granted_is : (o : Option Fault) (x : MachineView) → o ≡ None →
 granted_is None x none = refl
 granted_is (Some f) x none = absurd cc
 
-pub settled_is : (v : MachineView) (p : Pending) → p.writes ≡ [] → settled v p ≡ Ok (with_state p.regs p.vif v)
-unfolding settled
+pub settled_is : (v : MachineView) (p : Pending) → p.writes ≡ [] → after_commit v p ≡ Ok (with_state p.regs p.vif v)
+unfolding after_commit
 settled_is v p none =
     granted_is (first_refusal v.world p.writes) (with_state p.regs p.vif (all_written v p.writes)) (ap (first_refusal v.world) none ∙ first_none v.world)
     ∙ ap (λ (t : MachineView). Ok (with_state p.regs p.vif t)) (ap (all_written v) none ∙ all_none v)
 
-settles : (v u : MachineView) (p : Pending) → IsRestore v.world.regs p → settled v p ≡ Ok u → Restores v u
-unfolding settled
+settles : (v u : MachineView) (p : Pending) → IsRestore v.world.regs p → after_commit v p ≡ Ok u → Restores v u
+unfolding after_commit
 settles v u p h e = record {
   regs = p.regs;
   vif = p.vif;

@@ -31,7 +31,7 @@ use Rattle.guest_space.specs.Far.{far_bytes}
 use Rattle.guest_space.specs.Pending.{byte_count}
 use Rattle.guest_space.proofs.FarLaws.{written_is_read}
 use Rattle.guest_space.proofs.HostStacks.{far_same, stacks_at, stacks_loaded, stacks_reachable}
-use Rattle.guest_space.specs.Transfer.{loaded}
+use Rattle.guest_space.specs.Transfer.{read_result}
 use Rattle.guest_space.proofs.MemoryAlone.{other_far}
 use Rattle.guest_space.specs.VectorLists.{vector_at}
 use Rattle.host_memory.specs.View.{MachineView}
@@ -288,15 +288,15 @@ handler_esp v f p = refl
 
 frame_read : (v : MachineView) (f : Fault) (p : FarPtr) → IsSound v.world → v.world.mode ≡ Protected → v.world.width ≢ None →
     depth v.world < GREATEST_DEPTH → p.sel < 0x10000 →
-    loaded (after_delivery v f p).world Ss (after_delivery v f p).world.regs.esp (frame_size v.world) ≡ Ok (exception_frame v.world f)
+    read_result (after_delivery v f p).world Ss (after_delivery v f p).world.regs.esp (frame_size v.world) ≡ Ok (exception_frame v.world f)
 frame_read v f p s mode some room word =
     let r = handler_regs v.world p in
     let w = world_then v f r false in
     let k = kept v f in
     let is = handler_world v f p in
     let small = size_small v.world in
-    ap (λ (a : ℕ). loaded (after_delivery v f p).world Ss a (frame_size v.world)) (handler_esp v f p)
-    ∙ ap (λ (x : World). loaded x Ss (frame_offset v.world) (frame_size v.world)) is
+    ap (λ (a : ℕ). read_result (after_delivery v f p).world Ss a (frame_size v.world)) (handler_esp v f p)
+    ∙ ap (λ (x : World). read_result x Ss (frame_offset v.world) (frame_size v.world)) is
     ∙ stacks_loaded w (frame_offset v.world) (frame_size v.world) (subst IsSound is (sound_delivered v f p s some room word)) (k.mode ∙ mode) refl
     (λ e. some (sym k.width ∙ e)) (omega arith)
     ∙ ap Ok (frame_there v f r false s some room)
@@ -305,7 +305,7 @@ pub frame_law : FrameLaw
 frame_law v u f s mode e =
     let done = is_delivered v u f e in
     let p = vector_at v.world.exception_vectors f.number in
-    subst (λ (x : MachineView). loaded x.world Ss x.world.regs.esp (frame_size v.world) ≡ Ok (exception_frame v.world f)) (sym done.is)
+    subst (λ (x : MachineView). read_result x.world Ss x.world.regs.esp (frame_size v.world) ≡ Ok (exception_frame v.world f)) (sym done.is)
     (frame_read v f p s mode (protected_by v.world.width v.world mode s.width) done.room
     (code_is_named_by_a_word v.world.descriptors p.sel p.off false s.descriptors.indices done.loads))
 

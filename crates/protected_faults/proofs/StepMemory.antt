@@ -21,7 +21,7 @@ use Rattle.insn_decode.specs.declared.decoding.Decoded.TheVariants.{Whole, More,
 use Rattle.insn_decode.specs.Decode.{decoded}
 use Rattle.insn_forms.specs.declared.insn.Insn.{Insn}
 use Rattle.insn_plan.specs.Act.{Pending}
-use Rattle.insn_plan.specs.Plan.{carried_out, planned, settled, with_state}
+use Rattle.insn_plan.specs.Plan.{carried_out, planned, after_commit, with_state}
 use Rattle.protected_faults.specs.StepMemory.{StepLaw, written_by, written_of, written_places}
 
 -- a view whose writes change their places alone
@@ -33,8 +33,8 @@ granted : (o : Option Fault) (x u : MachineView) →
 granted None x u e = cc
 granted (Some f) x u e = absurd cc
 
-settled_only : (v u : MachineView) (p : Pending) → WritesOnly v → settled v p ≡ Ok u → OnlyAt (places_of_writes v.world p.writes) v.bytes u.bytes
-unfolding settled
+settled_only : (v u : MachineView) (p : Pending) → WritesOnly v → after_commit v p ≡ Ok u → OnlyAt (places_of_writes v.world p.writes) v.bytes u.bytes
+unfolding after_commit
 settled_only v u p only e =
     subst (λ (t : MachineView). OnlyAt (places_of_writes v.world p.writes) v.bytes t.bytes)
     (granted (first_refusal v.world p.writes) (with_state p.regs p.vif (all_written v p.writes)) u e) (only p)

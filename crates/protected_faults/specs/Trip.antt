@@ -12,7 +12,7 @@ use Rattle.client_world.specs.Soundness.{IsSound, HasSegments}
 use Rattle.client_world.specs.World.{World}
 use Rattle.exec_flow.specs.Interrupts.{frame_bits}
 use Rattle.guest_space.specs.Pending.{byte_count}
-use Rattle.guest_space.specs.Transfer.{loaded}
+use Rattle.guest_space.specs.Transfer.{read_result}
 use Rattle.host_memory.specs.View.{MachineView}
 use Rattle.insn_plan.specs.Plan.{with_state}
 use Rattle.mode_stack.specs.Stack.{after_pop}
@@ -22,7 +22,7 @@ use Rattle.protected_faults.specs.Return.{exception_return}
 -- at the handler the frame is read at SS:ESP
 abbrev pub FrameLaw : Type 0
 FrameLaw = (v u : MachineView) (f : Fault) → IsSound v.world → v.world.mode ≡ Protected → protected_delivery v f ≡ Ok u →
-    loaded u.world Ss u.world.regs.esp (frame_size v.world) ≡ Ok (exception_frame v.world f)
+    read_result u.world Ss u.world.regs.esp (frame_size v.world) ≡ Ok (exception_frame v.world f)
 
 -- a number in an item of that many bits
 abbrev pub cut_item : ℕ → ℕ → ℕ

@@ -19,13 +19,13 @@ pub record Service : Type 0 where
   pub after : World
 
 -- the carry and the world after a service: with a reason of refusal the carry is set and nothing changes
-abbrev pub answer : Option Refusal → World → World → Served
-answer None before after = record { carry = Clear; world = after }
-answer (Some refusal) before after = record { carry = Set; world = before }
+abbrev pub service_answer : Option Refusal → World → World → Served
+service_answer None before after = record { carry = Clear; world = after }
+service_answer (Some refusal) before after = record { carry = Set; world = before }
 
 -- the same for the first reason that applies
 abbrev pub outcome : Service → World → Served
-outcome s before = answer (first_reason s.reasons) before s.after
+outcome s before = service_answer (first_reason s.reasons) before s.after
 
 -- a call does the service's work, or it returns the first reason that applies and changes nothing
 abbrev pub Does : Service → Result Unit Refusal → MachineView → MachineView → Type 0

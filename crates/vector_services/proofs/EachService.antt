@@ -4,7 +4,7 @@ use Rattle.client_world.specs.World.{World}
 use Rattle.service_rows.specs.Reasons.{Service}
 use Rattle.service_rows.specs.Rows.{unsupported}
 use Rattle.service_rows.proofs.AnswerLaws.{if_has}
-use Rattle.vector_services.specs.Rows.{function_of, disable_interrupts, enable_interrupts, get_exception_vector, get_protected_vector, get_real_vector, interrupt_state, set_exception_vector, set_protected_vector, set_real_vector, version}
+use Rattle.vector_services.specs.Rows.{function_of, disable_interrupts, enable_interrupts, get_exception_vector, get_protected_vector, get_real_vector, interrupt_state, set_exception_vector, set_protected_vector, set_real_vector, dpmi_version}
 
 pub record Each (P : Service → Type 0) (w : World) : Type 0 where
   pub f200 : P (get_real_vector w)
@@ -13,7 +13,7 @@ pub record Each (P : Service → Type 0) (w : World) : Type 0 where
   pub f203 : P (set_exception_vector w)
   pub f204 : P (get_protected_vector w)
   pub f205 : P (set_protected_vector w)
-  pub f400 : P (version w)
+  pub f400 : P (dpmi_version w)
   pub f900 : P (disable_interrupts w)
   pub f901 : P (enable_interrupts w)
   pub f902 : P (interrupt_state w)

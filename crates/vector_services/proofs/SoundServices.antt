@@ -11,7 +11,7 @@ use Rattle.guest_space.proofs.SoundLists.{IsSound-vectors}
 use Rattle.service_rows.specs.Reasons.{Service, first_reason}
 use Rattle.service_rows.specs.Rows.{unsupported}
 use Rattle.service_rows.proofs.AnswerLaws.{of_answer}
-use Rattle.vector_services.specs.Rows.{function_of, bl, cx_dx, disable_interrupts, enable_interrupts, get_exception_vector, get_protected_vector, get_real_vector, interrupt_state, real_vector, vector_service, set_exception_vector, set_protected_vector, set_real_vector, version}
+use Rattle.vector_services.specs.Rows.{function_of, bl, cx_dx, disable_interrupts, enable_interrupts, get_exception_vector, get_protected_vector, get_real_vector, interrupt_state, real_vector_address, vector_service, set_exception_vector, set_protected_vector, set_real_vector, dpmi_version}
 use Rattle.vector_services.proofs.EachService.{of_each_service}
 
 -- general registers hold anything
@@ -29,10 +29,10 @@ sound_word : (dos : List ℕ) (at v : ℕ) → SoundMegabyte dos → at + 1 < RO
 sound_word dos at v s below fits =
     SoundMegabyte-set (slice_set dos at (v % 0x100)) (at + 1) (v / 0x100) (SoundMegabyte-set dos at (v % 0x100) s (omega arith) (omega arith)) below (omega arith)
 
-sound_real : (w : World) → IsSound w → IsSound (record w { dos = with_word (with_word w.dos (real_vector w) (dx w)) (real_vector w + 2) (cx w) })
-sound_real w s = IsSound-dos w (with_word (with_word w.dos (real_vector w) (dx w)) (real_vector w + 2) (cx w)) s
-    (sound_word (with_word w.dos (real_vector w) (dx w)) (real_vector w + 2) (cx w)
-    (sound_word w.dos (real_vector w) (dx w) s.megabyte (omega arith) (omega arith)) (omega arith) (omega arith))
+sound_real : (w : World) → IsSound w → IsSound (record w { dos = with_word (with_word w.dos (real_vector_address w) (dx w)) (real_vector_address w + 2) (cx w) })
+sound_real w s = IsSound-dos w (with_word (with_word w.dos (real_vector_address w) (dx w)) (real_vector_address w + 2) (cx w)) s
+    (sound_word (with_word w.dos (real_vector_address w) (dx w)) (real_vector_address w + 2) (cx w)
+    (sound_word w.dos (real_vector_address w) (dx w) s.megabyte (omega arith) (omega arith)) (omega arith) (omega arith))
 
 sound_exception : (w : World) (n : ℕ) (p : FarPtr) → IsSound w → IsSound (record w { exception_vectors = slice_set w.exception_vectors n p })
 sound_exception w n p s = IsSound-vectors w w.interrupt_vectors (slice_set w.exception_vectors n p) w.pageable s
@@ -43,7 +43,7 @@ sound_interrupt w n p s = IsSound-vectors w (slice_set w.interrupt_vectors n p) 
     (length-set w.interrupt_vectors n p ∙ s.interrupt_vectors) s.exception_vectors s.pageable
 
 sound_after : (ax : ℕ) (w : World) → IsSound w → IsSound (function_of ax w).after
-unfolding disable_interrupts enable_interrupts get_exception_vector get_protected_vector get_real_vector interrupt_state set_exception_vector set_protected_vector set_real_vector version unsupported
+unfolding disable_interrupts enable_interrupts get_exception_vector get_protected_vector get_real_vector interrupt_state set_exception_vector set_protected_vector set_real_vector dpmi_version unsupported
 sound_after ax w s = of_each_service (λ (a : Service). IsSound a.after) w (record {
   f200 = sound_general w w.regs.eax w.regs.ebx _ _ s;
   f201 = sound_real w s;

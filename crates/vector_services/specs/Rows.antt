@@ -21,8 +21,8 @@ abbrev pub bl : World → ℕ
 bl w = low_byte w.regs.ebx
 
 -- the address of real vector BL: its offset, and then its segment
-abbrev pub real_vector : World → ℕ
-real_vector w = 4 * bl w
+abbrev pub real_vector_address : World → ℕ
+real_vector_address w = 4 * bl w
 
 -- 0200h: CX:DX is real vector BL
 unfoldable pub get_real_vector : World → Service
@@ -30,8 +30,8 @@ get_real_vector w = record {
   reasons = [];
   after = record w {
     regs = record w.regs {
-      ecx = with_low_half w.regs.ecx (word_of w.dos (real_vector w + 2));
-      edx = with_low_half w.regs.edx (word_of w.dos (real_vector w));
+      ecx = with_low_half w.regs.ecx (word_of w.dos (real_vector_address w + 2));
+      edx = with_low_half w.regs.edx (word_of w.dos (real_vector_address w));
     };
   };
 }
@@ -40,7 +40,7 @@ get_real_vector w = record {
 unfoldable pub set_real_vector : World → Service
 set_real_vector w = record {
   reasons = [];
-  after = record w { dos = with_word (with_word w.dos (real_vector w) (dx w)) (real_vector w + 2) (cx w) };
+  after = record w { dos = with_word (with_word w.dos (real_vector_address w) (dx w)) (real_vector_address w + 2) (cx w) };
 }
 
 -- a register with a new value: in its low half for a 16-bit client, in all of it for a 32-bit one
@@ -103,8 +103,8 @@ set_protected_vector w = record {
 
 -- 0400h: AX is the version 0.90, BX says a 32-bit host without virtual memory, CL an 80386, and DH and DL are the base interrupts of the two
 -- interrupt controllers
-unfoldable pub version : World → Service
-version w = record {
+unfoldable pub dpmi_version : World → Service
+dpmi_version w = record {
   reasons = [];
   after = record w {
     regs = record w.regs {
@@ -139,7 +139,7 @@ function_of ax w =
     if nat_eq ax 0x0203 then set_exception_vector w else
     if nat_eq ax 0x0204 then get_protected_vector w else
     if nat_eq ax 0x0205 then set_protected_vector w else
-    if nat_eq ax 0x0400 then version w else
+    if nat_eq ax 0x0400 then dpmi_version w else
     if nat_eq ax 0x0900 then disable_interrupts w else
     if nat_eq ax 0x0901 then enable_interrupts w else
     if nat_eq ax 0x0902 then interrupt_state w else unsupported w

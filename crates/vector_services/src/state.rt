@@ -1,7 +1,7 @@
 // The version of the host, and virtual interrupts.
 ghost use Rattle.std.specs.Prelude.{◌≡◌};
 ghost use Rattle.service_rows.specs.Reasons.{Does};
-ghost use Rattle.vector_services.specs.Rows.{disable_interrupts, enable_interrupts, interrupt_state, version, with_vif};
+ghost use Rattle.vector_services.specs.Rows.{disable_interrupts, enable_interrupts, interrupt_state, dpmi_version, with_vif};
 
 use guest_space::Machine;
 use service_rows::{Refusal, with_low_byte, with_low_half};
@@ -16,9 +16,9 @@ const PROCESSOR: u8 = 3;
 const CONTROLLERS: u16 = 0x0870;
 
 /// Function 0400h: the version.
-#[tactic(auto, unfolding(crate::specs::Rows::version))]
+#[tactic(auto, unfolding(crate::specs::Rows::dpmi_version))]
 pub(crate) fn version(m: &mut Machine) -> Result<(), Refusal>
-    ensures { Does (version m.old.world) result m.old m.new }
+    ensures { Does (dpmi_version m.old.world) result m.old m.new }
 {
     let mut r = m.regs();
     r.eax = with_low_half(r.eax, VERSION);

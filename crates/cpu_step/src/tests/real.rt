@@ -64,7 +64,7 @@ pub(crate) const REAL_RAISES: [Raises; 34] = [
     raises!(REAL, [0x2E, 0xCD, 0xFF], [], soft!(0xFF, 3)),
     raises!(REAL, [0xCC], [], soft!(3, 1)),
     raises!(REAL, [0xCE], [flags: Flags { of: true, ..Flags::CLEAR }], soft!(4, 1)),
-    // fifteen bytes without an end; what is invalid wins over the fetch behind it; code that can't be fetched
+    // fifteen bytes without an end; what is invalid wins over the fetch after it; code that can't be fetched
     raises!(
         REAL,
         [

@@ -2,7 +2,7 @@
 use client_world::limits::CONSOLE_ROOM;
 use client_world::{DosDone, Exit, Flags, Regs};
 
-// A row begins with these registers, but for what it names: DS:DX is 1000h:0100h, and the pushed flags stand at SS:0304h.
+// A row begins with these registers, but for what it names: DS:DX is 1000h:0100h, and the pushed flags are at SS:0304h.
 pub(crate) const START: Regs = Regs {
     eax: 0x1111_0000,
     ecx: 0x3333_0000,
@@ -38,7 +38,7 @@ pub(crate) struct Row {
     pub(crate) done: DosDone,
 }
 
-// Carry and zero are set, and a text stands in memory.
+// Carry and zero are set, and a text lies in memory.
 const PLAIN: Row = Row {
     regs: START,
     regs_after: START,

@@ -2,7 +2,7 @@
 use client_world::{Event, Fault, Flags, Regs, SegReg};
 use insn_forms::{Insn, MemForm, Op, Operand, Rep};
 
-// What stands at DS:0100h, at ES:0200h, and at SS:02FEh; the stack's top is at SS:0300h.
+// What is at DS:0100h, at ES:0200h, and at SS:02FEh; the stack's top is at SS:0300h.
 #[derive(Clone, Copy, Debug, PartialEq, Eq)]
 pub(crate) struct Memory {
     pub(crate) data: u32,

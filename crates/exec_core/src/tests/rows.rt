@@ -124,7 +124,7 @@ pub(crate) const STACKS: [Case; 8] = [
     case!(insn!(Op::Push, 16, SP, NONE), [] b"", [esp: 0x2FE] b"", stack: 0x0B0A_0300),
     case!(insn!(Op::Push, 16, AX, NONE), [esp: 0xFFFF_0300] b"", [esp: 0xFFFF_02FE] b"", stack: 0x0B0A_4321),
     case!(insn!(Op::Pop, 16, CX, NONE), [] b"", [ecx: 0x0B0A, esp: 0x302] b""),
-    // the address is that of the stack pointer behind the item
+    // the address is that of the stack pointer after the item
     case!(insn!(Op::Pop, 16, place!(SegReg::Ss, 4, 0xFFFF_FFFC), NONE, addr32: true),
         [] b"", [esp: 0x302] b"", stack: 0x0B0A_0B0A),
     case!(insn!(Op::Pusha, 16, NONE, NONE), [] b"", [esp: 0x2F0] b"", stack: 0x0B0A_4321),

@@ -2,7 +2,7 @@ use Rattle.std.proofs.Common.{◌≡◌, refl, ap, sym, subst}
 use Rattle.client_world.specs.declared.registers.Regs.{Regs}
 use Rattle.exec_core.specs.Stacks.{pusha, register_pushed}
 use Rattle.insn_plan.specs.Act.{Pending, unchanged}
-use Rattle.insn_plan.specs.Plan.{Follows, carried_out, settled}
+use Rattle.insn_plan.specs.Plan.{Follows, carried_out, after_commit}
 use Rattle.insn_plan.specs.Stack.{with_push}
 use Rattle.exec_core.proofs.Pushes.{push_is}
 use Rattle.exec_core.proofs.stacks.pusha.Goals as goal
@@ -43,4 +43,4 @@ returns c =
     let pushes : register_pushed w width 7 (register_pushed w width 6 (register_pushed w width 5 (register_pushed w width 4
     (register_pushed w width 3 (register_pushed w width 2 (register_pushed w width 1 (register_pushed w width 0
     (unchanged w)))))))) ≡ p8 = cc in
-    subst (λ (p : Pending). Follows c.args.m.now c.settle_pushes.new.m c.settle_pushes.result (settled c.args.m.now p)) (sym pushes) c.settle_pushes.ensures
+    subst (λ (p : Pending). Follows c.args.m.now c.settle_pushes.new.m c.settle_pushes.result (after_commit c.args.m.now p)) (sym pushes) c.settle_pushes.ensures

@@ -1,6 +1,6 @@
 use Rattle.std.proofs.Common.{◌∙◌, sym, ap, arith}
 use Rattle.insn_forms.proofs.Tables.{row_one_is, row_two_is, one_has_rows, two_has_rows}
-use Rattle.insn_forms.specs.OpcodeMap.{row_at}
+use Rattle.insn_forms.specs.OpcodeMap.{opcode_row}
 use Rattle.insn_forms.proofs.table.row_of.Goals as goal
 
 pub row_in_slot-requires-clause-has_rows : goal.row_in_slot-requires-clause-has_rows
@@ -13,10 +13,10 @@ pub returns-in-One : goal.returns-in-One
 returns-in-One c =
     c.row_in_slot.ensures
     ∙ ap (λ f. f c.args.reg) (row_one_is c.args.opcode _ (omega (arith, c.ranges.opcode.fits)))
-    ∙ ap (λ m. row_at m c.args.opcode c.args.reg) (sym c.in-One.is)
+    ∙ ap (λ m. opcode_row m c.args.opcode c.args.reg) (sym c.in-One.is)
 
 pub returns-in-Two : goal.returns-in-Two
 returns-in-Two c =
     c.row_in_slot-in-Two.ensures
     ∙ ap (λ f. f c.args.reg) (row_two_is c.args.opcode _ (omega (arith, c.ranges.opcode.fits)))
-    ∙ ap (λ m. row_at m c.args.opcode c.args.reg) (sym c.in-Two.is)
+    ∙ ap (λ m. opcode_row m c.args.opcode c.args.reg) (sym c.in-Two.is)

@@ -2,14 +2,14 @@ use Rattle.std.proofs.Common.{Ok, sym, ap, ◌∙◌}
 use Rattle.host_memory.specs.View.{MachineView}
 use Rattle.insn_forms.specs.declared.insn.Operand.{Operand}
 use Rattle.insn_plan.specs.Act.{unchanged}
-use Rattle.insn_plan.specs.Operands.{put}
-use Rattle.insn_plan.specs.Plan.{settled}
+use Rattle.insn_plan.specs.Operands.{put_operand}
+use Rattle.insn_plan.specs.Plan.{after_commit}
 use Rattle.insn_plan.proofs.Registered.{put_in_register}
 use Rattle.insn_plan.proofs.operands.put_operand.Goals as goal
 
 pub returns-in-Reg : goal.returns-in-Reg
 returns-in-Reg c =
     let v = c.args.m.now in
-    ap (λ (o : Operand). settled v (put v.world.regs c.args.addr32 c.args.width o c.args.v (unchanged v.world))) c.in-Reg.is
+    ap (λ (o : Operand). after_commit v (put_operand v.world.regs c.args.addr32 c.args.width o c.args.v (unchanged v.world))) c.in-Reg.is
     ∙ put_in_register v v.world.regs c.args.addr32 c.args.width c.in-Reg.width c.in-Reg.number c.args.v
     ∙ sym (ap (λ (u : MachineView). Ok u) c.put_register.ensures)

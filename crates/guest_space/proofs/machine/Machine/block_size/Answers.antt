@@ -1,6 +1,6 @@
 use Rattle.std.proofs.Common.{refl}
 use Rattle.client_world.specs.World.{block_at}
-use Rattle.block_memory.specs.BlockSizes.{resized}
+use Rattle.block_memory.specs.BlockSizes.{sized_block}
 use Rattle.guest_space.specs.Machines.{Processor}
 use Rattle.block_memory.proofs.SizedSound.{some_width}
 use Rattle.guest_space.proofs.BlockCalls.{block_call, may_size}
@@ -18,7 +18,7 @@ invariant_of-self c =
     let k : Processor = record { budget = m.pages; mode = m.mode; regs = m.regs; vif = m.vif; width = m.width } in
     let w = c.args.self.now.world in
     let done = block_call k m.ram c.args.self.now c.self.view_is c.resize_block.new.ram c.self.invariant.0 c.self.invariant.1 c.args.handle
-    (λ o. resized c.args.base c.args.pages o) (resized c.args.base c.args.pages (block_at w.blocks c.args.handle)) c.requires.some c.resize_block.ensures
+    (λ o. sized_block c.args.base c.args.pages o) (sized_block c.args.base c.args.pages (block_at w.blocks c.args.handle)) c.requires.some c.resize_block.ensures
     (some_width w c.args.handle c.soundness.ensures c.requires.room.held) refl in
     (done.holds, done.sound)
 
@@ -28,7 +28,7 @@ returns-clause-world c =
     let k : Processor = record { budget = m.pages; mode = m.mode; regs = m.regs; vif = m.vif; width = m.width } in
     let w = c.args.self.now.world in
     let done = block_call k m.ram c.args.self.now c.self.view_is c.resize_block.new.ram c.self.invariant.0 c.self.invariant.1 c.args.handle
-    (λ o. resized c.args.base c.args.pages o) (resized c.args.base c.args.pages (block_at w.blocks c.args.handle)) c.requires.some c.resize_block.ensures
+    (λ o. sized_block c.args.base c.args.pages o) (sized_block c.args.base c.args.pages (block_at w.blocks c.args.handle)) c.requires.some c.resize_block.ensures
     (some_width w c.args.handle c.soundness.ensures c.requires.room.held) refl in
     done.world
 
@@ -38,6 +38,6 @@ returns-clause-addresses c =
     let k : Processor = record { budget = m.pages; mode = m.mode; regs = m.regs; vif = m.vif; width = m.width } in
     let w = c.args.self.now.world in
     let done = block_call k m.ram c.args.self.now c.self.view_is c.resize_block.new.ram c.self.invariant.0 c.self.invariant.1 c.args.handle
-    (λ o. resized c.args.base c.args.pages o) (resized c.args.base c.args.pages (block_at w.blocks c.args.handle)) c.requires.some c.resize_block.ensures
+    (λ o. sized_block c.args.base c.args.pages o) (sized_block c.args.base c.args.pages (block_at w.blocks c.args.handle)) c.requires.some c.resize_block.ensures
     (some_width w c.args.handle c.soundness.ensures c.requires.room.held) refl in
     λ p before after. done.addresses p before after

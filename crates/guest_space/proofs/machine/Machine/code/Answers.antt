@@ -4,7 +4,7 @@ use Rattle.client_world.specs.declared.segments.SegReg.TheVariants.{Cs}
 use Rattle.host_memory.specs.View.{MachineView}
 use Rattle.host_memory.proofs.WorldParts.{regs_is}
 use Rattle.guest_space.specs.Code.{code_from}
-use Rattle.guest_space.specs.Transfer.{loaded}
+use Rattle.guest_space.specs.Transfer.{read_result}
 use Rattle.guest_space.proofs.Codes.{whole_code, more_code, code_ends, code_full}
 use Rattle.guest_space.proofs.machine.Machine.code.Goals as goal
 
@@ -16,7 +16,7 @@ returns-in-Ok c =
     let w = c.args.self.now.world in
     c.from.ensures.0
     ∙ sym (whole_code w 15 c.in-Ok.bytes (sym (ap length c.from.ensures.0) ∙ c.from.ensures.1)
-    (ap (λ (off : ℕ). loaded w Cs off 15) eip ∙ sym c.read.ensures ∙ c.in-Ok.is))
+    (ap (λ (off : ℕ). read_result w Cs off 15) eip ∙ sym c.read.ensures ∙ c.in-Ok.is))
 
 pub loop-at-init : goal.loop-at-init
 loop-at-init c = record {

@@ -1,11 +1,11 @@
 use Rattle.std.proofs.Common.{rules, ◌≡◌, ◌∙◌, sym, Some, true}
-use Rattle.guest_space.specs.Transfer.{refusal}
+use Rattle.guest_space.specs.Transfer.{access_fault}
 use Rattle.guest_space.proofs.Accesses.{refusal_refused, write_done, write_refused}
 use Rattle.guest_space.proofs.machine.Machine.write_checked.Goals as goal
 
 pub returns-in_err-base-clause-refused : goal.returns-in_err-base-clause-refused
 returns-in_err-base-clause-refused g c =
-    let told : refusal c.args.self.now.world c.args.seg c.args.off g.row.N true ≡ Some c.in_err-base.field-0.0 =
+    let told : access_fault c.args.self.now.world c.args.seg c.args.off g.row.N true ≡ Some c.in_err-base.field-0.0 =
     refusal_refused c.args.self.now.world c.args.seg c.args.off g.row.N true c.in_err-base.field-0.0 (sym c.segment_base.ensures ∙ c.in_err-base.was) in
     search rules
 

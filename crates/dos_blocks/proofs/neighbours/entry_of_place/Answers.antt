@@ -2,7 +2,7 @@ use Rattle.std.proofs.Common.{ap, arith}
 use Rattle.client_world.specs.declared.dos_memory.DosEntry.{DosEntry}
 use Rattle.dos_blocks.specs.Blocks.{nowhere}
 use Rattle.dos_blocks.proofs.NeighbourLaws.{entry_within}
-use Rattle.dos_blocks.proofs.neighbours.entry_of.Goals as goal
+use Rattle.dos_blocks.proofs.neighbours.entry_of_place.Goals as goal
 
 pub returns-then-place-arena_len-clause-small : goal.returns-then-place-arena_len-clause-small
 returns-then-place-arena_len-clause-small c =

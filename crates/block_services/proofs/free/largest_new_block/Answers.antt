@@ -1,6 +1,6 @@
 use Rattle.std.proofs.Common.{◌∙◌, sym, arith}
 use Rattle.block_services.proofs.FreeLaws.{largest_here, largest_next, largest_zero}
-use Rattle.block_services.proofs.free.largest.Goals as goal
+use Rattle.block_services.proofs.free.largest_new_block.Goals as goal
 
 pub down-preserved : goal.down-preserved
 down-preserved c =
