@@ -121,7 +121,8 @@ pub locked_few : (handles locks : List ℕ) → total (locked_of handles locks) 
 unfolding all_pages
 locked_few handles locks = less_sums (pages_of handles) (locked_of handles locks) 0 MAX_BLOCKS (λ k. run_few locks (first_page_of handles k) (pages_of handles k))
 
--- so the rows before a place, and that place's own, have no more. The sums of all rows stay closed
+-- the rows up to a place, and its own row, have no more pages than all rows have; nor are more of theirs locked. `all_pages` stays closed here,
+-- since a sum over so many rows is too long to compute
 at_most : (a b c : ℕ) → a ≤ b → b ≤ c → a ≤ c
 at_most a b c first second = omega arith
 
