@@ -1,19 +1,20 @@
 -- Selectors, and the descriptors that they name.
 -- Source: 80386 Programmer's Reference Manual, ch. 5, "Selectors", figure 5-6.
-use Rattle.std.specs.Prelude.{◌<◌, ◌^◌, ℕ, ◌+◌, ◌-◌, ◌*◌, ◌/◌, ◌%◌, Bool, List, None, Some, nat_eq, nat_lt, if◌then◌else◌, slice_index_or}
+use Rattle.std.specs.Prelude.{⊤, ℕ, ◌+◌, ◌-◌, ◌*◌, ◌/◌, ◌%◌, Bool, List, None, Some, nat_eq, nat_lt, if◌then◌else◌, slice_index_or}
 use Rattle.std.specs.declared.option.Option.{Option}
 use Rattle.client_world.specs.declared.descriptors.Desc.{Desc}
 use Rattle.client_world.specs.declared.descriptors.Origin.{Origin}
 use Rattle.client_world.specs.declared.selectors.TheConstants.{SELECTOR_STEP, SELECTOR_BITS}
+use Rattle.client_world.specs.Descriptor.{FitsDescriptor}
 
 -- a place of the client's table: a descriptor and its origin, or nothing
 abbrev pub Row : Type 0
 Row = Option (Desc × Origin)
 
--- the limit of the row's descriptor has 20 bits
+-- the base of the row's descriptor has 32 bits, and its limit 20
 abbrev pub FitsRow : Row → Type 0
-FitsRow None = Unit {0}
-FitsRow (Some row) = row.0.limit < 2 ^ 20
+FitsRow None = ⊤
+FitsRow (Some row) = FitsDescriptor row.0
 
 -- the row at an index
 abbrev pub row_at_index : List Row → ℕ → Row

@@ -100,7 +100,7 @@ abbrev pub IsPlainRow : Row → Type 0
 IsPlainRow None = ⊤
 IsPlainRow (Some row) = IsPlainOrigin row.1
 
--- indices are below 8192, limits have 20 bits, and a real segment has one descriptor at most
+-- indices are below 8192, bases have 32 bits and limits 20, and a real segment has one descriptor at most
 pub record SoundDescriptors (rows : List Row) : Type 0 where
   pub indices : length rows ≡ DESCRIPTORS
   pub fits : (index : ℕ) → FitsRow (row_at_index rows index)
