@@ -85,7 +85,7 @@ some_back d origin small = rw (unpacked-front d (rest_of origin), unpacked-packe
 pub row_at-row_bytes : (row : Row) → FitsRow row → row_at (row_bytes row) 0 ≡ row
 unfolding row_bytes
 row_at-row_bytes None fits = none_back
-row_at-row_bytes (Some r) fits = some_back r.0 r.1 fits
+row_at-row_bytes (Some r) fits = some_back r.0 r.1 fits.limit
 
 pub length-row_bytes : (row : Row) → length (row_bytes row) ≡ DESCRIPTOR_ROW_SIZE
 unfolding row_bytes packed

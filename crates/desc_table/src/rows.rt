@@ -76,7 +76,7 @@ pub fn look(ram: &Ram, index: u16) -> Option<(Desc, Origin)>
     requires rows { HasRows ram.now }
     requires index { index < DESCRIPTORS }
     ensures row { result ≡ row_at ram.now (row_address index) }
-    ensures limit { FitsRow result }
+    ensures fits { FitsRow result }
 {
     let at = address(index);
     let d = descriptor(ram, at)?;
@@ -127,11 +127,11 @@ fn bytes(row: Option<(Desc, Origin)>) -> [u8; 16]
     }
 }
 
-/// Puts a descriptor whose limit has 20 bits and its origin at an index below 8192, or frees the row. Source: own.
+/// Puts a descriptor and its origin at an index below 8192, or frees the row. Source: own.
 pub fn set(ram: &mut Ram, index: u16, row: Option<(Desc, Origin)>)
     requires rows { HasRows ram.old }
     requires index { index < DESCRIPTORS }
-    requires limit { FitsRow row }
+    requires fits { FitsRow row }
     ensures bytes { ram.new ≡ put ram.old (row_address index) (row_bytes row) }
     ensures row { row_at ram.new (row_address index) ≡ row }
     ensures others { (other : ℕ) → other ≢ index →

@@ -40,7 +40,7 @@ fn with_zero(m: &Machine, zero_flag: bool) -> Flags
 // The descriptor that the low word of a number names as a selector.
 fn row_of(m: &Machine, sel: u32) -> Option<(Desc, Origin)>
     ensures row { result ≡ row_of_selector m.now.world.descriptors (low_half sel) }
-    ensures limit { FitsRow result }
+    ensures fits { FitsRow result }
 {
     m.desc_of((sel % 0x1_0000) as u16)
 }

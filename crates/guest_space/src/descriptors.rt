@@ -55,7 +55,7 @@ impl Machine {
     fn row(&self, index: u16) -> Option<(Desc, Origin)>
         requires { index < DESCRIPTORS }
         ensures row { result ≡ row_at_index self.now.world.descriptors index }
-        ensures limit { FitsRow result }
+        ensures fits { FitsRow result }
     {
         look(&self.ram, index)
     }
@@ -64,7 +64,7 @@ impl Machine {
     #[tactic(auto, using(crate::proofs::RowCalls::none_beyond))]
     pub fn desc(&self, index: u16) -> Option<(Desc, Origin)>
         ensures row { result ≡ row_at_index self.now.world.descriptors index }
-        ensures limit { FitsRow result }
+        ensures fits { FitsRow result }
     {
         if u32::from(index) < DESCRIPTORS {
             self.row(index)
@@ -77,7 +77,7 @@ impl Machine {
     /// The descriptor that a selector names and its origin, or `None` where the selector isn't held.
     pub fn desc_of(&self, sel: u16) -> Option<(Desc, Origin)>
         ensures row { result ≡ row_of_selector self.now.world.descriptors sel }
-        ensures limit { FitsRow result }
+        ensures fits { FitsRow result }
     {
         if is_local(sel) {
             self.row(index_of(sel))

@@ -11,7 +11,7 @@ written c = cc
 pub returns-clause-row : goal.returns-clause-row
 returns-clause-row c =
     ap (λ (b : List ℕ). row_at b (row_address c.args.index)) (written c)
-    ∙ row_at-put c.args.ram.now (row_address c.args.index) c.args.row c.requires.limit (omega arith)
+    ∙ row_at-put c.args.ram.now (row_address c.args.index) c.args.row c.requires.fits (omega arith)
 
 pub returns-clause-others : goal.returns-clause-others
 returns-clause-others c other ne =
@@ -21,4 +21,4 @@ returns-clause-others c other ne =
 pub returns-clause-table : goal.returns-clause-table
 returns-clause-table c =
     ap (λ (b : List ℕ). rows_from b rows_start) (written c)
-    ∙ rows_from-put c.args.ram.now rows_start c.args.index c.args.row c.requires.limit c.requires.index (omega arith)
+    ∙ rows_from-put c.args.ram.now rows_start c.args.index c.args.row c.requires.fits c.requires.index (omega arith)
