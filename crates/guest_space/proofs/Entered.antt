@@ -4,7 +4,6 @@ use Rattle.client_world.specs.declared.registers.Mode.{Mode}
 use Rattle.client_world.specs.declared.registers.Regs.{Regs}
 use Rattle.client_world.specs.declared.registers.Width.{Width}
 use Rattle.client_world.specs.declared.selectors.TheConstants.{HOST_CODE, HOST_STACKS}
-use Rattle.client_world.specs.Selector.{FitsRow}
 use Rattle.client_world.specs.Soundness.{IsSound, host_code, host_stacks}
 use Rattle.client_world.specs.World.{World}
 use Rattle.guest_ram.specs.Bytes.{put}
@@ -12,7 +11,7 @@ use Rattle.desc_table.specs.Rows.{row_address, row_bytes}
 use Rattle.host_memory.specs.Layout.{world_of}
 use Rattle.host_memory.specs.Holds.{Holds}
 use Rattle.host_memory.proofs.RowWrites.{row_world, row_holds}
-use Rattle.guest_space.proofs.HostRows.{with_host_rows, IsSound-width}
+use Rattle.guest_space.proofs.HostRows.{with_host_rows, fits_code, fits_stacks, IsSound-width}
 use Rattle.guest_space.proofs.OwnParts.{width_world}
 
 abbrev with_code : List ℕ → List ℕ
@@ -20,12 +19,6 @@ with_code b = put b (row_address HOST_CODE) (row_bytes host_code)
 
 abbrev with_rows : List ℕ → Width → List ℕ
 with_rows b w = put (with_code b) (row_address HOST_STACKS) (row_bytes (host_stacks w))
-
-fits_code : FitsRow host_code
-fits_code = omega arith
-
-fits_stacks : (w : Width) → FitsRow (host_stacks w)
-fits_stacks w = omega arith
 
 pub entered_holds : (b : List ℕ) (budget : ℕ) → Holds b budget → (w : Width) → Holds (with_rows b w) budget
 entered_holds b budget holds w =

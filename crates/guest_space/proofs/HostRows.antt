@@ -56,10 +56,17 @@ no_segment rows width h = of_each rows width h IsOfNoSegment (λ segment no. no)
 no_dos : (rows : List Row) (width : Width) → HasHostRows rows width → (index : ℕ) → IsOfNoDos (row_at_index rows index)
 no_dos rows width h = of_each rows width h IsOfNoDos (λ segment no. no) (λ segment e. cc) (λ segment e. cc)
 
+-- both fit: their bases and limits are small
+pub fits_code : FitsRow host_code
+fits_code = record { base = omega arith; limit = omega arith }
+
+pub fits_stacks : (width : Width) → FitsRow (host_stacks width)
+fits_stacks width = record { base = omega arith; limit = omega arith }
+
 sound_rows : (rows : List Row) (width : Width) → length rows ≡ DESCRIPTORS → HasHostRows rows width → SoundDescriptors rows
 sound_rows rows width size h = record {
   indices = size;
-  fits = of_each rows width h FitsRow _ (omega arith) (omega arith);
+  fits = of_each rows width h FitsRow _ fits_code (fits_stacks width);
   segments = λ one other segment e f. absurd (no_segment rows width h one segment e);
 }
 

@@ -1,4 +1,3 @@
-use Rattle.client_world.specs.declared.limits.TheConstants.{MAX_BLOCKS}
 use Rattle.guest_space.specs.Machines.{Processor}
 use Rattle.guest_space.proofs.BlockReads.{free_row, some_row}
 use Rattle.guest_space.proofs.machine.Machine.block.Goals as goal

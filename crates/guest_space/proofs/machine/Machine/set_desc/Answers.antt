@@ -5,8 +5,8 @@ use Rattle.host_memory.proofs.RowWrites.{row_world, row_holds}
 use Rattle.guest_space.proofs.RowCalls.{fits_of_sound}
 use Rattle.guest_space.proofs.machine.Machine.set_desc.Goals as goal
 
-pub set-requires-clause-limit : goal.set-requires-clause-limit
-set-requires-clause-limit c =
+pub set-requires-clause-fits : goal.set-requires-clause-fits
+set-requires-clause-fits c =
     fits_of_sound c.args.self.now.world.descriptors c.args.index c.args.row c.requires.sound.descriptors c.requires.index
 
 pub invariant_of-self : goal.invariant_of-self
