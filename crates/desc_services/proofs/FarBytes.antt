@@ -8,10 +8,11 @@ use Rattle.client_world.specs.declared.place.Place.{Place}
 use Rattle.client_world.specs.declared.place.Place.TheVariants.{Dos, Block, Host, Nothing}
 use Rattle.client_world.specs.declared.segments.FarPtr.{FarPtr}
 use Rattle.client_world.specs.Access.{byte_of, bytes_of, bytes_of_block, far_access}
-use Rattle.client_world.specs.Descriptor.{access_byte, flags_byte, kind_bits, packed}
+use Rattle.client_world.specs.Descriptor.{FitsDescriptor, access_byte, flags_byte, kind_bits, packed}
 use Rattle.client_world.specs.Soundness.{IsSound}
 use Rattle.client_world.specs.World.{World, MemoryBlock, block_at}
 use Rattle.desc_table.specs.Unpacked.{described, is_packed, unpacked}
+use Rattle.desc_table.proofs.PackedLaws.{fits-described}
 use Rattle.guest_ram.specs.Bytes.{AreBytes}
 use Rattle.guest_space.specs.Far.{far_bytes}
 use Rattle.guest_space.specs.Transfer.{places_of_access}
@@ -70,9 +71,10 @@ flags_fit d small =
     let gran = bit_fits d.gran 0x80 in
     omega arith
 
-pub packed_bytes : (d : Desc) → d.base < 0x100000000 → d.limit < 2 ^ 20 → AreBytes (packed d)
+pub packed_bytes : (d : Desc) → FitsDescriptor d → AreBytes (packed d)
 unfolding packed
-packed_bytes d base limit =
+packed_bytes d fits =
+    let base = fits.base in
     let a : d.limit % 0x100 < 0x100 = omega arith in
     let b : d.limit / 0x100 % 0x100 < 0x100 = omega arith in
     let c : d.base % 0x100 < 0x100 = omega arith in
@@ -87,20 +89,13 @@ packed_bytes d base limit =
     let t2 : List ℕ = d.base % 0x100 ∷ t3 in
     let t1 : List ℕ = d.limit / 0x100 % 0x100 ∷ t2 in
     more (d.limit % 0x100) t1 a (more (d.limit / 0x100 % 0x100) t2 b (more (d.base % 0x100) t3 c (more (d.base / 0x100 % 0x100) t4 e
-    (more (d.base / 0x10000 % 0x100) t5 f (more (access_byte d) t6 (access_fits d) (more (flags_byte d) t7 (flags_fit d limit)
+    (more (d.base / 0x10000 % 0x100) t5 f (more (access_byte d) t6 (access_fits d) (more (flags_byte d) t7 (flags_fit d fits.limit)
     (more (d.base / 0x1000000) [] g no_bytes)))))))
 
-described_fits : (b : List ℕ) → AreBytes b → (described b 0).limit < 2 ^ 20
-unfolding described
-described_fits b bytes =
-    let low = bytes 0 in
-    let high = bytes 1 in
-    omega arith
-
-pub unpacked_fits : (b : List ℕ) (d : Desc) → AreBytes b → unpacked b 0 ≡ Some d → d.limit < 2 ^ 20
+pub unpacked_fits : (b : List ℕ) (d : Desc) → AreBytes b → unpacked b 0 ≡ Some d → FitsDescriptor d
 unfolding unpacked
 unpacked_fits b d bytes e = elim (cases_Bool (is_packed b 0)) [
   | inl t ↦ (let same : described b 0 ≡ d = cc (cond-true (is_packed b 0) (Some (described b 0)) None t, e) in
-      subst (λ (x : Desc). x.limit < 2 ^ 20) same (described_fits b bytes))
+      subst FitsDescriptor same (fits-described b (λ i small. bytes i)))
   | inr t ↦ absurd (let no = cond-false (is_packed b 0) (Some (described b 0)) None t in cc (no, e))
 ]

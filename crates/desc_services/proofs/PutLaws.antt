@@ -1,5 +1,5 @@
 -- Where a row may be put.
-use Rattle.std.proofs.Common.{◌≡◌, ◌≢◌, ◌≤◌, ◌^◌, ℕ, ◌<◌, Bool, true, false, inl, inr, List, refl, ◌∙◌, sym, subst, ap, arith, Option, None, Some}
+use Rattle.std.proofs.Common.{◌≡◌, ◌≢◌, ◌≤◌, ℕ, ◌<◌, Bool, true, false, inl, inr, List, refl, ◌∙◌, sym, subst, ap, arith, Option, None, Some}
 use Rattle.std.specs.Option.{is_some}
 use Rattle.std.proofs.lemmas.Bool.{cases_lt, true≢false}
 use Rattle.std.proofs.lemmas.List.{get_or_past}
@@ -9,6 +9,7 @@ use Rattle.client_world.specs.declared.descriptors.Origin.TheVariants.{Own, Low,
 use Rattle.client_world.specs.declared.registers.Mode.TheVariants.{Real, Protected}
 use Rattle.client_world.specs.declared.registers.Width.{Width}
 use Rattle.client_world.specs.declared.host_frames.TheConstants.{DESCRIPTORS, FIRST_FREE_DESCRIPTOR}
+use Rattle.client_world.specs.Descriptor.{FitsDescriptor}
 use Rattle.client_world.specs.FreeRuns.{IsFreeRunOf}
 use Rattle.client_world.specs.Selector.{Row, FitsRow, row_at_index, row_of_selector, index_of, is_local}
 use Rattle.client_world.specs.Services.{is_changeable_origin}
@@ -131,7 +132,7 @@ pub row_of_held : (rows : List Row) (sel : ℕ) (row : Desc × Origin) → row_o
 row_of_held rows sel row e = held_at rows sel row (is_local sel) refl e
 
 pub may_redescribe : (w : World) (sel : ℕ) (row : Desc × Origin) (d : Desc) → IsSound w → row_of_selector w.descriptors sel ≡ Some row →
-    is_changeable_origin row.1 ≡ true → d.limit < 2 ^ 20 → MayPut w (index_of sel) (Some (d, row.1))
+    is_changeable_origin row.1 ≡ true → FitsDescriptor d → MayPut w (index_of sel) (Some (d, row.1))
 may_redescribe w sel row d s e changeable fits =
     may_change w (index_of sel) row (Some (d, row.1)) s (row_of_held w.descriptors sel row e) (changeable_plain row.1 changeable) fits
     (changeable_plain row.1 changeable)
@@ -155,14 +156,14 @@ no_row None e = refl
 no_row (Some row) e = cc
 
 pub may_make_low : (w : World) (sel : ℕ) (d : Desc) → IsSound w → w.width ≢ None → is_local sel ≡ true → index_of sel < 16 →
-    is_some (row_of_selector w.descriptors sel) ≡ false → d.limit < 2 ^ 20 → MayPut w (index_of sel) (Some (d, Low))
+    is_some (row_of_selector w.descriptors sel) ≡ false → FitsDescriptor d → MayPut w (index_of sel) (Some (d, Low))
 may_make_low w sel d s width local low free fits =
     may_make w (index_of sel) (Some (d, Low)) s width (no_row (row_at_index w.descriptors (index_of sel)) (rw local at free)) (omega arith)
     (low_is_clients (index_of sel) low) fits tt
 
 -- at the first of free rows, from 64 on, a descriptor may be made
 pub may_make_at : (w : World) (first n : ℕ) (d : Desc) → IsSound w → w.width ≢ None → FIRST_FREE_DESCRIPTOR ≤ first → 0 < n →
-    IsFreeRunOf w.descriptors first n → d.limit < 2 ^ 20 → MayPut w first (Some (d, Own))
+    IsFreeRunOf w.descriptors first n → FitsDescriptor d → MayPut w first (Some (d, Own))
 may_make_at w first n d s width from some run fits =
     let within = run.within in
     may_make w first (Some (d, Own)) s width (run.free first (omega arith) (omega arith)) (omega arith) (high_is_clients first from) fits tt

@@ -1,10 +1,11 @@
 -- Descriptors of real segments: the law of the search, and where a new one may be put.
-use Rattle.std.proofs.Common.{◌≡◌, ◌≢◌, ◌≤◌, ◌^◌, ℕ, ◌<◌, true, refl, ◌∙◌, sym, subst, ap, arith, None, Some}
+use Rattle.std.proofs.Common.{◌≡◌, ◌≢◌, ◌≤◌, ℕ, ◌<◌, true, refl, ◌∙◌, sym, subst, ap, arith, None, Some}
 use Rattle.std.proofs.lemmas.Bool.{eq-eqb, eqb-true, false_from_ne_true, true≢false}
 use Rattle.client_world.specs.declared.descriptors.Desc.{Desc}
 use Rattle.client_world.specs.declared.descriptors.Origin.{Origin}
 use Rattle.client_world.specs.declared.descriptors.Origin.TheVariants.{Own, Low, Entry, Psp, Segment, Dos, Host}
 use Rattle.client_world.specs.declared.host_frames.TheConstants.{DESCRIPTORS, FIRST_FREE_DESCRIPTOR}
+use Rattle.client_world.specs.Descriptor.{FitsDescriptor}
 use Rattle.client_world.specs.FreeRuns.{IsFreeRunOf, IsFirstFreeRunOf}
 use Rattle.client_world.specs.Selector.{Row, row_at_index}
 use Rattle.client_world.specs.Soundness.{IsSound, HasOrigin, IsOfDosBlock}
@@ -38,7 +39,7 @@ no_segment w segment s e other has =
     (has_within w other segment s has))
 
 pub may_make_segment_at : (w : World) (first : ℕ) (d : Desc) (segment : ℕ) → IsSound w → w.width ≢ None → segment_index w.descriptors segment ≡ None →
-    FIRST_FREE_DESCRIPTOR ≤ first → IsFreeRunOf w.descriptors first 1 → d.limit < 2 ^ 20 → MayPut w first (Some (d, Segment segment))
+    FIRST_FREE_DESCRIPTOR ≤ first → IsFreeRunOf w.descriptors first 1 → FitsDescriptor d → MayPut w first (Some (d, Segment segment))
 may_make_segment_at w first d segment s width none from run fits =
     let in_table = run.within in
     let free : row_at_index w.descriptors first ≡ None = run.free first (omega arith) (omega arith) in
@@ -54,7 +55,7 @@ may_make_segment_at w first d segment s width none from run fits =
     }
 
 pub may_make_segment : (w : World) (first : ℕ) (d : Desc) (segment : ℕ) → IsSound w → w.width ≢ None → segment_index w.descriptors segment ≡ None →
-    IsFirstFreeRunOf w.descriptors first 1 → d.limit < 2 ^ 20 → MayPut w first (Some (d, Segment segment))
+    IsFirstFreeRunOf w.descriptors first 1 → FitsDescriptor d → MayPut w first (Some (d, Segment segment))
 may_make_segment w first d segment s width none run fits = may_make_segment_at w first d segment s width none run.from run.run fits
 
 -- the row that is found is that of the segment

@@ -1,5 +1,5 @@
 -- A service leads from a sound world to a sound one.
-use Rattle.std.proofs.Common.{◌≡◌, ◌≢◌, ◌≤◌, ◌<◌, ◌+◌, ◌*◌, ◌%◌, ◌^◌, ℕ, zero, suc, Bool, true, false, not, List, refl, sym, ap, subst, arith, slice_index, slice_set, Option, None, Some, nat_lt}
+use Rattle.std.proofs.Common.{◌≡◌, ◌≢◌, ◌≤◌, ◌<◌, ◌+◌, ◌*◌, ◌^◌, ℕ, zero, suc, Bool, true, false, not, List, refl, sym, subst, arith, slice_index, slice_set, Option, None, Some, nat_lt}
 use Rattle.std.specs.Option.{is_some}
 use Rattle.std.proofs.lemmas.Bool.{ltb-false, not-false, or_parts, true≢false}
 use Rattle.client_world.specs.declared.descriptors.Desc.{Desc}
@@ -7,12 +7,15 @@ use Rattle.client_world.specs.declared.descriptors.Origin.{Origin}
 use Rattle.client_world.specs.declared.descriptors.Origin.TheVariants.{Own, Segment}
 use Rattle.client_world.specs.declared.host_frames.TheConstants.{FIRST_FREE_DESCRIPTOR}
 use Rattle.client_world.specs.declared.registers.Mode.TheVariants.{Protected}
+use Rattle.client_world.specs.Descriptor.{FitsDescriptor}
 use Rattle.client_world.specs.FreeRuns.{IsFreeRunOf}
+use Rattle.client_world.specs.Registers.{has_bit}
 use Rattle.client_world.specs.Selector.{Row, FitsRow, index_of, is_local, row_at_index, row_of_selector}
 use Rattle.client_world.specs.Services.{bx, cx, dx, desc_of, es_di, is_changeable, is_changeable_origin, two_words}
 use Rattle.client_world.specs.Soundness.{IsSound}
 use Rattle.client_world.specs.World.{World}
 use Rattle.client_world.proofs.SoundWrites.{IsSound-regs}
+use Rattle.desc_table.specs.Unpacked.{kind_of}
 use Rattle.guest_space.specs.Far.{far_bytes}
 use Rattle.desc_services.specs.FreeRun.{first_free_run}
 use Rattle.service_rows.specs.Reasons.{Service, first_reason}
@@ -50,7 +53,7 @@ changeable_row None e = absurd cc
 changeable_row (Some r) e = (r, refl, e)
 
 redescribed_sound : (w : World) (sel : ℕ) (row : Desc × Origin) (o : Option Desc) → IsSound w → row_of_selector w.descriptors sel ≡ Some row →
-    is_changeable_origin row.1 ≡ true → ((d : Desc) → o ≡ Some d → d.limit < 2 ^ 20) →
+    is_changeable_origin row.1 ≡ true → ((d : Desc) → o ≡ Some d → FitsDescriptor d) →
     IsSound (record w { descriptors = slice_set w.descriptors (index_of sel) (redescribed (Some row) o) })
 redescribed_sound w sel row None s e c fits =
     let at = row_of_held w.descriptors sel row e in
@@ -59,7 +62,7 @@ redescribed_sound w sel row None s e c fits =
 redescribed_sound w sel row (Some d) s e c fits = (may_redescribe w sel row d s e c (fits d refl)).sound
 
 described_sound : (w : World) (sel : ℕ) (o : Option Desc) → IsSound w → not (is_changeable w sel) ≡ false →
-    ((d : Desc) → o ≡ Some d → d.limit < 2 ^ 20) → IsSound (with_desc w sel o)
+    ((d : Desc) → o ≡ Some d → FitsDescriptor d) → IsSound (with_desc w sel o)
 described_sound w sel o s e fits =
     let c = changeable_row (desc_of w sel) (not-false (is_changeable w sel) e) in
     subst (λ (r : Row). IsSound (record w { descriptors = slice_set w.descriptors (index_of sel) (redescribed r o) })) (sym c.1)
@@ -74,36 +77,44 @@ held_fits rows sel false local fits = rw local tt
 fits_of : (w : World) (sel : ℕ) → IsSound w → FitsRow (desc_of w sel)
 fits_of w sel s = held_fits w.descriptors sel (is_local sel) refl s.descriptors.fits
 
-base_fits : (row : Row) (base : ℕ) (d : Desc) → FitsRow row → with_base row base ≡ Some d → d.limit < 2 ^ 20
-base_fits None base d fits e = absurd cc
-base_fits (Some row) base d fits e =
+base_fits : (row : Row) (base : ℕ) (d : Desc) → FitsRow row → base < 2 ^ 32 → with_base row base ≡ Some d → FitsDescriptor d
+base_fits None base d fits small e = absurd cc
+base_fits (Some row) base d fits small e =
     let same : record row.0 { base = base } ≡ d = cc in
-    subst (λ (x : Desc). x.limit < 2 ^ 20) same fits
+    subst FitsDescriptor same (record { base = small; limit = fits.limit })
 
-limited_fits : (d : Desc) (limit : ℕ) (long : Bool) → nat_lt 0xFFFFF limit ≡ long → limit < 0x100000000 → (limited d limit).limit < 2 ^ 20
-limited_fits d limit true e small = rw e (omega arith)
-limited_fits d limit false e small =
+limited_fits : (d : Desc) (limit : ℕ) (long : Bool) → FitsDescriptor d → nat_lt 0xFFFFF limit ≡ long → limit < 2 ^ 32 →
+    FitsDescriptor (limited d limit)
+limited_fits d limit true fits e small = rw e (record { base = fits.base; limit = omega arith })
+limited_fits d limit false fits e small =
     let low = ltb-false 0xFFFFF limit e in
-    rw e (omega arith)
+    rw e (record { base = fits.base; limit = omega arith })
 
-limit_fits : (row : Row) (limit : ℕ) (d : Desc) → limit < 0x100000000 → with_limit row limit ≡ Some d → d.limit < 2 ^ 20
-limit_fits None limit d small e = absurd cc
-limit_fits (Some row) limit d small e =
+limit_fits : (row : Row) (limit : ℕ) (d : Desc) → FitsRow row → limit < 2 ^ 32 → with_limit row limit ≡ Some d → FitsDescriptor d
+limit_fits None limit d fits small e = absurd cc
+limit_fits (Some row) limit d fits small e =
     let same : limited row.0 limit ≡ d = cc in
-    subst (λ (x : Desc). x.limit < 2 ^ 20) same (limited_fits row.0 limit (nat_lt 0xFFFFF limit) refl small)
+    subst FitsDescriptor same (limited_fits row.0 limit (nat_lt 0xFFFFF limit) fits refl small)
 
-rights_fit : (row : Row) (access flags : ℕ) (d : Desc) → FitsRow row → with_rights row access flags ≡ Some d → d.limit < 2 ^ 20
+rights_fit : (row : Row) (access flags : ℕ) (d : Desc) → FitsRow row → with_rights row access flags ≡ Some d → FitsDescriptor d
 rights_fit None access flags d fits e = absurd cc
-rights_fit (Some row) access flags d fits e = let limit : row.0.limit ≡ d.limit = ap (λ (o : Option Desc). limit_or o) e in rw (sym limit) fits
-  where
-    limit_or : Option Desc → ℕ
-    limit_or None = 0
-    limit_or (Some d) = d.limit
+rights_fit (Some row) access flags d fits e =
+    let same : (record row.0 {
+      gran = has_bit flags 0x80;
+      size = has_bit flags 0x40;
+      avl = has_bit flags 0x10;
+      present = has_bit access 0x80;
+      kind = kind_of access;
+    }) ≡ d = cc in
+    subst FitsDescriptor same (record { base = fits.base; limit = fits.limit })
 
 -- ---- runs
 
+fresh_fits : FitsDescriptor fresh
+fresh_fits = record { base = omega arith; limit = omega arith }
+
 sound_run : (w : World) (first n : ℕ) (d : Desc) → IsSound w → w.width ≢ None → FIRST_FREE_DESCRIPTOR ≤ first → IsFreeRunOf w.descriptors first n →
-    d.limit < 2 ^ 20 → IsSound (record w { descriptors = with_run w.descriptors first n (Some (d, Own)) })
+    FitsDescriptor d → IsSound (record w { descriptors = with_run w.descriptors first n (Some (d, Own)) })
 sound_run w first zero d s width from run fits =
     subst (λ (rows : List Row). IsSound (record w { descriptors = rows })) (sym (with_none w.descriptors first (Some (d, Own)))) s
 sound_run w first (suc n) d s width from run fits =
@@ -117,9 +128,9 @@ sound_made w None s width e = s
 sound_made w (Some first) s width e =
     let run = free_run_of w.descriptors (cx w) first e in
     sound_ax (record w { descriptors = with_run w.descriptors first (cx w) (Some (fresh, Own)) }) _
-    (sound_run w first (cx w) fresh s width run.0 run.1 (omega arith))
+    (sound_run w first (cx w) fresh s width run.0 run.1 fresh_fits)
 
-one_run : (w : World) (first : ℕ) (d : Desc) → IsSound w → w.width ≢ None → first_free_run w.descriptors 1 ≡ Some first → d.limit < 2 ^ 20 →
+one_run : (w : World) (first : ℕ) (d : Desc) → IsSound w → w.width ≢ None → first_free_run w.descriptors 1 ≡ Some first → FitsDescriptor d →
     IsSound (with_row first (Some (d, Own)) w)
 one_run w first d s width e fits =
     let run = free_run_of w.descriptors 1 first e in
@@ -130,7 +141,7 @@ sound_alias : (w : World) (o : Option ℕ) (row : Row) → IsSound w → w.width
 sound_alias w None row s width e fits = s
 sound_alias w (Some first) None s width e fits = s
 sound_alias w (Some first) (Some row) s width e fits =
-    sound_ax (with_row first (Some (alias_of row.0, Own)) w) _ (one_run w first (alias_of row.0) s width e fits)
+    sound_ax (with_row first (Some (alias_of row.0, Own)) w) _ (one_run w first (alias_of row.0) s width e (record { base = fits.base; limit = fits.limit }))
 
 sound_segment_made : (w : World) (o : Option ℕ) → IsSound w → w.width ≢ None → first_free_run w.descriptors 1 ≡ o →
     segment_index w.descriptors (bx w) ≡ None → IsSound (with_new_segment o w)
@@ -138,7 +149,8 @@ sound_segment_made w None s width e none = s
 sound_segment_made w (Some first) s width e none =
     let run = free_run_of w.descriptors 1 first e in
     sound_ax (with_row first (Some (data_at (bx w * 16) 0xFFFF, Segment (bx w))) w) _
-    (may_make_segment_at w first (data_at (bx w * 16) 0xFFFF) (bx w) s width none run.0 run.1 (omega arith)).sound
+    (may_make_segment_at w first (data_at (bx w * 16) 0xFFFF) (bx w) s width none run.0 run.1
+    (record { base = omega arith; limit = omega arith })).sound
 
 sound_segment : (w : World) (o : Option ℕ) → IsSound w → w.width ≢ None → segment_index w.descriptors (bx w) ≡ o → IsSound (with_segment o w)
 sound_segment w None s width e = sound_segment_made w (first_free_run w.descriptors 1) s width refl e
@@ -161,7 +173,7 @@ not_held (Some d) e = absurd (true≢false e)
 
 packed_of_bytes : (row : Row) → FitsRow row → (at : ℕ) → slice_index (packed_of row) at < 0x100
 packed_of_bytes None fits at = omega arith
-packed_of_bytes (Some row) fits at = packed_bytes (record row.0 { base = row.0.base % 0x100000000 }) (omega arith) fits at
+packed_of_bytes (Some row) fits at = packed_bytes row.0 fits at
 
 sound_after : (ax : ℕ) (w : World) → IsSound w → w.width ≢ None → first_reason (function_of ax w).reasons ≡ None → IsSound (function_of ax w).after
 unfolding allocate_descriptors free_descriptor segment_to_descriptor selector_increment get_segment_base set_segment_base set_segment_limit set_access_rights create_alias get_descriptor set_descriptor allocate_specific unsupported
@@ -171,8 +183,8 @@ sound_after ax w s width = of_each_service (λ (a : Service). first_reason a.rea
   f2 = λ e. sound_segment w (segment_index w.descriptors (bx w)) s width refl;
   f3 = λ e. sound_ax w 8 s;
   f6 = λ e. sound_general w w.regs.eax _ _ s;
-  f7 = λ e. described_sound w (bx w) _ s (no_reason (set_segment_base w).reasons e).0 (λ d same. base_fits (desc_of w (bx w)) _ d (fits_of w (bx w) s) same);
-  f8 = λ e. described_sound w (bx w) _ s (no_reason (set_segment_limit w).reasons e).0 (λ d same. limit_fits (desc_of w (bx w)) (two_words (cx w) (dx w)) d (omega arith) same);
+  f7 = λ e. described_sound w (bx w) _ s (no_reason (set_segment_base w).reasons e).0 (λ d same. base_fits (desc_of w (bx w)) (two_words (cx w) (dx w)) d (fits_of w (bx w) s) (omega arith) same);
+  f8 = λ e. described_sound w (bx w) _ s (no_reason (set_segment_limit w).reasons e).0 (λ d same. limit_fits (desc_of w (bx w)) (two_words (cx w) (dx w)) d (fits_of w (bx w) s) (omega arith) same);
   f9 = λ e. described_sound w (bx w) _ s (no_reason (set_access_rights w).reasons e).0 (λ d same. rights_fit (desc_of w (bx w)) _ _ d (fits_of w (bx w) s) same);
   fA = λ e. sound_alias w (first_free_run w.descriptors 1) (desc_of w (bx w)) s width refl (fits_of w (bx w) s);
   fB = λ e. sound_far_put w (es_di w) 8 _ s (packed_of_bytes (desc_of w (bx w)) (fits_of w (bx w) s));
@@ -182,7 +194,7 @@ sound_after ax w s width = of_each_service (λ (a : Service). first_reason a.rea
       let place = or_parts (not (is_local (bx w))) (nat_lt 15 (index_of (bx w))) none.0 in
       let low = ltb-false 15 (index_of (bx w)) place.1 in
       (may_make_low w (bx w) fresh s width (not-false (is_local (bx w)) place.0) (omega arith)
-      (not_held (desc_of w (bx w)) none.1.0) (omega arith)).sound);
+      (not_held (desc_of w (bx w)) none.1.0) fresh_fits).sound);
   other = λ e. s;
 }) ax
 

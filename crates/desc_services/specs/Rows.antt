@@ -226,10 +226,10 @@ create_alias w = record {
   after = with_new_alias (first_free_run w.descriptors 1) (desc_of w (bx w)) w;
 }
 
--- the eight bytes of a row's descriptor, whose base is an address of 32 bits
+-- the eight bytes of a row's descriptor
 abbrev pub packed_of : Row → List ℕ
 packed_of None = []
-packed_of (Some row) = packed (record row.0 { base = row.0.base % 0x100000000 })
+packed_of (Some row) = packed row.0
 
 -- 000Bh (get descriptor): writes the packed descriptor of BX to ES:(E)DI
 unfoldable pub get_descriptor : World → Service

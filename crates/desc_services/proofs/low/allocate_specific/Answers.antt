@@ -7,4 +7,4 @@ use Rattle.desc_services.proofs.low.allocate_specific.Goals as goal
 pub put-requires : goal.put-requires
 put-requires c = rw (c.data_at.ensures, c.index_of-2.ensures.value)
     (may_make_low c.args.m.now.world c.low_half-sel.result fresh c.soundness.ensures c.requires (cc) (omega arith)
-    (ap is_some (sym c.desc_of.ensures.row) ∙ sym c.if-is_some.ensures) (omega arith))
+    (ap is_some (sym c.desc_of.ensures.row) ∙ sym c.if-is_some.ensures) (record { base = omega arith; limit = omega arith }))

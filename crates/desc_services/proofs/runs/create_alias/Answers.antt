@@ -5,4 +5,5 @@ use Rattle.desc_services.proofs.runs.create_alias.Goals as goal
 pub put-requires : goal.put-requires
 put-requires c =
     let run = c.in_ok-first-in-Some.ensures.1 in
-    may_make_at c.args.m.now.world c.in_ok-first-in-Some.first 1 _ c.soundness.ensures c.requires run.from (omega arith) run.run (search rules)
+    may_make_at c.args.m.now.world c.in_ok-first-in-Some.first 1 _ c.soundness.ensures c.requires run.from (omega arith) run.run
+    (record { base = search rules; limit = search rules })
