@@ -4,13 +4,12 @@ ghost use Rattle.insn_forms.specs.OpcodeMap.{opcode_row, pick};
 ghost use Rattle.insn_forms.specs.Slots.{row_in, has_rows};
 
 use crate::maps::{GROUPS, ONE_BYTE_MAP, TWO_BYTE_MAP};
-use crate::rows::{OpMap, Row, Slot};
+use crate::rows::{Form, OpMap, Row, Slot};
 
-/// The row of an opcode: of the groups, the one at this reg field of ModRM, 0 to 7.
+/// The row of an opcode: of the groups, the one at this reg field of ModRM, which is 0 to 7; a group has no row at other numbers.
 /// Source: 80386 Programmer's Reference Manual, appendix A.
 #[inline(always)]
 pub fn row_of(map: OpMap, opcode: u8, reg: u8) -> Row
-    requires { reg < 8 }
     ensures { result ≡ opcode_row map opcode reg }
 {
     match map {
@@ -22,8 +21,7 @@ pub fn row_of(map: OpMap, opcode: u8, reg: u8) -> Row
 // The row of a table's entry at a reg field.
 #[inline(always)]
 fn row_in_slot(slot: Slot, reg: u8) -> Row
-    requires reg { reg < 8 }
-    requires has_rows { IsTrue (has_rows slot) }
+    requires { IsTrue (has_rows slot) }
     ensures { result ≡ row_in slot reg }
 {
     match slot {
@@ -35,8 +33,16 @@ fn row_in_slot(slot: Slot, reg: u8) -> Row
 // The row of a group at a reg field.
 #[inline(always)]
 fn row_of_group(rows: &[Row; 8], reg: u8) -> Row
-    requires { reg < 8 }
     ensures { result ≡ pick 0 rows.now reg }
 {
-    rows[reg as usize]
+    if reg < 8 {
+        rows[reg as usize]
+    } else {
+        Row {
+            op: None,
+            first: Form::Empty,
+            second: Form::Empty,
+            third: Form::Empty,
+        }
+    }
 }

@@ -3,11 +3,11 @@ use Rattle.insn_forms.proofs.Tables.{row_one_is, row_two_is, one_has_rows, two_h
 use Rattle.insn_forms.specs.OpcodeMap.{opcode_row}
 use Rattle.insn_forms.proofs.table.row_of.Goals as goal
 
-pub row_in_slot-requires-clause-has_rows : goal.row_in_slot-requires-clause-has_rows
-row_in_slot-requires-clause-has_rows c = one_has_rows c.args.opcode _ (omega (arith, c.ranges.opcode.fits))
+pub row_in_slot-requires : goal.row_in_slot-requires
+row_in_slot-requires c = one_has_rows c.args.opcode _ (omega (arith, c.ranges.opcode.fits))
 
-pub row_in_slot-requires-in-Two-clause-has_rows : goal.row_in_slot-requires-in-Two-clause-has_rows
-row_in_slot-requires-in-Two-clause-has_rows c = two_has_rows c.args.opcode _ (omega (arith, c.ranges.opcode.fits))
+pub row_in_slot-requires-in-Two : goal.row_in_slot-requires-in-Two
+row_in_slot-requires-in-Two c = two_has_rows c.args.opcode _ (omega (arith, c.ranges.opcode.fits))
 
 pub returns-in-One : goal.returns-in-One
 returns-in-One c =

@@ -1,5 +1,14 @@
+use Rattle.std.proofs.Common.{◌∙◌, sym, arith}
+use Rattle.std.proofs.lemmas.List.{get_or_past}
+use Rattle.insn_forms.specs.declared.rows.Form.TheVariants.{Empty}
+use Rattle.insn_forms.specs.OpcodeMap.{no_row}
 use Rattle.insn_forms.proofs.Tables.{picked}
 use Rattle.insn_forms.proofs.table.row_of_group.Goals as goal
 
-pub returns : goal.returns
-returns c = picked c.args.reg c.args.rows.now
+pub returns-then-reg-lt8 : goal.returns-then-reg-lt8
+returns-then-reg-lt8 c = picked c.args.reg c.args.rows.now
+
+-- past the last row there is none
+pub returns-else-reg-lt8 : goal.returns-else-reg-lt8
+returns-else-reg-lt8 c =
+    sym (get_or_past c.args.rows.now c.args.reg (no_row Empty Empty) (omega arith)) ∙ picked c.args.reg c.args.rows.now
