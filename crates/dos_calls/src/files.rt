@@ -11,10 +11,10 @@ use crate::registers::{low_half, refuse, set_ax, set_carry};
 use client_world::{DosDone, Exit};
 use guest_space::Machine;
 
-// What DOS answers to a number that no file has.
+// The error code for a number that no file has.
 const BAD_HANDLE: u16 = 6;
 
-// Moves the first CX keys, or all that are left, to DS:DX, and answers their number.
+// Moves the first CX keys, or all that are left, to DS:DX, and returns their number.
 fn read_keys(m: &mut Machine, keys: &mut Keys)
     ensures { (console : List ℕ) →
         keys_read (record { world = m.old.world; keys = keys.old; console = console }) (take (low_half m.old.world.regs.ecx) keys.old)

@@ -8,7 +8,7 @@ use client_world::DosRefusal;
 use dos_blocks::{dos_alloc, dos_free, dos_resize};
 use guest_space::Machine;
 
-// What DOS answers where there is no room, and where no block starts at a segment.
+// The error codes where there is no room, and where no block starts at a segment.
 const NO_MEMORY: u16 = 8;
 
 const WRONG_BLOCK: u16 = 9;

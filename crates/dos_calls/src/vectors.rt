@@ -9,7 +9,7 @@ use client_world::memory_map::PSP_SEGMENT;
 use client_world::{DosDone, Exit};
 use guest_space::Machine;
 
-// What DOS answers to a function that it doesn't have.
+// The error code for a function that DOS doesn't have.
 const BAD_FUNCTION: u16 = 1;
 
 /// Function 25h: vector AL of real mode becomes DS:DX.

@@ -1,6 +1,6 @@
 //! A DPMI host that runs one client: the words of the command line in, the client's text and a status out.
 //! It promises that what it writes is the model's text, whole or cut off where the output failed, and that each
-//! failure that it answers has its cause. It uses `host_run` and `dpmi_io`.
+//! failure that it reports has its cause. It uses `host_run` and `dpmi_io`.
 #![tactic(auto)]
 
 mod command;

@@ -1,5 +1,5 @@
 //! The machine: the model's world, held in the bytes of one memory.
-//! It promises that each call answers from the world, or changes the part of it that it names, and that the bytes hold the world after
+//! It promises that each call reads the world, or changes the part of it that it names, and that the bytes hold the world after
 //! every call. It uses `host_memory`, the descriptor table and the page tables.
 #![tactic(auto)]
 

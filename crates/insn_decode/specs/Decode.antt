@@ -1,4 +1,4 @@
--- What decode answers: what reading from left to right gives (own).
+-- What `decode` returns: what reading from left to right gives (own).
 use Rattle.std.specs.Prelude.{ℕ, ◌-◌, Bool, List, length, Ok, Err}
 use Rattle.insn_decode.specs.declared.stop.Stop.TheVariants as stops
 use Rattle.insn_decode.specs.declared.decoding.Decoded.{Decoded}

@@ -29,7 +29,7 @@ pub struct Entry {
     ghost well_formed: { IsWellFormed insn },
 }
 
-/// A memo of decoded instructions. Each entry is what `decode` answers for the bytes that are beside it, so that none is ever out of
+/// A memo of decoded instructions. Each entry is what `decode` returns for the bytes that are beside it, so that none is ever out of
 /// date. Source: own.
 #[derive(Drop)]
 pub struct Memo {

@@ -30,7 +30,7 @@ fn start(m: &mut Machine, file: &[u8])
     set_start_regs(m, file);
 }
 
-/// Loads a client into a machine that holds nothing, or answers the first reason for which the file isn't loaded, and changes nothing.
+/// Loads a client into a machine that holds nothing, or returns the first reason for which the file isn't loaded, and changes nothing.
 /// Source: MS-DOS executable files and program segment prefix.
 pub fn load(m: &mut Machine, file: &[u8]) -> Result<(), LoadFault>
     requires blank { m.old.world ≡ blank_world m.old.world.budget }
