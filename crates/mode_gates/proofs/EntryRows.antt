@@ -1,11 +1,12 @@
 -- The descriptors of the entry may be put, one after another: before the entry there are none.
-use Rattle.std.proofs.Common.{◌≡◌, ◌≢◌, ℕ, ◌+◌, ◌<◌, ◌≤◌, ◌^◌, List, slice_set, ◌∙◌, arith, Option, None, Some, get_or-set_other}
+use Rattle.std.proofs.Common.{◌≡◌, ◌≢◌, ℕ, ◌+◌, ◌<◌, ◌≤◌, List, slice_set, ◌∙◌, arith, Option, None, Some, get_or-set_other}
 use Rattle.client_world.specs.declared.descriptors.Desc.{Desc}
 use Rattle.client_world.specs.declared.descriptors.Origin.{Origin}
 use Rattle.client_world.specs.declared.descriptors.Origin.TheVariants.{Own, Low, Entry, Psp, Segment, Dos, Host}
 use Rattle.client_world.specs.declared.host_frames.TheConstants.{DESCRIPTORS, FIRST_FREE_DESCRIPTOR}
 use Rattle.client_world.specs.declared.registers.Width.{Width}
 use Rattle.client_world.specs.declared.selectors.TheConstants.{HOST_CODE, HOST_STACKS}
+use Rattle.client_world.specs.Descriptor.{FitsDescriptor}
 use Rattle.client_world.specs.Selector.{Row, row_at_index}
 use Rattle.client_world.specs.Soundness.{IsSound, SoundWidth, BeforeEntry, IsPlainOrigin, IsOfDosBlock, IsClientsIndex, host_code, host_stacks}
 use Rattle.client_world.specs.World.{World}
@@ -41,13 +42,13 @@ pub record MayPut (w : World) (index : ℕ) (row : Row) : Type 0 where
   pub sound : IsSound (record w { descriptors = slice_set w.descriptors index row })
 
 pub may_put : (w : World) (index : ℕ) (d : Desc) (origin : Origin) → IsSound w → w.width ≢ None → FIRST_FREE_DESCRIPTOR ≤ index →
-    index < DESCRIPTORS → d.limit < 2 ^ 20 → IsPlainOrigin origin → AreFreeFrom w.descriptors index → MayPut w index (Some (d, origin))
-may_put w index d origin s width from to limit plain free =
+    index < DESCRIPTORS → FitsDescriptor d → IsPlainOrigin origin → AreFreeFrom w.descriptors index → MayPut w index (Some (d, origin))
+may_put w index d origin s width from to fits plain free =
     let old = free_is_of_no_block (row_at_index w.descriptors index) (free index (omega arith)) in
     record {
       old_origin = old;
       new_origin = plain_is_of_no_block origin d plain;
-      sound = IsSound-row w index (Some (d, origin)) s width to limit plain old (high_is_clients index from);
+      sound = IsSound-row w index (Some (d, origin)) s width to fits plain old (high_is_clients index from);
     }
 
 -- after it all are still free

@@ -11,6 +11,7 @@ use Rattle.client_world.specs.declared.registers.Width.{Width}
 use Rattle.client_world.specs.declared.registers.Width.TheVariants.{Sixteen}
 use Rattle.client_world.specs.declared.memory_map.TheConstants.{PSP_SEGMENT}
 use Rattle.client_world.specs.declared.selectors.TheConstants.{ENTRY_CODE, ENTRY_STACK, ENTRY_DATA, ENTRY_PSP, ENTRY_ENVIRONMENT}
+use Rattle.client_world.specs.Descriptor.{FitsDescriptor}
 use Rattle.client_world.specs.Selector.{selector_of}
 use Rattle.client_world.specs.Services.{Served}
 use Rattle.client_world.specs.Soundness.{IsSound, HasSegments, SoundMegabyte, IsPlainOrigin}
@@ -54,9 +55,9 @@ record IsReady (w : World) (index : ℕ) : Type 0 where
   pub free : AreFreeFrom w.descriptors index
 
 next_ready : (w : World) (index : ℕ) (d : Desc) (origin : Origin) → IsReady w index → FIRST_FREE_DESCRIPTOR ≤ index → index < DESCRIPTORS →
-    d.limit < 2 ^ 20 → IsPlainOrigin origin → IsReady (record w { descriptors = slice_set w.descriptors index (Some (d, origin)) }) (index + 1)
-next_ready w index d origin ready from to limit plain = record {
-  sound = (may_put w index d origin ready.sound ready.width from to limit plain ready.free).sound;
+    FitsDescriptor d → IsPlainOrigin origin → IsReady (record w { descriptors = slice_set w.descriptors index (Some (d, origin)) }) (index + 1)
+next_ready w index d origin ready from to fits plain = record {
+  sound = (may_put w index d origin ready.sound ready.width from to fits plain ready.free).sound;
   width = ready.width;
   free = free_after w.descriptors index (Some (d, origin)) ready.free;
 }
@@ -65,20 +66,38 @@ next_ready w index d origin ready from to limit plain = record {
 abbrev with_row : World → ℕ → Desc → Origin → World
 with_row w index d origin = record w { descriptors = slice_set w.descriptors index (Some (d, origin)) }
 
+-- sixteen times a word is an address of 32 bits
+fits_code : (segment : ℕ) → segment < 0x10000 → FitsDescriptor (code_of_segment segment)
+fits_code segment small = record { base = omega arith; limit = omega arith }
+
+fits_data : (segment limit : ℕ) (width : Width) → segment < 0x10000 → limit < 2 ^ 20 → FitsDescriptor (data_of_segment segment limit width)
+fits_data segment limit width small short = record { base = omega arith; limit = short }
+
+environment_small : (w : World) → SoundMegabyte w.dos → environment_of w < 0x10000
+environment_small w s =
+    let low = s.bytes environment_word in
+    let high = s.bytes (environment_word + 1) in
+    omega arith
+
 sound_rows : (w : World) (width : Width) → IsSound w → w.width ≡ None → IsSound (record w { width = Some width; descriptors = entry_rows w width })
 unfolding entry_rows
 sound_rows w width s e =
     let w0 : World = record w { width = Some width; descriptors = host_rows w.descriptors width } in
     let r0 : IsReady w0 64 = record { sound = IsSound-width w width s e; width = λ none. cc; free = free_at_first w width s e } in
     let w1 = with_row w0 ENTRY_CODE (code_of_segment w.regs.cs) Entry in
-    let r1 : IsReady w1 65 = next_ready w0 64 (code_of_segment w.regs.cs) Entry r0 (omega arith) (omega arith) (omega arith) tt in
+    let r1 : IsReady w1 65 = next_ready w0 64 (code_of_segment w.regs.cs) Entry r0 (omega arith) (omega arith)
+    (fits_code w.regs.cs s.segments.cs) tt in
     let w2 = with_row w1 ENTRY_STACK (data_of_segment w.regs.ss 0xFFFF width) Entry in
-    let r2 : IsReady w2 66 = next_ready w1 65 (data_of_segment w.regs.ss 0xFFFF width) Entry r1 (omega arith) (omega arith) (omega arith) tt in
+    let r2 : IsReady w2 66 = next_ready w1 65 (data_of_segment w.regs.ss 0xFFFF width) Entry r1 (omega arith) (omega arith)
+    (fits_data w.regs.ss 0xFFFF width s.segments.ss (omega arith)) tt in
     let w3 = with_row w2 ENTRY_DATA (data_of_segment w.regs.ds 0xFFFF width) Entry in
-    let r3 : IsReady w3 67 = next_ready w2 66 (data_of_segment w.regs.ds 0xFFFF width) Entry r2 (omega arith) (omega arith) (omega arith) tt in
+    let r3 : IsReady w3 67 = next_ready w2 66 (data_of_segment w.regs.ds 0xFFFF width) Entry r2 (omega arith) (omega arith)
+    (fits_data w.regs.ds 0xFFFF width s.segments.ds (omega arith)) tt in
     let w4 = with_row w3 ENTRY_PSP (data_of_segment PSP_SEGMENT 0xFF Sixteen) Psp in
-    let r4 : IsReady w4 68 = next_ready w3 67 (data_of_segment PSP_SEGMENT 0xFF Sixteen) Psp r3 (omega arith) (omega arith) (omega arith) tt in
-    (next_ready w4 68 (data_of_segment (environment_of w) 0xFFFF Sixteen) Psp r4 (omega arith) (omega arith) (omega arith) tt).sound
+    let r4 : IsReady w4 68 = next_ready w3 67 (data_of_segment PSP_SEGMENT 0xFF Sixteen) Psp r3 (omega arith) (omega arith)
+    (fits_data PSP_SEGMENT 0xFF Sixteen (omega arith) (omega arith)) tt in
+    (next_ready w4 68 (data_of_segment (environment_of w) 0xFFFF Sixteen) Psp r4 (omega arith) (omega arith)
+    (fits_data (environment_of w) 0xFFFF Sixteen (environment_small w s.megabyte) (omega arith)) tt).sound
 
 -- ---- the entry
 

@@ -1,7 +1,8 @@
+use Rattle.std.proofs.Common.{arith}
 use Rattle.mode_gates.proofs.EntryRows.{may_put}
 use Rattle.mode_gates.proofs.entering.make.Goals as goal
 
 pub set_desc-requires-clause-sound : goal.set_desc-requires-clause-sound
 set_desc-requires-clause-sound c =
     (may_put c.args.m.now.world c.args.index c.args.d c.args.origin c.soundness.ensures c.requires.width c.requires.from c.requires.to
-    c.requires.limit c.requires.origin c.requires.free).sound
+    (record { base = omega arith; limit = c.requires.limit }) c.requires.origin c.requires.free).sound
