@@ -11,20 +11,20 @@ use Rattle.client_world.specs.Soundness.{SoundRuns}
 use Rattle.guest_space.specs.Arena.{spliced, NoneMade}
 
 -- the entry is one of them
-abbrev Has : DosEntry → List DosEntry → Type 0
+abbrev pub Has : DosEntry → List DosEntry → Type 0
 Has entry [] = ⊥
 Has entry (e ∷ es) = (e ≡ entry) ⊎ Has entry es
 
-has_left : (entry : DosEntry) (xs ys : List DosEntry) → Has entry xs → Has entry (xs ++ ys)
+pub has_left : (entry : DosEntry) (xs ys : List DosEntry) → Has entry xs → Has entry (xs ++ ys)
 has_left entry [] ys h = absurd h
 has_left entry (x ∷ xs) ys (inl e) = inl e
 has_left entry (x ∷ xs) ys (inr h) = inr (has_left entry xs ys h)
 
-has_right : (entry : DosEntry) (xs ys : List DosEntry) → Has entry ys → Has entry (xs ++ ys)
+pub has_right : (entry : DosEntry) (xs ys : List DosEntry) → Has entry ys → Has entry (xs ++ ys)
 has_right entry [] ys h = h
 has_right entry (x ∷ xs) ys h = inr (has_right entry xs ys h)
 
-has_either : (entry : DosEntry) (xs ys : List DosEntry) → Has entry (xs ++ ys) → Has entry xs ⊎ Has entry ys
+pub has_either : (entry : DosEntry) (xs ys : List DosEntry) → Has entry (xs ++ ys) → Has entry xs ⊎ Has entry ys
 has_either entry [] ys h = inr h
 has_either entry (x ∷ xs) ys (inl e) = inl (inl e)
 has_either entry (x ∷ xs) ys (inr h) = elim (has_either entry xs ys h) [
@@ -33,16 +33,16 @@ has_either entry (x ∷ xs) ys (inr h) = elim (has_either entry xs ys h) [
 ]
 
 -- it is at a place
-record Stands (entry : DosEntry) (es : List DosEntry) : Type 0 where
+pub record Stands (entry : DosEntry) (es : List DosEntry) : Type 0 where
   pub place : ℕ
   pub there : slice_get es place ≡ Some entry
 
-stands : (entry : DosEntry) (es : List DosEntry) → Has entry es → Stands entry es
+pub stands : (entry : DosEntry) (es : List DosEntry) → Has entry es → Stands entry es
 stands entry [] h = absurd h
 stands entry (e ∷ es) (inl same) = record { place = 0; there = ap (λ (x : DosEntry). Some x) same }
 stands entry (e ∷ es) (inr h) = let rest = stands entry es h in record { place = suc rest.place; there = rest.there }
 
-has_there : (entry : DosEntry) (es : List DosEntry) (place : ℕ) → slice_get es place ≡ Some entry → Has entry es
+pub has_there : (entry : DosEntry) (es : List DosEntry) (place : ℕ) → slice_get es place ≡ Some entry → Has entry es
 has_there entry [] place there = cc
 has_there entry (e ∷ es) zero there = inl (same_Some e entry there)
 has_there entry (e ∷ es) (suc place) there = inr (has_there entry es place there)
@@ -54,7 +54,7 @@ none_made entry (e ∷ es) none made (inl same) = let plain = none.0 in cc
 none_made entry (e ∷ es) none made (inr h) = none_made entry es none.1 made h
 
 -- the entries are those before, the ones taken out, and those after
-parts_are : (es : List DosEntry) (place old : ℕ) → take place es ++ (take old (drop place es) ++ drop (place + old) es) ≡ es
+pub parts_are : (es : List DosEntry) (place old : ℕ) → take place es ++ (take old (drop place es) ++ drop (place + old) es) ≡ es
 parts_are es place old =
     ap (λ (xs : List DosEntry). take place es ++ (take old (drop place es) ++ xs)) (sym (drop-drop old place es))
     ∙ ap (λ (xs : List DosEntry). take place es ++ xs) (take-append-drop old (drop place es))

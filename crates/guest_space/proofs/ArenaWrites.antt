@@ -169,3 +169,13 @@ pub entries_sound : (k : Processor) (b c : List ℕ) (v : MachineView) (place ol
 entries_sound k b c v place old new view holds sound gone none arena is =
     subst IsSound (sym (entries_world k b c v place old new view holds arena is))
     (IsSound-entries v.world place old new (subst (λ (x : MachineView). IsSound x.world) view sound) gone none arena)
+
+-- what was put is said of the machine's entries
+pub put_is : (es xs : List DosEntry) (b c : List ℕ) (place old : ℕ) (new : List DosEntry) → es ≡ xs → c ≡ with_arena b (spliced xs place old new) →
+    c ≡ with_arena b (spliced es place old new)
+put_is es xs b c place old new same is = rw same is
+
+-- the descriptors stay
+pub with_entries_rows : (w : World) (place old : ℕ) (new : List DosEntry) → (with_entries w place old new).descriptors ≡ w.descriptors
+unfolding with_entries
+with_entries_rows w place old new = refl

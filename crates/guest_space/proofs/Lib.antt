@@ -15,6 +15,9 @@ pub mod ChangedRegs
 pub mod CodeRuns
 pub mod Codes
 pub mod DistinctPlaces
+pub mod DosRows
+pub mod DosRunCalls
+pub mod DosRunsSound
 pub mod Entered
 pub mod FarLaws
 pub mod FarPuts

@@ -1,6 +1,7 @@
 pub mod Arena
 pub mod Code
 pub mod Dos
+pub mod DosRuns
 pub mod Far
 pub mod Machines
 pub mod Pending

@@ -118,6 +118,22 @@ fn write_headers(ram: &mut Ram, n: u32)
     }
 }
 
+// Puts entries in place of `old` others, and writes the header of every entry.
+pub(crate) fn put_entries(ram: &mut Ram, place: u16, old: u16, new: &ArrayVec<DosEntry, 3>)
+    requires frames { PAGE_SIZE * BUDGET_FRAMES ≤ length ram.old }
+    requires keeps { KeepsArena (arena_part ram.old) }
+    requires within { place + old ≤ length (arena_in (arena_part ram.old)) }
+    requires sound { IsArena (spliced (arena_in (arena_part ram.old)) place old new.now.items) }
+    ensures { ram.new ≡ with_headers
+        (put ram.old (PAGE_SIZE * DOS_LIST) (arena_bytes (spliced (arena_in (arena_part ram.old)) place old new.now.items)))
+        (spliced (arena_in (arena_part ram.old)) place old new.now.items) }
+{
+    let n = entry_count(ram);
+    let entries = new.as_slice();
+    replace_entries(ram, n, place as u32, old as u32, entries);
+    write_headers(ram, n - old as u32 + entries.len() as u32);
+}
+
 impl Machine {
     /// The number of entries of DOS memory, which are an arena.
     pub fn arena_len(&self) -> u16
@@ -147,9 +163,6 @@ impl Machine {
             (put self.old.bytes (PAGE_SIZE * DOS_LIST) (arena_bytes (spliced self.old.world.arena place old new.now.items)))
             (spliced self.old.world.arena place old new.now.items) }
     {
-        let n = entry_count(&self.ram);
-        let entries = new.as_slice();
-        replace_entries(&mut self.ram, n, place as u32, old as u32, entries);
-        write_headers(&mut self.ram, n - old as u32 + entries.len() as u32);
+        put_entries(&mut self.ram, place, old, new);
     }
 }

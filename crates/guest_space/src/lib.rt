@@ -8,6 +8,7 @@ mod blocks;
 mod code;
 mod descriptors;
 mod dos;
+mod dos_runs;
 mod far;
 mod laws;
 mod loading;

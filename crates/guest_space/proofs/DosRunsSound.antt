@@ -1,0 +1,353 @@
+-- Entries of DOS memory put together with the descriptors of a block leave a sound world sound.
+use Rattle.std.proofs.Common.{◌≡◌, ◌≢◌, ℕ, ◌+◌, ◌<◌, ◌≤◌, ◌⊎◌, inl, inr, Bool, true, false, if◌then◌else◌, List, [], ◌∷◌, ◌++◌, length, take, drop, refl, ap, ◌∙◌, sym, subst, arith, Option, None, Some}
+use Rattle.std.proofs.lemmas.Bool.{cases_eq, cases_lt, eq-eqb, ne_eqb}
+use Rattle.client_world.specs.declared.descriptors.Origin.{Origin}
+use Rattle.client_world.specs.declared.descriptors.Origin.TheVariants.{Segment, Dos, Host}
+use Rattle.client_world.specs.declared.dos_memory.DosEntry.{DosEntry}
+use Rattle.client_world.specs.declared.dos_memory.DosRun.{DosRun}
+use Rattle.client_world.specs.declared.host_frames.TheConstants.{DESCRIPTORS}
+use Rattle.client_world.specs.declared.memory_map.TheConstants.{ARENA_START, ARENA_END}
+use Rattle.client_world.specs.declared.registers.Width.{Width}
+use Rattle.client_world.specs.declared.selectors.TheConstants.{HOST_CODE, HOST_STACKS}
+use Rattle.client_world.specs.DosMemory.{Fills, is_dpmi, block_segment}
+use Rattle.client_world.specs.Selector.{Row, FitsRow, row_at_index}
+use Rattle.client_world.specs.Soundness.{IsSound, SoundDescriptors, SoundRuns, SoundWidth, HostRows, HasEntry, HasOrigin, HasRun, IsRunOf, descriptors_for}
+use Rattle.client_world.specs.World.{World}
+use Rattle.guest_space.specs.Arena.{spliced, with_entries}
+use Rattle.guest_space.specs.DosRuns.{CanPutRun, block_alone, made_blocks, rows_of_run, with_dos_rows, with_entries_and_run, dos_row}
+use Rattle.guest_space.proofs.ArenaHeaders.{SoundMegabyte-headers}
+use Rattle.guest_space.proofs.ArenaRuns.{Has, has_left, has_right, has_either, has_there, stands, parts_are}
+use Rattle.guest_space.proofs.DosRows.{dos_row_has, dos_row_tells, fits_dos_row, length-dos_rows, of_each_row, row_outside}
+use Rattle.guest_space.proofs.Fills.{fills_long}
+
+-- ---- the blocks among entries
+
+abbrev IsAmong : ℕ × ℕ → List (ℕ × ℕ) → Type 0
+IsAmong block [] = ⊥
+IsAmong block (other ∷ others) = (other ≡ block) ⊎ IsAmong block others
+
+among_rest : (made : Bool) (block other : ℕ × ℕ) (others : List (ℕ × ℕ)) → IsAmong block others → IsAmong block (if made then other ∷ others else others)
+among_rest true block other others h = inr h
+among_rest false block other others h = h
+
+among_made : (entry : DosEntry) (es : List DosEntry) → is_dpmi entry.state ≡ true → Has entry es → IsAmong (block_segment entry, entry.paras) (made_blocks es)
+among_made entry [] made h = absurd h
+among_made entry (e ∷ es) made (inl same) = rw same (rw made (inl refl))
+among_made entry (e ∷ es) made (inr h) = among_rest (is_dpmi e.state) _ _ (made_blocks es) (among_made entry es made h)
+
+record IsMade (segment n : ℕ) (es : List DosEntry) : Type 0 where
+  pub entry : DosEntry
+  pub has : Has entry es
+  pub made : is_dpmi entry.state ≡ true
+  pub starts : block_segment entry ≡ segment
+  pub size : entry.paras ≡ n
+
+made_first : (made : Bool) (segment n : ℕ) (e : DosEntry) (es : List DosEntry) → is_dpmi e.state ≡ made →
+    IsAmong (segment, n) (if made then (block_segment e, e.paras) ∷ made_blocks es else made_blocks es) →
+    (IsAmong (segment, n) (made_blocks es) → IsMade segment n es) → IsMade segment n (e ∷ es)
+made_first true segment n e es made (inl same) rest = record {
+  entry = e;
+  has = inl refl;
+  made = made;
+  starts = ap (λ (b : ℕ × ℕ). b.0) same;
+  size = ap (λ (b : ℕ × ℕ). b.1) same;
+}
+made_first true segment n e es made (inr h) rest =
+    let there = rest h in record { entry = there.entry; has = inr there.has; made = there.made; starts = there.starts; size = there.size }
+made_first false segment n e es made h rest =
+    let there = rest h in record { entry = there.entry; has = inr there.has; made = there.made; starts = there.starts; size = there.size }
+
+made_among : (segment n : ℕ) (es : List DosEntry) → IsAmong (segment, n) (made_blocks es) → IsMade segment n es
+made_among segment n [] h = absurd h
+made_among segment n (e ∷ es) h = made_first (is_dpmi e.state) segment n e es refl h (made_among segment n es)
+
+-- it is the block that is alone
+record IsThatBlock (entry : DosEntry) (segment n : ℕ) : Type 0 where
+  pub starts : block_segment entry ≡ segment
+  pub size : entry.paras ≡ n
+  pub some : 0 < n
+
+that_block : (entry : DosEntry) (segment n : ℕ) → IsAmong (block_segment entry, entry.paras) (block_alone segment n) → IsThatBlock entry segment n
+that_block entry segment n h = elim (cases_eq n 0) [
+  | inl none ↦ absurd (let no : IsAmong (block_segment entry, entry.paras) [] = rw (eq-eqb n 0 none) at h in no)
+  | inr some ↦ alone (rw (ne_eqb n 0 some) at h) some
+]
+  where
+    alone : IsAmong (block_segment entry, entry.paras) ((segment, n) ∷ []) → n ≢ 0 → IsThatBlock entry segment n
+    alone (inl same) some = record {
+      starts = ap (λ (b : ℕ × ℕ). b.0) (sym same);
+      size = ap (λ (b : ℕ × ℕ). b.1) (sym same);
+      some = omega arith;
+    }
+    alone (inr none) some = absurd none
+
+made_tells : (entry : DosEntry) (es : List DosEntry) (segment n : ℕ) → made_blocks es ≡ block_alone segment n → is_dpmi entry.state ≡ true →
+    Has entry es → IsThatBlock entry segment n
+made_tells entry es segment n alone made h = that_block entry segment n (subst (IsAmong (block_segment entry, entry.paras)) alone (among_made entry es made h))
+
+made_there : (es : List DosEntry) (segment n : ℕ) → made_blocks es ≡ block_alone segment n → n ≢ 0 → IsMade segment n es
+made_there es segment n alone some =
+    made_among segment n es (subst (IsAmong (segment, n)) (sym alone) (rw (ne_eqb n 0 some) (inl refl)))
+
+-- ---- where the entries are
+
+fills_parts : (xs ys : List DosEntry) (from to : ℕ) → Fills from (xs ++ ys) to → (mid : ℕ) × Fills from xs mid × Fills mid ys to
+fills_parts [] ys from to f = (from, refl, f)
+fills_parts (x ∷ xs) ys from to f = let rest = fills_parts xs ys (from + 1 + x.paras) to f.1 in (rest.0, (f.0, rest.1), rest.2)
+
+has_within : (entry : DosEntry) (es : List DosEntry) (from to : ℕ) → Fills from es to → Has entry es → (from ≤ entry.at) × (entry.at < to)
+has_within entry [] from to f h = absurd h
+has_within entry (e ∷ es) from to f (inl same) =
+    let long = fills_long es (from + 1 + e.paras) to f.1 in
+    let at = ap (λ (x : DosEntry). x.at) same in
+    let first = f.0 in
+    (omega arith, omega arith)
+has_within entry (e ∷ es) from to f (inr h) = let rest = has_within entry es (from + 1 + e.paras) to f.1 h in (omega (arith, rest.0), rest.1)
+
+apart : (entry other : DosEntry) (xs ys zs : List DosEntry) (from to : ℕ) → Fills from (xs ++ (ys ++ zs)) to → Has other ys → Has entry xs ⊎ Has entry zs →
+    entry.at ≢ other.at
+apart entry other xs ys zs from to f here there same =
+    let front = fills_parts xs (ys ++ zs) from to f in
+    let back = fills_parts ys zs front.0 to front.2 in
+    let in_ys = has_within other ys front.0 back.0 back.1 here in
+    elim there [
+      | inl left ↦ (let in_xs = has_within entry xs from front.0 front.1 left in omega (arith, in_xs.1, in_ys.0, same))
+      | inr right ↦ (let in_zs = has_within entry zs back.0 to back.2 right in omega (arith, in_zs.0, in_ys.1, same))
+    ]
+
+-- ---- the rows after it
+
+one_origin : (row : Row) (one other : Origin) → HasOrigin row one → HasOrigin row other → one ≡ other
+one_origin None one other h k = absurd h
+one_origin (Some row) one other h k = sym h ∙ k
+
+pub record HasRunRows (rows : List Row) (run : DosRun) : Type 0 where
+  pub room : run.first + rows_of_run run ≤ length rows
+  pub touched : (index : ℕ) (origin : Origin) → run.first ≤ index → index < run.first + rows_of_run run → HasOrigin (row_at_index rows index) origin →
+      origin ≡ Dos run.seg
+
+run_rows : (w : World) (place old : ℕ) (new : List DosEntry) (run : DosRun) → length w.descriptors ≡ DESCRIPTORS → CanPutRun w place old new run →
+    HasRunRows w.descriptors run
+run_rows w place old new run size can =
+    let added = can.added.within in
+    record {
+      room = omega arith;
+      touched = λ index origin from to has. elim (cases_lt index (run.first + descriptors_for run.before)) [
+        | inl old_one ↦ one_origin (row_at_index w.descriptors index) origin (Dos run.seg) has (can.old_run.have index from old_one)
+        | inr new_one ↦ absurd (subst (λ (r : Row). HasOrigin r origin) (can.added.free index new_one (omega arith)) has)
+      ];
+    }
+
+was_origin : (rows : List Row) (run : DosRun) (origin : Origin) → HasRunRows rows run → Dos run.seg ≢ origin → (index : ℕ) →
+    HasOrigin (row_at_index (with_dos_rows rows run (rows_of_run run)) index) origin → HasOrigin (row_at_index rows index) origin
+was_origin rows run origin h unlike = of_each_row rows run (rows_of_run run)
+    (λ (k : ℕ) (r : Row). HasOrigin r origin → HasOrigin (row_at_index rows k) origin) h.room
+    (λ j small has. absurd (unlike (dos_row_tells run.seg run.after j origin has).0)) (λ k away has. has)
+
+stays_origin : (rows : List Row) (run : DosRun) (origin : Origin) → HasRunRows rows run → Dos run.seg ≢ origin → (index : ℕ) →
+    HasOrigin (row_at_index rows index) origin → HasOrigin (row_at_index (with_dos_rows rows run (rows_of_run run)) index) origin
+stays_origin rows run origin h unlike = of_each_row rows run (rows_of_run run)
+    (λ (k : ℕ) (r : Row). HasOrigin (row_at_index rows k) origin → HasOrigin r origin) h.room
+    (λ j small has. absurd (unlike (sym (h.touched (run.first + j) origin (omega arith) (omega arith) has)))) (λ k away has. has)
+
+not_segment : (segment other : ℕ) → Dos segment ≢ Segment other
+not_segment segment other e = cc
+
+not_host : (segment : ℕ) → Dos segment ≢ Host
+not_host segment e = cc
+
+same_segment : (segment other : ℕ) → Dos segment ≡ Dos other → segment ≡ other
+same_segment segment other e = cc
+
+rows_sound : (rows : List Row) (run : DosRun) → SoundDescriptors rows → HasRunRows rows run → run.seg < 0x10000 → run.after < 0x10000 →
+    SoundDescriptors (with_dos_rows rows run (rows_of_run run))
+rows_sound rows run s h segment after = record {
+  indices = length-dos_rows rows run (rows_of_run run) ∙ s.indices;
+  fits = of_each_row rows run (rows_of_run run) (λ (k : ℕ) (r : Row). FitsRow r) h.room
+      (λ j small. fits_dos_row run.seg run.after j segment after) (λ k away. s.fits k);
+  segments = λ one other named e f. s.segments one other named
+      (was_origin rows run (Segment named) h (not_segment run.seg named) one e)
+      (was_origin rows run (Segment named) h (not_segment run.seg named) other f);
+}
+
+rows_host : (rows : List Row) (run : DosRun) (width : Width) → HostRows rows width → HasRunRows rows run → 64 ≤ run.first →
+    HostRows (with_dos_rows rows run (rows_of_run run)) width
+rows_host rows run width s h from = record {
+  code = row_outside rows run (rows_of_run run) HOST_CODE (inl (omega arith)) ∙ s.code;
+  stacks = row_outside rows run (rows_of_run run) HOST_STACKS (inl (omega arith)) ∙ s.stacks;
+  others = λ index has. s.others index (was_origin rows run Host h (not_host run.seg) index has);
+  callbacks = λ index row stack e. (let to = stack.1 in
+      s.callbacks index row stack (sym (row_outside rows run (rows_of_run run) index (inl (omega arith))) ∙ e));
+}
+
+width_sound : (width : Option Width) (w v : World) (run : DosRun) → SoundWidth width w → width ≢ None → HasRunRows w.descriptors run → 64 ≤ run.first →
+    v.descriptors ≡ with_dos_rows w.descriptors run (rows_of_run run) → SoundWidth width v
+width_sound None w v run s some h from is = absurd (some refl)
+width_sound (Some width) w v run s some h from is = rw is (rows_host w.descriptors run width s h from)
+
+-- ---- the runs
+
+other_run : (rows : List Row) (run : DosRun) (entry : DosEntry) → HasRunRows rows run → block_segment entry ≢ run.seg → HasRun rows entry →
+    HasRun (with_dos_rows rows run (rows_of_run run)) entry
+other_run rows run entry h other has =
+    let unlike : Dos run.seg ≢ Dos (block_segment entry) = λ e. other (sym (same_segment run.seg (block_segment entry) e)) in
+    record {
+      some = has.some;
+      first = has.first;
+      free = has.free;
+      run = record {
+        have = λ k from to. stays_origin rows run (Dos (block_segment entry)) h unlike k (has.run.have k from to);
+        from = λ k e. has.run.from k (was_origin rows run (Dos (block_segment entry)) h unlike k e);
+        to = λ k e. has.run.to k (was_origin rows run (Dos (block_segment entry)) h unlike k e);
+      };
+    }
+
+run_after : (rows : List Row) (run : DosRun) → HasRunRows rows run → IsRunOf rows (Dos run.seg) run.first (descriptors_for run.before) →
+    IsRunOf (with_dos_rows rows run (rows_of_run run)) (Dos run.seg) run.first (descriptors_for run.after)
+run_after rows run h old = record {
+  have = of_each_row rows run (rows_of_run run)
+      (λ (k : ℕ) (r : Row). run.first ≤ k → k < run.first + descriptors_for run.after → HasOrigin r (Dos run.seg)) h.room
+      (λ j small from to. dos_row_has run.seg run.after j (omega arith))
+      (λ k away from to. absurd (elim away [ inl below ↦ omega arith | inr beyond ↦ omega arith ]));
+  from = λ k has. (within k has).0;
+  to = λ k has. (within k has).1;
+}
+  where
+    within : (k : ℕ) → HasOrigin (row_at_index (with_dos_rows rows run (rows_of_run run)) k) (Dos run.seg) →
+        (run.first ≤ k) × (k < run.first + descriptors_for run.after)
+    within = of_each_row rows run (rows_of_run run)
+        (λ (k : ℕ) (r : Row). HasOrigin r (Dos run.seg) → (run.first ≤ k) × (k < run.first + descriptors_for run.after)) h.room
+        (λ j small has. (omega arith, omega (arith, (dos_row_tells run.seg run.after j (Dos run.seg) has).1)))
+        (λ k away has. absurd (elim away [ inl below ↦ omega (arith, old.from k has) | inr beyond ↦ omega (arith, old.to k has) ]))
+
+block_run : (rows : List Row) (run : DosRun) (entry : DosEntry) → HasRunRows rows run → 64 ≤ run.first →
+    IsRunOf rows (Dos run.seg) run.first (descriptors_for run.before) → IsThatBlock entry run.seg run.after →
+    HasRun (with_dos_rows rows run (rows_of_run run)) entry
+block_run rows run entry h from old is =
+    let some = is.some in
+    let size = is.size in
+    record {
+      some = omega arith;
+      first = run.first;
+      free = from;
+      run = rw (is.starts, size) (run_after rows run h old);
+    }
+
+-- the entries that stay are of other segments: those of the block itself are taken out, or there are none
+others_apart : (w : World) (place old : ℕ) (new : List DosEntry) (run : DosRun) (entry : DosEntry) → IsSound w → CanPutRun w place old new run →
+    is_dpmi entry.state ≡ true → Has entry (take place w.arena) ⊎ Has entry (drop (place + old) w.arena) → HasRun w.descriptors entry →
+    block_segment entry ≢ run.seg
+others_apart w place old new run entry s can made there has same = elim (cases_eq run.before 0) [
+  | inl none ↦ (let some = has.some in
+      let here : HasOrigin (row_at_index w.descriptors has.first) (Dos run.seg) =
+      subst (λ (n : ℕ). HasOrigin (row_at_index w.descriptors has.first) (Dos n)) same (has.run.have has.first (omega arith) (omega arith)) in
+      omega (arith, none, can.old_run.from has.first here, can.old_run.to has.first here))
+  | inr some ↦ (let out = made_there (take old (drop place w.arena)) run.seg run.before can.old_block some in
+      let starts = out.starts in
+      apart entry out.entry (take place w.arena) (take old (drop place w.arena)) (drop (place + old) w.arena) ARENA_START ARENA_END
+      (subst (λ (es : List DosEntry). Fills ARENA_START es ARENA_END) (sym (parts_are w.arena place old)) s.arena.fills) out.has there (omega arith))
+]
+
+-- an entry is before those that are taken out, one of them, or after them
+record IsPart (entry : DosEntry) (es : List DosEntry) (place old : ℕ) : Type 0 where
+  pub part : Has entry (take old (drop place es)) ⊎ (Has entry (take place es) ⊎ Has entry (drop (place + old) es))
+
+part_of : (entry : DosEntry) (es : List DosEntry) (place old : ℕ) → Has entry es → IsPart entry es place old
+part_of entry es place old h = elim (has_either entry (take place es) _ (subst (Has entry) (sym (parts_are es place old)) h)) [
+  | inl front ↦ record { part = inr (inl front) }
+  | inr rest ↦ elim (has_either entry (take old (drop place es)) (drop (place + old) es) rest) [
+    | inl out ↦ record { part = inl out }
+    | inr after ↦ record { part = inr (inr after) }
+  ]
+]
+
+was_before : (entry : DosEntry) (es : List DosEntry) (place old : ℕ) → Has entry (take place es) ⊎ Has entry (drop (place + old) es) → Has entry es
+was_before entry es place old there = subst (Has entry) (parts_are es place old) (elim there [
+  | inl front ↦ has_left entry (take place es) _ front
+  | inr after ↦ has_right entry (take place es) _ (has_right entry (take old (drop place es)) _ after)
+])
+
+is_after : (entry : DosEntry) (es : List DosEntry) (place old : ℕ) (new : List DosEntry) → Has entry (take place es) ⊎ Has entry (drop (place + old) es) →
+    Has entry (spliced es place old new)
+is_after entry es place old new there = elim there [
+  | inl front ↦ has_left entry (take place es) _ front
+  | inr after ↦ has_right entry (take place es) _ (has_right entry new _ after)
+]
+
+entry_run : (w : World) (place old : ℕ) (new : List DosEntry) (run : DosRun) (entry : DosEntry) → IsSound w → CanPutRun w place old new run →
+    HasRunRows w.descriptors run → is_dpmi entry.state ≡ true → Has entry (spliced w.arena place old new) →
+    HasRun (with_dos_rows w.descriptors run (rows_of_run run)) entry
+entry_run w place old new run entry s can h made there = elim (has_either entry (take place w.arena) _ there) [
+  | inl front ↦ kept (inl front)
+  | inr rest ↦ elim (has_either entry new (drop (place + old) w.arena) rest) [
+    | inl fresh ↦ block_run w.descriptors run entry h can.from can.old_run (made_tells entry new run.seg run.after can.new_block made fresh)
+    | inr after ↦ kept (inr after)
+  ]
+]
+  where
+    kept : Has entry (take place w.arena) ⊎ Has entry (drop (place + old) w.arena) → HasRun (with_dos_rows w.descriptors run (rows_of_run run)) entry
+    kept part =
+        let was = stands entry w.arena (was_before entry w.arena place old part) in
+        let has = s.runs.runs was.place entry was.there made in
+        other_run w.descriptors run entry h (others_apart w place old new run entry s can made part has) has
+
+entry_of_row : (w : World) (place old : ℕ) (new : List DosEntry) (run : DosRun) (index segment : ℕ) → IsSound w → CanPutRun w place old new run →
+    (index < run.first) ⊎ (run.first + rows_of_run run ≤ index) → HasOrigin (row_at_index w.descriptors index) (Dos segment) →
+    HasEntry (spliced w.arena place old new) segment
+entry_of_row w place old new run index segment s can away has =
+    let was = s.runs.entries index segment has in
+    let part = part_of was.entry w.arena place old (has_there was.entry w.arena was.place was.there) in
+    elim part.part [
+      | inl out ↦ absurd (other (sym was.starts ∙ (made_tells was.entry (take old (drop place w.arena)) run.seg run.before can.old_block was.made out).starts))
+      | inr kept ↦ (let there = stands was.entry (spliced w.arena place old new) (is_after was.entry w.arena place old new kept) in
+          record { place = there.place; entry = was.entry; there = there.there; made = was.made; starts = was.starts })
+    ]
+  where
+    other : segment ≢ run.seg
+    other same =
+        let here : HasOrigin (row_at_index w.descriptors index) (Dos run.seg) =
+        subst (λ (n : ℕ). HasOrigin (row_at_index w.descriptors index) (Dos n)) same has in
+        elim away [ inl below ↦ omega (arith, can.old_run.from index here) | inr beyond ↦ omega (arith, can.old_run.to index here) ]
+
+runs_sound : (w : World) (place old : ℕ) (new : List DosEntry) (run : DosRun) → IsSound w → CanPutRun w place old new run → HasRunRows w.descriptors run →
+    SoundRuns (with_dos_rows w.descriptors run (rows_of_run run)) (spliced w.arena place old new)
+runs_sound w place old new run s can h = record {
+  runs = λ at entry there made. entry_run w place old new run entry s can h made (has_there entry (spliced w.arena place old new) at there);
+  entries = λ index segment. of_each_row w.descriptors run (rows_of_run run)
+      (λ (k : ℕ) (r : Row). HasOrigin r (Dos segment) → HasEntry (spliced w.arena place old new) segment) h.room
+      (λ j small has. fresh j segment has) (λ k away has. entry_of_row w place old new run k segment s can away has) index;
+}
+  where
+    fresh : (j segment : ℕ) → HasOrigin (dos_row run.seg run.after j) (Dos segment) → HasEntry (spliced w.arena place old new) segment
+    fresh j segment has =
+        let tells = dos_row_tells run.seg run.after j (Dos segment) has in
+        let put = made_there new run.seg run.after can.new_block (λ none. omega (arith, tells.1, none)) in
+        let there = stands put.entry (spliced w.arena place old new) (has_right put.entry (take place w.arena) _ (has_left put.entry new _ put.has)) in
+        record {
+          place = there.place;
+          entry = put.entry;
+          there = there.there;
+          made = put.made;
+          starts = put.starts ∙ same_segment run.seg segment tells.0;
+        }
+
+pub IsSound-run : (w : World) (place old : ℕ) (new : List DosEntry) (run : DosRun) → run.seg < 0x10000 → run.after < 0x10000 → IsSound w →
+    CanPutRun w place old new run → IsSound (with_entries_and_run w place old new run)
+unfolding with_entries
+IsSound-run w place old new run segment after s can =
+    let h = run_rows w place old new run s.descriptors.indices can in
+    record {
+      segments = s.segments;
+      megabyte = SoundMegabyte-headers w.dos (spliced w.arena place old new) ARENA_START s.megabyte can.arena.fills;
+      arena = can.arena;
+      blocks = s.blocks;
+      block_bytes = s.block_bytes;
+      pageable = s.pageable;
+      descriptors = rows_sound w.descriptors run s.descriptors h segment after;
+      runs = runs_sound w place old new run s can h;
+      interrupt_vectors = s.interrupt_vectors;
+      exception_vectors = s.exception_vectors;
+      callbacks = s.callbacks;
+      depth = s.depth;
+      width = width_sound w.width w _ run s.width can.width h can.from refl;
+    }

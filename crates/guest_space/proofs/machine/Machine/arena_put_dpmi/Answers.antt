@@ -1,0 +1,52 @@
+use Rattle.std.proofs.Common.{◌+◌, ◌≤◌, subst, arith, List, length}
+use Rattle.client_world.specs.declared.dos_memory.DosEntry.{DosEntry}
+use Rattle.client_world.specs.DosMemory.{IsArena}
+use Rattle.guest_space.specs.Arena.{spliced}
+use Rattle.guest_space.specs.Machines.{Processor}
+use Rattle.guest_space.proofs.ArenaWrites.{arena_of, entries_holds, put_is}
+use Rattle.guest_space.proofs.DosRunCalls.{run_machine}
+use Rattle.guest_space.proofs.machine.Machine.arena_put_dpmi.Goals as goal
+
+pub put_entries-requires-clause-within : goal.put_entries-requires-clause-within
+put_entries-requires-clause-within c =
+    let m = c.self.inside in
+    let v = c.args.self.now in
+    let k : Processor = record { budget = m.pages; mode = m.mode; regs = m.regs; vif = m.vif; width = m.width } in
+    subst (λ (es : List DosEntry). c.args.place + c.args.old ≤ length es) (arena_of k m.ram v c.self.view_is) c.requires.within
+
+pub put_entries-requires-clause-sound : goal.put_entries-requires-clause-sound
+put_entries-requires-clause-sound c =
+    let m = c.self.inside in
+    let v = c.args.self.now in
+    let k : Processor = record { budget = m.pages; mode = m.mode; regs = m.regs; vif = m.vif; width = m.width } in
+    subst (λ (es : List DosEntry). IsArena (spliced es c.args.place c.args.old c.args.new.now.items)) (arena_of k m.ram v c.self.view_is) c.requires.arena
+
+pub put_dos_rows-requires-clause-rows : goal.put_dos_rows-requires-clause-rows
+put_dos_rows-requires-clause-rows c =
+    let m = c.self.inside in
+    let v = c.args.self.now in
+    let k : Processor = record { budget = m.pages; mode = m.mode; regs = m.regs; vif = m.vif; width = m.width } in
+    let written = put_is v.world.arena _ m.ram c.put_entries.new.ram c.args.place c.args.old c.args.new.now.items (arena_of k m.ram v c.self.view_is) c.put_entries.ensures in
+    let size = (entries_holds k m.ram c.put_entries.new.ram v c.args.place c.args.old c.args.new.now.items c.self.view_is c.self.invariant.0 c.requires.arena written).size in
+    omega arith
+
+pub invariant_of-self : goal.invariant_of-self
+invariant_of-self c =
+    let m = c.self.inside in
+    let v = c.args.self.now in
+    let k : Processor = record { budget = m.pages; mode = m.mode; regs = m.regs; vif = m.vif; width = m.width } in
+    let after = run_machine k m.ram c.put_entries.new.ram c.put_dos_rows.new.ram v c.args.place c.args.old c.args.new.now.items c.args.run c.self.view_is
+    c.self.invariant.0 c.self.invariant.1 (omega arith) (omega arith) c.requires
+    (put_is v.world.arena _ m.ram c.put_entries.new.ram c.args.place c.args.old c.args.new.now.items (arena_of k m.ram v c.self.view_is) c.put_entries.ensures)
+    c.put_dos_rows.ensures in
+    (after.holds, after.sound)
+
+pub returns : goal.returns
+returns c =
+    let m = c.self.inside in
+    let v = c.args.self.now in
+    let k : Processor = record { budget = m.pages; mode = m.mode; regs = m.regs; vif = m.vif; width = m.width } in
+    (run_machine k m.ram c.put_entries.new.ram c.put_dos_rows.new.ram v c.args.place c.args.old c.args.new.now.items c.args.run c.self.view_is
+    c.self.invariant.0 c.self.invariant.1 (omega arith) (omega arith) c.requires
+    (put_is v.world.arena _ m.ram c.put_entries.new.ram c.args.place c.args.old c.args.new.now.items (arena_of k m.ram v c.self.view_is) c.put_entries.ensures)
+    c.put_dos_rows.ensures).world
