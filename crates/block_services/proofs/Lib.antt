@@ -3,9 +3,9 @@ mod FreeLaws
 mod GapLaws
 mod GoodBlocks
 mod HandleLaws
-mod KeptServices
+pub mod KeptServices
 mod PageLaws
 mod RoomLaws
-mod SoundServices
+pub mod SoundServices
 mod StayLaws
 mod ViewLaws

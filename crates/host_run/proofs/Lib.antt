@@ -2,6 +2,7 @@ mod Frames
 mod KindModes
 mod NoTraps
 mod Runs
+mod Services
 mod Touches
 pub mod Sound
 pub mod TurnLaws

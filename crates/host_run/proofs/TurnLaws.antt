@@ -19,9 +19,6 @@ use Rattle.client_world.specs.Services.{Served}
 use Rattle.client_world.specs.Soundness.{IsSound}
 use Rattle.client_world.specs.World.{World, HostWorld}
 use Rattle.client_world.proofs.SoundWrites.{IsSound-regs}
-use Rattle.desc_services.specs.Rows.{descriptor_service}
-use Rattle.desc_services.proofs.KeptServices.{kept_service}
-use Rattle.desc_services.proofs.SoundServices.{sound_service}
 use Rattle.dos_calls.specs.Calls.{CallResult, dos_call}
 use Rattle.dos_calls.specs.Multiplex.{multiplex_call}
 use Rattle.dos_calls.specs.Kept.{Extends}
@@ -39,8 +36,9 @@ use Rattle.host_run.specs.declared.traps.Trap.{Trap}
 use Rattle.host_run.specs.declared.traps.Trap.TheVariants.{RealVector, Entry, ProtectedVector, NoTrap}
 use Rattle.host_run.specs.Keys.{HasKeys}
 use Rattle.host_run.specs.Traps.{current_trap}
-use Rattle.host_run.specs.Turn.{Outcome, goes_on, ends, with_machine, noted, popped, seen, dos_served, multiplex_served, ends_client, vector_served, entry_line, after_entry, after_entry_trap, is_served, goes_on_with, after_presence_call, is_set, after_int31, after_protected_call, after_protected_pop, after_protected_vector, delivered_in, after_interrupt, after_step, stepped, trapped, work, with_turn_counted, settled, turn}
+use Rattle.host_run.specs.Turn.{Outcome, goes_on, ends, with_machine, noted, popped, seen, dos_served, multiplex_served, ends_client, vector_served, entry_line, after_entry, after_entry_trap, is_served, goes_on_with, after_presence_call, is_set, service, after_int31, after_protected_call, after_protected_pop, after_protected_vector, delivered_in, after_interrupt, after_step, stepped, trapped, work, with_turn_counted, settled, turn}
 use Rattle.host_run.proofs.Frames.{still_popped}
+use Rattle.host_run.proofs.Services.{calls_service, sound_service}
 use Rattle.host_run.proofs.KindModes.{Suits, trap_suits}
 
 -- a host whose machine is sound and whose keys are bytes
@@ -215,10 +213,10 @@ next_regs w u r next es cs ss ds fs gs =
 int31_keeps : (h : HostWorld) (w : World) → IsReached h → IsNext h.machine w → w.mode ≡ Protected → TurnKeeps h (after_int31 h w)
 int31_keeps h w s next protected =
     let ax = low_half w.regs.eax in
-    let r = descriptor_service ax w in
+    let r = service ax w in
     let after : IsNext h.machine r.world = record {
       sound = sound_service ax w next.sound protected;
-      calls = ap (λ (x : World). x.calls) (kept_service ax w) ∙ next.calls;
+      calls = calls_service ax w ∙ next.calls;
     } in
     told_keeps h (lines.Int31 ax r.carry) (record r.world { regs = with_carry (is_set r.carry) r.world.regs }) s
     (next_regs h.machine r.world (with_carry (is_set r.carry) r.world.regs) after refl refl refl refl refl refl)

@@ -1,5 +1,5 @@
 -- One turn: it serves a trap byte, or runs one client instruction with its software interrupt, or delivers its exception. Source: own.
-use Rattle.std.specs.Prelude.{ℕ, ◌+◌, Bool, true, false, [], ◌∷◌, ◌++◌, length, ◌&&◌, ◌||◌, nat_eq, nat_lt, if◌then◌else◌, None, Some, Ok, Err}
+use Rattle.std.specs.Prelude.{ℕ, ◌+◌, Bool, true, false, [], ◌∷◌, ◌++◌, length, ◌&&◌, ◌||◌, not, nat_eq, nat_le, nat_lt, if◌then◌else◌, None, Some, Ok, Err}
 use Rattle.std.specs.declared.option.Option.{Option}
 use Rattle.std.specs.declared.result.Result.{Result}
 use Rattle.client_world.specs.declared.faults.Event.{Event}
@@ -18,11 +18,13 @@ use Rattle.client_world.specs.declared.trace.TraceLine.TheVariants as lines
 use Rattle.client_world.specs.Registers.{high_byte, low_byte, low_half, with_low_half}
 use Rattle.client_world.specs.Services.{Served}
 use Rattle.client_world.specs.World.{World, HostWorld}
+use Rattle.block_services.specs.Rows.{block_service}
 use Rattle.desc_services.specs.Rows.{descriptor_service}
 use Rattle.dos_calls.specs.Calls.{CallState, CallResult, dos_call}
 use Rattle.dos_calls.specs.Multiplex.{multiplex_call}
 use Rattle.fault_service.specs.Worlds.{world_step, world_interrupt, world_delivery, world_popped}
 use Rattle.mode_gates.specs.Entry.{asked_width, entry, with_carry}
+use Rattle.vector_services.specs.Rows.{vector_service}
 use Rattle.host_run.specs.declared.traps.Trap.{Trap}
 use Rattle.host_run.specs.declared.traps.Trap.TheVariants.{RealVector, Entry, ProtectedVector, NoTrap}
 use Rattle.host_run.specs.Traps.{current_trap}
@@ -107,12 +109,27 @@ after_entry_trap h = after_entry h (entry h.machine)
 
 -- ---- the default vectors of protected mode
 
--- the calls that are served so far: INT 21h function 4Ch, INT 2Fh AX = 1686h, and the functions of INT 31h with AH = 0
+-- the functions of INT 31h that aren't served yet: DOS memory, simulated calls, callbacks and raw switches
+abbrev pub is_unbuilt : ℕ → Bool
+is_unbuilt ax = nat_le 0x0100 ax && nat_le ax 0x0102 || nat_le 0x0300 ax && nat_le ax 0x0306
+
+-- the high byte of a function of INT 31h on memory blocks and their pages
+abbrev pub is_of_blocks : ℕ → Bool
+is_of_blocks high = nat_eq high 5 || nat_eq high 6 || nat_eq high 7
+
+-- the function ax of INT 31h, in the family of its high byte; each family sets the carry for a number that it doesn't have
+unfoldable pub service : ℕ → World → Served
+service ax w =
+    if nat_eq (high_byte ax) 0 then descriptor_service ax w else
+    if is_of_blocks (high_byte ax) then block_service ax w else
+    vector_service ax w
+
+-- the calls that are served so far: INT 21h function 4Ch, INT 2Fh AX = 1686h, and INT 31h but for the functions above
 abbrev pub is_served : World → ℕ → Bool
 is_served w n =
     nat_eq n 0x21 && nat_eq (high_byte w.regs.eax) 0x4C
     || nat_eq n 0x2F && nat_eq (low_half w.regs.eax) 0x1686
-    || nat_eq n 0x31 && nat_eq (high_byte w.regs.eax) 0
+    || nat_eq n 0x31 && not (is_unbuilt (low_half w.regs.eax))
 
 -- the run goes on with another machine, and one more line of the trace
 abbrev pub goes_on_with : HostWorld → TraceLine → World → Outcome
@@ -137,7 +154,7 @@ after_service h ax s =
     goes_on_with h (lines.Int31 ax s.carry) (record s.world { regs = with_carry (is_set s.carry) s.world.regs })
 
 abbrev pub after_int31 : HostWorld → World → Outcome
-after_int31 h w = after_service h (low_half w.regs.eax) (descriptor_service (low_half w.regs.eax) w)
+after_int31 h w = after_service h (low_half w.regs.eax) (service (low_half w.regs.eax) w)
 
 -- the default vector n of a host; w is the machine after its frame is popped
 unfoldable pub after_protected_call : HostWorld → ℕ → World → Outcome

@@ -3,7 +3,8 @@
 //! for the first reason, that each turn is the model's turn, and that a run is the model's run; that every world so reached
 //! is sound, that its turns touch what the client holds, leave the records of calls and add to the console at its end alone, and that an exit
 //! leaves the machine.
-//! It is built on `mz_loader`, `dos_calls`, `fault_service`, `mode_gates` and `desc_services`, all of which are built on the machine.
+//! It is built on `mz_loader`, `dos_calls`, `fault_service`, `mode_gates`, `desc_services`, `block_services` and `vector_services`, all of
+//! which are built on the machine.
 #![tactic(auto)]
 
 mod host;

@@ -11,16 +11,16 @@ ghost use Rattle.host_run.specs.Turn.{
   after_int31,
   is_served,
   is_set,
+  is_unbuilt,
   after_presence_call,
   after_protected_pop,
   after_protected_vector,
 };
 
 use crate::host::Host;
-use crate::serving::{can_pop, pop_in_mode};
+use crate::serving::{can_pop, pop_in_mode, serve_function};
 use client_world::{Carry, Exit, Regs, TraceLine};
 use cpu_values::{part8, put16};
-use desc_services::serve;
 use guest_space::Machine;
 use mode_gates::{asked_width, entry, with_carry};
 
@@ -31,12 +31,19 @@ fn ax(m: &Machine) -> u16
     (m.regs().eax % 0x1_0000) as u16
 }
 
+// The functions of INT 31h that aren't served yet.
+fn is_unbuilt(ax: u16) -> bool
+    ensures { result ≡ is_unbuilt ax }
+{
+    0x0100 <= ax && ax <= 0x0102 || 0x0300 <= ax && ax <= 0x0306
+}
+
 // The calls of protected mode that are served so far.
 fn is_served(m: &Machine, n: u8) -> bool
     ensures { result ≡ is_served m.now.world n }
 {
     let ah = part8(m.regs().eax, true);
-    n == 0x21 && ah == 0x4C || n == 0x2F && ax(m) == 0x1686 || n == 0x31 && ah == 0
+    n == 0x21 && ah == 0x4C || n == 0x2F && ax(m) == 0x1686 || n == 0x31 && !is_unbuilt(ax(m))
 }
 
 // The line of the trace of a call of the entry.
@@ -116,7 +123,7 @@ impl Host {
         ensures steps { self.new.world.steps ≡ self.old.world.steps }
     {
         let number = ax(&self.machine);
-        let carry = serve(&mut self.machine, number);
+        let carry = serve_function(&mut self.machine, number);
         self.note(TraceLine::Int31 { ax: number, carry });
         let r = self.machine.regs();
         self.machine.set_regs(with_carry(is_set(carry), r));

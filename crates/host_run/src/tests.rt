@@ -7,6 +7,8 @@ use std::alloc::{AllocError, Global};
 use std::process::Abort;
 use std::test::Fail;
 
+mod memory;
+
 // A client's code, its keystrokes and the bound of its run; the exit, the turns and the console; the registers and the flags image.
 struct Case {
     code: &'static [u8],
@@ -375,12 +377,12 @@ fn services_answer_in_the_popped_flags(rt: HostRuntime) -> Result<(), Fail> {
     Ok(())
 }
 
-// What isn't served yet ends the run and leaves the machine: a reflected call, a service of another family, HLT's exception.
+// What isn't served yet ends the run and leaves the machine: a reflected call, a simulated call, HLT's exception.
 #[test]
 fn other_calls_of_protected_mode_are_unbuilt(rt: HostRuntime) -> Result<(), Fail> {
     for (code, steps, ip) in [
         ([0xB4, 0x02, 0xCD, 0x21], 12, 0x221),
-        ([0xB4, 0x05, 0xCD, 0x31], 12, 0x231),
+        ([0xB4, 0x03, 0xCD, 0x31], 12, 0x231),
         ([0xCD, 0x60, 0x90, 0x90], 11, 0x260),
         ([0xF4, 0x90, 0x90, 0x90], 10, 14),
     ] {

@@ -1,3 +1,3 @@
 mod EachService
-mod KeptServices
-mod SoundServices
+pub mod KeptServices
+pub mod SoundServices
