@@ -36,7 +36,7 @@ limit_fits n j small = elim (cases_eq j 0) [
 
 pub fits_dos_row : (segment n j : ℕ) → segment < 0x10000 → n < 0x10000 → FitsRow (dos_row segment n j)
 fits_dos_row segment n j segment_fits n_fits = elim (cases_lt j (descriptors_for n)) [
-  | inl small ↦ rw (row_there segment n j small) (limit_fits n j n_fits)
+  | inl small ↦ rw (row_there segment n j small) (record { base = omega arith; limit = limit_fits n j n_fits })
   | inr beyond ↦ rw (row_missing segment n j beyond) tt
 ]
 
