@@ -33,6 +33,7 @@ pub mod OnlyWritten
 pub mod OwnParts
 pub mod Parts
 pub mod Puts
+pub mod ReadRuns
 pub mod ReadBack
 pub mod RecordLists
 pub mod RecordRuns

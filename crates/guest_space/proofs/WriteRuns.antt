@@ -43,7 +43,7 @@ span_grows seg low high least most xs i e within before here lower higher =
     (λ d. subst (λ (x : Write). LiesIn seg least most x) (get_or_default xs i e d within) here)
 
 -- where a place may be touched, its translation is its address
-translated_where : (v : MachineView) (lin : ℕ) (write : Bool) (p : ℕ) → TouchesAt v.bytes (place_in v.world.blocks lin) write p → translated v lin write ≡ Ok p
+pub translated_where : (v : MachineView) (lin : ℕ) (write : Bool) (p : ℕ) → TouchesAt v.bytes (place_in v.world.blocks lin) write p → translated v lin write ≡ Ok p
 unfolding translated
 translated_where v lin write p touches = rw touches.may (ap (λ (a : ℕ). Ok a) (sym touches.address))
 
@@ -68,7 +68,7 @@ pub run_in_memory : (k : Processor) (v : MachineView) (seg : SegReg) (low n at :
 run_in_memory k v seg low n at machine run some =
     run_inside k v (linear (run.base + low)) n at true machine (omega arith) run.room some run.ends
 
-run_is_small : (k : Processor) (v : MachineView) (seg : SegReg) (low n at : ℕ) → IsMachine k v → IsRun v seg low n at → 0 < n → at + n ≤ 2 ^ 32
+pub run_is_small : (k : Processor) (v : MachineView) (seg : SegReg) (low n at : ℕ) → IsMachine k v → IsRun v seg low n at → 0 < n → at + n ≤ 2 ^ 32
 run_is_small k v seg low n at machine run some =
     let inside = run_in_memory k v seg low n at machine run some in
     let size = machine.holds.size in

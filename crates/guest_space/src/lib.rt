@@ -15,6 +15,7 @@ mod loading;
 mod machine;
 mod memory;
 mod pending;
+mod read_runs;
 mod records;
 mod segments;
 #[cfg(test)]

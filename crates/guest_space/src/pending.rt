@@ -1,5 +1,5 @@
 // Writes that are probed all together before the first is made.
-ghost use Rattle.std.specs.Prelude.{◌≡◌, OnOk, IfErr, MatchResult, None, Some, true};
+ghost use Rattle.std.specs.Prelude.{◌≡◌, IsTrue, IsFalse, OnOk, IfErr, MatchResult, None, Some, true};
 ghost use Rattle.client_world.specs.Access.{access};
 ghost use Rattle.host_memory.specs.View.{OnlyAt};
 ghost use Rattle.guest_space.specs.Pending.{IsCountOfWidth, byte_count, number_bytes, write_refusal, written, first_refusal, all_written, places_of_writes};
@@ -116,6 +116,22 @@ impl Machine {
         Ok(())
     }
 
+    /// Makes all of some writes in their order, where one look shows that none has a fault, and returns `true`; else it does nothing.
+    /// Source: own.
+    #[inline(always)]
+    pub fn write_quickly(&mut self, writes: &[Write]) -> bool
+        ensures made { IsTrue result → (first_refusal self.old.world writes.now ≡ None) × (self.new ≡ all_written self.old writes.now) }
+        ensures kept { IsFalse result → self.new ≡ self.old }
+    {
+        match self.shift_of(writes) {
+            Some(shift) => {
+                self.make_runs(shift, writes);
+                true
+            }
+            None => false,
+        }
+    }
+
     /// Makes all of some writes in their order, or, where one of them has a fault, none of them: the first such fault is the answer. Of the
     /// memory only the bytes of the writes' places change, and none of the host's frames.
     pub fn write_all(&mut self, writes: &[Write]) -> Result<(), Fault>
@@ -128,8 +144,7 @@ impl Machine {
         self.holds_world();
         if writes.len() == 1 {
             self.write_one(&writes[0])
-        } else if let Some(shift) = self.shift_of(writes) {
-            self.make_runs(shift, writes);
+        } else if self.write_quickly(writes) {
             Ok(())
         } else {
             self.write_probed(writes)

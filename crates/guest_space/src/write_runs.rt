@@ -33,7 +33,7 @@ fn span_of(seg: SegReg, writes: &[Write]) -> Option<(u32, u64)>
 impl Machine {
     // The address in the memory of n bytes at an offset of a segment register, if they lie in one page and may be written.
     #[inline(always)]
-    fn run_at(&self, seg: SegReg, off: u32, n: u32) -> Option<u32>
+    pub(crate) fn run_at(&self, seg: SegReg, off: u32, n: u32) -> Option<u32>
         requires { n ≤ PAGE_SIZE }
         ensures { IfSome result (λ at. IsRun self.now seg off n at) }
     {

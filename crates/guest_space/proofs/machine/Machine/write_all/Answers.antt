@@ -15,11 +15,12 @@ returns-then-writes-eq1-clause-only c =
     all_or_kept c.args.self.now c.write_one.new.self c.holds_world.ensures c.args.writes.now c.write_one.result
     (returns-then-writes-eq1-clause-done c) (returns-then-writes-eq1-clause-refused c)
 
-pub returns-in-Some-clause-only : goal.returns-in-Some-clause-only
-returns-in-Some-clause-only c =
-    all_made c.args.self.now c.make_runs.new.self c.holds_world.ensures c.args.writes.now c.make_runs.ensures
+pub returns-then-write_quickly-clause-only : goal.returns-then-write_quickly-clause-only
+returns-then-write_quickly-clause-only c =
+    all_made c.args.self.now c.write_quickly.new.self c.holds_world.ensures c.args.writes.now (c.write_quickly.ensures.made c.if-write_quickly.true).1
 
-pub returns-in_default-clause-only : goal.returns-in_default-clause-only
-returns-in_default-clause-only c =
+pub returns-else-write_quickly-clause-only : goal.returns-else-write_quickly-clause-only
+returns-else-write_quickly-clause-only c =
+    let kept = c.write_quickly.ensures.kept c.if-write_quickly.false in
     all_or_kept c.args.self.now c.write_probed.new.self c.holds_world.ensures c.args.writes.now c.write_probed.result
-    c.write_probed.ensures.done c.write_probed.ensures.refused
+    (rw kept at c.write_probed.ensures.done) (rw kept at c.write_probed.ensures.refused)
