@@ -14,8 +14,8 @@ use client_world::{Desc, DosEntry, DosRun, Kind, Origin};
 use desc_table::set;
 use guest_ram::Ram;
 
-// How many descriptors a block has: one for each 64 KB.
-pub(crate) fn descriptors_for(paras: u16) -> u16
+/// How many descriptors a block of DOS memory has: one for each 64 KB. Source: DPMI 0.9, INT 31h function 0100h.
+pub fn descriptors_for(paras: u16) -> u16
     ensures count { result ≡ descriptors_for paras }
     ensures few { result ≤ 16 }
 {
