@@ -18,6 +18,11 @@ pub record CanPut (es : List DosEntry) (place old : ℕ) (new : List DosEntry) :
   pub new_plain : NoneMade new
   pub sound : IsArena (spliced es place old new)
 
+-- they leave an arena, whatever they are
+pub record CanSplice (es : List DosEntry) (place old : ℕ) (new : List DosEntry) : Type 0 where
+  pub within : place + old ≤ length es
+  pub sound : IsArena (spliced es place old new)
+
 -- a block isn't free
 pub held_state : (for_dpmi : Bool) → is_free (block_state for_dpmi) ≡ false
 held_state true = refl
@@ -33,17 +38,15 @@ plain_kind false entry h kind = used_plain entry.state kind
 
 -- a block is given
 
-pub can_give : (es : List DosEntry) (for_dpmi : Bool) (n place : ℕ) → for_dpmi ≡ false → IsArena es → HasFit es n place →
-    CanPut es place 1 (split (block_state for_dpmi) (entry_of_place es place).at n (entry_of_place es place).paras)
-can_give es for_dpmi n place dos arena fit =
+pub splice_give : (es : List DosEntry) (for_dpmi : Bool) (n place : ℕ) → IsArena es → HasFit es n place →
+    CanSplice es place 1 (split (block_state for_dpmi) (entry_of_place es place).at n (entry_of_place es place).paras)
+splice_give es for_dpmi n place arena fit =
     let small = fit.small in
     let state = block_state for_dpmi in
     let at = (entry_of_place es place).at in
     let paras = (entry_of_place es place).paras in
     record {
       within = omega arith;
-      old_plain = rw (take_one es place small) (free_plain (entry_of_place es place).state fit.free, tt);
-      new_plain = plain-split state at n paras (plain_state for_dpmi dos);
       sound = arena-spliced es place 1 (split state at n paras) nowhere arena (omega arith)
           (λ from to f. (let one : Fills from (entry_of_place es place ∷ []) to = rw (take_one es place small) at f in
           fills-split state at n paras from to fit.room one.0 one.1))
@@ -55,19 +58,27 @@ can_give es for_dpmi n place dos arena fit =
           });
     }
 
+pub can_give : (es : List DosEntry) (for_dpmi : Bool) (n place : ℕ) → for_dpmi ≡ false → IsArena es → HasFit es n place →
+    CanPut es place 1 (split (block_state for_dpmi) (entry_of_place es place).at n (entry_of_place es place).paras)
+can_give es for_dpmi n place dos arena fit =
+    let can = splice_give es for_dpmi n place arena fit in
+    record {
+      within = can.within;
+      old_plain = rw (take_one es place fit.small) (free_plain (entry_of_place es place).state fit.free, tt);
+      new_plain = plain-split (block_state for_dpmi) (entry_of_place es place).at n (entry_of_place es place).paras (plain_state for_dpmi dos);
+      sound = can.sound;
+    }
+
 -- a block is resized
 
-pub can_resize : (es : List DosEntry) (for_dpmi : Bool) (n segment place : ℕ) → for_dpmi ≡ false → IsArena es → HasBlock for_dpmi es segment place →
-    n ≤ possible es place → CanPut es place (1 + free_behind es place) (split (block_state for_dpmi) (entry_of_place es place).at n (possible es place))
-can_resize es for_dpmi n segment place dos arena block room =
-    let small = block.small in
+pub splice_resize : (es : List DosEntry) (for_dpmi : Bool) (n place : ℕ) → IsArena es → place < length es → n ≤ possible es place →
+    CanSplice es place (1 + free_behind es place) (split (block_state for_dpmi) (entry_of_place es place).at n (possible es place))
+splice_resize es for_dpmi n place arena small room =
     let state = block_state for_dpmi in
     let at = (entry_of_place es place).at in
     let paras = possible es place in
     record {
       within = behind_within es place small;
-      old_plain = behind_plain es place small (plain_kind for_dpmi (entry_of_place es place) dos block.kind);
-      new_plain = plain-split state at n paras (plain_state for_dpmi dos);
       sound = arena-spliced es place (1 + free_behind es place) (split state at n paras) nowhere arena (behind_within es place small)
           (λ from to f. (let filled = behind_fills es place from to small f in
           fills-split state at n paras from to room filled.starts filled.ends))
@@ -79,20 +90,28 @@ can_resize es for_dpmi n segment place dos arena block room =
           });
     }
 
+pub can_resize : (es : List DosEntry) (for_dpmi : Bool) (n segment place : ℕ) → for_dpmi ≡ false → IsArena es → HasBlock for_dpmi es segment place →
+    n ≤ possible es place → CanPut es place (1 + free_behind es place) (split (block_state for_dpmi) (entry_of_place es place).at n (possible es place))
+can_resize es for_dpmi n segment place dos arena block room =
+    let can = splice_resize es for_dpmi n place arena block.small room in
+    record {
+      within = can.within;
+      old_plain = behind_plain es place block.small (plain_kind for_dpmi (entry_of_place es place) dos block.kind);
+      new_plain = plain-split (block_state for_dpmi) (entry_of_place es place).at n (possible es place) (plain_state for_dpmi dos);
+      sound = can.sound;
+    }
+
 -- a block is freed
 
-pub can_free : (es : List DosEntry) (for_dpmi : Bool) (segment place : ℕ) → for_dpmi ≡ false → IsArena es → HasBlock for_dpmi es segment place →
-    CanPut es (place - free_before es place) (free_before es place + (1 + free_behind es place)) (joined es place ∷ [])
-can_free es for_dpmi segment place dos arena block =
-    let small = block.small in
+pub splice_free : (es : List DosEntry) (place : ℕ) → IsArena es → place < length es →
+    CanSplice es (place - free_before es place) (free_before es place + (1 + free_behind es place)) (joined es place ∷ [])
+splice_free es place arena small =
     let front = is_before es place arena small in
     let behind = behind_within es place small in
     let in_front = front.within in
     let end : place - free_before es place + (free_before es place + (1 + free_behind es place)) ≡ place + (1 + free_behind es place) = omega arith in
     record {
       within = omega arith;
-      old_plain = front.plain (1 + free_behind es place) (behind_plain es place small (plain_kind for_dpmi (entry_of_place es place) dos block.kind));
-      new_plain = (refl, tt);
       sound = arena-spliced es (place - free_before es place) (free_before es place + (1 + free_behind es place)) (joined es place ∷ []) nowhere arena
           (omega arith)
           (λ from to f. (let filled = behind_fills es place (from + room_before es place) to small (front.fills (1 + free_behind es place) from to f) in
@@ -105,6 +124,18 @@ can_free es for_dpmi segment place dos arena block =
             left = λ j next free. absurd (false≢true (sym (front.left j next) ∙ free));
             right = λ inside. ap (λ (n : ℕ). is_free (entry_of_place es n).state) end ∙ behind_right es place arena (omega arith);
           });
+    }
+
+pub can_free : (es : List DosEntry) (for_dpmi : Bool) (segment place : ℕ) → for_dpmi ≡ false → IsArena es → HasBlock for_dpmi es segment place →
+    CanPut es (place - free_before es place) (free_before es place + (1 + free_behind es place)) (joined es place ∷ [])
+can_free es for_dpmi segment place dos arena block =
+    let can = splice_free es place arena block.small in
+    record {
+      within = can.within;
+      old_plain = (is_before es place arena block.small).plain (1 + free_behind es place)
+          (behind_plain es place block.small (plain_kind for_dpmi (entry_of_place es place) dos block.kind));
+      new_plain = (refl, tt);
+      sound = can.sound;
     }
 
 -- the numbers of what is free around a block

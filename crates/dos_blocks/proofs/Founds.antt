@@ -14,7 +14,7 @@ pub and_right : (a b : Bool) → (a && b) ≡ true → b ≡ true
 and_right true b h = h
 and_right false b h = cc
 
-abbrev number : Option ℕ → ℕ
+abbrev pub number : Option ℕ → ℕ
 number None = 0
 number (Some x) = x
 

@@ -5,3 +5,5 @@ pub mod Searches
 pub mod Splicing
 pub mod Splits
 pub mod SoundBlocks
+pub mod SelectorLaws
+pub mod RunPuts

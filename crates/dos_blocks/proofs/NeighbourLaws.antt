@@ -8,6 +8,7 @@ use Rattle.client_world.specs.declared.dos_memory.DosState.TheVariants.{Free, Us
 use Rattle.client_world.specs.declared.memory_map.TheConstants.{ARENA_START, ARENA_END}
 use Rattle.client_world.specs.DosMemory.{is_free, is_dpmi, Fills, IsArena}
 use Rattle.guest_space.specs.Arena.{NoneMade}
+use Rattle.guest_space.specs.DosRuns.{made_blocks}
 use Rattle.guest_space.proofs.Fills.{IsWithin, fills_at, fills_next}
 use Rattle.dos_blocks.specs.Blocks.{nowhere, entry_of_place, is_used, free_behind, possible, free_before, room_before}
 use Rattle.dos_blocks.proofs.Searches.{dropped}
@@ -83,6 +84,17 @@ behind_plain es place small plain = by_cases (is_free (entry_of_place es (place 
         rw (is, take_two es place (free_inside es (place + 1) is)) (plain, (free_plain (entry_of_place es (place + 1)).state is, tt))
     by_cases false is = rw (is, take_one es place small) (plain, tt)
 
+-- the blocks of function 0100h among them: the block alone
+pub behind_made : (es : List DosEntry) (place : ℕ) → place < length es →
+    made_blocks (take (1 + free_behind es place) (drop place es)) ≡ made_blocks (entry_of_place es place ∷ [])
+behind_made es place small = by_cases (is_free (entry_of_place es (place + 1)).state) refl
+  where
+    by_cases : (free : Bool) → is_free (entry_of_place es (place + 1)).state ≡ free →
+        made_blocks (take (1 + free_behind es place) (drop place es)) ≡ made_blocks (entry_of_place es place ∷ [])
+    by_cases true is =
+        rw (is, take_two es place (free_inside es (place + 1) is)) (rw (free_plain (entry_of_place es (place + 1)).state is) refl)
+    by_cases false is = rw (is, take_one es place small) refl
+
 -- after them nothing is free
 pub behind_right : (es : List DosEntry) (place : ℕ) → IsArena es → place + (1 + free_behind es place) < length es →
     is_free (entry_of_place es (place + (1 + free_behind es place))).state ≡ false
@@ -115,6 +127,7 @@ pub record IsBefore (es : List DosEntry) (place before room : ℕ) : Type 0 wher
   pub fits : room ≤ (entry_of_place es place).at
   pub fills : (n from to : ℕ) → Fills from (take (before + n) (drop (place - before) es)) to → Fills (from + room) (take n (drop place es)) to
   pub plain : (n : ℕ) → NoneMade (take n (drop place es)) → NoneMade (take (before + n) (drop (place - before) es))
+  pub made : (n : ℕ) → made_blocks (take (before + n) (drop (place - before) es)) ≡ made_blocks (take n (drop place es))
   pub left : (j : ℕ) → j + 1 ≡ place - before → is_free (entry_of_place es j).state ≡ false
 
 one_before : (es : List DosEntry) (place : ℕ) → IsArena es → place < length es → 1 ≤ place → is_free (entry_of_place es (place - 1)).state ≡ true →
@@ -131,6 +144,7 @@ one_before es place arena small some free =
           subst (λ (at : ℕ). Fills at (take n (drop place es)) to)
           (let same : from + 1 + (entry_of_place es (place - 1)).paras ≡ from + (1 + (entry_of_place es (place - 1)).paras) = omega arith in same) all.1);
       plain = λ n none. subst NoneMade (sym (from_there n)) (free_plain (entry_of_place es (place - 1)).state free, none);
+      made = λ n. ap made_blocks (from_there n) ∙ rw (free_plain (entry_of_place es (place - 1)).state free) refl;
       left = λ j next_to. elim (cases_Bool (is_free (entry_of_place es j).state)) [
         | inr used ↦ used
         | inl also ↦ absurd (false≢true (sym (joined_next es j nowhere arena.joined (omega arith) also)
@@ -155,6 +169,7 @@ none_before es place none = record {
   fills = λ n from to f. subst (λ (at : ℕ). Fills at (take n (drop place es)) to) (let same : from ≡ from + 0 = omega arith in same)
       (subst (λ (xs : List DosEntry). Fills from xs to) (from_there n) f);
   plain = λ n plain. subst NoneMade (sym (from_there n)) plain;
+  made = λ n. ap made_blocks (from_there n);
   left = λ j next. ap (λ (m : ℕ). is_free (entry_of_place es m).state) (let same : j ≡ place - 1 = omega arith in same)
       ∙ only_right (nat_le 1 place) (is_free (entry_of_place es (place - 1)).state) (le-leb 1 place (omega arith)) none;
 }

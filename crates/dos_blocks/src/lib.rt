@@ -8,9 +8,12 @@ mod finding;
 mod freeing;
 mod neighbours;
 mod resizing;
+mod selectors;
+mod services;
 #[cfg(test)]
 mod tests;
 
 pub use allocating::dos_alloc;
 pub use freeing::dos_free;
 pub use resizing::dos_resize;
+pub use services::serve;

@@ -1,0 +1,161 @@
+-- What each service puts into the arena and among the descriptors may be put.
+use Rattle.std.proofs.Common.{◌≡◌, ◌≢◌, ℕ, zero, suc, ◌+◌, ◌-◌, ◌<◌, ◌≤◌, inl, inr, true, List, [], ◌∷◌, length, get_or, refl, ap, ◌∙◌, sym, subst, arith, Some, None}
+use Rattle.std.proofs.lemmas.Bool.{cases_eq, cases_lt, cases_order, eq-eqb, ne_eqb, false≢true}
+use Rattle.std.specs.List.{slice_get}
+use Rattle.std.proofs.lemmas.List.{get_or_past}
+use Rattle.std.proofs.lemmas.Option.{get_or_from_slice_get}
+use Rattle.client_world.specs.declared.descriptors.Origin.{Origin}
+use Rattle.client_world.specs.declared.descriptors.Origin.TheVariants.{Dos}
+use Rattle.client_world.specs.declared.host_frames.TheConstants.{DESCRIPTORS}
+use Rattle.client_world.specs.declared.dos_memory.DosEntry.{DosEntry}
+use Rattle.client_world.specs.declared.dos_memory.DosRun.{DosRun}
+use Rattle.client_world.specs.declared.dos_memory.DosState.TheVariants.{Dpmi}
+use Rattle.client_world.specs.declared.memory_map.TheConstants.{ARENA_START, ARENA_END}
+use Rattle.client_world.specs.DosMemory.{Fills, is_dpmi, is_free, block_segment}
+use Rattle.client_world.specs.FreeRuns.{IsFreeRunOf, IsFirstFreeRunOf}
+use Rattle.client_world.specs.Selector.{Row, index_of, row_at_index}
+use Rattle.client_world.specs.Soundness.{IsSound, HasOrigin, descriptors_for}
+use Rattle.client_world.specs.World.{World}
+use Rattle.guest_space.specs.DosRuns.{CanPutRun, block_alone, made_blocks}
+use Rattle.guest_space.proofs.Fills.{fills_at}
+use Rattle.dos_blocks.specs.Blocks.{nowhere, entry_of_place, free_before, free_behind, joined, possible, split}
+use Rattle.dos_blocks.specs.Services.{run_of_block}
+use Rattle.dos_blocks.proofs.CallLaws.{splice_give, splice_resize, splice_free}
+use Rattle.dos_blocks.proofs.Founds.{HasFit}
+use Rattle.dos_blocks.proofs.NeighbourLaws.{behind_made, free_plain, is_before, take_one}
+use Rattle.dos_blocks.proofs.SelectorLaws.{HasSelectorBlock}
+
+-- ---- where entries are
+
+later_after : (es : List DosEntry) (from to i j : ℕ) (d : DosEntry) → Fills from es to → i < j → j < length es → (get_or es i d).at < (get_or es j d).at
+later_after [] from to i j d f less small = absurd (omega arith)
+later_after (e ∷ es) from to i zero d f less small = absurd (omega arith)
+later_after (e ∷ es) from to zero (suc j) d f less small =
+    let rest = fills_at es (from + 1 + e.paras) to j d f.1 (omega arith) in
+    let starts = rest.starts in
+    let first = f.0 in
+    omega arith
+later_after (e ∷ es) from to (suc i) (suc j) d f less small = later_after es (from + 1 + e.paras) to i j d f.1 (omega arith) (omega arith)
+
+one_place : (es : List DosEntry) (from to i j : ℕ) (d : DosEntry) → Fills from es to → i < length es → j < length es → (get_or es i d).at ≡ (get_or es j d).at → i ≡ j
+one_place es from to i j d f one other same = elim (cases_order i j) [
+  | inl equal ↦ equal
+  | inr o ↦ elim o [
+    | inl below ↦ omega (arith, later_after es from to i j d f below other)
+    | inr above ↦ omega (arith, later_after es from to j i d f above one)
+  ]
+]
+
+-- no descriptor belongs to a block that would begin where a free entry's does
+no_descriptor : (w : World) (place index : ℕ) → IsSound w → place < length w.arena → is_free (entry_of_place w.arena place).state ≡ true →
+    ¬ HasOrigin (row_at_index w.descriptors index) (Dos (block_segment (entry_of_place w.arena place)))
+no_descriptor w place index s small free has =
+    let other = s.runs.entries index (block_segment (entry_of_place w.arena place)) has in
+    let starts = other.starts in
+    let inside = inside_of w.arena other.place other.entry other.there in
+    let there : entry_of_place w.arena other.place ≡ other.entry = get_or_from_slice_get w.arena other.place other.entry nowhere other.there in
+    let at = ap (λ (e : DosEntry). e.at) there in
+    let same = one_place w.arena ARENA_START ARENA_END other.place place nowhere s.arena.fills inside small (omega arith) in
+    false≢true (sym (free_plain (entry_of_place w.arena place).state free)
+    ∙ ap (λ (n : ℕ). is_dpmi (entry_of_place w.arena n).state) (sym same) ∙ ap (λ (e : DosEntry). is_dpmi e.state) there ∙ other.made)
+  where
+    inside_of : (es : List DosEntry) (place : ℕ) (entry : DosEntry) → slice_get es place ≡ Some entry → place < length es
+    inside_of [] place entry e = cc
+    inside_of (x ∷ xs) zero entry e = omega arith
+    inside_of (x ∷ xs) (suc place) entry e = let rest = inside_of xs place entry e in omega arith
+
+-- a row that has an origin is in the table
+has_within : (rows : List Row) (index : ℕ) (origin : Origin) → HasOrigin (row_at_index rows index) origin → index < length rows
+has_within rows index origin has = elim (cases_lt index (length rows)) [
+  | inl inside ↦ inside
+  | inr past ↦ absurd (subst (λ (r : Row). HasOrigin r origin) (get_or_past rows index None past) has)
+]
+
+-- ---- the blocks that are put
+
+made_split : (at n paras : ℕ) → n ≢ 0 → made_blocks (split Dpmi at n paras) ≡ block_alone (at + 1) n
+made_split at n paras some = elim (cases_eq n paras) [
+  | inl all ↦ rw (eq-eqb n paras all, ne_eqb n 0 some) refl
+  | inr less ↦ rw (ne_eqb n paras less, ne_eqb n 0 some) refl
+]
+
+made_one : (entry : DosEntry) → is_dpmi entry.state ≡ true → 0 < entry.paras → made_blocks (entry ∷ []) ≡ block_alone (block_segment entry) entry.paras
+made_one entry made some = rw (made, ne_eqb entry.paras 0 (λ e. omega arith)) refl
+
+-- ---- 0100h
+
+pub can_give_run : (w : World) (n place first : ℕ) → IsSound w → w.width ≢ None → n ≢ 0 → HasFit w.arena n place →
+    IsFirstFreeRunOf w.descriptors first (descriptors_for n) →
+    CanPutRun w place 1 (split Dpmi (entry_of_place w.arena place).at n (entry_of_place w.arena place).paras) (run_of_block (entry_of_place w.arena place) first 0 n)
+can_give_run w n place first s width some fit run =
+    let can = splice_give w.arena true n place s.arena fit in
+    let within = run.run.within in
+    record {
+      width = width;
+      within = can.within;
+      arena = can.sound;
+      old_block = rw (take_one w.arena place fit.small) (rw (free_plain (entry_of_place w.arena place).state fit.free) refl);
+      new_block = made_split (entry_of_place w.arena place).at n (entry_of_place w.arena place).paras some;
+      from = run.from;
+      old_run = record {
+        have = λ index from to. absurd (omega arith);
+        from = λ index has. absurd (no_descriptor w place index s fit.small fit.free has);
+        to = λ index has. absurd (no_descriptor w place index s fit.small fit.free has);
+      };
+      added = record { within = omega arith; free = λ index from to. run.run.free index (omega arith) (omega arith) };
+    }
+
+-- ---- 0101h
+
+-- a block's descriptors are in the table
+run_within : (w : World) (sel place : ℕ) → IsSound w → HasSelectorBlock w sel place →
+    index_of sel + descriptors_for (entry_of_place w.arena place).paras + (descriptors_for 0 - descriptors_for (entry_of_place w.arena place).paras) ≤ DESCRIPTORS
+run_within w sel place s block =
+    let some = block.some in
+    let count = descriptors_for (entry_of_place w.arena place).paras in
+    let last = index_of sel + count - 1 in
+    let size = s.descriptors.indices in
+    let inside = has_within w.descriptors last (Dos (block_segment (entry_of_place w.arena place))) (block.run.have last (omega arith) (omega arith)) in
+    omega arith
+
+pub can_free_run : (w : World) (sel place : ℕ) → IsSound w → w.width ≢ None → HasSelectorBlock w sel place →
+    CanPutRun w (place - free_before w.arena place) (free_before w.arena place + (1 + free_behind w.arena place)) (joined w.arena place ∷ [])
+    (run_of_block (entry_of_place w.arena place) (index_of sel) (entry_of_place w.arena place).paras 0)
+can_free_run w sel place s width block =
+    let can = splice_free w.arena place s.arena block.small in
+    record {
+      width = width;
+      within = can.within;
+      arena = can.sound;
+      old_block = (is_before w.arena place s.arena block.small).made (1 + free_behind w.arena place) ∙ behind_made w.arena place block.small
+          ∙ made_one (entry_of_place w.arena place) block.made block.some;
+      new_block = refl;
+      from = block.from;
+      old_run = block.run;
+      added = record { within = run_within w sel place s block; free = λ index from to. absurd (omega arith) };
+    }
+
+-- ---- 0102h
+
+pub can_resize_run : (w : World) (n sel place : ℕ) → IsSound w → w.width ≢ None → HasSelectorBlock w sel place → n ≢ 0 → n ≤ possible w.arena place →
+    IsFreeRunOf w.descriptors (index_of sel + descriptors_for (entry_of_place w.arena place).paras)
+    (descriptors_for n - descriptors_for (entry_of_place w.arena place).paras) →
+    CanPutRun w place (1 + free_behind w.arena place) (split Dpmi (entry_of_place w.arena place).at n (possible w.arena place))
+    (run_of_block (entry_of_place w.arena place) (index_of sel) (entry_of_place w.arena place).paras n)
+can_resize_run w n sel place s width block some room added =
+    let can = splice_resize w.arena true n place s.arena block.small room in
+    record {
+      width = width;
+      within = can.within;
+      arena = can.sound;
+      old_block = behind_made w.arena place block.small ∙ made_one (entry_of_place w.arena place) block.made block.some;
+      new_block = made_split (entry_of_place w.arena place).at n (possible w.arena place) some;
+      from = block.from;
+      old_run = block.run;
+      added = added;
+    }
+
+-- the same of what a call has read
+pub can_put_run : (w : World) (place at old n : ℕ) (new put : List DosEntry) (run given : DosRun) → CanPutRun w place old new run → at ≡ place → n ≡ old →
+    put ≡ new → given ≡ run → CanPutRun w at n put given
+can_put_run w place at old n new put run given can at_is n_is put_is run_is = rw (at_is, n_is, put_is, run_is) can

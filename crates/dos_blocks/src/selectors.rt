@@ -1,0 +1,89 @@
+// The block whose first descriptor a selector names, and runs of descriptors that are free.
+ghost use Rattle.std.specs.Prelude.{◌≡◌, ◌↔◌, ◌≤◌, ◌<◌, ◌+◌, IfSome};
+ghost use Rattle.client_world.specs.declared.host_frames.TheConstants.{DESCRIPTORS};
+ghost use Rattle.client_world.specs.FreeRuns.{IsFirstFreeRunOf};
+ghost use Rattle.client_world.specs.Selector.{row_at_index};
+ghost use Rattle.client_world.specs.Soundness.{IsSound};
+ghost use Rattle.desc_services.specs.FreeRun.{are_free, first_free_run, is_free_run};
+ghost use Rattle.dos_blocks.specs.Services.{segment_of_origin, segment_of_row, segment_of_selector, place_of_selector};
+
+use crate::finding::place_of_block;
+use client_world::host_frames::DESCRIPTORS;
+use client_world::selectors::{index_of, is_local};
+use client_world::{Desc, Origin};
+use guest_space::Machine;
+
+// The segment of the block to which descriptors of this origin belong.
+fn segment_of_origin(origin: Origin) -> Option<u16>
+    ensures { result ≡ segment_of_origin origin }
+{
+    match origin {
+        Origin::Dos(segment) => Some(segment),
+        Origin::Own
+        | Origin::Low
+        | Origin::Entry
+        | Origin::Psp
+        | Origin::Segment(_)
+        | Origin::Host => None,
+    }
+}
+
+// The segment of the block to which a row belongs.
+fn segment_of_row(row: Option<(Desc, Origin)>) -> Option<u16>
+    ensures { result ≡ segment_of_row row }
+{
+    match row {
+        Some((_, origin)) => segment_of_origin(origin),
+        None => None,
+    }
+}
+
+// The segment of the block whose first descriptor a selector names.
+#[tactic(auto, unfolding(crate::specs::Services::segment_of_selector))]
+fn segment_of_selector(m: &Machine, sel: u16) -> Option<u16>
+    ensures { result ≡ segment_of_selector m.now.world.descriptors sel }
+{
+    if !is_local(sel) {
+        return None;
+    }
+    let index = index_of(sel);
+    let segment = segment_of_row(m.desc(index))?;
+    match segment_of_row(m.desc(index.saturating_sub(1))) {
+        Some(before) if before == segment => None,
+        _ => Some(segment),
+    }
+}
+
+/// The place in the arena of the block whose first descriptor a selector names.
+#[tactic(auto, unfolding(crate::specs::Services::place_of_selector))]
+pub(crate) fn place_of_selector(m: &Machine, sel: u16) -> Option<u16>
+    ensures found { result ≡ place_of_selector m.now.world sel }
+    ensures sound { IsSound m.now.world }
+{
+    m.soundness();
+    let segment = segment_of_selector(m, sel)?;
+    place_of_block(m, true, segment)
+}
+
+/// The first of n free indices, from 64 on.
+pub(crate) fn first_free(m: &Machine, n: u16) -> Option<u16>
+    ensures found { result ≡ first_free_run m.now.world.descriptors n }
+    ensures first { IfSome result (λ first. IsFirstFreeRunOf m.now.world.descriptors first n) }
+{
+    m.free_descs(n)
+}
+
+/// Whether n indices from one on are in the table, and free.
+pub(crate) fn is_free_run(m: &Machine, first: u32, n: u16) -> bool
+    ensures { result ≡ is_free_run m.now.world.descriptors first n }
+{
+    if first > DESCRIPTORS || u32::from(n) > DESCRIPTORS - first {
+        return false;
+    }
+    for place in 0..n {
+        if m.desc(first as u16 + place).is_some() {
+            return false;
+        }
+    }
+    true
+}

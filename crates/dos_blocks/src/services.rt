@@ -1,0 +1,170 @@
+// INT 31h, functions 0100h to 0102h.
+ghost use Rattle.std.specs.Prelude.{◌≡◌, ◌≢◌, ◌+◌, None};
+ghost use Rattle.client_world.specs.declared.registers.Mode.TheVariants.{Protected as protected};
+ghost use Rattle.dos_blocks.specs.Services.{allocate_block, answered, dos_service, free_block, has_room_to_grow, resize_block, with_bx, with_dx};
+
+use crate::allocating::split;
+use crate::finding::{first_fit, largest};
+use crate::freeing::{joined, one};
+use crate::neighbours::{free_before, free_behind, room_behind};
+use crate::selectors::{first_free, is_free_run, place_of_selector};
+use client_world::selectors::{index_of, selector_of};
+use client_world::{Carry, DosRefusal, DosRun};
+use guest_space::{Machine, descriptors_for};
+use service_rows::{low_half, set_ax, with_low_half};
+
+// Sets BX.
+fn set_bx(m: &mut Machine, v: u16)
+    ensures { m.new.world ≡ with_bx v m.old.world }
+{
+    let mut r = m.regs();
+    r.ebx = with_low_half(r.ebx, v);
+    m.set_regs(r);
+}
+
+// Sets DX.
+fn set_dx(m: &mut Machine, v: u16)
+    ensures { m.new.world ≡ with_dx v m.old.world }
+{
+    let mut r = m.regs();
+    r.edx = with_low_half(r.edx, v);
+    m.set_regs(r);
+}
+
+// Function 0100h: a block of BX paragraphs with its descriptors.
+#[tactic(auto, unfolding(crate::specs::Services::allocate_block))]
+fn allocate_block(m: &mut Machine) -> Result<(), DosRefusal>
+    requires { m.old.world.width ≢ None }
+    ensures answer { result ≡ (allocate_block m.old.world).answer }
+    ensures world { m.new.world ≡ (allocate_block m.old.world).world }
+{
+    let n = low_half(m.regs().ebx);
+    let refusal = DosRefusal::NoMemory {
+        largest: largest(m),
+    };
+    if n == 0 {
+        return Err(refusal);
+    }
+    let Some(place) = first_fit(m, n) else {
+        return Err(refusal);
+    };
+    let Some(first) = first_free(m, descriptors_for(n)) else {
+        return Err(refusal);
+    };
+    m.soundness();
+    let entry = m.arena(place);
+    let run = DosRun {
+        seg: entry.at + 1,
+        first,
+        before: 0,
+        after: n,
+    };
+    m.arena_put_dpmi(place, 1, &split(true, entry.at, n, entry.paras), run);
+    set_ax(m, entry.at + 1);
+    set_dx(m, selector_of(first));
+    Ok(())
+}
+
+// Function 0101h: the block of DX and its descriptors become free.
+#[tactic(auto, unfolding(crate::specs::Services::free_block))]
+fn free_block(m: &mut Machine) -> Result<(), DosRefusal>
+    requires { m.old.world.width ≢ None }
+    ensures answer { result ≡ (free_block m.old.world).answer }
+    ensures world { m.new.world ≡ (free_block m.old.world).world }
+{
+    let sel = low_half(m.regs().edx);
+    let Some(place) = place_of_selector(m, sel) else {
+        return Err(DosRefusal::WrongBlock);
+    };
+    let entry = m.arena(place);
+    let run = DosRun {
+        seg: entry.at + 1,
+        first: index_of(sel),
+        before: entry.paras,
+        after: 0,
+    };
+    let before = free_before(m, place);
+    let old = before + (1 + free_behind(m, place));
+    m.arena_put_dpmi(place - before, old, &one(joined(m, place)), run);
+    Ok(())
+}
+
+// Whether the descriptors that a run adds are free.
+fn has_room_to_grow(m: &Machine, run: DosRun) -> bool
+    ensures { result ≡ has_room_to_grow m.now.world.descriptors run }
+{
+    let before = descriptors_for(run.before);
+    let added = descriptors_for(run.after).saturating_sub(before);
+    is_free_run(m, u32::from(run.first) + u32::from(before), added)
+}
+
+// Function 0102h: the block of DX gets BX paragraphs, and the descriptors of as many.
+#[tactic(auto, unfolding(crate::specs::Services::resize_block))]
+fn resize_block(m: &mut Machine) -> Result<(), DosRefusal>
+    requires { m.old.world.width ≢ None }
+    ensures answer { result ≡ (resize_block m.old.world).answer }
+    ensures world { m.new.world ≡ (resize_block m.old.world).world }
+{
+    let n = low_half(m.regs().ebx);
+    let sel = low_half(m.regs().edx);
+    let Some(place) = place_of_selector(m, sel) else {
+        return Err(DosRefusal::WrongBlock);
+    };
+    let entry = m.arena(place);
+    let possible = entry.paras + room_behind(m, place);
+    let run = DosRun {
+        seg: entry.at + 1,
+        first: index_of(sel),
+        before: entry.paras,
+        after: n,
+    };
+    if n == 0 || n > possible || !has_room_to_grow(m, run) {
+        return Err(DosRefusal::NoMemory { largest: possible });
+    }
+    let old = 1 + free_behind(m, place);
+    m.arena_put_dpmi(place, old, &split(true, entry.at, n, possible), run);
+    Ok(())
+}
+
+// Answers what a service did: a refusal by its number in AX, and in BX the most paragraphs that there could be.
+#[tactic(auto, unfolding(crate::specs::Services::answered))]
+fn answer(m: &mut Machine, done: Result<(), DosRefusal>) -> Carry
+    ensures { record { carry = result; world = m.new.world } ≡ answered (record { answer = done; world = m.old.world }) }
+{
+    match done {
+        Ok(()) => Carry::Clear,
+        Err(DosRefusal::NoMemory { largest }) => {
+            set_bx(m, largest);
+            set_ax(m, 8);
+            Carry::Set
+        }
+        Err(DosRefusal::WrongBlock) => {
+            set_ax(m, 9);
+            Carry::Set
+        }
+    }
+}
+
+/// Serves a function of INT 31h on DOS memory, for a client in protected mode. Source: DPMI 0.9, INT 31h functions 0100h to 0102h.
+#[tactic(auto, using(desc_services::proofs::PutLaws::protected_width), unfolding(crate::specs::Services::dos_service))]
+pub fn serve(m: &mut Machine, ax: u16) -> Carry
+    requires { m.old.world.mode ≡ protected }
+    ensures { record { carry = result; world = m.new.world } ≡ dos_service ax m.old.world }
+{
+    m.soundness();
+    match ax {
+        0x0100 => {
+            let done = allocate_block(m);
+            answer(m, done)
+        }
+        0x0101 => {
+            let done = free_block(m);
+            answer(m, done)
+        }
+        0x0102 => {
+            let done = resize_block(m);
+            answer(m, done)
+        }
+        _ => Carry::Set,
+    }
+}
