@@ -1,5 +1,5 @@
--- What crates above may cite of a run: from a sound world with keys that are bytes each turn leads to such a one, keeps the records of calls,
--- and adds to the console at its end alone.
+-- What crates above may cite of a run: from a sound world with keys that are bytes each turn leads to such a one, leaves the records of calls
+-- or adds or takes away the innermost one, and adds to the console at its end alone.
 use Rattle.std.proofs.Common.{arith, ◌≡◌, ◌≢◌, ◌∙◌, ◌≤◌, ◌+◌, ◌-◌, ◌*◌, ◌++◌, ℕ, zero, suc, List, None, Some, add-suc, add-zero, ap, append_assoc, refl, sym, subst}
 use Rattle.std.specs.Prelude.{IsSome}
 use Rattle.std.specs.declared.option.Option.{Option}
@@ -14,9 +14,11 @@ use Rattle.host_memory.proofs.BlankSound.{blank_is_sound}
 use Rattle.mz_loader.specs.Refusal.{refusal}
 use Rattle.mz_loader.proofs.SoundStart.{sound_start}
 use Rattle.host_run.specs.Keys.{HasKeys}
+use Rattle.host_run.specs.Nested.{Stacked}
 use Rattle.host_run.specs.Start.{blank, started_host}
 use Rattle.host_run.specs.Run.{turns, run}
 use Rattle.host_run.specs.Turn.{turn}
+use Rattle.host_run.proofs.Runs.{turns_more}
 use Rattle.host_run.proofs.TurnLaws.{IsReached, LeavesAll, LeavesBy, turn_keeps}
 
 -- the trace has two lines for each turn at most
@@ -54,11 +56,9 @@ unfolding turns
 turns_lines w zero s few = few
 turns_lines w (suc n) s few = turn_lines (turns w n) (turns_sound w n s) (turns_lines w n s few)
 
--- the records of calls stay
-pub turns_calls : (w : HostWorld) (n : ℕ) → IsReached w → (turns w n).machine.calls ≡ w.machine.calls
-unfolding turns
-turns_calls w zero s = refl
-turns_calls w (suc n) s = (turn_keeps (turns w n) (turns_sound w n s)).calls ∙ turns_calls w n s
+-- what turns do to the records of calls
+pub turns_calls : (w : HostWorld) (n : ℕ) → IsReached w → Stacked (turns w n) (turns w (n + 1))
+turns_calls w n s = subst (Stacked (turns w n)) (sym (turns_more w n)) (turn_keeps (turns w n) (turns_sound w n s)).calls
 
 -- the console after some turns is a prefix of the console after more
 extends_then : (a b c : List ℕ) → Extends a b → Extends b c → Extends a c

@@ -2,6 +2,8 @@
 use Rattle.std.proofs.Common.{arith, ◌≡◌, ◌≢◌, ◌≤◌, ◌+◌, ◌*◌, ◌∙◌, sym, ap, subst, ℕ, Bool, true, false, nat_eq, refl, Option, None, Some, Ok, Err}
 use Rattle.std.specs.Prelude.{IfOk, is_ok, if◌then◌else◌}
 use Rattle.std.specs.declared.result.Result.{Result}
+use Rattle.client_world.specs.declared.calls.Record.{Record}
+use Rattle.client_world.specs.declared.calls.Record.TheVariants.{Sim, Back, Exc}
 use Rattle.client_world.specs.declared.faults.Event.{Event}
 use Rattle.client_world.specs.declared.faults.Event.TheVariants as events
 use Rattle.client_world.specs.declared.faults.Fault.{Fault}
@@ -32,11 +34,16 @@ use Rattle.guest_ram.specs.Bytes.{AreBytes}
 use Rattle.mode_gates.specs.Entry.{entry, with_carry}
 use Rattle.mode_gates.proofs.FarStates.{kept_entry}
 use Rattle.mode_gates.proofs.SoundGates.{sound_entry}
+use Rattle.mode_stack.specs.Stack.{top}
+use Rattle.protected_faults.specs.Return.{exit_of_record}
+use Rattle.protected_faults.specs.Worlds.{world_exception_return, world_protected_delivery}
+use Rattle.protected_faults.proofs.WorldLaws as faults
 use Rattle.host_run.specs.declared.traps.Trap.{Trap}
-use Rattle.host_run.specs.declared.traps.Trap.TheVariants.{RealVector, Entry, ProtectedVector, NoTrap}
+use Rattle.host_run.specs.declared.traps.Trap.TheVariants.{RealVector, Entry, ProtectedVector, ExceptionHandler, ExceptionReturn, NoTrap}
 use Rattle.host_run.specs.Keys.{HasKeys}
+use Rattle.host_run.specs.Nested.{Enters, Leaves, Stacked, kept, popped as left_one, pushed}
 use Rattle.host_run.specs.Traps.{current_trap}
-use Rattle.host_run.specs.Turn.{Outcome, goes_on, ends, with_machine, noted, popped, seen, dos_served, multiplex_served, ends_client, vector_served, entry_line, after_entry, after_entry_trap, is_served, goes_on_with, after_presence_call, is_set, service, after_int31, after_protected_call, after_protected_pop, after_protected_vector, delivered_in, after_interrupt, after_step, stepped, trapped, work, with_turn_counted, settled, turn}
+use Rattle.host_run.specs.Turn.{Outcome, goes_on, ends, with_machine, noted, popped, seen, dos_served, multiplex_served, ends_client, vector_served, entry_line, after_entry, after_entry_trap, is_served, goes_on_with, after_presence_call, is_set, service, after_int31, after_protected_call, after_protected_pop, after_protected_vector, enter_line, after_protected_delivery, exception_number, leave_line, after_exception_return, delivered_in, after_interrupt, after_step, stepped, trapped, work, with_turn_counted, settled, turn}
 use Rattle.host_run.proofs.Frames.{still_popped}
 use Rattle.host_run.proofs.Services.{calls_service, sound_service}
 use Rattle.host_run.proofs.KindModes.{Suits, trap_suits}
@@ -62,7 +69,8 @@ pub record IsNext (w u : World) : Type 0 where
 
 -- what the work of a turn keeps
 pub record TurnKeeps (h : HostWorld) (o : Outcome) : Type 0 where
-  pub machine : IsNext h.machine o.host.machine
+  pub sound : IsSound o.host.machine
+  pub calls : Stacked h o.host
   pub keys : AreBytes o.host.keys
   pub lines : o.host.lines ≤ h.lines + 2
   pub steps : o.host.steps ≡ h.steps
@@ -78,7 +86,7 @@ same_machine w sound = record { sound = sound; calls = refl }
 goes : (h after : HostWorld) → IsNext h.machine after.machine → AreBytes after.keys → after.lines ≤ h.lines + 2 → after.steps ≡ h.steps →
     Extends h.console after.console → TurnKeeps h (goes_on after)
 goes h after machine keys lines steps console =
-    record { machine = machine; keys = keys; lines = lines; steps = steps; console = console; leaves = tt }
+    record { sound = machine.sound; calls = kept machine.calls; keys = keys; lines = lines; steps = steps; console = console; leaves = tt }
 
 goes_with : (h : HostWorld) (w : World) → IsReached h → IsNext h.machine w → TurnKeeps h (goes_on (record h { machine = w }))
 goes_with h w s next = goes h (record h { machine = w }) next s.keys (omega arith) refl (left.extends_itself h.console)
@@ -87,7 +95,8 @@ goes_with h w s next = goes h (record h { machine = w }) next s.keys (omega arit
 stops : (h after : HostWorld) (exit : Exit) → IsReached h → AreBytes after.keys → after.lines ≤ h.lines + 2 → after.steps ≡ h.steps →
     Extends h.console after.console → LeavesAll h after exit → TurnKeeps h (ends after exit)
 stops h after exit s keys lines steps console leaves = record {
-  machine = subst (IsNext h.machine) (sym leaves.machine) (same_machine h.machine s.machine);
+  sound = subst IsSound (sym leaves.machine) s.machine;
+  calls = kept (ap (λ (x : World). x.calls) leaves.machine);
   keys = keys;
   lines = lines;
   steps = steps;
@@ -242,24 +251,59 @@ protected_vector_keeps h n s protected =
     (λ w e. ap (λ (x : World). x.mode) (kept_world_popped h.machine w e) ∙ protected))
     (stops_same h exits.Unbuilt s)
 
+-- ---- exceptions of protected mode
+
+-- a turn that goes on, adds a line and changes the records
+changes : (h : HostWorld) (line : TraceLine) (w : World) → IsReached h → IsSound w → Stacked h (record (noted line h) { machine = w }) →
+    TurnKeeps h (goes_on_with h line w)
+changes h line w s sound stacked = record {
+  sound = sound;
+  calls = stacked;
+  keys = s.keys;
+  lines = omega arith;
+  steps = refl;
+  console = left.extends_itself h.console;
+  leaves = tt;
+}
+
+delivery_by : (h : HostWorld) (f : Fault) (r : Result World Exit) → world_protected_delivery h.machine f ≡ r → IsReached h →
+    h.machine.mode ≡ Protected → TurnKeeps h (after_protected_delivery h f.number r)
+delivery_by h f (Ok w) is s mode =
+    changes h (enter_line h.machine f.number) w s (faults.sound_world_delivery h.machine w f s.machine mode is)
+    (pushed (Exc f.number f.code) (faults.pushed_record h.machine w f is) (is, (refl, refl)))
+delivery_by h f (Err exit) is s mode = stops_same h exit s
+
+popped_line : (h : HostWorld) (w : World) (n : ℕ) → IsReached h → IsSound w → world_exception_return h.machine ≡ Ok w →
+    (p : faults.Popped h.machine.calls w.calls) → n ≡ p.number → TurnKeeps h (goes_on_with h (leave_line w n) w)
+popped_line h w n s sound is p same =
+    rw same (changes h (leave_line w p.number) w s sound (left_one (Exc p.number p.code) p.is (is, (refl, refl))))
+
+return_by : (h : HostWorld) (r : Result World Exit) → world_exception_return h.machine ≡ r → IsReached h →
+    TurnKeeps h (after_exception_return h r)
+return_by h (Ok w) is s =
+    let p = faults.popped_record h.machine w is in
+    popped_line h w (exception_number (top h.machine)) s (faults.sound_world_return h.machine w s.machine is) is p (ap exception_number p.top_is)
+return_by h (Err exit) is s = stops_same h exit s
+
 -- ---- client instructions
 
-delivered_keeps : (m : Mode) (h : HostWorld) (f : Fault) → IsReached h → TurnKeeps h (delivered_in m h f)
-delivered_keeps Real h f s =
+delivered_keeps : (m : Mode) (h : HostWorld) (f : Fault) → IsReached h → h.machine.mode ≡ m → TurnKeeps h (delivered_in m h f)
+delivered_keeps Real h f s mode =
     let r = world_delivery h.machine f in
     machine_keeps h r s (answer_next Exit h.machine r (λ u e. record {
       sound = sound_world_delivery h.machine u f s.machine e;
       calls = ap (λ (x : World). x.calls) (kept_world_delivery h.machine u f e);
     }))
-delivered_keeps Protected h f s = stops_same h exits.Unbuilt s
+delivered_keeps Protected h f s mode =
+    delivery_by h f (world_protected_delivery h.machine f) refl s mode
 
 interrupted_keeps : (h : HostWorld) (r : Result World Fault) → IsReached h → IfOk r (IsNext h.machine) → TurnKeeps h (after_interrupt h r)
 interrupted_keeps h (Ok w) s next = goes_with h w s next
-interrupted_keeps h (Err f) s next = delivered_keeps h.machine.mode h f s
+interrupted_keeps h (Err f) s next = delivered_keeps h.machine.mode h f s refl
 
 after_keeps : (h : HostWorld) (r : Result World Event) → IsReached h → IfOk r (IsNext h.machine) → TurnKeeps h (after_step h r)
 after_keeps h (Ok w) s next = goes_with h w s next
-after_keeps h (Err (events.Fault f)) s next = delivered_keeps h.machine.mode h f s
+after_keeps h (Err (events.Fault f)) s next = delivered_keeps h.machine.mode h f s refl
 after_keeps h (Err (events.Soft number len)) s next =
     let r = world_interrupt h.machine number len in
     interrupted_keeps h r s (answer_next Fault h.machine r (λ u e. record {
@@ -282,6 +326,8 @@ trapped_keeps : (h : HostWorld) (t : Trap) → IsReached h → Suits h.machine.m
 trapped_keeps h (RealVector n) s suits = reached_keeps h n (world_popped h.machine) refl s suits
 trapped_keeps h Entry s suits = entry_keeps h s
 trapped_keeps h (ProtectedVector n) s suits = protected_vector_keeps h n s suits
+trapped_keeps h (ExceptionHandler n) s suits = stops_same h (exit_of_record (top h.machine)) s
+trapped_keeps h ExceptionReturn s suits = return_by h (world_exception_return h.machine) refl s
 trapped_keeps h NoTrap s suits = stepped_keeps h s
 trapped_keeps h _ s suits = stops_same h exits.Unbuilt s
 
@@ -292,7 +338,7 @@ work_keeps h s = trapped_keeps h (current_trap h.machine) s (trap_suits h.machin
 -- what a turn leads to: two more lines of the trace for each turn at most
 pub record KeepsTurn (w after : HostWorld) : Type 0 where
   pub reached : IsReached after
-  pub calls : after.machine.calls ≡ w.machine.calls
+  pub calls : Stacked w after
   pub lines : after.lines + 2 * w.steps ≤ w.lines + 2 * after.steps
   pub console : Extends w.console after.console
   pub leaves : LeavesBy w after after.exit
@@ -304,10 +350,26 @@ leaves_settled : (w : HostWorld) (host : HostWorld) (e : Option Exit) → Leaves
 leaves_settled w host None l = tt
 leaves_settled w host (Some exit) l = record { machine = l.machine; outside = l.outside }
 
+-- neither the count of turns nor the exit matters to the records
+enters_settled : (w after : HostWorld) (e : Option Exit) (r : Record) → Enters (with_turn_counted w) r after → Enters w r (record after { exit = e })
+enters_settled w after e (Sim call saved vif at) h = h
+enters_settled w after e (Back slot at) h = h
+enters_settled w after e (Exc number code) h = h
+
+leaves_one_settled : (w after : HostWorld) (e : Option Exit) (r : Record) → Leaves (with_turn_counted w) r after → Leaves w r (record after { exit = e })
+leaves_one_settled w after e (Sim call saved vif at) h = h
+leaves_one_settled w after e (Back slot at) h = h
+leaves_one_settled w after e (Exc number code) h = h
+
+stacked_settled : (w after : HostWorld) (e : Option Exit) → Stacked (with_turn_counted w) after → Stacked w (record after { exit = e })
+stacked_settled w after e (kept same) = kept same
+stacked_settled w after e (pushed r is h) = pushed r is (enters_settled w after e r h)
+stacked_settled w after e (left_one r is h) = left_one r is (leaves_one_settled w after e r h)
+
 settled_keeps : (w : HostWorld) (o : Outcome) → TurnKeeps (with_turn_counted w) o → KeepsTurn w (settled o)
 settled_keeps w o k = record {
-  reached = record { machine = k.machine.sound; keys = k.keys };
-  calls = k.machine.calls;
+  reached = record { machine = k.sound; keys = k.keys };
+  calls = stacked_settled w o.host o.exit k.calls;
   lines = omega (arith, k.lines, k.steps);
   console = k.console;
   leaves = leaves_settled w o.host o.exit k.leaves;
@@ -317,7 +379,7 @@ settled_keeps w o k = record {
 stays : (w : HostWorld) (exit : Exit) → w.exit ≡ Some exit → IsReached w → KeepsTurn w w
 stays w exit is s = record {
   reached = s;
-  calls = refl;
+  calls = kept refl;
   lines = omega arith;
   console = left.extends_itself w.console;
   leaves = subst (LeavesBy w w) (sym is) (record { machine = refl; outside = λ _. (refl, refl) });

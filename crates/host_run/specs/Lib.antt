@@ -1,4 +1,5 @@
 pub mod Keys
+pub mod Nested
 pub mod Run
 pub mod Start
 pub mod Touched

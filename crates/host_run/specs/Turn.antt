@@ -2,6 +2,9 @@
 use Rattle.std.specs.Prelude.{ℕ, ◌+◌, Bool, true, false, [], ◌∷◌, ◌++◌, length, ◌&&◌, ◌||◌, not, nat_eq, nat_le, nat_lt, if◌then◌else◌, None, Some, Ok, Err}
 use Rattle.std.specs.declared.option.Option.{Option}
 use Rattle.std.specs.declared.result.Result.{Result}
+use Rattle.client_world.specs.declared.calls.Record.{Record}
+use Rattle.client_world.specs.declared.calls.Record.TheVariants.{Sim, Back, Exc}
+use Rattle.client_world.specs.declared.calls.What.TheVariants as whats
 use Rattle.client_world.specs.declared.faults.Event.{Event}
 use Rattle.client_world.specs.declared.faults.Event.TheVariants as events
 use Rattle.client_world.specs.declared.faults.Fault.{Fault}
@@ -17,16 +20,19 @@ use Rattle.client_world.specs.declared.trace.TraceLine.{TraceLine}
 use Rattle.client_world.specs.declared.trace.TraceLine.TheVariants as lines
 use Rattle.client_world.specs.Registers.{high_byte, low_byte, low_half, with_low_half}
 use Rattle.client_world.specs.Services.{Served}
-use Rattle.client_world.specs.World.{World, HostWorld}
+use Rattle.client_world.specs.World.{World, HostWorld, depth}
 use Rattle.block_services.specs.Rows.{block_service}
 use Rattle.desc_services.specs.Rows.{descriptor_service}
 use Rattle.dos_calls.specs.Calls.{CallState, CallResult, dos_call}
 use Rattle.dos_calls.specs.Multiplex.{multiplex_call}
 use Rattle.fault_service.specs.Worlds.{world_step, world_interrupt, world_delivery, world_popped}
 use Rattle.mode_gates.specs.Entry.{asked_width, entry, with_carry}
+use Rattle.mode_stack.specs.Stack.{top}
+use Rattle.protected_faults.specs.Return.{exit_of_record}
+use Rattle.protected_faults.specs.Worlds.{world_exception_return, world_protected_delivery}
 use Rattle.vector_services.specs.Rows.{vector_service}
 use Rattle.host_run.specs.declared.traps.Trap.{Trap}
-use Rattle.host_run.specs.declared.traps.Trap.TheVariants.{RealVector, Entry, ProtectedVector, NoTrap}
+use Rattle.host_run.specs.declared.traps.Trap.TheVariants.{RealVector, Entry, ProtectedVector, ExceptionHandler, ExceptionReturn, NoTrap}
 use Rattle.host_run.specs.Traps.{current_trap}
 
 -- what a turn does: the host after it, and the exit that ends the run, if there is one
@@ -171,12 +177,37 @@ after_protected_pop h n (Err exit) = ends h exit
 unfoldable pub after_protected_vector : HostWorld → ℕ → Outcome
 after_protected_vector h n = if is_served h.machine n then after_protected_pop h n (world_popped h.machine) else ends h exits.Unbuilt
 
+-- ---- exceptions of protected mode
+
+-- the line of the trace of a delivery: the depth, and the registers at the exception
+abbrev pub enter_line : World → ℕ → TraceLine
+enter_line w number = lines.Enter (depth w) (whats.Exc number) w.regs w.vif
+
+abbrev pub after_protected_delivery : HostWorld → ℕ → Result World Exit → Outcome
+after_protected_delivery h number (Ok w) = goes_on_with h (enter_line h.machine number) w
+after_protected_delivery h number (Err exit) = ends h exit
+
+-- the number of a record's exception
+abbrev pub exception_number : Option Record → ℕ
+exception_number None = 0
+exception_number (Some (Sim call saved vif at)) = 0
+exception_number (Some (Back slot at)) = 0
+exception_number (Some (Exc number code)) = number
+
+-- the line of the trace of a return from an exception: the depth and the registers after it
+abbrev pub leave_line : World → ℕ → TraceLine
+leave_line w number = lines.Leave (depth w) (whats.Exc number) w.regs w.vif
+
+abbrev pub after_exception_return : HostWorld → Result World Exit → Outcome
+after_exception_return h (Ok w) = goes_on_with h (leave_line w (exception_number (top h.machine))) w
+after_exception_return h (Err exit) = ends h exit
+
 -- ---- client instructions
 
--- an exception delivered; in protected mode none is yet
+-- an exception delivered
 abbrev pub delivered_in : Mode → HostWorld → Fault → Outcome
 delivered_in Real h f = with_machine h (world_delivery h.machine f)
-delivered_in Protected h f = ends h exits.Unbuilt
+delivered_in Protected h f = after_protected_delivery h f.number (world_protected_delivery h.machine f)
 
 abbrev pub delivered : HostWorld → Fault → Outcome
 delivered h f = delivered_in h.machine.mode h f
@@ -203,6 +234,8 @@ abbrev pub trapped : HostWorld → Trap → Outcome
 trapped h (RealVector n) = vector_reached h n
 trapped h Entry = after_entry_trap h
 trapped h (ProtectedVector n) = after_protected_vector h n
+trapped h (ExceptionHandler n) = ends h (exit_of_record (top h.machine))
+trapped h ExceptionReturn = after_exception_return h (world_exception_return h.machine)
 trapped h NoTrap = stepped h
 trapped h _ = ends h exits.Unbuilt
 

@@ -18,6 +18,7 @@ use dos_calls::{Console, Keys};
 use fault_service::{deliver, soft_int};
 use guest_space::Machine;
 use insn_decode::Memo;
+use protected_faults::default_handler_exit;
 use std::alloc::{AllocError, Global};
 use std::marker::Model;
 
@@ -180,51 +181,56 @@ impl Host {
         }
     }
 
-    // An exception is delivered; in protected mode none is yet.
-    fn delivered(&mut self, f: Fault) -> Result<(), Exit>
+    // An exception is delivered.
+    fn deliver(&mut self, f: Fault) -> Result<(), Exit>
+        requires room { self.old.world.lines + 2 ≤ 2 * self.old.world.steps }
         ensures { ComesTo self.old self.new result (delivered self.old.world f) }
     {
         match self.machine.mode() {
             Mode::Real => deliver(&mut self.machine, f),
-            Mode::Protected => Err(Exit::Unbuilt),
+            Mode::Protected => self.deliver_in_protected_mode(f),
         }
     }
 
     // A software interrupt, or the exception that it raises.
-    fn interrupted(&mut self, number: u8, len: u8) -> Result<(), Exit>
+    fn raise_interrupt(&mut self, number: u8, len: u8) -> Result<(), Exit>
+        requires room { self.old.world.lines + 2 ≤ 2 * self.old.world.steps }
         ensures { ComesTo self.old self.new result (after_interrupt self.old.world (world_interrupt self.old.world.machine number len)) }
     {
         match soft_int(&mut self.machine, number, len) {
             Ok(()) => Ok(()),
-            Err(f) => self.delivered(f),
+            Err(f) => self.deliver(f),
         }
     }
 
     // The next instruction.
     #[inline(always)]
     #[tactic(auto, unfolding(crate::specs::Turn::stepped))]
-    fn stepped(&mut self) -> Result<(), Exit>
+    fn step_client(&mut self) -> Result<(), Exit>
+        requires room { self.old.world.lines + 2 ≤ 2 * self.old.world.steps }
         ensures { ComesTo self.old self.new result (stepped self.old.world) }
     {
         match step_machine(&mut self.machine, &mut self.memo) {
             Ok(()) => Ok(()),
-            Err(Event::Fault(f)) => self.delivered(f),
-            Err(Event::Soft { number, len }) => self.interrupted(number, len),
+            Err(Event::Fault(f)) => self.deliver(f),
+            Err(Event::Soft { number, len }) => self.raise_interrupt(number, len),
         }
     }
 
     // What a turn does at a trap, or where there is none.
     #[inline(always)]
-    fn trapped(&mut self, t: Trap) -> Result<(), Exit>
+    fn serve_trap(&mut self, t: Trap) -> Result<(), Exit>
         requires trap { t ≡ current_trap self.old.world.machine }
         requires room { self.old.world.lines + 2 ≤ 2 * self.old.world.steps }
         ensures { ComesTo self.old self.new result (trapped self.old.world t) }
     {
         match t {
-            Trap::RealVector(n) => self.vector_reached(n),
+            Trap::RealVector(n) => self.reach_vector(n),
             Trap::Entry => self.serve_entry(),
             Trap::ProtectedVector(n) => self.serve_protected_vector(n),
-            Trap::NoTrap => self.stepped(),
+            Trap::ExceptionHandler(_) => Err(default_handler_exit(&self.machine)),
+            Trap::ExceptionReturn => self.return_from_exception(),
+            Trap::NoTrap => self.step_client(),
             _ => Err(Exit::Unbuilt),
         }
     }
@@ -237,6 +243,6 @@ impl Host {
         ensures { ComesTo self.old self.new result (work self.old.world) }
     {
         let t = current_trap(&self.machine);
-        self.trapped(t)
+        self.serve_trap(t)
     }
 }

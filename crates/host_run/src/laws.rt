@@ -1,5 +1,5 @@
 // The laws of the host's runs. Each is a function with nothing to do: its contract is the law.
-ghost use Rattle.std.specs.Prelude.{◌≡◌, ◌≢◌, ◌≤◌, ℕ, List, All, None, Some, IsSome};
+ghost use Rattle.std.specs.Prelude.{◌≡◌, ◌≢◌, ◌≤◌, ◌+◌, ℕ, List, All, None, Some, IsSome};
 ghost use Rattle.client_world.specs.declared.outcome.Exit.{Exit as AnExit};
 ghost use Rattle.client_world.specs.declared.outcome.Exit.TheVariants.{ConsoleFull};
 ghost use Rattle.client_world.specs.Access.{IsHeld};
@@ -9,6 +9,7 @@ ghost use Rattle.dos_calls.specs.Kept.{Extends};
 ghost use Rattle.guest_ram.specs.Bytes.{AreBytes};
 ghost use Rattle.mz_loader.specs.Refusal.{refusal};
 ghost use Rattle.host_run.specs.Keys.{HasKeys};
+ghost use Rattle.host_run.specs.Nested.{Stacked};
 ghost use Rattle.host_run.specs.Run.{turns, run};
 ghost use Rattle.host_run.specs.Start.{blank, started_host};
 ghost use Rattle.host_run.specs.Touched.{touched_by_turn};
@@ -41,10 +42,11 @@ pub fn every_run_is_sound()
     ensures host_end { (w : HostWorld) → IsSoundHost w → HasKeys w → (n : ℕ) → IsSoundHost (run w n) }
 {}
 
-/// A turn leaves the records of the nested calls as they are, and so do any number of turns.
-pub fn every_turn_keeps_the_calls()
-    ensures turn { (w : HostWorld) → IsSound w.machine → HasKeys w → (turn w).machine.calls ≡ w.machine.calls }
-    ensures turns { (w : HostWorld) → IsSound w.machine → HasKeys w → (n : ℕ) → (turns w n).machine.calls ≡ w.machine.calls }
+/// A turn leaves the records of the nested calls as they are, or adds one as it delivers an exception of protected mode, or takes the
+/// innermost one away as its exception returns; and so does each turn of a run.
+pub fn every_turn_changes_the_innermost_record_at_most()
+    ensures turn { (w : HostWorld) → IsSound w.machine → HasKeys w → Stacked w (turn w) }
+    ensures turns { (w : HostWorld) → IsSound w.machine → HasKeys w → (n : ℕ) → Stacked (turns w n) (turns w (n + 1)) }
 {}
 
 /// What the client wrote stays: a turn adds bytes at the console's end alone. So the console after some turns is a prefix of the console after

@@ -7,6 +7,7 @@
 //! which are built on the machine.
 #![tactic(auto)]
 
+mod exceptions;
 mod host;
 mod laws;
 mod protected;
@@ -21,6 +22,6 @@ pub use host::Host;
 pub use laws::{
     a_run_past_an_exit_is_over, every_exit_leaves_the_machine, every_run_is_sound,
     every_start_is_sound, every_touch_is_held, every_touch_of_a_run_is_held,
-    every_turn_extends_the_console, every_turn_is_sound, every_turn_keeps_the_calls,
-    once_ended_a_run_stays,
+    every_turn_changes_the_innermost_record_at_most, every_turn_extends_the_console,
+    every_turn_is_sound, once_ended_a_run_stays,
 };

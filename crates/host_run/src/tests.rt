@@ -7,6 +7,7 @@ use std::alloc::{AllocError, Global};
 use std::process::Abort;
 use std::test::Fail;
 
+mod exceptions;
 mod memory;
 
 // A client's code, its keystrokes and the bound of its run; the exit, the turns and the console; the registers and the flags image.
@@ -377,14 +378,13 @@ fn services_answer_in_the_popped_flags(rt: HostRuntime) -> Result<(), Fail> {
     Ok(())
 }
 
-// What isn't served yet ends the run and leaves the machine: a reflected call, a simulated call, HLT's exception.
+// What isn't served yet ends the run and leaves the machine: a reflected call, a simulated call.
 #[test]
 fn other_calls_of_protected_mode_are_unbuilt(rt: HostRuntime) -> Result<(), Fail> {
     for (code, steps, ip) in [
         ([0xB4, 0x02, 0xCD, 0x21], 12, 0x221),
         ([0xB4, 0x03, 0xCD, 0x31], 12, 0x231),
         ([0xCD, 0x60, 0x90, 0x90], 11, 0x260),
-        ([0xF4, 0x90, 0x90, 0x90], 10, 14),
     ] {
         let mut host = entered(&rt, rt.alloc(), &code)?;
         assert_eq!(rt; run_out(&rt, &mut host), Exit::Unbuilt, "exit of {code:?}");

@@ -14,7 +14,7 @@ use fault_service::pop_iret;
 
 impl Host {
     // The interrupt's frame is popped.
-    fn popped(&mut self) -> Result<(), Exit>
+    fn pop_interrupt_frame(&mut self) -> Result<(), Exit>
         ensures host { ComesTo self.old self.new result (popped self.old.world) }
         ensures done { is_ok (world_popped self.old.world.machine) ≡ true → is_ok result ≡ true }
     {
@@ -22,7 +22,7 @@ impl Host {
     }
 
     // INT 21h: a DOS call.
-    fn dos_served(&mut self) -> Result<(), Exit>
+    fn serve_dos_call(&mut self) -> Result<(), Exit>
         requires real { self.old.world.machine.mode ≡ Real }
         requires frame { is_ok (world_popped self.old.world.machine) ≡ true }
         requires room { self.old.world.lines + 2 ≤ 2 * self.old.world.steps }
@@ -31,13 +31,13 @@ impl Host {
         let function = part8(self.machine.regs().eax, true);
         self.note(TraceLine::Int21(function));
         match serve_dos(&mut self.machine, &mut self.keys, &mut self.console) {
-            DosDone::Served => self.popped(),
+            DosDone::Served => self.pop_interrupt_frame(),
             DosDone::Ended(exit) => Err(exit),
         }
     }
 
     // INT 2Fh.
-    fn multiplex_served(&mut self) -> Result<(), Exit>
+    fn serve_multiplex_call(&mut self) -> Result<(), Exit>
         requires real { self.old.world.machine.mode ≡ Real }
         requires frame { is_ok (world_popped self.old.world.machine) ≡ true }
         requires room { self.old.world.lines + 2 ≤ 2 * self.old.world.steps }
@@ -46,12 +46,12 @@ impl Host {
         let function = (self.machine.regs().eax % 0x1_0000) as u16;
         self.note(TraceLine::Int2f(function));
         serve_multiplex(&mut self.machine);
-        self.popped()
+        self.pop_interrupt_frame()
     }
 
     // The default vector of a number.
     #[tactic(auto, unfolding(crate::specs::Turn::vector_served))]
-    fn vector_served(&mut self, n: u8) -> Result<(), Exit>
+    fn serve_vector(&mut self, n: u8) -> Result<(), Exit>
         requires real { self.old.world.machine.mode ≡ Real }
         requires frame { is_ok (world_popped self.old.world.machine) ≡ true }
         requires room { self.old.world.lines + 2 ≤ 2 * self.old.world.steps }
@@ -65,24 +65,24 @@ impl Host {
             return Err(Exit::Exited(0));
         }
         if n == 0x21 {
-            return self.dos_served();
+            return self.serve_dos_call();
         }
         if n == 0x2F {
-            return self.multiplex_served();
+            return self.serve_multiplex_call();
         }
-        self.popped()
+        self.pop_interrupt_frame()
     }
 
     // The default vector of a number, where the frame can be popped.
     #[inline(never)]
     #[tactic(auto, using(crate::proofs::Frames::reached_popped, crate::proofs::Frames::reached_bad))]
-    pub(crate) fn vector_reached(&mut self, n: u8) -> Result<(), Exit>
+    pub(crate) fn reach_vector(&mut self, n: u8) -> Result<(), Exit>
         requires real { self.old.world.machine.mode ≡ Real }
         requires room { self.old.world.lines + 2 ≤ 2 * self.old.world.steps }
         ensures { ComesTo self.old self.new result (vector_reached self.old.world n) }
     {
         if can_pop(&self.machine) {
-            self.vector_served(n)
+            self.serve_vector(n)
         } else {
             Err(Exit::BadFrame)
         }

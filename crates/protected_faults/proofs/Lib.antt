@@ -7,3 +7,4 @@ pub mod FrameItems
 pub mod RoundTrip
 pub mod ByMode
 pub mod StepMemory
+pub mod WorldLaws

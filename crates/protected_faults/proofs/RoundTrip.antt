@@ -316,11 +316,11 @@ front_is xs r =
     let less : length (xs ++ r ∷ []) - 1 ≡ length xs = omega arith in
     ap (λ (n : ℕ). take n (xs ++ r ∷ [])) less ∙ take-append_seam xs (r ∷ [])
 
-calls_kept : (v : MachineView) (f : Fault) → (frame_written v f).world.calls ≡ v.world.calls
+pub calls_kept : (v : MachineView) (f : Fault) → (frame_written v f).world.calls ≡ v.world.calls
 unfolding frame_written
 calls_kept v f = ap (λ (w : World). w.calls) (other_far v (frame_address v.world) (frame_size v.world) (exception_frame v.world f))
 
-delivered_calls : (v : MachineView) (f : Fault) (p : FarPtr) → (after_delivery v f p).world.calls ≡ (frame_written v f).world.calls ++ Exc f.number f.code ∷ []
+pub delivered_calls : (v : MachineView) (f : Fault) (p : FarPtr) → (after_delivery v f p).world.calls ≡ (frame_written v f).world.calls ++ Exc f.number f.code ∷ []
 unfolding after_delivery frame_written
 delivered_calls v f p = refl
 

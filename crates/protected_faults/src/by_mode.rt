@@ -1,7 +1,6 @@
 // Exceptions in either mode.
-ghost use Rattle.std.specs.Prelude.{◌≡◌, ◌<◌, ℕ, Ok, Err, MatchResult};
+ghost use Rattle.std.specs.Prelude.{◌≡◌, ℕ, Ok, Err, MatchResult};
 ghost use Rattle.client_world.specs.declared.faults.Fault.{Fault};
-ghost use Rattle.client_world.specs.declared.limits.TheConstants.{EXCEPTION_VECTORS};
 ghost use Rattle.client_world.specs.Soundness.{IsSound};
 ghost use Rattle.host_memory.specs.View.{MachineView};
 ghost use Rattle.protected_faults.specs.ByMode.{delivery};
@@ -13,7 +12,6 @@ use guest_space::Machine;
 /// Delivers an exception in either mode; or gives the exit, which leaves the machine as it was.
 #[tactic(auto, unfolding(crate::specs::ByMode::delivery))]
 pub fn deliver_by_mode(m: &mut Machine, f: Fault) -> Result<(), Exit>
-    requires number { f.number < EXCEPTION_VECTORS }
     ensures { MatchResult result (λ _. delivery m.old f ≡ Ok m.new)
         (λ e. (delivery m.old f ≡ Err e) × (m.new ≡ m.old)) }
 {

@@ -1,14 +1,15 @@
 // Exceptions in protected mode.
 ghost use Rattle.std.specs.Prelude.{◌≡◌, ◌≢◌, ◌<◌, ◌*◌, None, Ok, Err, MatchResult};
-ghost use Rattle.client_world.specs.declared.limits.TheConstants.{EXCEPTION_VECTORS, GREATEST_DEPTH};
+ghost use Rattle.client_world.specs.declared.limits.TheConstants.{GREATEST_DEPTH};
 ghost use Rattle.client_world.specs.declared.registers.Mode.TheVariants.{Protected};
 ghost use Rattle.client_world.specs.World.{depth};
+ghost use Rattle.guest_space.specs.VectorLists.{vector_at};
 ghost use Rattle.guest_space.specs.Far.{far_written};
 ghost use Rattle.guest_space.specs.Pending.{byte_count};
 ghost use Rattle.protected_faults.specs.Delivery.{after_delivery, exception_frame, frame_address, frame_offset, frame_size, protected_delivery};
 
 use crate::frame::{dword_frame, exception_items, word_frame};
-use client_world::limits::GREATEST_DEPTH;
+use client_world::limits::{EXCEPTION_VECTORS, GREATEST_DEPTH};
 use client_world::memory_map::PROTECTED_STACK_SIZE;
 use client_world::selectors::{HOST_STACKS, selector_of};
 use client_world::{Deep, Exit, FarPtr, Fault, Record, Regs, SegReg};
@@ -81,13 +82,24 @@ fn enter(m: &mut Machine, f: Fault, p: FarPtr)
     }
 }
 
+// The handler of an exception; a null pointer for a number that has no vector.
+fn handler(m: &Machine, number: u8) -> FarPtr
+    ensures { result ≡ vector_at m.now.world.exception_vectors number }
+{
+    m.soundness();
+    if u32::from(number) < EXCEPTION_VECTORS {
+        m.evec(number)
+    } else {
+        FarPtr { sel: 0, off: 0 }
+    }
+}
+
 /// Delivers an exception of protected mode to its handler, with the frame on the host's stack of the depth. `Deep` at the greatest depth, else
 /// `Fault` of this exception where the handler's address can't be loaded; an exit leaves the machine as it was.
 /// Source: DPMI 0.9, "Exceptions"; the exits are own.
 #[tactic(auto, unfolding(crate::specs::Delivery::protected_delivery))]
 pub fn deliver(m: &mut Machine, f: Fault) -> Result<(), Exit>
     requires mode { m.old.world.mode ≡ Protected }
-    requires number { f.number < EXCEPTION_VECTORS }
     ensures { MatchResult result (λ _. protected_delivery m.old f ≡ Ok m.new)
         (λ e. (protected_delivery m.old f ≡ Err e) × (m.new ≡ m.old)) }
 {
@@ -96,7 +108,7 @@ pub fn deliver(m: &mut Machine, f: Fault) -> Result<(), Exit>
         return Err(Exit::Deep);
     }
 
-    let p = m.evec(f.number);
+    let p = handler(m, f.number);
     match m.loadable(SegReg::Cs, p.sel, p.off, false) {
         Ok(()) => {
             enter(m, f, p);

@@ -1,8 +1,8 @@
 use Rattle.host_run.proofs.KindModes.{entry_is_real, vector_is_protected, vector_is_real}
-use Rattle.host_run.proofs.host.Host.trapped.Goals as goal
+use Rattle.host_run.proofs.host.Host.serve_trap.Goals as goal
 
-pub vector_reached-requires-clause-real : goal.vector_reached-requires-clause-real
-vector_reached-requires-clause-real c =
+pub reach_vector-requires-clause-real : goal.reach_vector-requires-clause-real
+reach_vector-requires-clause-real c =
     vector_is_real c.args.self.now.world.machine c.args.t c.in-RealVector.n c.requires.trap c.in-RealVector.is
 
 pub serve_entry-requires-clause-real : goal.serve_entry-requires-clause-real

@@ -1,6 +1,6 @@
 use Rattle.host_run.proofs.Sound.{turns_calls}
 use Rattle.host_run.proofs.TurnLaws.{turn_keeps}
-use Rattle.host_run.proofs.laws.every_turn_keeps_the_calls.Goals as goal
+use Rattle.host_run.proofs.laws.every_turn_changes_the_innermost_record_at_most.Goals as goal
 
 pub returns-clause-turn : goal.returns-clause-turn
 returns-clause-turn c = λ w s keys. (turn_keeps w (record { machine = s; keys = keys })).calls

@@ -1,0 +1,65 @@
+-- The records of calls from turn to turn: a turn leaves them, adds an innermost one, or takes the innermost one away. Source: own.
+use Rattle.std.specs.Prelude.{◌≡◌, ◌≢◌, ◌<◌, ◌≤◌, ◌+◌, ℕ, [], ◌∷◌, ◌++◌, take, Ok}
+use Rattle.client_world.specs.declared.calls.Record.{Record}
+use Rattle.client_world.specs.declared.calls.Record.TheVariants.{Sim, Back, Exc}
+use Rattle.client_world.specs.declared.trace.TraceLine.{TraceLine}
+use Rattle.client_world.specs.World.{HostWorld, depth}
+use Rattle.protected_faults.specs.Worlds.{world_exception_return, world_protected_delivery}
+use Rattle.host_run.specs.Turn.{enter_line, leave_line, noted}
+
+-- the trace of the second host is that of the first with one more line
+abbrev pub HasOneMoreLine : HostWorld → TraceLine → HostWorld → Type 0
+HasOneMoreLine w line v = (v.kept ≡ (noted line w).kept) × (v.lines ≡ (noted line w).lines)
+
+-- a turn that adds a record: an exception of protected mode is delivered. No turn adds another record yet
+abbrev pub Enters : HostWorld → Record → HostWorld → Type 0
+Enters w (Sim call saved vif at) v = ⊥
+Enters w (Back slot at) v = ⊥
+Enters w (Exc number code) v =
+    (world_protected_delivery w.machine (record { number = number; code = code }) ≡ Ok v.machine)
+    × HasOneMoreLine w (enter_line w.machine number) v
+
+-- a turn that takes a record away: its exception returns. No turn takes another record away yet
+abbrev pub Leaves : HostWorld → Record → HostWorld → Type 0
+Leaves w (Sim call saved vif at) v = ⊥
+Leaves w (Back slot at) v = ⊥
+Leaves w (Exc number code) v =
+    (world_exception_return w.machine ≡ Ok v.machine) × HasOneMoreLine w (leave_line v.machine number) v
+
+-- what a turn from one host to the next does to the records
+pub data Stacked (w v : HostWorld) : Type 0 where
+  kept : v.machine.calls ≡ w.machine.calls → Stacked w v
+  pushed : (r : Record) → v.machine.calls ≡ w.machine.calls ++ r ∷ [] → Enters w r v → Stacked w v
+  popped : (r : Record) → w.machine.calls ≡ v.machine.calls ++ r ∷ [] → Leaves w r v → Stacked w v
+
+-- the depth of nested calls
+abbrev pub host_depth : HostWorld → ℕ
+host_depth w = depth w.machine
+
+-- the first n turns of a run, given the host before each turn
+abbrev pub HasTurns : (ℕ → HostWorld) → ℕ → Type 0
+HasTurns w n = (k : ℕ) → k < n → Stacked (w k) (w (k + 1))
+
+-- turn j takes away what turn i added, or what came in its place: between them the depth is greater than before turn i
+pub record Matched (w : ℕ → HostWorld) (i j : ℕ) : Type 0 where
+  pub before : i < j
+  pub above : (k : ℕ) → i < k → k ≤ j → host_depth (w i) < host_depth (w k)
+  pub after : host_depth (w (j + 1)) ≡ host_depth (w i)
+
+-- turn i is the last one before turn j that adds a record at the depth to which turn j returns
+pub record LastPush (w : ℕ → HostWorld) (i j : ℕ) : Type 0 where
+  pub before : i < j
+  pub pops : host_depth (w j) ≡ host_depth (w (j + 1)) + 1
+  pub level : host_depth (w i) ≡ host_depth (w (j + 1))
+  pub pushes : host_depth (w (i + 1)) ≡ host_depth (w i) + 1
+  pub last : (k : ℕ) → i < k → k < j → host_depth (w k) ≡ host_depth (w i) → host_depth (w (k + 1)) ≢ host_depth (w k) + 1
+
+-- turn i adds a record, which stays in its place, with those below it, until turn j takes that record away
+pub record IsHandedOver (w : ℕ → HostWorld) (i j : ℕ) : Type 0 where
+  pub innermost : Record
+  pub push : (w (i + 1)).machine.calls ≡ (w i).machine.calls ++ innermost ∷ []
+  pub enters : Enters (w i) innermost (w (i + 1))
+  pub stays : (k : ℕ) → i < k → k ≤ j → take (host_depth (w i) + 1) (w k).machine.calls ≡ (w i).machine.calls ++ innermost ∷ []
+  pub pop : (w j).machine.calls ≡ (w i).machine.calls ++ innermost ∷ []
+  pub leaves : Leaves (w j) innermost (w (j + 1))
+  pub rest : (w (j + 1)).machine.calls ≡ (w i).machine.calls

@@ -1,0 +1,110 @@
+// Exceptions of protected mode, and the return from them.
+ghost use Rattle.std.specs.Prelude.{◌≡◌, ◌≤◌, ◌+◌, ◌*◌, Ok, Err, MatchResult};
+ghost use Rattle.client_world.specs.declared.registers.Mode.TheVariants.{Protected as protected};
+ghost use Rattle.mode_stack.specs.Stack.{top};
+ghost use Rattle.protected_faults.specs.Worlds.{world_exception_return, world_protected_delivery};
+ghost use Rattle.host_run.specs.Turn.{
+  after_exception_return,
+  after_protected_delivery,
+  enter_line,
+  exception_number,
+  leave_line,
+};
+ghost use Rattle.host_run.specs.View.{ComesTo};
+
+use crate::host::Host;
+use client_world::{Exit, Fault, Record, TraceLine, What};
+use guest_space::Machine;
+use mode_stack::{depth, top};
+use protected_faults::{back, deliver, every_answer_depends_on_the_world_alone};
+
+// The line of the trace of a delivery.
+fn enter_line(m: &Machine, number: u8) -> TraceLine
+    ensures { result ≡ enter_line m.now.world number }
+{
+    TraceLine::Enter {
+        depth: depth(m),
+        what: What::Exc(number),
+        regs: m.regs(),
+        vif: m.vif(),
+    }
+}
+
+// The line of the trace of a return from an exception.
+fn leave_line(m: &Machine, number: u8) -> TraceLine
+    ensures { result ≡ leave_line m.now.world number }
+{
+    TraceLine::Leave {
+        depth: depth(m),
+        what: What::Exc(number),
+        regs: m.regs(),
+        vif: m.vif(),
+    }
+}
+
+// The number of the innermost record's exception.
+fn exception_number(m: &Machine) -> u8
+    ensures { result ≡ exception_number (top m.now.world) }
+{
+    match top(m) {
+        Some(Record::Exc { number, .. }) => number,
+        Some(Record::Sim { .. } | Record::Back { .. }) | None => 0,
+    }
+}
+
+// Delivers an exception of protected mode; an exit leaves the machine.
+fn deliver_to_machine(m: &mut Machine, f: Fault) -> Result<(), Exit>
+    requires { m.old.world.mode ≡ protected }
+    ensures { MatchResult result (λ _. world_protected_delivery m.old.world f ≡ Ok m.new.world)
+        (λ e. (world_protected_delivery m.old.world f ≡ Err e) × (m.new ≡ m.old)) }
+{
+    every_answer_depends_on_the_world_alone();
+    deliver(m, f)
+}
+
+// Returns from the innermost exception; an exit leaves the machine.
+fn return_to_client(m: &mut Machine) -> Result<(), Exit>
+    ensures { MatchResult result (λ _. world_exception_return m.old.world ≡ Ok m.new.world)
+        (λ e. (world_exception_return m.old.world ≡ Err e) × (m.new ≡ m.old)) }
+{
+    every_answer_depends_on_the_world_alone();
+    back(m)
+}
+
+impl Host {
+    // An exception of protected mode is delivered.
+    #[inline(never)]
+    pub(crate) fn deliver_in_protected_mode(&mut self, f: Fault) -> Result<(), Exit>
+        requires mode { self.old.world.machine.mode ≡ protected }
+        requires room { self.old.world.lines + 2 ≤ 2 * self.old.world.steps }
+        ensures { ComesTo self.old self.new result
+            (after_protected_delivery self.old.world f.number (world_protected_delivery self.old.world.machine f)) }
+    {
+        let line = enter_line(&self.machine, f.number);
+        match deliver_to_machine(&mut self.machine, f) {
+            Ok(()) => {
+                self.note(line);
+                Ok(())
+            }
+            Err(exit) => Err(exit),
+        }
+    }
+
+    // The return from an exception.
+    #[inline(never)]
+    pub(crate) fn return_from_exception(&mut self) -> Result<(), Exit>
+        requires room { self.old.world.lines + 2 ≤ 2 * self.old.world.steps }
+        ensures { ComesTo self.old self.new result
+            (after_exception_return self.old.world (world_exception_return self.old.world.machine)) }
+    {
+        let number = exception_number(&self.machine);
+        match return_to_client(&mut self.machine) {
+            Ok(()) => {
+                let line = leave_line(&self.machine, number);
+                self.note(line);
+                Ok(())
+            }
+            Err(exit) => Err(exit),
+        }
+    }
+}
