@@ -10,6 +10,8 @@ use Rattle.client_world.specs.Services.{Served}
 use Rattle.client_world.specs.Soundness.{IsSound}
 use Rattle.client_world.specs.World.{World}
 use Rattle.desc_services.specs.Rows.{descriptor_service}
+use Rattle.dos_blocks.specs.Services.{dos_service}
+use Rattle.dos_blocks.proofs.ServiceLaws as dos_laws
 use Rattle.desc_services.proofs.KeptServices as descriptor_kept
 use Rattle.desc_services.proofs.SoundServices as descriptor_sound
 use Rattle.vector_services.specs.Rows.{vector_service}
@@ -23,19 +25,22 @@ either P true x y p q = p
 either P false x y p q = q
 
 of_each_family : (P : Served → Type 0) (ax : ℕ) (w : World) →
-    P (descriptor_service ax w) → P (block_service ax w) → P (vector_service ax w) → P (service ax w)
+    P (descriptor_service ax w) → P (dos_service ax w) → P (block_service ax w) → P (vector_service ax w) → P (service ax w)
 unfolding service
-of_each_family P ax w descriptors blocks vectors =
-    either P (nat_eq (high_byte ax) 0) _ _ descriptors (either P (is_of_blocks (high_byte ax)) _ _ blocks vectors)
+of_each_family P ax w descriptors dos blocks vectors =
+    either P (nat_eq (high_byte ax) 0) _ _ descriptors
+    (either P (nat_eq (high_byte ax) 1) _ _ dos (either P (is_of_blocks (high_byte ax)) _ _ blocks vectors))
 
 pub sound_service : (ax : ℕ) (w : World) → IsSound w → w.mode ≡ Protected → IsSound (service ax w).world
 sound_service ax w sound protected = of_each_family (λ (s : Served). IsSound s.world) ax w
     (descriptor_sound.sound_service ax w sound protected)
+    (dos_laws.sound_service ax w sound protected)
     (block_sound.sound_service ax w sound protected)
     (vector_sound.sound_service ax w sound)
 
 pub calls_service : (ax : ℕ) (w : World) → (service ax w).world.calls ≡ w.calls
 calls_service ax w = of_each_family (λ (s : Served). s.world.calls ≡ w.calls) ax w
     (ap (λ (x : World). x.calls) (descriptor_kept.kept_service ax w))
+    (ap (λ (x : World). x.calls) (dos_laws.kept_service ax w))
     (ap (λ (x : World). x.calls) (block_kept.kept_service ax w))
     (ap (λ (x : World). x.calls) (vector_kept.kept_service ax w))

@@ -31,6 +31,7 @@ use Rattle.mode_stack.specs.Stack.{top}
 use Rattle.protected_faults.specs.Return.{exit_of_record}
 use Rattle.protected_faults.specs.Worlds.{world_exception_return, world_protected_delivery}
 use Rattle.vector_services.specs.Rows.{vector_service}
+use Rattle.dos_blocks.specs.Services.{dos_service}
 use Rattle.host_run.specs.declared.traps.Trap.{Trap}
 use Rattle.host_run.specs.declared.traps.Trap.TheVariants.{RealVector, Entry, ProtectedVector, ExceptionHandler, ExceptionReturn, NoTrap}
 use Rattle.host_run.specs.Traps.{current_trap}
@@ -115,9 +116,9 @@ after_entry_trap h = after_entry h (entry h.machine)
 
 -- ---- the default vectors of protected mode
 
--- the functions of INT 31h that aren't served yet: DOS memory, simulated calls, callbacks and raw switches
+-- the functions of INT 31h that aren't served yet: simulated calls, callbacks and raw switches
 abbrev pub is_unbuilt : ℕ → Bool
-is_unbuilt ax = nat_le 0x0100 ax && nat_le ax 0x0102 || nat_le 0x0300 ax && nat_le ax 0x0306
+is_unbuilt ax = nat_le 0x0300 ax && nat_le ax 0x0306
 
 -- the high byte of a function of INT 31h on memory blocks and their pages
 abbrev pub is_of_blocks : ℕ → Bool
@@ -127,6 +128,7 @@ is_of_blocks high = nat_eq high 5 || nat_eq high 6 || nat_eq high 7
 unfoldable pub service : ℕ → World → Served
 service ax w =
     if nat_eq (high_byte ax) 0 then descriptor_service ax w else
+    if nat_eq (high_byte ax) 1 then dos_service ax w else
     if is_of_blocks (high_byte ax) then block_service ax w else
     vector_service ax w
 

@@ -1,10 +1,10 @@
 //! The host: it loads one client, and runs it turn by turn.
 //! It promises that a new host is the blank world, that a load leads from it to the file's first world or is refused
 //! for the first reason, that each turn is the model's turn, and that a run is the model's run; that every world so reached
-//! is sound, that its turns touch what the client holds, leave the records of calls and add to the console at its end alone, and that an exit
-//! leaves the machine.
-//! It is built on `mz_loader`, `dos_calls`, `fault_service`, `mode_gates`, `desc_services`, `block_services` and `vector_services`, all of
-//! which are built on the machine.
+//! is sound, that its turns touch what the client holds, change the innermost record of a call at most and add to the console at its end
+//! alone, and that an exit leaves the machine.
+//! It is built on `mz_loader`, `dos_calls`, `dos_blocks`, `fault_service`, `protected_faults`, `mode_gates`, `desc_services`, `block_services`
+//! and `vector_services`, all of which are built on the machine.
 #![tactic(auto)]
 
 mod exceptions;

@@ -35,7 +35,7 @@ fn ax(m: &Machine) -> u16
 fn is_unbuilt(ax: u16) -> bool
     ensures { result ≡ is_unbuilt ax }
 {
-    0x0100 <= ax && ax <= 0x0102 || 0x0300 <= ax && ax <= 0x0306
+    0x0300 <= ax && ax <= 0x0306
 }
 
 // The calls of protected mode that are served so far.

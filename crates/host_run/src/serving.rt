@@ -98,6 +98,9 @@ pub(crate) fn serve_function(m: &mut Machine, ax: u16) -> Carry
     if high == 0 {
         return desc_services::serve(m, ax);
     }
+    if high == 1 {
+        return dos_blocks::serve(m, ax);
+    }
     if is_of_blocks(high) {
         return block_services::serve(m, ax);
     }
