@@ -1,5 +1,6 @@
 mod Frames
 mod KindModes
+mod Nested
 mod NoTraps
 mod Runs
 mod Services

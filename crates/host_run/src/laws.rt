@@ -1,5 +1,5 @@
 // The laws of the host's runs. Each is a function with nothing to do: its contract is the law.
-ghost use Rattle.std.specs.Prelude.{◌≡◌, ◌≢◌, ◌≤◌, ◌+◌, ℕ, List, All, None, Some, IsSome};
+ghost use Rattle.std.specs.Prelude.{◌≡◌, ◌≢◌, ◌≤◌, ◌<◌, ◌+◌, ℕ, List, All, None, Some, IsSome};
 ghost use Rattle.client_world.specs.declared.outcome.Exit.{Exit as AnExit};
 ghost use Rattle.client_world.specs.declared.outcome.Exit.TheVariants.{ConsoleFull};
 ghost use Rattle.client_world.specs.Access.{IsHeld};
@@ -9,7 +9,7 @@ ghost use Rattle.dos_calls.specs.Kept.{Extends};
 ghost use Rattle.guest_ram.specs.Bytes.{AreBytes};
 ghost use Rattle.mz_loader.specs.Refusal.{refusal};
 ghost use Rattle.host_run.specs.Keys.{HasKeys};
-ghost use Rattle.host_run.specs.Nested.{Stacked};
+ghost use Rattle.host_run.specs.Nested.{HasTurns, IsHandedOver, LastPush, Matched, Stacked, host_depth};
 ghost use Rattle.host_run.specs.Run.{turns, run};
 ghost use Rattle.host_run.specs.Start.{blank, started_host};
 ghost use Rattle.host_run.specs.Touched.{touched_by_turn};
@@ -47,6 +47,16 @@ pub fn every_run_is_sound()
 pub fn every_turn_changes_the_innermost_record_at_most()
     ensures turn { (w : HostWorld) → IsSound w.machine → HasKeys w → Stacked w (turn w) }
     ensures turns { (w : HostWorld) → IsSound w.machine → HasKeys w → (n : ℕ) → Stacked (turns w n) (turns w (n + 1)) }
+{}
+
+/// Calls return in order. In each row of hosts that follow one another as turns leave them, the depth changes by one at most. A turn that
+/// takes a record away has a partner: the last turn before it that added one at that depth. It takes the record away that its partner
+/// added, and until then that record stayed in its place, with those below it.
+pub fn nested_calls_return_in_order()
+    ensures depth { (w : ℕ → HostWorld) (n k : ℕ) → HasTurns w n → k < n →
+        (host_depth (w (k + 1)) ≤ host_depth (w k) + 1) × (host_depth (w k) ≤ host_depth (w (k + 1)) + 1) }
+    ensures partner { (w : ℕ → HostWorld) (n i j : ℕ) → HasTurns w n → j < n → LastPush w i j → Matched w i j }
+    ensures record_stays { (w : ℕ → HostWorld) (n i j : ℕ) → HasTurns w n → j < n → Matched w i j → IsHandedOver w i j }
 {}
 
 /// What the client wrote stays: a turn adds bytes at the console's end alone. So the console after some turns is a prefix of the console after

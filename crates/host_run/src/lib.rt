@@ -23,5 +23,5 @@ pub use laws::{
     a_run_past_an_exit_is_over, every_exit_leaves_the_machine, every_run_is_sound,
     every_start_is_sound, every_touch_is_held, every_touch_of_a_run_is_held,
     every_turn_changes_the_innermost_record_at_most, every_turn_extends_the_console,
-    every_turn_is_sound, once_ended_a_run_stays,
+    every_turn_is_sound, nested_calls_return_in_order, once_ended_a_run_stays,
 };
