@@ -1,18 +1,21 @@
 // PUSH and POP of general registers and memory, PUSHA and POPA.
-ghost use Rattle.std.specs.Prelude.{◌≡◌};
+ghost use Rattle.std.specs.Prelude.{◌≡◌, ◌≢◌, ◌<◌, ℕ, Ok, false, slice_index};
 ghost use Rattle.exec_core.specs.Stacks.{push, pop, pusha, popa};
-ghost use Rattle.insn_plan.specs.Act.{unchanged, with_regs};
+ghost use Rattle.insn_plan.specs.Act.{done, unchanged, value_of, with_regs};
 ghost use Rattle.insn_plan.specs.Operands.{put_operand};
-ghost use Rattle.insn_plan.specs.Plan.{CarriesOut, Follows, after_commit};
+ghost use Rattle.insn_plan.specs.Plan.{CarriesOut, Follows, after_commit, carried_out, planned};
+ghost use Rattle.insn_plan.specs.Stack.{has_big_stack, pushes_made, stack_item};
+ghost use Rattle.insn_forms.specs.declared.insn.Insn.{Insn};
 ghost use Rattle.insn_forms.specs.declared.insn.Operand.TheVariants.{Mem};
 
 use client_world::general::{EAX, EBP, EBX, ECX, EDI, EDX, ESI, ESP};
 use client_world::{Event, Regs, SegReg};
-use guest_space::{Machine, byte_count};
+use guest_space::{Machine, Write, byte_count};
 use insn_forms::{Insn, MemForm, Operand};
 use insn_plan::{
-    cut_address, esp_up, has_big_stack, item_pushed, offset_of, push_item, put_register,
-    read_width, register, settle_pushes, source, stack_item, write_number,
+    cut_address, eight_items, esp_up, has_big_stack, item_pushed, offset_of, push_item,
+    put_register, read_width, register, settle_pushes, settle_quickly, source, stack_item,
+    write_number,
 };
 
 /// PUSH. Source: 80386 Programmer's Reference Manual, ch. 17.
@@ -63,29 +66,91 @@ pub(crate) fn pop(m: &mut Machine, i: &Insn) -> Result<(), Event>
     }
 }
 
+// The eight pushes of PUSHA at a width, where it is known whether the stack pointer is ESP: their writes, and ESP after them.
+#[inline(always)]
+fn eight_pushes(m: &Machine, width: u8, big: bool) -> ([Write; 8], u32)
+    requires { big ≡ has_big_stack m.now.world }
+    ensures { (i : Insn) → i.width ≡ width → pusha m.now.world i ≡ done (pushes_made m.now.world result.0 result.1) }
+{
+    let r = m.registers();
+    let (ax, esp) = item_pushed(big, width, r.esp, register(r, width, EAX));
+    let (cx, esp) = item_pushed(big, width, esp, register(r, width, ECX));
+    let (dx, esp) = item_pushed(big, width, esp, register(r, width, EDX));
+    let (bx, esp) = item_pushed(big, width, esp, register(r, width, EBX));
+    let (sp, esp) = item_pushed(big, width, esp, register(r, width, ESP));
+    let (bp, esp) = item_pushed(big, width, esp, register(r, width, EBP));
+    let (si, esp) = item_pushed(big, width, esp, register(r, width, ESI));
+    let (di, esp) = item_pushed(big, width, esp, register(r, width, EDI));
+    ([ax, cx, dx, bx, sp, bp, si, di], esp)
+}
+
+// PUSHA at any width, on any stack.
+#[inline(never)]
+#[tactic(auto, unfolding(insn_plan::specs::Plan::carried_out))]
+fn pusha_in_general(m: &mut Machine, i: &Insn) -> Result<(), Event>
+    ensures { CarriesOut m.old m.new result (pusha m.old.world i.now) }
+{
+    let (writes, esp) = eight_pushes(m, i.width, has_big_stack(m));
+    settle_pushes(m, &writes, esp)
+}
+
+// PUSHA at a width that is known, where the stack pointer is SP.
+#[inline(always)]
+#[tactic(auto, unfolding(insn_plan::specs::Plan::carried_out))]
+fn pusha_of_width(m: &mut Machine, i: &Insn, width: u8) -> Result<(), Event>
+    requires width { width ≡ i.now.width }
+    requires small { has_big_stack m.old.world ≡ false }
+    ensures { CarriesOut m.old m.new result (pusha m.old.world i.now) }
+{
+    let (writes, esp) = eight_pushes(m, width, false);
+    if settle_quickly(m, &writes, esp) {
+        Ok(())
+    } else {
+        pusha_in_general(m, i)
+    }
+}
+
 /// PUSHA. Source: as above.
 #[inline(never)]
-#[tactic(auto, unfolding(crate::specs::Stacks::pusha, insn_plan::specs::Plan::carried_out))]
 pub(crate) fn pusha(m: &mut Machine, i: &Insn) -> Result<(), Event>
     ensures { CarriesOut m.old m.new result (pusha m.old.world i.now) }
 {
-    let big = has_big_stack(m);
-    let r = m.registers();
-    let (ax, esp) = item_pushed(big, i.width, r.esp, register(r, i.width, EAX));
-    let (cx, esp) = item_pushed(big, i.width, esp, register(r, i.width, ECX));
-    let (dx, esp) = item_pushed(big, i.width, esp, register(r, i.width, EDX));
-    let (bx, esp) = item_pushed(big, i.width, esp, register(r, i.width, EBX));
-    let (sp, esp) = item_pushed(big, i.width, esp, register(r, i.width, ESP));
-    let (bp, esp) = item_pushed(big, i.width, esp, register(r, i.width, EBP));
-    let (si, esp) = item_pushed(big, i.width, esp, register(r, i.width, ESI));
-    let (di, esp) = item_pushed(big, i.width, esp, register(r, i.width, EDI));
-    settle_pushes(m, &[ax, cx, dx, bx, sp, bp, si, di], esp)
+    if has_big_stack(m) {
+        pusha_in_general(m, i)
+    } else if i.width == 16 {
+        pusha_of_width(m, i, 16)
+    } else if i.width == 32 {
+        pusha_of_width(m, i, 32)
+    } else {
+        pusha_in_general(m, i)
+    }
 }
 
-/// POPA. Source: as above.
-#[inline(never)]
+// Sets the registers to the items that POPA reads, by their places on the stack, and ESP; the item at place 3 is passed over.
+#[inline(always)]
 #[tactic(auto, unfolding(crate::specs::Stacks::popa, insn_plan::specs::Stack::items_popped, insn_plan::specs::Plan::carried_out, insn_plan::specs::Plan::after_commit, guest_space::specs::Pending::first_refusal, guest_space::specs::Pending::all_written, client_world::specs::General::with_general))]
-pub(crate) fn popa(m: &mut Machine, i: &Insn) -> Result<(), Event>
+fn set_popped(m: &mut Machine, i: &Insn, width: u8, items: [u32; 8])
+    requires width { width ≡ i.now.width }
+    requires items { (k : ℕ) → k < 8 → k ≢ 3 →
+        value_of m.old.world (stack_item m.old.world i.now.width k) ≡ Ok (slice_index items k) }
+    ensures { carried_out m.old (planned m.old.world (popa m.old.world i.now)) ≡ Ok m.new }
+{
+    let bytes = 8 * u32::from(byte_count(width));
+    let esp = esp_up(has_big_stack(m), bytes, m.registers().esp);
+    m.set_general(ESP, esp);
+    put_register(m, width, EDI, items[0]);
+    put_register(m, width, ESI, items[1]);
+    put_register(m, width, EBP, items[2]);
+    put_register(m, width, EBX, items[4]);
+    put_register(m, width, EDX, items[5]);
+    put_register(m, width, ECX, items[6]);
+    put_register(m, width, EAX, items[7]);
+}
+
+// POPA, item by item.
+#[inline(never)]
+#[tactic(auto, unfolding(crate::specs::Stacks::popa, insn_plan::specs::Plan::carried_out))]
+fn popa_by_items(m: &mut Machine, i: &Insn) -> Result<(), Event>
     ensures { CarriesOut m.old m.new result (popa m.old.world i.now) }
 {
     let di = stack_item(m, i.width, 0)?;
@@ -95,15 +160,35 @@ pub(crate) fn popa(m: &mut Machine, i: &Insn) -> Result<(), Event>
     let dx = stack_item(m, i.width, 5)?;
     let cx = stack_item(m, i.width, 6)?;
     let ax = stack_item(m, i.width, 7)?;
-    let bytes = 8 * u32::from(byte_count(i.width));
-    let esp = esp_up(has_big_stack(m), bytes, m.registers().esp);
-    m.set_general(ESP, esp);
-    put_register(m, i.width, EDI, di);
-    put_register(m, i.width, ESI, si);
-    put_register(m, i.width, EBP, bp);
-    put_register(m, i.width, EBX, bx);
-    put_register(m, i.width, EDX, dx);
-    put_register(m, i.width, ECX, cx);
-    put_register(m, i.width, EAX, ax);
+    set_popped(m, i, i.width, [di, si, bp, 0, bx, dx, cx, ax]);
     Ok(())
+}
+
+// POPA at a width that is known.
+#[inline(always)]
+fn popa_of_width(m: &mut Machine, i: &Insn, width: u8) -> Result<(), Event>
+    requires { width ≡ i.now.width }
+    ensures { CarriesOut m.old m.new result (popa m.old.world i.now) }
+{
+    match eight_items(m, width) {
+        Some(items) => {
+            set_popped(m, i, width, items);
+            Ok(())
+        }
+        None => popa_by_items(m, i),
+    }
+}
+
+/// POPA. Source: as above.
+#[inline(never)]
+pub(crate) fn popa(m: &mut Machine, i: &Insn) -> Result<(), Event>
+    ensures { CarriesOut m.old m.new result (popa m.old.world i.now) }
+{
+    if i.width == 16 {
+        popa_of_width(m, i, 16)
+    } else if i.width == 32 {
+        popa_of_width(m, i, 32)
+    } else {
+        popa_by_items(m, i)
+    }
 }

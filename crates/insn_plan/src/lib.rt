@@ -18,6 +18,6 @@ pub use operands::{put_operand, put_register, put_with_flags, source, write_numb
 pub use read::{read_number, read_width};
 pub use registers::{cut_address, offset_of, register, set_register};
 pub use stack::{
-    esp_up, has_big_stack, item_pushed, push_item, settle_pushes, stack_item, stack_pointer,
-    with_pointer,
+    eight_items, esp_up, has_big_stack, item_pushed, push_item, settle_pushes, settle_quickly,
+    stack_item, stack_pointer, with_pointer,
 };

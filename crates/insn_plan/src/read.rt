@@ -15,16 +15,18 @@ fn byte(bytes: [u8; 1]) -> u32
 }
 
 // The number of two bytes, least byte first.
+#[inline(always)]
 #[tactic(auto, using(crate::proofs::Numbers::number_of_two))]
-fn word(bytes: [u8; 2]) -> u32
+pub(crate) fn word(bytes: [u8; 2]) -> u32
     ensures { result ≡ number_of bytes }
 {
     u32::from(u16::from_le_bytes(bytes))
 }
 
 // The number of four bytes, least byte first.
+#[inline(always)]
 #[tactic(auto, using(crate::proofs::Numbers::number_of_four))]
-fn doubleword(bytes: [u8; 4]) -> u32
+pub(crate) fn doubleword(bytes: [u8; 4]) -> u32
     ensures { result ≡ number_of bytes }
 {
     u32::from_le_bytes(bytes)
