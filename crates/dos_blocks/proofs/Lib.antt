@@ -7,3 +7,4 @@ pub mod Splits
 pub mod SoundBlocks
 pub mod SelectorLaws
 pub mod RunPuts
+pub mod ServiceLaws

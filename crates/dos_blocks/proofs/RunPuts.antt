@@ -6,13 +6,13 @@ use Rattle.std.proofs.lemmas.List.{get_or_past}
 use Rattle.std.proofs.lemmas.Option.{get_or_from_slice_get}
 use Rattle.client_world.specs.declared.descriptors.Origin.{Origin}
 use Rattle.client_world.specs.declared.descriptors.Origin.TheVariants.{Dos}
-use Rattle.client_world.specs.declared.host_frames.TheConstants.{DESCRIPTORS}
+use Rattle.client_world.specs.declared.host_frames.TheConstants.{DESCRIPTORS, FIRST_FREE_DESCRIPTOR}
 use Rattle.client_world.specs.declared.dos_memory.DosEntry.{DosEntry}
 use Rattle.client_world.specs.declared.dos_memory.DosRun.{DosRun}
 use Rattle.client_world.specs.declared.dos_memory.DosState.TheVariants.{Dpmi}
 use Rattle.client_world.specs.declared.memory_map.TheConstants.{ARENA_START, ARENA_END}
 use Rattle.client_world.specs.DosMemory.{Fills, is_dpmi, is_free, block_segment}
-use Rattle.client_world.specs.FreeRuns.{IsFreeRunOf, IsFirstFreeRunOf}
+use Rattle.client_world.specs.FreeRuns.{IsFreeRunOf}
 use Rattle.client_world.specs.Selector.{Row, index_of, row_at_index}
 use Rattle.client_world.specs.Soundness.{IsSound, HasOrigin, descriptors_for}
 use Rattle.client_world.specs.World.{World}
@@ -84,25 +84,25 @@ made_one entry made some = rw (made, ne_eqb entry.paras 0 (λ e. omega arith)) r
 
 -- ---- 0100h
 
-pub can_give_run : (w : World) (n place first : ℕ) → IsSound w → w.width ≢ None → n ≢ 0 → HasFit w.arena n place →
-    IsFirstFreeRunOf w.descriptors first (descriptors_for n) →
+pub can_give_run : (w : World) (n place first : ℕ) → IsSound w → w.width ≢ None → n ≢ 0 → HasFit w.arena n place → FIRST_FREE_DESCRIPTOR ≤ first →
+    IsFreeRunOf w.descriptors first (descriptors_for n) →
     CanPutRun w place 1 (split Dpmi (entry_of_place w.arena place).at n (entry_of_place w.arena place).paras) (run_of_block (entry_of_place w.arena place) first 0 n)
-can_give_run w n place first s width some fit run =
+can_give_run w n place first s width some fit from run =
     let can = splice_give w.arena true n place s.arena fit in
-    let within = run.run.within in
+    let within = run.within in
     record {
       width = width;
       within = can.within;
       arena = can.sound;
       old_block = rw (take_one w.arena place fit.small) (rw (free_plain (entry_of_place w.arena place).state fit.free) refl);
       new_block = made_split (entry_of_place w.arena place).at n (entry_of_place w.arena place).paras some;
-      from = run.from;
+      from = from;
       old_run = record {
         have = λ index from to. absurd (omega arith);
         from = λ index has. absurd (no_descriptor w place index s fit.small fit.free has);
         to = λ index has. absurd (no_descriptor w place index s fit.small fit.free has);
       };
-      added = record { within = omega arith; free = λ index from to. run.run.free index (omega arith) (omega arith) };
+      added = record { within = omega arith; free = λ index from to. run.free index (omega arith) (omega arith) };
     }
 
 -- ---- 0101h

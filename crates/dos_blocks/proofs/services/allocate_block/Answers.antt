@@ -42,7 +42,7 @@ arena_put_dpmi-requires c =
     let run = subst (λ (k : ℕ). IsFirstFreeRunOf w.descriptors first k) c.descriptors_for.ensures.count c.in-Some-first_free.ensures.first in
     can_put_run w place place 1 1 _ c.split.result.items (run_of_block c.arena-entry.result first 0 n) _
     (subst (λ (e : DosEntry). CanPutRun w place 1 (split Dpmi e.at n e.paras) (run_of_block e first 0 n)) (sym entry)
-    (can_give_run w n place first c.soundness.ensures c.requires (λ none. omega (arith, none, c.if-n-eq0.false)) fit run)) refl refl c.split.ensures refl
+    (can_give_run w n place first c.soundness.ensures c.requires (λ none. omega (arith, none, c.if-n-eq0.false)) fit run.from run.run)) refl refl c.split.ensures refl
 
 pub overflow_add-entry : goal.overflow_add-entry
 overflow_add-entry c =
