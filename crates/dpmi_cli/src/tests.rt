@@ -76,14 +76,14 @@ fn client(rt: &(impl Abort + AllocGlobal), code: &[u8]) -> Result<Vec<u8>, Fail>
 }
 
 // JMP F000h:0100h, which enters protected mode and goes on at the far address on top of the stack, 0000h:0000h: the interrupt vectors are
-// run, two instructions for each of the first five, and after ADD AX,0000h comes LOCK PUSH ES, an exception; MOV AH,01h and INT 21h,
-// which asks for a key; HLT.
+// run, two instructions for each of the first five, and after ADD AX,0000h comes LOCK PUSH ES, an exception, whose default handler ends the
+// client in a turn of its own; MOV AH,01h and INT 21h, which asks for a key; HLT.
 #[test]
 fn each_code_has_its_exit(rt: HostRuntime) -> Result<(), Fail> {
     for (code, text) in [
         (
             [0xEA, 0x00, 0x01, 0x00, 0xF0].as_slice(),
-            "console 0\n\nexit unbuilt\nsteps 14\n",
+            "console 0\n\nexit fault 06 code=00000000\nsteps 15\n",
         ),
         (
             [0xB4, 0x01, 0xCD, 0x21].as_slice(),
@@ -164,7 +164,7 @@ fn each_header_word_of_ffff_has_its_answer(rt: HostRuntime) -> Result<(), Fail> 
 
 // Clients that mean harm: one fills all memory from 00000h on, itself too; one jumps into read-only memory; stacks at 1, at 0 and in
 // read-only memory; vectors that lead to trap bytes, of the entry and of DOS calls. After the entry the rest of the code segment is run,
-// two bytes at a time, and the exception comes at its limit.
+// two bytes at a time, the exception comes at its limit, and its default handler ends the client.
 const HOSTILE: [(&[u8], u8, &str); 7] = [
     (
         b"\x31\xC0\x8E\xC0\x31\xFF\xB9\xFF\xFF\xF3\xAA",
@@ -194,7 +194,7 @@ const HOSTILE: [(&[u8], u8, &str); 7] = [
     (
         b"\x31\xC0\x8E\xD8\xC7\x06\x80\x01\x00\x01\xC7\x06\x82\x01\x00\xF0\xCD\x60",
         1,
-        "console 0\n\nexit unbuilt\nsteps 32766\n",
+        "console 0\n\nexit fault 0d code=00000000\nsteps 32767\n",
     ),
     (
         b"\x31\xC0\x8E\xD8\xC7\x06\x80\x01\x21\x00\xC7\x06\x82\x01\x00\xF0\xB8\x05\x4C\xCD\x60",
