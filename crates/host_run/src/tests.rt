@@ -9,6 +9,7 @@ use std::test::Fail;
 
 mod exceptions;
 mod memory;
+mod services;
 
 // A client's code, its keystrokes and the bound of its run; the exit, the turns and the console; the registers and the flags image.
 struct Case {

@@ -79,3 +79,43 @@ fn a_return_without_an_exception_is_stray(rt: HostRuntime) -> Result<(), Fail> {
     assert_eq!(rt; host.lines(), 2);
     Ok(())
 }
+
+// Handlers of exception 0Dh that mean harm, at 0023h: the client sets them, runs HLT, and then ends with 5, or 6 where the carry is set. One
+// raises the exception again at each depth up to the greatest; two put a null CS and a null SS into the frame; one goes on after HLT with the
+// carry set; one frees the descriptor of its own code, so that the next exception has no handler.
+const HANDLERS: [(&[u8], Exit, u32); 5] = [
+    (b"\xF4", Exit::Deep, 19),
+    (
+        b"\x55\x89\xE5\xC7\x46\x0A\x00\x00\x5D\xCB",
+        Exit::BadFrame,
+        4,
+    ),
+    (
+        b"\x55\x89\xE5\xC7\x46\x10\x00\x00\x5D\xCB",
+        Exit::BadFrame,
+        4,
+    ),
+    (
+        b"\x55\x89\xE5\xFF\x46\x08\x80\x4E\x0C\x01\x5D\xCB",
+        Exit::Exited(6),
+        6,
+    ),
+    (b"\x8C\xCB\xB8\x01\x00\xCD\x31", Exit::Fault(13, 0x0204), 5),
+];
+
+#[test]
+fn hostile_handlers_end_as_written(rt: HostRuntime) -> Result<(), Fail> {
+    for (handler, exit, lines) in HANDLERS {
+        let mut code = [
+            0xB8, 0x03, 0x02, 0xB3, 0x0D, 0x8C, 0xC9, 0xBA, 0x23, 0x00, 0xCD, 0x31, 0xF4, 0xB0,
+            0x00, 0x14, 0x05, 0xB4, 0x4C, 0xCD, 0x21,
+        ]
+        .to_vec(rt.alloc())?;
+        code.extend_from_slice(handler)?;
+        assert!(rt; code.len() <= 40);
+        let mut host = entered(&rt, rt.alloc(), &code)?;
+        assert_eq!(rt; run_out(&rt, &mut host), exit, "exit with {handler:?}");
+        assert_eq!(rt; host.lines(), lines, "lines with {handler:?}");
+    }
+    Ok(())
+}
