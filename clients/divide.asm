@@ -1,4 +1,4 @@
-; Handles its own divide error: the handler counts it, and goes on behind the division.   nasm -f bin divide.asm -o divide.exe
+; Handles its own divide error: the handler counts it, and goes on after the division.   nasm -f bin divide.asm -o divide.exe
 %include "exe.inc"
     push cs
     pop ds
