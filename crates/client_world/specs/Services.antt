@@ -1,5 +1,4 @@
--- Words that the services of INT 31h share. Source: DPMI 0.9; a carry that is set exactly where a condition holds, with nothing changed
--- then, is own.
+-- Words that the services of INT 31h share. Source: DPMI 0.9.
 use Rattle.std.specs.Prelude.{ℕ, ◌+◌, ◌*◌, Bool, true, false, None, Some}
 use Rattle.std.specs.declared.option.Option.{Option}
 use Rattle.client_world.specs.declared.registers.Width.{Width}
@@ -10,22 +9,18 @@ use Rattle.client_world.specs.declared.segments.FarPtr.{FarPtr}
 use Rattle.client_world.specs.declared.services.Carry.{Carry}
 use Rattle.client_world.specs.declared.services.Carry.TheVariants.{Clear, Set}
 use Rattle.client_world.specs.Registers.{low_half}
-use Rattle.client_world.specs.Selector.{Row, row_at_index, row_of_selector}
+use Rattle.client_world.specs.Selector.{Row, row_of_selector}
 use Rattle.client_world.specs.World.{World}
 
--- the carry that a service answers, and the world after it
+-- the carry flag is set
+abbrev pub is_set : Carry → Bool
+is_set Clear = false
+is_set Set = true
+
+-- the carry that a service returns, and the world after it
 pub record Served : Type 0 where
   pub carry : Carry
   pub world : World
-
--- a row of the table of services: refused exactly where the condition holds, and then nothing has changed; else the world after its work
-abbrev pub row : Bool → World → World → Served
-row true before after = record { carry = Set; world = before }
-row false before after = record { carry = Clear; world = after }
-
--- the descriptor at an index, with its origin
-abbrev pub desc_at : World → ℕ → Row
-desc_at w index = row_at_index w.descriptors index
 
 -- the descriptor that a selector names; whatever privilege level it asks for
 abbrev pub desc_of : World → ℕ → Row

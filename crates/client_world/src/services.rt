@@ -1,8 +1,8 @@
-// What services answer.
+// What services return.
 
 use crate::outcome::Exit;
 
-/// The carry flag that a service of INT 31h answers: set exactly where it refuses. Source: DPMI 0.9, "Error Returns".
+/// The carry flag that a service of INT 31h returns: set exactly where it refuses. Source: DPMI 0.9, "Error Returns".
 #[derive(Clone, Copy, Debug, PartialEq, Eq)]
 pub enum Carry {
     Clear,

@@ -10,7 +10,7 @@ use Rattle.client_world.specs.World.{World, MemoryBlock, block_at}
 use Rattle.guest_space.specs.Code.{one_byte, code_byte, code_from, code_room}
 use Rattle.guest_space.specs.Transfer.{read_result, bytes_at}
 use Rattle.guest_space.proofs.Codes.{code_none, code_next, code_stops}
-use Rattle.insn_forms.specs.Grammar.{AreBytes}
+use Rattle.insn_forms.specs.Grammar.{AllBytes}
 use Rattle.cpu_step.specs.Step.{code}
 
 in_block : (o : Option MemoryBlock) → ((block : MemoryBlock) → o ≡ Some block → (at : ℕ) → slice_index block.bytes at < 0x100) →
@@ -34,16 +34,16 @@ fetched_small : (w : World) → IsSound w → (at byte : ℕ) → code_byte w at
 unfolding code_byte read_result
 fetched_small w h at byte e = first_small w h (access w Cs (w.regs.eip + at) 1 false) byte e
 
-more_bytes : (w : World) → IsSound w → (at n : ℕ) (r : Result ℕ Fault) → code_byte w at ≡ r → AreBytes (code_from w (at + 1) n) →
-    AreBytes (code_from w at (suc n))
-more_bytes w h at n (Ok byte) e more = subst AreBytes (sym (code_next w at n byte e)) (fetched_small w h at byte e, more)
-more_bytes w h at n (Err f) e more = subst AreBytes (sym (code_stops w at n f e)) tt
+more_bytes : (w : World) → IsSound w → (at n : ℕ) (r : Result ℕ Fault) → code_byte w at ≡ r → AllBytes (code_from w (at + 1) n) →
+    AllBytes (code_from w at (suc n))
+more_bytes w h at n (Ok byte) e more = subst AllBytes (sym (code_next w at n byte e)) (fetched_small w h at byte e, more)
+more_bytes w h at n (Err f) e more = subst AllBytes (sym (code_stops w at n f e)) tt
 
-code_are_bytes : (w : World) → IsSound w → (at n : ℕ) → AreBytes (code_from w at n)
-code_are_bytes w h at zero = subst AreBytes (sym (code_none w at)) tt
+code_are_bytes : (w : World) → IsSound w → (at n : ℕ) → AllBytes (code_from w at n)
+code_are_bytes w h at zero = subst AllBytes (sym (code_none w at)) tt
 code_are_bytes w h at (suc n) = more_bytes w h at n (code_byte w at) refl (code_are_bytes w h (at + 1) n)
 
-pub code_is_bytes : (w : World) → IsSound w → AreBytes (code w)
+pub code_is_bytes : (w : World) → IsSound w → AllBytes (code w)
 code_is_bytes w h = code_are_bytes w h 0 code_room
 
 -- ---- how many they are

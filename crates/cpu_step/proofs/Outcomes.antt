@@ -16,7 +16,7 @@ use Rattle.insn_decode.specs.declared.decoding.Decoded.{Decoded}
 use Rattle.insn_decode.specs.declared.decoding.Decoded.TheVariants.{Whole, More, Invalid}
 use Rattle.insn_decode.specs.Decode.{decoded}
 use Rattle.insn_decode.proofs.Answering.{decoded_whole, decoded_only, decoded_more, more_decoded, decoded_invalid, invalid_decoded}
-use Rattle.insn_forms.specs.Grammar.{AreBytes, HasSpelling}
+use Rattle.insn_forms.specs.Grammar.{AllBytes, HasSpelling}
 use Rattle.cpu_step.specs.Step.{has_big_code, code, executed, unfinished, IsStep, step_of, client_step}
 use Rattle.cpu_step.proofs.CodeBytes.{IsCutOff, most_code, few_code}
 
@@ -33,7 +33,7 @@ unfinished_cut w bytes f few e = rw (few_differ (length bytes) few, e) refl
 
 -- ---- what reading gives is what the grammar says
 
-pub outcome_is : (v : MachineView) → AreBytes (code v.world) → IsStep v (client_step v)
+pub outcome_is : (v : MachineView) → AllBytes (code v.world) → IsStep v (client_step v)
 unfolding client_step
 outcome_is v are =
     let big = has_big_code v.world in
@@ -59,7 +59,7 @@ more_spells_none w e h =
 few_or_full : (n : ℕ) → n ≤ code_room → (n < code_room) ⊎ (n ≡ code_room)
 few_or_full n most = elim (cases_eq n code_room) [ inl full ↦ inr full | inr other ↦ inl (omega arith) ]
 
-where_more : (v : MachineView) (outcome : Result MachineView Event) → AreBytes (code v.world) → IsStep v outcome →
+where_more : (v : MachineView) (outcome : Result MachineView Event) → AllBytes (code v.world) → IsStep v outcome →
     decoded (has_big_code v.world) (code v.world) ≡ More → outcome ≡ Err (fault (unfinished v.world (code v.world)))
 where_more v outcome are s e =
     let w = v.world in
@@ -75,7 +75,7 @@ where_more v outcome are s e =
       | inr full ↦ s.too_long none begins full ∙ ap (λ (f : Fault). Err (fault f)) (sym (unfinished_full w (code w) full))
     ]
 
-by_decoded : (v : MachineView) (outcome : Result MachineView Event) → AreBytes (code v.world) → IsStep v outcome → (d : Decoded) →
+by_decoded : (v : MachineView) (outcome : Result MachineView Event) → AllBytes (code v.world) → IsStep v outcome → (d : Decoded) →
     decoded (has_big_code v.world) (code v.world) ≡ d → outcome ≡ step_of v d
 by_decoded v outcome are s (Whole insn len) e =
     let bytes = code v.world in
@@ -86,7 +86,7 @@ by_decoded v outcome are s Invalid e =
     let nor = decoded_invalid (has_big_code v.world) (code v.world) are e in s.invalid nor.0 nor.1
 by_decoded v outcome are s More e = where_more v outcome are s e
 
-pub only_outcome : (v : MachineView) (outcome : Result MachineView Event) → AreBytes (code v.world) → IsStep v outcome →
+pub only_outcome : (v : MachineView) (outcome : Result MachineView Event) → AllBytes (code v.world) → IsStep v outcome →
     outcome ≡ client_step v
 unfolding client_step
 only_outcome v outcome are s = by_decoded v outcome are s (decoded (has_big_code v.world) (code v.world)) refl

@@ -1,6 +1,7 @@
 // The bytes and the low half of a general register.
 ghost use Rattle.std.specs.Prelude.{◌≡◌};
-ghost use Rattle.cpu_values.specs.Register.{register_byte, with_byte, with_low_half};
+ghost use Rattle.client_world.specs.Registers.{with_low_half};
+ghost use Rattle.cpu_values.specs.Register.{register_byte, with_byte};
 
 /// The low byte of a register (AL of EAX), or with `high` the byte above it (AH).
 /// Source: 80386 Programmer's Reference Manual, ch. 2, "General Registers".

@@ -42,7 +42,7 @@ shelf_open s = option_map (λ o. o.name) s.current
 abbrev pub shelf_left : MemShelfState → Option (List ℕ)
 shelf_left s = option_and_then (λ o. option_map (drop o.at) (map.get s.files o.name)) s.current
 
--- what opening the file of that name answers: a listed call fails before the name is looked up
+-- what opening the file of that name returns: a listed call fails before the name is looked up
 abbrev pub open_result : MemShelfState → List ℕ → Result (Unit {0}) ShelfFail
 open_result s name =
     if is_listed s.plan then Err Failed else (if map.contains_key s.files name then Ok tt else Err Missing)

@@ -1,5 +1,5 @@
 //! The outside of the host: the files that it reads and the bytes that it writes.
-//! It promises what each call of a shelf or a sink answers, when it may fail, and what it then leaves.
+//! It promises what each call of a shelf or a sink returns, when it may fail, and what it then leaves.
 //! It uses no other crate; `dpmi_cli` uses it.
 #![tactic(auto)]
 

@@ -56,7 +56,7 @@ pub trait Shelf {
         ensures later { faults self.old ≤ faults self.new }
         ensures closed { OnErr result (open_name self.new ≡ None) };
 
-    /// Moves the first of the bytes left to the start of the buffer, and answers their number,
+    /// Moves the first of the bytes left to the start of the buffer, and returns their number,
     /// which is 0 only at the end. It fails as `Failed` alone, and the count of faults then rose.
     fn read(&mut self, buf: &mut [u8]) -> Result<usize, ShelfFail>
         requires opened { IsSome (open_name self.old) }
@@ -82,7 +82,7 @@ pub trait Sink {
     /// How often a call failed, up to the greatest u64.
     ghost faults: { Self → ℕ };
 
-    /// Takes some of the first bytes, at least one, and answers their number.
+    /// Takes some of the first bytes, at least one, and returns their number.
     /// Where it fails it may have taken some of the first, and the count of faults rose.
     fn put(&mut self, bytes: &[u8]) -> Result<usize, SinkFail>
         requires { 0 < length bytes.now }

@@ -24,7 +24,7 @@ pub fn put_all<O: Sink>(out: &mut O, bytes: &[u8]) -> Result<(), SinkFail>
     Ok(())
 }
 
-/// Reads the open file to its end, or the buffer full, and answers the number of bytes.
+/// Reads the open file to its end, or the buffer full, and returns the number of bytes.
 /// It fails as `Failed` alone, and the count of faults then rose.
 pub fn read_whole<F: Shelf>(shelf: &mut F, buf: &mut [u8]) -> Result<usize, ShelfFail>
     requires { IsSome (F.open_name shelf.old) }

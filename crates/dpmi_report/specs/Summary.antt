@@ -4,8 +4,7 @@ use Rattle.std.specs.Fmt.{decimal}
 use Rattle.hex.specs.Hex.{encode_lower}
 use Rattle.sha2.specs.Sha256.{sha256}
 use Rattle.client_world.specs.declared.outcome.Exit.{Exit}
-use Rattle.client_world.specs.declared.services.Carry.{Carry}
-use Rattle.client_world.specs.declared.services.Carry.TheVariants.{Clear, Set}
+use Rattle.client_world.specs.Services.{is_set}
 use Rattle.client_world.specs.declared.trace.TraceLine.{TraceLine}
 use Rattle.client_world.specs.declared.trace.TraceLine.TheVariants.{Int31, Int21, Int2f, Int20, Entry, EntryRefused, ToProtected, ToReal, Enter, Leave}
 use Rattle.client_world.specs.World.{HostWorld}
@@ -31,11 +30,6 @@ is_service ToProtected = false
 is_service ToReal = false
 is_service (Enter depth what regs vif) = false
 is_service (Leave depth what regs vif) = false
-
--- the carry flag is set
-abbrev pub is_set : Carry → Bool
-is_set Clear = false
-is_set Set = true
 
 -- the line is that of a service that refused
 abbrev pub is_refusal : TraceLine → Bool

@@ -1,5 +1,5 @@
 //! The memory of the machine: a list of bytes, in frames.
-//! It promises that a read answers the bytes that are there, and that a write changes its bytes alone.
+//! It promises that a read returns the bytes that are there, and that a write changes its bytes alone.
 //! It uses no other crate; every crate that keeps the client's memory uses it.
 #![tactic(auto)]
 

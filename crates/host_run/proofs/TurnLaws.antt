@@ -17,7 +17,7 @@ use Rattle.client_world.specs.declared.services.DosDone.TheVariants as done
 use Rattle.client_world.specs.declared.trace.TraceLine.{TraceLine}
 use Rattle.client_world.specs.declared.trace.TraceLine.TheVariants as lines
 use Rattle.client_world.specs.Registers.{high_byte, low_byte, low_half, with_low_half}
-use Rattle.client_world.specs.Services.{Served}
+use Rattle.client_world.specs.Services.{Served, is_set}
 use Rattle.client_world.specs.Soundness.{IsSound}
 use Rattle.client_world.specs.World.{World, HostWorld}
 use Rattle.client_world.proofs.SoundWrites.{IsSound-regs}
@@ -43,7 +43,7 @@ use Rattle.host_run.specs.declared.traps.Trap.TheVariants.{RealVector, Entry, Pr
 use Rattle.host_run.specs.Keys.{HasKeys}
 use Rattle.host_run.specs.Nested.{Enters, Leaves, Stacked, kept, popped as left_one, pushed}
 use Rattle.host_run.specs.Traps.{current_trap}
-use Rattle.host_run.specs.Turn.{Outcome, goes_on, ends, with_machine, noted, popped, seen, dos_served, multiplex_served, ends_client, vector_served, entry_line, after_entry, after_entry_trap, is_served, goes_on_with, after_presence_call, is_set, service, after_int31, after_protected_call, after_protected_pop, after_protected_vector, enter_line, after_protected_delivery, exception_number, leave_line, after_exception_return, delivered_in, after_interrupt, after_step, stepped, trapped, work, with_turn_counted, settled, turn}
+use Rattle.host_run.specs.Turn.{Outcome, goes_on, ends, with_machine, noted, popped, seen, dos_served, multiplex_served, ends_client, vector_served, entry_line, after_entry, after_entry_trap, is_served, goes_on_with, after_presence_call, service, after_int31, after_protected_call, after_protected_pop, after_protected_vector, enter_line, after_protected_delivery, exception_number, leave_line, after_exception_return, delivered_in, after_interrupt, after_step, stepped, trapped, work, with_turn_counted, settled, turn}
 use Rattle.host_run.proofs.Frames.{still_popped}
 use Rattle.host_run.proofs.Services.{calls_service, sound_service}
 use Rattle.host_run.proofs.KindModes.{Suits, trap_suits}

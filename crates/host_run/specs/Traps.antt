@@ -44,14 +44,14 @@ trap_at Real at = real_trap_at at
 trap_at Protected at = protected_trap_at at
 
 -- the base of a row's segment
-abbrev pub base_of : Row → ℕ
-base_of None = 0
-base_of (Some row) = row.0.base
+abbrev pub base_of_row : Row → ℕ
+base_of_row None = 0
+base_of_row (Some row) = row.0.base
 
 -- the linear address of CS:EIP, by the mode: in protected mode it counts modulo 2^32
 abbrev pub address_in : Mode → World → ℕ
 address_in Real w = linear_address w.regs.cs w.regs.eip
-address_in Protected w = linear (base_of (row_of_selector w.descriptors w.regs.cs) + w.regs.eip)
+address_in Protected w = linear (base_of_row (row_of_selector w.descriptors w.regs.cs) + w.regs.eip)
 
 abbrev pub code_address : World → ℕ
 code_address w = address_in w.mode w

@@ -19,7 +19,7 @@ use Rattle.client_world.specs.declared.services.DosDone.TheVariants as done
 use Rattle.client_world.specs.declared.trace.TraceLine.{TraceLine}
 use Rattle.client_world.specs.declared.trace.TraceLine.TheVariants as lines
 use Rattle.client_world.specs.Registers.{high_byte, low_byte, low_half, with_low_half}
-use Rattle.client_world.specs.Services.{Served}
+use Rattle.client_world.specs.Services.{Served, is_set}
 use Rattle.client_world.specs.World.{World, HostWorld, depth}
 use Rattle.block_services.specs.Rows.{block_service}
 use Rattle.desc_services.specs.Rows.{descriptor_service}
@@ -151,10 +151,6 @@ after_exit_call h = ends (noted (lines.Int21 (high_byte h.machine.regs.eax)) h) 
 abbrev pub after_presence_call : HostWorld → World → Outcome
 after_presence_call h w =
     goes_on_with h (lines.Int2f (low_half w.regs.eax)) (record w { regs = record w.regs { eax = with_low_half w.regs.eax 0 } })
-
-abbrev pub is_set : Carry → Bool
-is_set Clear = false
-is_set Set = true
 
 -- INT 31h: the carry goes into the flags that were popped
 abbrev pub after_service : HostWorld → ℕ → Served → Outcome

@@ -4,13 +4,13 @@ ghost use Rattle.client_world.specs.declared.registers.Mode.TheVariants.{Protect
 ghost use Rattle.client_world.specs.Registers.{low_half};
 ghost use Rattle.fault_service.specs.Worlds.{world_popped};
 ghost use Rattle.host_run.specs.View.{ComesTo};
+ghost use Rattle.client_world.specs.Services.{is_set};
 ghost use Rattle.host_run.specs.Turn.{
   entry_line,
   after_entry_trap,
   goes_on,
   after_int31,
   is_served,
-  is_set,
   is_unbuilt,
   after_presence_call,
   after_protected_pop,

@@ -1,6 +1,6 @@
 // The trap bytes.
 ghost use Rattle.std.specs.Prelude.{◌≡◌};
-ghost use Rattle.host_run.specs.Traps.{address_in, base_of, code_address, is_among, protected_trap_at, real_trap_at, current_trap, trap_at};
+ghost use Rattle.host_run.specs.Traps.{address_in, base_of_row, code_address, is_among, protected_trap_at, real_trap_at, current_trap, trap_at};
 ghost use Rattle.client_world.specs.Selector.{row_of_selector};
 ghost use Rattle.client_world.specs.declared.registers.Mode.TheVariants.{Protected as protected};
 
@@ -108,7 +108,7 @@ fn trap_at(mode: Mode, at: u64) -> Trap
 
 // The base of the segment in CS.
 fn code_base(m: &Machine) -> u32
-    ensures { result ≡ base_of (row_of_selector m.now.world.descriptors m.now.world.regs.cs) }
+    ensures { result ≡ base_of_row (row_of_selector m.now.world.descriptors m.now.world.regs.cs) }
 {
     match m.desc_of(m.registers().cs) {
         None => 0,

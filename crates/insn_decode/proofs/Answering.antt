@@ -4,7 +4,7 @@ use Rattle.std.proofs.lemmas.List.{append-nil, take_at}
 use Rattle.insn_decode.specs.declared.stop.Stop.TheVariants as stops
 use Rattle.insn_forms.specs.declared.insn.Insn.{Insn}
 use Rattle.insn_decode.specs.declared.decoding.Decoded.TheVariants.{Whole, More, Invalid}
-use Rattle.insn_forms.specs.Grammar.{AreBytes, Spelling, HasSpelling, BeginsSpelling}
+use Rattle.insn_forms.specs.Grammar.{AllBytes, Spelling, HasSpelling, BeginsSpelling}
 use Rattle.insn_decode.specs.Reading.{Read, insn_at}
 use Rattle.insn_decode.specs.Decode.{answer_of, decoded}
 use Rattle.insn_decode.proofs.LawfulReaders.{ok_is, ok_not_err, bytes_append}
@@ -12,11 +12,11 @@ use Rattle.insn_decode.proofs.InsnReaders.{insn_reads}
 use Rattle.insn_decode.proofs.Spellings.{to_readers, from_readers}
 
 -- a list of bytes, by its places
-pub bytes_by_place : (xs : List ℕ) → ((i : ℕ) → get_or xs i 0 < 256) → AreBytes xs
+pub bytes_by_place : (xs : List ℕ) → ((i : ℕ) → get_or xs i 0 < 256) → AllBytes xs
 bytes_by_place [] h = tt
 bytes_by_place (x ∷ xs) h = (h 0, bytes_by_place xs (λ i. h (suc i)))
 
-bytes_front : (xs ys : List ℕ) → AreBytes (xs ++ ys) → AreBytes xs
+bytes_front : (xs ys : List ℕ) → AllBytes (xs ++ ys) → AllBytes xs
 bytes_front [] ys a = tt
 bytes_front (x ∷ xs) ys a = (a.0, bytes_front xs ys a.1)
 
@@ -28,11 +28,11 @@ read_cases (Err stops.Invalid) = inr (inr refl)
 -- ---- the readers, by the grammar
 
 -- what is read is what the bytes encode
-read_is : (big : Bool) (bytes : List ℕ) (insn : Insn) (rest : List ℕ) → AreBytes bytes → insn_at big bytes ≡ Ok (insn, rest)
+read_is : (big : Bool) (bytes : List ℕ) (insn : Insn) (rest : List ℕ) → AllBytes bytes → insn_at big bytes ≡ Ok (insn, rest)
     → (front : List ℕ) × Spelling big insn front × (bytes ≡ front ++ rest)
 read_is big bytes insn rest are e =
     let f = (insn_reads big).found bytes insn rest e in
-    (f.0, from_readers big insn f.0 (bytes_front f.0 rest (subst AreBytes f.2 are)) f.1, f.2)
+    (f.0, from_readers big insn f.0 (bytes_front f.0 rest (subst AllBytes f.2 are)) f.1, f.2)
 
 -- what the bytes encode is read
 is_read : (big : Bool) (insn : Insn) (front rest : List ℕ) → Spelling big insn front
@@ -68,7 +68,7 @@ decoded_only big insn front rest bytes e s =
     let n : length bytes - length rest ≡ length front = rw e (omega (arith, length-append front rest)) in
     rw (r, n) refl
 
-pub more_decoded : (big : Bool) (bytes : List ℕ) → AreBytes bytes → BeginsSpelling big bytes → decoded big bytes ≡ More
+pub more_decoded : (big : Bool) (bytes : List ℕ) → AllBytes bytes → BeginsSpelling big bytes → decoded big bytes ≡ More
 unfolding decoded
 more_decoded big bytes are s =
     let whole = all_read big s.0 (bytes ++ s.1 ∷ s.2) s.3 in
@@ -87,7 +87,7 @@ cut : (bytes front rest : List ℕ) → bytes ≡ front ++ rest
     → (take (length front) bytes ≡ front) × (length front ≤ length bytes)
 cut bytes front rest e = (rw e (take_at front rest (length front) refl), rw e (omega (arith, length-append front rest)))
 
-pub decoded_whole : (big : Bool) (insn : Insn) (len : ℕ) (bytes : List ℕ) → AreBytes bytes
+pub decoded_whole : (big : Bool) (insn : Insn) (len : ℕ) (bytes : List ℕ) → AllBytes bytes
     → decoded big bytes ≡ Whole insn len → Spelling big insn (take len bytes) × (len ≤ length bytes)
 unfolding decoded
 decoded_whole big insn len bytes are e =
@@ -105,7 +105,7 @@ decoded_whole big insn len bytes are e =
       | inr (inr i) ↦ let no : Invalid ≡ Whole insn len = sym (ap (answer_of bytes) i) ∙ e in absurd cc
     ]
 
-pub decoded_more : (big : Bool) (bytes : List ℕ) → AreBytes bytes → decoded big bytes ≡ More → BeginsSpelling big bytes
+pub decoded_more : (big : Bool) (bytes : List ℕ) → AllBytes bytes → decoded big bytes ≡ More → BeginsSpelling big bytes
 unfolding decoded
 decoded_more big bytes are e =
     elim (read_cases (insn_at big bytes)) [
@@ -125,14 +125,14 @@ decoded_more big bytes are e =
         ∙ ap (insn_at big) (append-nil bytes) ∙ m))
     begun big bytes insn (n ∷ tail) s m = (insn, n, tail, s)
 
-pub decoded_invalid : (big : Bool) (bytes : List ℕ) → AreBytes bytes → decoded big bytes ≡ Invalid
+pub decoded_invalid : (big : Bool) (bytes : List ℕ) → AllBytes bytes → decoded big bytes ≡ Invalid
     → (HasSpelling big bytes → ⊥) × (BeginsSpelling big bytes → ⊥)
 decoded_invalid big bytes are e = (
   (λ h. let no : Whole h.0 (length h.1) ≡ Invalid = sym (decoded_only big h.0 h.1 h.2 bytes h.3 h.4) ∙ e in absurd cc),
   (λ h. let no : More ≡ Invalid = sym (more_decoded big bytes are h) ∙ e in absurd cc),
 )
 
-pub invalid_decoded : (big : Bool) (bytes : List ℕ) → AreBytes bytes
+pub invalid_decoded : (big : Bool) (bytes : List ℕ) → AllBytes bytes
     → (HasSpelling big bytes → ⊥) × (BeginsSpelling big bytes → ⊥) → decoded big bytes ≡ Invalid
 unfolding decoded
 invalid_decoded big bytes are nor =

@@ -12,7 +12,7 @@ use Rattle.insn_forms.specs.OpcodeMap.{opcode_row, row_one, row_two, map_one_00,
 use Rattle.insn_forms.specs.Prefixes.{is_prefix, is_one_of}
 use Rattle.insn_forms.specs.Addressing.{modrm_size}
 use Rattle.insn_forms.specs.Operands.{has_op, is_row}
-use Rattle.insn_forms.specs.Grammar.{AreBytes, ArePrefixes, is_row_with, opcode_bytes}
+use Rattle.insn_forms.specs.Grammar.{AllBytes, ArePrefixes, is_row_with, opcode_bytes}
 use Rattle.insn_decode.specs.Reading.{with_prefix, any_below, any_row, made, checked, two_at, opcode_at, head_at}
 use Rattle.insn_decode.proofs.LawfulReaders.{Reads, answer, ok_is, ok_not_err, err_not_ok, more_not_invalid, chosen}
 
@@ -264,7 +264,7 @@ opcode_more m b (c ∷ bs) e =
     ]
 
 head_more : (m : Prefixes) (bytes : List ℕ) → head_at m bytes ≡ Err More
-    → (x : Head) × (tail : List ℕ) × SpellsHead m x (bytes ++ tail) × AreBytes tail
+    → (x : Head) × (tail : List ℕ) × SpellsHead m x (bytes ++ tail) × AllBytes tail
 unfolding head_at
 head_more m [] e = (
   made m One 0,

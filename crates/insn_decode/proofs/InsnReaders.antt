@@ -13,7 +13,7 @@ use Rattle.insn_forms.specs.declared.rows.Row.{Row}
 use Rattle.insn_forms.specs.OpcodeMap.{opcode_row}
 use Rattle.insn_forms.specs.Addressing.{has_modrm, modrm_size, sib_size, disp_size, mod_of, reg_of}
 use Rattle.insn_forms.specs.Operands.{has_op, may_lock, is_m, is_row, imm_size, operand, insn_of}
-use Rattle.insn_forms.specs.Grammar.{AreBytes, little, wide_of, addr32_of, row_with, is_row_with}
+use Rattle.insn_forms.specs.Grammar.{AllBytes, little, wide_of, addr32_of, row_with, is_row_with}
 use Rattle.insn_decode.specs.Reading.{◌>>=◌, Read, number_at, no_prefixes, any_below, any_row, head_at, modrm_at, addressing_at, operand_at, rest_at, insn_at}
 use Rattle.insn_decode.proofs.LawfulReaders.{Reads, ok_is, ok_not_err, err_not_ok, more_not_invalid, chosen, bind_ok, bind_err, Then, then_reads, then_some, Done, done_reads, Number, number_reads, some_number}
 use Rattle.insn_decode.proofs.HeadReaders.{SpellsHead, head_reads, any_found, any_from}
@@ -53,7 +53,7 @@ reg_row head e =
     let r = any_found 8 (λ reg. is_row head.prefixes.lock (opcode_row head.map head.opcode reg) true) e in
     (8 * r.0, omega (arith, r.1), made_byte head r.0 r.1 r.2)
 
-some_modrm : (head : Head) → any_row head ≡ true → (m : ℕ) × (g : List ℕ) × SpellsModrm head m g × AreBytes g
+some_modrm : (head : Head) → any_row head ≡ true → (m : ℕ) × (g : List ℕ) × SpellsModrm head m g × AllBytes g
 unfolding any_row
 some_modrm head e =
     elim (chosen (eqb (modrm_size head.map head.opcode) 0) (is_row_with head 0)
@@ -126,7 +126,7 @@ modrm_again head m front rest h =
     rw (n, h.has_row) refl
 
 modrm_more : (head : Head) → any_row head ≡ true → (bytes : List ℕ) → modrm_at head bytes ≡ Err More
-    → (m : ℕ) × (tail : List ℕ) × SpellsModrm head m (bytes ++ tail) × AreBytes tail
+    → (m : ℕ) × (tail : List ℕ) × SpellsModrm head m (bytes ++ tail) × AllBytes tail
 unfolding modrm_at
 modrm_more head any bytes e =
     elim (bind_err (number_at (modrm_size head.map head.opcode) bytes)
@@ -192,7 +192,7 @@ module _ (big : Bool) (head : Head) where
       (number_reads _) (λ d f h. done_reads (record { modrm = m; sib = sib; disp = d }))
       (λ d f h. (record { modrm = m; sib = sib; disp = d }, [], record { same = refl; none = refl }, tt))
 
-  some_disp : (m sib : ℕ) → (p : Addressing) × (g : List ℕ) × SpellsDisp big head m sib p g × AreBytes g
+  some_disp : (m sib : ℕ) → (p : Addressing) × (g : List ℕ) × SpellsDisp big head m sib p g × AllBytes g
   some_disp m sib =
       let n = some_number (disp_size (addr32_of big head) (row_with head m) m sib) in
       then_some (Number (disp_size (addr32_of big head) (row_with head m) m sib))
@@ -210,7 +210,7 @@ module _ (big : Bool) (head : Head) where
       >>= λ d. Ok (record { modrm = m; sib = sib; disp = d.0 }, d.1))
       (number_reads _) (λ sib f h. disp_reads m sib) (λ sib f h. some_disp m sib)
 
-  some_sib : (m : ℕ) → (p : Addressing) × (g : List ℕ) × SpellsSib big head m p g × AreBytes g
+  some_sib : (m : ℕ) → (p : Addressing) × (g : List ℕ) × SpellsSib big head m p g × AllBytes g
   some_sib m =
       let n = some_number (sib_size (addr32_of big head) (row_with head m) m) in
       let d = some_disp m n.0 in
@@ -226,7 +226,7 @@ module _ (big : Bool) (head : Head) where
       >>= λ d. Ok (record { modrm = m; sib = sib.0; disp = d.0 }, d.1))
       (modrm_reads head any) (λ m f h. sib_reads m) (λ m f h. some_sib m)
 
-  some_addressing : any_row head ≡ true → (p : Addressing) × (g : List ℕ) × SpellsAddressing big head p g × AreBytes g
+  some_addressing : any_row head ≡ true → (p : Addressing) × (g : List ℕ) × SpellsAddressing big head p g × AllBytes g
   some_addressing any =
       let m = some_modrm head any in
       let d = some_sib m.0 in
@@ -253,7 +253,7 @@ module _ (big : Bool) (head : Head) (address : Addressing) where
         tt,
       ))
 
-  some_operand : (form : Form) → (o : Operand) × (g : List ℕ) × SpellsOperand form o g × AreBytes g
+  some_operand : (form : Form) → (o : Operand) × (g : List ℕ) × SpellsOperand form o g × AllBytes g
   some_operand form =
       let n = some_number (imm_size (wide_of big head) (addr32_of big head) form) in
       then_some (Number (imm_size (wide_of big head) (addr32_of big head) form))
@@ -292,7 +292,7 @@ module _ (big : Bool) (head : Head) (address : Addressing) where
       (operand_reads row_here.third) (λ third f h. done_reads (made_of first second third))
       (λ third f h. (made_of first second third, [], record { same = refl; none = refl }, tt))
 
-  some_third : (first second : Operand) → (i : Insn) × (g : List ℕ) × SpellsThird first second i g × AreBytes g
+  some_third : (first second : Operand) → (i : Insn) × (g : List ℕ) × SpellsThird first second i g × AllBytes g
   some_third first second =
       let o = some_operand row_here.third in
       then_some (SpellsOperand row_here.third) (λ third. Done (made_of first second third)) o.0 o.1
@@ -305,7 +305,7 @@ module _ (big : Bool) (head : Head) (address : Addressing) where
       (λ second. third_at first second)
       (operand_reads row_here.second) (λ second f h. third_reads first second) (λ second f h. some_third first second)
 
-  some_second : (first : Operand) → (i : Insn) × (g : List ℕ) × SpellsSecond first i g × AreBytes g
+  some_second : (first : Operand) → (i : Insn) × (g : List ℕ) × SpellsSecond first i g × AllBytes g
   some_second first =
       let o = some_operand row_here.second in
       let t = some_third first o.0 in
@@ -318,7 +318,7 @@ module _ (big : Bool) (head : Head) (address : Addressing) where
       (operand_at (wide_of big head) (addr32_of big head) head address row_here.first) (λ first. second_at first)
       (operand_reads row_here.first) (λ first f h. second_reads first) (λ first f h. some_second first)
 
-  some_rest : (i : Insn) × (g : List ℕ) × SpellsRest i g × AreBytes g
+  some_rest : (i : Insn) × (g : List ℕ) × SpellsRest i g × AllBytes g
   some_rest =
       let o = some_operand row_here.first in
       let t = some_second o.0 in
@@ -343,7 +343,7 @@ module _ (big : Bool) where
       (addressing_reads big head any) (λ address f h. rest_reads big head address)
       (λ address f h. some_rest big head address)
 
-  some_tail : (head : Head) → any_row head ≡ true → (i : Insn) × (g : List ℕ) × SpellsTail head i g × AreBytes g
+  some_tail : (head : Head) → any_row head ≡ true → (i : Insn) × (g : List ℕ) × SpellsTail head i g × AllBytes g
   some_tail head any =
       let p = some_addressing big head any in
       let r = some_rest big head p.0 in

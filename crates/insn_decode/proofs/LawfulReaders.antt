@@ -2,7 +2,7 @@
 use Rattle.std.proofs.Common.{◌≡◌, ℕ, zero, suc, ◌+◌, ◌*◌, Bool, true, false, cond, List, [], ◌∷◌, ◌++◌, length, Result, Ok, Err, refl, sym, ap, ◌∙◌, append_assoc, arith, ◌⊎◌, inl, inr}
 use Rattle.insn_decode.specs.declared.stop.Stop.{Stop}
 use Rattle.insn_decode.specs.declared.stop.Stop.TheVariants.{More, Invalid}
-use Rattle.insn_forms.specs.Grammar.{AreBytes, little}
+use Rattle.insn_forms.specs.Grammar.{AllBytes, little}
 use Rattle.insn_decode.specs.Reading.{◌>>=◌, Read, number_at}
 
 -- What a reader gives is what the bytes encode; what they encode it gives; at More the bytes can be completed; and Invalid stays.
@@ -10,7 +10,7 @@ pub record Reads {A : Type 0} (S : A → List ℕ → Type 0) (r : List ℕ → 
   pub found : (bytes : List ℕ) (x : A) (rest : List ℕ) → r bytes ≡ Ok (x, rest)
       → (front : List ℕ) × S x front × (bytes ≡ front ++ rest)
   pub again : (x : A) (front rest : List ℕ) → S x front → r (front ++ rest) ≡ Ok (x, rest)
-  pub more : (bytes : List ℕ) → r bytes ≡ Err More → (x : A) × (tail : List ℕ) × S x (bytes ++ tail) × AreBytes tail
+  pub more : (bytes : List ℕ) → r bytes ≡ Err More → (x : A) × (tail : List ℕ) × S x (bytes ++ tail) × AllBytes tail
   pub invalid : (bytes rest : List ℕ) → r bytes ≡ Err Invalid → r (bytes ++ rest) ≡ Err Invalid
 
 -- ---- equations between answers
@@ -51,7 +51,7 @@ pub bind_err : {A B : Type 0} (r : Result A Stop) (f : A → Result B Stop) (e :
 bind_err (Ok x) f e h = inr (x, refl, h)
 bind_err {A} {B} (Err d) f e h = inl (ap (λ (r : Result B Stop). stopped {A = A} (err_of d r)) h)
 
-pub bytes_append : (xs ys : List ℕ) → AreBytes xs → AreBytes ys → AreBytes (xs ++ ys)
+pub bytes_append : (xs ys : List ℕ) → AllBytes xs → AllBytes ys → AllBytes (xs ++ ys)
 bytes_append [] ys a b = b
 bytes_append (x ∷ xs) ys a b = (a.0, bytes_append xs ys a.1 b)
 
@@ -72,7 +72,7 @@ after r q bytes = r bytes >>= λ p. q p.0 p.1
 module _ {A B : Type 0} (S : A → List ℕ → Type 0) (T : A → B → List ℕ → Type 0) (r : List ℕ → Read A)
     (q : A → List ℕ → Read B)
     (lawful : Reads S r) (each : (x : A) (f : List ℕ) → S x f → Reads (T x) (q x))
-    (goes_on : (x : A) (f : List ℕ) → S x f → (y : B) × (g : List ℕ) × T x y g × AreBytes g) where
+    (goes_on : (x : A) (f : List ℕ) → S x f → (y : B) × (g : List ℕ) × T x y g × AllBytes g) where
   then_found : (bytes : List ℕ) (y : B) (rest : List ℕ) → after r q bytes ≡ Ok (y, rest)
       → (front : List ℕ) × Then S T y front × (bytes ≡ front ++ rest)
   then_found bytes y rest e =
@@ -93,7 +93,7 @@ module _ {A B : Type 0} (S : A → List ℕ → Type 0) (T : A → B → List �
       ap (λ (a : Read A). a >>= λ p. q p.0 p.1) one ∙ (each h.middle h.one h.first).again y h.two rest h.second
 
   then_more : (bytes : List ℕ) → after r q bytes ≡ Err More
-      → (y : B) × (tail : List ℕ) × Then S T y (bytes ++ tail) × AreBytes tail
+      → (y : B) × (tail : List ℕ) × Then S T y (bytes ++ tail) × AllBytes tail
   then_more bytes e =
       elim (bind_err (r bytes) (λ p. q p.0 p.1) More e) [
         | inl stop ↦
@@ -196,12 +196,12 @@ number_of (suc n) [] rest e = absurd (omega (arith, e))
 number_of (suc n) (b ∷ bs) rest e =
     ap (λ (r : Read ℕ). r >>= λ p. Ok (b + 256 * p.0, p.1)) (number_of n bs rest (omega (arith, e)))
 
-zeros : (n : ℕ) → (front : List ℕ) × Number n (little front) front × AreBytes front
+zeros : (n : ℕ) → (front : List ℕ) × Number n (little front) front × AllBytes front
 zeros zero = ([], record { size = refl; value_is = refl }, tt)
 zeros (suc n) = let z = zeros n in (0 ∷ z.0, record { size = ap suc z.1.size; value_is = refl }, (omega arith, z.2))
 
 number_more : (n : ℕ) (bytes : List ℕ) → number_at n bytes ≡ Err More
-    → (tail : List ℕ) × (length (bytes ++ tail) ≡ n) × AreBytes tail
+    → (tail : List ℕ) × (length (bytes ++ tail) ≡ n) × AllBytes tail
 unfolding number_at
 number_more zero bytes e = absurd (ok_not_err (0, bytes) More e)
 number_more (suc n) [] e = let z = zeros (suc n) in (z.0, z.1.size, z.2)
@@ -230,13 +230,13 @@ number_reads n = record {
   invalid = λ bytes rest e. absurd (number_invalid n bytes e);
 }
 
-pub some_number : (n : ℕ) → (v : ℕ) × (g : List ℕ) × Number n v g × AreBytes g
+pub some_number : (n : ℕ) → (v : ℕ) × (g : List ℕ) × Number n v g × AllBytes g
 some_number n = let z = zeros n in (little z.0, z.0, z.1, z.2)
 
 -- ---- some way on
 
 pub then_some : {A B : Type 0} (S : A → List ℕ → Type 0) (T : A → B → List ℕ → Type 0) (x : A) (f : List ℕ) (y : B)
-    (g : List ℕ) → S x f → AreBytes f → T x y g → AreBytes g
-    → (z : B) × (h : List ℕ) × Then S T z h × AreBytes h
+    (g : List ℕ) → S x f → AllBytes f → T x y g → AllBytes g
+    → (z : B) × (h : List ℕ) × Then S T z h × AllBytes h
 then_some S T x f y g s a t b =
     (y, f ++ g, record { middle = x; one = f; two = g; first = s; second = t; whole = refl }, bytes_append f g a b)

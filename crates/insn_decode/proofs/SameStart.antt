@@ -11,7 +11,7 @@ use Rattle.insn_decode.specs.declared.decoding.Decoded.TheVariants.{Whole}
 use Rattle.insn_decode.specs.Decode.{decoded}
 use Rattle.insn_decode.proofs.Answering.{decoded_only, decoded_whole}
 use Rattle.insn_forms.specs.declared.insn.Insn.{Insn}
-use Rattle.insn_forms.specs.Grammar.{AreBytes}
+use Rattle.insn_forms.specs.Grammar.{AllBytes}
 
 -- ---- numbers that are the same after a shift
 
@@ -117,7 +117,7 @@ below : (n : ℕ) → n % 0x100 < 0x100
 below n = mod_below n 0x100 (lit< tt)
 
 -- each of them is a byte
-pub are_code_bytes : (words : CodeWords) → AreBytes (code_bytes words)
+pub are_code_bytes : (words : CodeWords) → AllBytes (code_bytes words)
 unfolding code_bytes
 are_code_bytes words = (
   below _,
@@ -155,7 +155,7 @@ are_code_bytes words = (
 )
 
 -- bytes that agree in the first ones of others begin with the instruction that those begin with
-pub decoded_start : (big : Bool) (insn : Insn) (len : ℕ) (bytes other : List ℕ) → AreBytes bytes →
+pub decoded_start : (big : Bool) (insn : Insn) (len : ℕ) (bytes other : List ℕ) → AllBytes bytes →
     take len bytes ≡ take len other → decoded big bytes ≡ Whole insn len → decoded big other ≡ Whole insn len
 decoded_start big insn len bytes other are same e =
     let spelled = decoded_whole big insn len bytes are e in

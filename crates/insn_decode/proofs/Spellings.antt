@@ -11,7 +11,7 @@ use Rattle.insn_forms.specs.declared.insn.Insn.{Insn}
 use Rattle.insn_forms.specs.Prefixes.{segment_of, repeat_of, or_else, last_of, has, rep_or_plain, prefixes_of}
 use Rattle.insn_forms.specs.Addressing.{sib_size, disp_size}
 use Rattle.insn_forms.specs.Operands.{operand, insn_of}
-use Rattle.insn_forms.specs.Grammar.{AreBytes, opcode_bytes, little, Pieces, head_of, addressing_of, AreRow, insn_of_pieces, Spelling, row_with, is_row_with, wide_of, addr32_of}
+use Rattle.insn_forms.specs.Grammar.{AllBytes, opcode_bytes, little, Pieces, head_of, addressing_of, AreRow, insn_of_pieces, Spelling, row_with, is_row_with, wide_of, addr32_of}
 use Rattle.insn_decode.specs.Reading.{no_prefixes, with_prefix, made}
 use Rattle.insn_decode.proofs.LawfulReaders.{Number}
 use Rattle.insn_decode.proofs.HeadReaders.{folded}
@@ -202,7 +202,7 @@ same_insn big head address a b c x y z e f g =
     λ i. insn_of head (wide_of big head) (addr32_of big head) (row_with head address.modrm) (e i) (f i) (g i)
 
 -- What the readers' pieces have, the grammar has.
-pub from_readers : (big : Bool) (insn : Insn) (bytes : List ℕ) → AreBytes bytes → SpellsInsn big insn bytes
+pub from_readers : (big : Bool) (insn : Insn) (bytes : List ℕ) → AllBytes bytes → SpellsInsn big insn bytes
     → Spelling big insn bytes
 from_readers big insn bytes are h =
     let head : Head = h.middle in

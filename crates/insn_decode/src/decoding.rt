@@ -1,6 +1,6 @@
 // The instruction that some bytes start with.
 ghost use Rattle.std.specs.Prelude.{◌≡◌, ◌≤◌, ◌↔◌, ℕ, List, ◌++◌, length, take};
-ghost use Rattle.insn_forms.specs.Grammar.{AreBytes, Spelling, HasSpelling, BeginsSpelling};
+ghost use Rattle.insn_forms.specs.Grammar.{AllBytes, Spelling, HasSpelling, BeginsSpelling};
 ghost use Rattle.insn_forms.specs.declared.insn.Insn.{Insn as AnInsn};
 ghost use Rattle.insn_decode.specs.Decode.{decoded};
 
@@ -46,7 +46,7 @@ fn answer(bytes: &[u8], big: bool) -> Decoded
     requires { length bytes.now ≤ 15 }
     ensures exact { result ≡ decoded big bytes.now }
     // That these are bytes, for the callers' proofs.
-    ensures bytes { AreBytes bytes.now }
+    ensures bytes { AllBytes bytes.now }
 {
     read(bytes, big)
 }

@@ -1,6 +1,6 @@
 // What holds of all spellings.
 ghost use Rattle.std.specs.Prelude.{◌≡◌, ◌≤◌, ◌↔◌, List, ℕ, ◌++◌, [], Bool, length, take};
-ghost use Rattle.insn_forms.specs.Grammar.{AreBytes, Spelling, HasSpelling, BeginsSpelling};
+ghost use Rattle.insn_forms.specs.Grammar.{AllBytes, Spelling, HasSpelling, BeginsSpelling};
 ghost use Rattle.insn_forms.specs.declared.insn.Insn.{Insn as AnInsn};
 ghost use Rattle.insn_decode.specs.Decode.{decoded};
 ghost use Rattle.insn_decode.specs.declared.decoding.Decoded.TheVariants.{Whole, More, Invalid};
@@ -15,12 +15,12 @@ pub fn a_spelling_is_of_one_instruction()
 
 /// Reading bytes from left to right, however many they are, is the grammar.
 pub fn reading_is_the_grammar()
-    ensures whole { (big : Bool) (bytes : List ℕ) (insn : AnInsn) (len : ℕ) → AreBytes bytes →
+    ensures whole { (big : Bool) (bytes : List ℕ) (insn : AnInsn) (len : ℕ) → AllBytes bytes →
         decoded big bytes ≡ Whole insn len → Spelling big insn (take len bytes) × (len ≤ length bytes) }
     ensures only { (big : Bool) (insn : AnInsn) (front rest : List ℕ) →
         Spelling big insn front → decoded big (front ++ rest) ≡ Whole insn (length front) }
-    ensures more { (big : Bool) (bytes : List ℕ) → AreBytes bytes →
+    ensures more { (big : Bool) (bytes : List ℕ) → AllBytes bytes →
         (decoded big bytes ≡ More ↔ BeginsSpelling big bytes) }
-    ensures invalid { (big : Bool) (bytes : List ℕ) → AreBytes bytes →
+    ensures invalid { (big : Bool) (bytes : List ℕ) → AllBytes bytes →
         (decoded big bytes ≡ Invalid ↔ (¬ HasSpelling big bytes × ¬ BeginsSpelling big bytes)) }
 {}

@@ -17,8 +17,8 @@ use Rattle.insn_forms.specs.Operands.{is_row, imm_size, operand, insn_of}
 -- ---- bytes
 
 -- they are bytes
-abbrev pub AreBytes : List ℕ → Type 0
-AreBytes bytes = AllByRecursion (λ b. b < 256) bytes
+abbrev pub AllBytes : List ℕ → Type 0
+AllBytes bytes = AllByRecursion (λ b. b < 256) bytes
 
 -- they are prefixes
 abbrev pub ArePrefixes : List ℕ → Type 0
@@ -107,7 +107,7 @@ pub record Spelling (big : Bool) (insn : Insn) (bytes : List ℕ) : Type 0 where
   pub are_row : AreRow big (head_of pieces) (addressing_of pieces) pieces
   pub means : insn ≡ insn_of_pieces big (head_of pieces) (addressing_of pieces)
       (little pieces.first) (little pieces.second) (little pieces.third)
-  pub are_bytes : AreBytes bytes
+  pub are_bytes : AllBytes bytes
 
 -- some bytes spell the instruction
 abbrev pub IsInsn : Insn → Type 0

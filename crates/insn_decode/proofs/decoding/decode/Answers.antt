@@ -1,11 +1,11 @@
 use Rattle.std.proofs.Common.{◌≡◌, sym, ap, subst, ◌∙◌}
-use Rattle.insn_forms.specs.Grammar.{AreBytes}
+use Rattle.insn_forms.specs.Grammar.{AllBytes}
 use Rattle.insn_decode.specs.Decode.{decoded}
 use Rattle.insn_decode.proofs.Answering.{decoded_whole, decoded_only, decoded_more, more_decoded, decoded_invalid, invalid_decoded}
 use Rattle.insn_decode.proofs.decoding.decode.Goals as goal
 
-are_bytes : (c : goal.After-answer) → AreBytes c.args.bytes.now.items
-are_bytes c = subst AreBytes c.as_slice.ensures.value c.answer.ensures.bytes
+are_bytes : (c : goal.After-answer) → AllBytes c.args.bytes.now.items
+are_bytes c = subst AllBytes c.as_slice.ensures.value c.answer.ensures.bytes
 
 result_is : (c : goal.After-answer) → c.answer.result ≡ decoded c.args.big c.args.bytes.now.items
 result_is c = c.answer.ensures.exact ∙ ap (decoded c.args.big) c.as_slice.ensures.value
