@@ -1,19 +1,24 @@
 -- Frames that can be popped, and those that can't.
-use Rattle.std.proofs.Common.{◌≡◌, ℕ, true, false, refl, sym, ◌∙◌, ap, Ok, Err}
+use Rattle.std.proofs.Common.{◌≡◌, ◌≤◌, ℕ, List, length, true, false, nat_eq, nat_le, refl, sym, subst, ◌∙◌, ap, Ok, Err}
 use Rattle.std.specs.Prelude.{is_ok}
 use Rattle.std.specs.declared.result.Result.{Result}
 use Rattle.client_world.specs.declared.faults.Event.{Event}
 use Rattle.client_world.specs.declared.outcome.Exit.{Exit}
-use Rattle.client_world.specs.declared.outcome.Exit.TheVariants.{BadFrame}
+use Rattle.client_world.specs.declared.outcome.Exit.TheVariants.{BadFrame, Deep}
 use Rattle.client_world.specs.declared.registers.Mode.TheVariants.{Real}
 use Rattle.client_world.specs.Soundness.{IsSound}
-use Rattle.client_world.specs.World.{World, HostWorld}
+use Rattle.client_world.specs.World.{World, HostWorld, depth}
+use Rattle.client_world.specs.declared.calls.Record.{Record}
+use Rattle.client_world.specs.declared.limits.TheConstants.{GREATEST_DEPTH}
+use Rattle.fault_service.proofs.KeptWorlds.{kept_world_popped}
+use Rattle.std.proofs.lemmas.Bool.{le-leb}
+use Rattle.translation.specs.SimulatedCall.{reflect}
 use Rattle.dos_calls.specs.Kept.{HasSameStack}
 use Rattle.fault_service.specs.Delivery.{iret_popped, popped_or_bad}
 use Rattle.fault_service.specs.RealFrames.{frame_fits}
 use Rattle.fault_service.specs.Worlds.{its_world, world_popped}
 use Rattle.host_memory.specs.View.{MachineView}
-use Rattle.host_run.specs.Turn.{Outcome, ends, after_exit_call, after_protected_pop, after_protected_call, vector_served, vector_reached}
+use Rattle.host_run.specs.Turn.{Outcome, ends, after_exit_call, after_protected_pop, after_protected_call, is_exit_call, is_presence_call, vector_served, vector_reached}
 
 same_outcome : (r : Result MachineView Exit) → is_ok (its_world r) ≡ is_ok r
 same_outcome (Ok v) = refl
@@ -42,24 +47,45 @@ unfolding world_popped iret_popped
 reached_bad h n fails = (by_frame h n _).1 fails
 
 -- of the default vectors of protected mode
-popped_bad : (r : Result MachineView Event) → is_ok (its_world (popped_or_bad r)) ≡ false → its_world (popped_or_bad r) ≡ Err BadFrame
-popped_bad (Ok v) e = absurd cc
-popped_bad (Err f) e = refl
+bad_frame : (r : Result MachineView Event) → is_ok (its_world (popped_or_bad r)) ≡ false → its_world (popped_or_bad r) ≡ Err BadFrame
+bad_frame (Ok v) e = absurd cc
+bad_frame (Err f) e = refl
 
 world_bad : (w : World) → is_ok (world_popped w) ≡ false → world_popped w ≡ Err BadFrame
 unfolding world_popped iret_popped
-world_bad w e = popped_bad _ e
+world_bad w e = bad_frame _ e
 
-exit_by : (h : HostWorld) (r : Result World Exit) → is_ok r ≡ true → after_protected_pop h 0x21 r ≡ after_exit_call h
+exit_by : (h : HostWorld) (n : ℕ) (r : Result World Exit) → is_exit_call h.machine n ≡ true → is_ok r ≡ true → after_protected_pop h n r ≡ after_exit_call h
 unfolding after_protected_call
-exit_by h (Ok w) e = refl
-exit_by h (Err exit) e = absurd cc
+exit_by h n (Ok w) exit e = rw exit refl
+exit_by h n (Err exit) is e = absurd cc
 
-pub exit_popped : (h : HostWorld) → is_ok (world_popped h.machine) ≡ true → after_protected_pop h 0x21 (world_popped h.machine) ≡ after_exit_call h
-exit_popped h can = exit_by h (world_popped h.machine) can
+pub exit_popped : (h : HostWorld) (n : ℕ) → is_exit_call h.machine n ≡ true → is_ok (world_popped h.machine) ≡ true →
+    after_protected_pop h n (world_popped h.machine) ≡ after_exit_call h
+exit_popped h n exit can = exit_by h n (world_popped h.machine) exit can
 
-pub exit_bad : (h : HostWorld) → is_ok (world_popped h.machine) ≡ false → after_protected_pop h 0x21 (world_popped h.machine) ≡ ends h BadFrame
-exit_bad h fails = ap (after_protected_pop h 0x21) (world_bad h.machine fails)
+pub popped_bad : (h : HostWorld) (n : ℕ) → is_ok (world_popped h.machine) ≡ false → after_protected_pop h n (world_popped h.machine) ≡ ends h BadFrame
+popped_bad h n fails = ap (after_protected_pop h n) (world_bad h.machine fails)
+
+-- an interrupt that is reflected, where calls are nested too deeply
+deep_call : (h : HostWorld) (n : ℕ) (w : World) → is_exit_call h.machine n ≡ false → is_presence_call h.machine n ≡ false →
+    nat_eq n 0x31 ≡ false → w.calls ≡ h.machine.calls → GREATEST_DEPTH ≤ depth h.machine → after_protected_call h n w ≡ ends h Deep
+unfolding after_protected_call reflect
+deep_call h n w exit presence other calls deep =
+    let much : nat_le GREATEST_DEPTH (depth w) ≡ true = le-leb GREATEST_DEPTH (depth w) (subst (λ (cs : List Record). GREATEST_DEPTH ≤ length cs) (sym calls) deep) in
+    rw exit (rw presence (rw other (rw much refl)))
+
+deep_by : (h : HostWorld) (n : ℕ) (r : Result World Exit) → world_popped h.machine ≡ r → is_exit_call h.machine n ≡ false →
+    is_presence_call h.machine n ≡ false → nat_eq n 0x31 ≡ false → GREATEST_DEPTH ≤ depth h.machine → is_ok r ≡ true →
+    after_protected_pop h n r ≡ ends h Deep
+deep_by h n (Ok w) is exit presence other deep can =
+    deep_call h n w exit presence other (ap (λ (x : World). x.calls) (kept_world_popped h.machine w is)) deep
+deep_by h n (Err e) is exit presence other deep can = absurd cc
+
+pub popped_deep : (h : HostWorld) (n : ℕ) → is_exit_call h.machine n ≡ false → is_presence_call h.machine n ≡ false →
+    nat_eq n 0x31 ≡ false → GREATEST_DEPTH ≤ depth h.machine → is_ok (world_popped h.machine) ≡ true →
+    after_protected_pop h n (world_popped h.machine) ≡ ends h Deep
+popped_deep h n exit presence other deep can = deep_by h n (world_popped h.machine) refl exit presence other deep can
 
 -- a service that leaves the mode and the place of the stack leaves a frame that can be popped one
 pub still_popped : ((w : World) → IsSound w → w.mode ≡ Real → is_ok (world_popped w) ≡ frame_fits w.regs.esp) →

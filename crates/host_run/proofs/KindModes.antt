@@ -14,6 +14,7 @@ use Rattle.host_run.specs.Traps.{is_among, code_linear, protected_trap_at, real_
 abbrev pub Suits : Mode → Trap → Type 0
 Suits mode (RealVector n) = mode ≡ Real
 Suits mode Entry = mode ≡ Real
+Suits mode CallReturn = mode ≡ Real
 Suits mode (ProtectedVector n) = mode ≡ Protected
 Suits mode _ = Unit {0}
 
@@ -28,7 +29,7 @@ real_suits at =
     (either Real (nat_eq at ENTRY_TRAP) Entry _ refl
     (either Real (nat_eq at SWITCH_TO_PROTECTED_TRAP) ToProtected _ tt
     (either Real (nat_eq at REAL_STATE_TRAP) RealState _ tt
-    (either Real (nat_eq at CALL_RETURN_TRAP) CallReturn _ tt
+    (either Real (nat_eq at CALL_RETURN_TRAP) CallReturn _ refl
     (either Real (is_among CALLBACK_TRAPS CALLBACKS at) (Callback (at - CALLBACK_TRAPS)) NoTrap tt tt)))))
 
 protected_suits : (at : ℕ) → Suits Protected (protected_trap_at at)
@@ -55,6 +56,9 @@ vector_is_real w t n here is = subst (Suits w.mode) is (trap_suits w t here)
 
 pub entry_is_real : (w : World) (t : Trap) → t ≡ current_trap w → t ≡ Entry → w.mode ≡ Real
 entry_is_real w t here is = subst (Suits w.mode) is (trap_suits w t here)
+
+pub call_return_is_real : (w : World) (t : Trap) → t ≡ current_trap w → t ≡ CallReturn → w.mode ≡ Real
+call_return_is_real w t here is = subst (Suits w.mode) is (trap_suits w t here)
 
 pub vector_is_protected : (w : World) (t : Trap) (n : ℕ) → t ≡ current_trap w → t ≡ ProtectedVector n → w.mode ≡ Protected
 vector_is_protected w t n here is = subst (Suits w.mode) is (trap_suits w t here)

@@ -1,3 +1,4 @@
+mod AskedCalls
 mod Frames
 mod KindModes
 mod Nested

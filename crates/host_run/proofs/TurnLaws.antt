@@ -1,7 +1,9 @@
 -- What a turn keeps: one record, and one lemma for each kind of turn.
-use Rattle.std.proofs.Common.{arith, ◌≡◌, ◌≢◌, ◌≤◌, ◌+◌, ◌*◌, ◌∙◌, sym, ap, subst, ℕ, Bool, true, false, nat_eq, refl, Option, None, Some, Ok, Err}
+use Rattle.std.proofs.Common.{arith, ◌≡◌, ◌≢◌, ◌≤◌, ◌+◌, ◌*◌, ◌∙◌, sym, ap, subst, ℕ, Bool, true, false, List, [], ◌∷◌, ◌++◌, nat_eq, ◌&&◌, refl, Option, None, Some, Ok, Err}
 use Rattle.std.specs.Prelude.{IfOk, is_ok, if◌then◌else◌}
 use Rattle.std.specs.declared.result.Result.{Result}
+use Rattle.client_world.specs.declared.calls.Call.{Call}
+use Rattle.client_world.specs.declared.calls.Call.TheVariants.{Int, Far, Iret, Reflect}
 use Rattle.client_world.specs.declared.calls.Record.{Record}
 use Rattle.client_world.specs.declared.calls.Record.TheVariants.{Sim, Back, Exc}
 use Rattle.client_world.specs.declared.faults.Event.{Event}
@@ -12,12 +14,14 @@ use Rattle.client_world.specs.declared.outcome.Exit.TheVariants as exits
 use Rattle.client_world.specs.declared.registers.Mode.{Mode}
 use Rattle.client_world.specs.declared.registers.Mode.TheVariants.{Real, Protected}
 use Rattle.client_world.specs.declared.registers.Regs.{Regs}
+use Rattle.client_world.specs.declared.services.Carry.{Carry}
+use Rattle.client_world.specs.declared.services.Carry.TheVariants.{Clear, Set}
 use Rattle.client_world.specs.declared.services.DosDone.{DosDone}
 use Rattle.client_world.specs.declared.services.DosDone.TheVariants as done
 use Rattle.client_world.specs.declared.trace.TraceLine.{TraceLine}
 use Rattle.client_world.specs.declared.trace.TraceLine.TheVariants as lines
 use Rattle.client_world.specs.Registers.{high_byte, low_byte, low_half, with_low_half}
-use Rattle.client_world.specs.Services.{Served, is_set}
+use Rattle.client_world.specs.Services.{Served, es_di, is_set}
 use Rattle.client_world.specs.Soundness.{IsSound}
 use Rattle.client_world.specs.World.{World, HostWorld}
 use Rattle.client_world.proofs.SoundWrites.{IsSound-regs}
@@ -38,12 +42,17 @@ use Rattle.mode_stack.specs.Stack.{top}
 use Rattle.protected_faults.specs.Return.{exit_of_record}
 use Rattle.protected_faults.specs.Worlds.{world_exception_return, world_protected_delivery}
 use Rattle.protected_faults.proofs.WorldLaws as faults
+use Rattle.translation.specs.SimulatedCall.{begin_call, end_call, is_reflection, no_structure, reflect}
+use Rattle.translation.proofs.PushedCalls.{PoppedCall, begun_record, ended_record, reflected_record, refused_begin}
+use Rattle.translation.proofs.SoundCalls.{sound_begin, sound_end, sound_reflect}
 use Rattle.host_run.specs.declared.traps.Trap.{Trap}
-use Rattle.host_run.specs.declared.traps.Trap.TheVariants.{RealVector, Entry, ProtectedVector, ExceptionHandler, ExceptionReturn, NoTrap}
+use Rattle.host_run.specs.declared.traps.Trap.TheVariants.{RealVector, Entry, CallReturn, ProtectedVector, ExceptionHandler, ExceptionReturn, NoTrap}
 use Rattle.host_run.specs.Keys.{HasKeys}
 use Rattle.host_run.specs.Nested.{Enters, Leaves, Stacked, kept, popped as left_one, pushed}
+use Rattle.host_run.specs.RealCalls.{StartsCall, StartsRealCall}
 use Rattle.host_run.specs.Traps.{current_trap}
-use Rattle.host_run.specs.Turn.{Outcome, goes_on, ends, with_machine, noted, popped, seen, dos_served, multiplex_served, ends_client, vector_served, entry_line, after_entry, after_entry_trap, is_served, goes_on_with, after_presence_call, service, after_int31, after_protected_call, after_protected_pop, after_protected_vector, enter_line, after_protected_delivery, exception_number, leave_line, after_exception_return, delivered_in, after_interrupt, after_step, stepped, trapped, work, with_turn_counted, settled, turn}
+use Rattle.host_run.specs.Turn.{Outcome, goes_on, ends, with_machine, noted, popped, seen, dos_served, multiplex_served, ends_client, vector_served, entry_line, after_entry, after_entry_trap, is_exit_call, is_presence_call, is_unbuilt, asked_call, call_enter_line, call_leave_line, call_of_record, after_begin, after_call_return, after_reflection, after_service, goes_on_with, after_presence_call, service, after_int31, after_protected_call, after_protected_pop, after_protected_vector, enter_line, after_protected_delivery, exception_number, leave_line, after_exception_return, delivered_in, after_interrupt, after_step, stepped, trapped, work, with_turn_counted, settled, turn}
+use Rattle.host_run.proofs.AskedCalls.{plain_call}
 use Rattle.host_run.proofs.Frames.{still_popped}
 use Rattle.host_run.proofs.Services.{calls_service, sound_service}
 use Rattle.host_run.proofs.KindModes.{Suits, trap_suits}
@@ -219,64 +228,142 @@ next_regs : (w u : World) (r : Regs) → IsNext w u → r.es ≡ u.regs.es → r
 next_regs w u r next es cs ss ds fs gs =
     record { sound = with_regs_sound u r next.sound es cs ss ds fs gs; calls = next.calls }
 
-int31_keeps : (h : HostWorld) (w : World) → IsReached h → IsNext h.machine w → w.mode ≡ Protected → TurnKeeps h (after_int31 h w)
-int31_keeps h w s next protected =
+-- a turn that goes on and changes the records, with one or two lines of the trace more
+goes_changed : (h after : HostWorld) → IsReached h → IsSound after.machine → Stacked h after → after.keys ≡ h.keys → after.lines ≤ h.lines + 2 →
+    after.steps ≡ h.steps → after.console ≡ h.console → TurnKeeps h (goes_on after)
+goes_changed h after s sound stacked keys lines steps console = record {
+  sound = sound;
+  calls = stacked;
+  keys = subst AreBytes (sym keys) s.keys;
+  lines = lines;
+  steps = steps;
+  console = subst (Extends h.console) (sym console) (left.extends_itself h.console);
+  leaves = tt;
+}
+
+service_keeps : (h : HostWorld) (ax : ℕ) (r : Served) → IsReached h → IsNext h.machine r.world → TurnKeeps h (after_service h ax r)
+service_keeps h ax r s next =
+    told_keeps h (lines.Int31 ax r.carry) (record r.world { regs = with_carry (is_set r.carry) r.world.regs }) s
+    (next_regs h.machine r.world (with_carry (is_set r.carry) r.world.regs) next refl refl refl refl refl refl)
+
+-- a call that the client asks for, with the frame of its interrupt popped: a world that the turn may go on with
+record IsAsked (h : HostWorld) (w : World) (call : Call) : Type 0 where
+  next : IsNext h.machine w
+  mode : w.mode ≡ Protected
+  pops : world_popped h.machine ≡ Ok w
+  asked : asked_call (low_half w.regs.eax) w ≡ Some call
+
+started : (w v : HostWorld) (call : Call) (r : Record) → is_reflection call ≡ false → StartsCall w call r v → StartsRealCall w call r v
+started w v (Int n) r plain starts = starts
+started w v Far r plain starts = starts
+started w v Iret r plain starts = starts
+started w v (Reflect n) r plain starts = absurd cc
+
+same_served : (s : Served) → s.carry ≡ Clear → s ≡ record { carry = Clear; world = s.world }
+same_served s e = ap (λ (c : Carry). (record { carry = c; world = s.world } as Served)) e
+
+starts_call : (h : HostWorld) (w : World) (call : Call) → IsAsked h w call → (begin_call w call).carry ≡ Clear →
+    Stacked h (record (noted (call_enter_line w call (begin_call w call).world) (noted (lines.Int31 (low_half w.regs.eax) Clear) h))
+        { machine = (begin_call w call).world })
+starts_call h w call a clear =
+    let r : Record = Sim call w.regs w.vif (es_di w) in
+    pushed r (begun_record w call clear ∙ ap (λ (calls : List Record). calls ++ r ∷ []) a.next.calls)
+    (started h _ call r (plain_call (low_half w.regs.eax) w call a.asked)
+    (record { popped = w; pops = a.pops; asked = a.asked; starts = same_served (begin_call w call) clear; keeps = refl; lines = (refl, refl) }))
+
+begun_by : (h : HostWorld) (w : World) (call : Call) (c : Carry) → (begin_call w call).carry ≡ c → IsReached h → IsAsked h w call →
+    TurnKeeps h (if is_set c then after_service h (low_half w.regs.eax) (begin_call w call)
+        else goes_on_with (noted (lines.Int31 (low_half w.regs.eax) Clear) h) (call_enter_line w call (begin_call w call).world) (begin_call w call).world)
+begun_by h w call Set e s a =
+    let next : IsNext h.machine (begin_call w call).world = record {
+      sound = sound_begin w call a.next.sound a.mode;
+      calls = ap (λ (x : World). x.calls) (refused_begin w call e) ∙ a.next.calls;
+    } in
+    service_keeps h (low_half w.regs.eax) (begin_call w call) s next
+begun_by h w call Clear e s a =
+    goes_changed h (record (noted (call_enter_line w call (begin_call w call).world) (noted (lines.Int31 (low_half w.regs.eax) Clear) h))
+        { machine = (begin_call w call).world }) s (sound_begin w call a.next.sound a.mode) (starts_call h w call a e) refl (omega arith) refl refl
+
+int31_by : (h : HostWorld) (w : World) (o : Option Call) → asked_call (low_half w.regs.eax) w ≡ o → IsReached h → IsNext h.machine w →
+    w.mode ≡ Protected → world_popped h.machine ≡ Ok w →
+    TurnKeeps h (elim o [
+      | Some call ↦ after_begin h (low_half w.regs.eax) w call (begin_call w call)
+      | None ↦ after_service h (low_half w.regs.eax) (service (low_half w.regs.eax) w)
+    ])
+int31_by h w None is s next protected pops =
     let ax = low_half w.regs.eax in
-    let r = service ax w in
-    let after : IsNext h.machine r.world = record {
+    let after : IsNext h.machine (service ax w).world = record {
       sound = sound_service ax w next.sound protected;
       calls = calls_service ax w ∙ next.calls;
     } in
-    told_keeps h (lines.Int31 ax r.carry) (record r.world { regs = with_carry (is_set r.carry) r.world.regs }) s
-    (next_regs h.machine r.world (with_carry (is_set r.carry) r.world.regs) after refl refl refl refl refl refl)
+    service_keeps h ax (service ax w) s after
+int31_by h w (Some call) is s next protected pops =
+    begun_by h w call (begin_call w call).carry refl s (record { next = next; mode = protected; pops = pops; asked = is })
+
+int31_keeps : (h : HostWorld) (w : World) → IsReached h → IsNext h.machine w → w.mode ≡ Protected → world_popped h.machine ≡ Ok w →
+    TurnKeeps h (after_int31 h w)
+int31_keeps h w s next protected pops = int31_by h w (asked_call (low_half w.regs.eax) w) refl s next protected pops
 
 presence_keeps : (h : HostWorld) (w : World) → IsReached h → IsNext h.machine w → TurnKeeps h (after_presence_call h w)
 presence_keeps h w s next =
     let r : Regs = record w.regs { eax = with_low_half w.regs.eax 0 } in
     told_keeps h (lines.Int2f (low_half w.regs.eax)) (record w { regs = r }) s (next_regs h.machine w r next refl refl refl refl refl refl)
 
-protected_keeps : (h : HostWorld) (n : ℕ) (r : Result World Exit) → IsReached h → IfOk r (IsNext h.machine) →
+reflection_by : (h : HostWorld) (n : ℕ) (w : World) (r : Result World Exit) → reflect w n ≡ r → IsReached h → IsNext h.machine w →
+    w.mode ≡ Protected → world_popped h.machine ≡ Ok w → TurnKeeps h (after_reflection h n w r)
+reflection_by h n w (Ok v) is s next protected pops =
+    let r : Record = Sim (Reflect n) w.regs w.vif no_structure in
+    goes_changed h (record (noted (call_enter_line w (Reflect n) v) h) { machine = v }) s (sound_reflect w v n next.sound protected is)
+    (pushed r (reflected_record w v n is ∙ ap (λ (calls : List Record). calls ++ r ∷ []) next.calls)
+    (record { popped = w; pops = pops; starts = is; keeps = refl; lines = (refl, refl) })) refl (omega arith) refl refl
+reflection_by h n w (Err exit) is s next protected pops = stops_same h exit s
+
+protected_keeps : (h : HostWorld) (n : ℕ) (r : Result World Exit) → world_popped h.machine ≡ r → IsReached h → IfOk r (IsNext h.machine) →
     ((w : World) → r ≡ Ok w → w.mode ≡ Protected) → TurnKeeps h (after_protected_pop h n r)
 unfolding after_protected_call
-protected_keeps h n (Ok w) s next mode =
-    if_keeps h (nat_eq n 0x21) _ _ (stops_noted h (lines.Int21 (high_byte h.machine.regs.eax)) (exits.Exited (low_byte h.machine.regs.eax)) s)
-    (if_keeps h (nat_eq n 0x2F) _ _ (presence_keeps h w s next) (int31_keeps h w s next (mode w refl)))
-protected_keeps h n (Err exit) s next mode = stops_same h exit s
+protected_keeps h n (Ok w) is s next mode =
+    if_keeps h (is_exit_call h.machine n) _ _
+    (stops_noted h (lines.Int21 (high_byte h.machine.regs.eax)) (exits.Exited (low_byte h.machine.regs.eax)) s)
+    (if_keeps h (is_presence_call h.machine n) _ _ (presence_keeps h w s next)
+    (if_keeps h (nat_eq n 0x31) _ _ (int31_keeps h w s next (mode w refl) is)
+    (reflection_by h n w (reflect w n) refl s next (mode w refl) is)))
+protected_keeps h n (Err exit) is s next mode = stops_same h exit s
 
 protected_vector_keeps : (h : HostWorld) (n : ℕ) → IsReached h → h.machine.mode ≡ Protected → TurnKeeps h (after_protected_vector h n)
 unfolding after_protected_vector
 protected_vector_keeps h n s protected =
-    if_keeps h (is_served h.machine n) _ _
-    (protected_keeps h n (world_popped h.machine) s (next_popped h.machine h.machine (same_machine h.machine s.machine))
+    if_keeps h (nat_eq n 0x31 && is_unbuilt (low_half h.machine.regs.eax)) _ _ (stops_same h exits.Unbuilt s)
+    (protected_keeps h n (world_popped h.machine) refl s (next_popped h.machine h.machine (same_machine h.machine s.machine))
     (λ w e. ap (λ (x : World). x.mode) (kept_world_popped h.machine w e) ∙ protected))
-    (stops_same h exits.Unbuilt s)
+
+-- ---- the return from a call of real mode
+
+returned_line : (h : HostWorld) (w : World) (call : Call) → IsReached h → IsSound w → end_call h.machine ≡ Ok w →
+    (p : PoppedCall h.machine.calls w.calls) → call ≡ p.call → TurnKeeps h (goes_on_with h (call_leave_line h.machine call w) w)
+returned_line h w call s sound is p same =
+    rw same (goes_changed h (record (noted (call_leave_line h.machine p.call w) h) { machine = w }) s sound
+    (left_one (Sim p.call p.saved p.vif p.at) p.is (record { returns = is; lines = (refl, refl) })) refl (omega arith) refl refl)
+
+call_return_by : (h : HostWorld) (r : Result World Exit) → end_call h.machine ≡ r → IsReached h → TurnKeeps h (after_call_return h r)
+call_return_by h (Ok w) is s =
+    let p = ended_record h.machine w is in
+    returned_line h w (call_of_record (top h.machine)) s (sound_end h.machine w s.machine is) is p (ap call_of_record p.top_is)
+call_return_by h (Err exit) is s = stops_same h exit s
 
 -- ---- exceptions of protected mode
-
--- a turn that goes on, adds a line and changes the records
-changes : (h : HostWorld) (line : TraceLine) (w : World) → IsReached h → IsSound w → Stacked h (record (noted line h) { machine = w }) →
-    TurnKeeps h (goes_on_with h line w)
-changes h line w s sound stacked = record {
-  sound = sound;
-  calls = stacked;
-  keys = s.keys;
-  lines = omega arith;
-  steps = refl;
-  console = left.extends_itself h.console;
-  leaves = tt;
-}
 
 delivery_by : (h : HostWorld) (f : Fault) (r : Result World Exit) → world_protected_delivery h.machine f ≡ r → IsReached h →
     h.machine.mode ≡ Protected → TurnKeeps h (after_protected_delivery h f.number r)
 delivery_by h f (Ok w) is s mode =
-    changes h (enter_line h.machine f.number) w s (faults.sound_world_delivery h.machine w f s.machine mode is)
-    (pushed (Exc f.number f.code) (faults.pushed_record h.machine w f is) (is, (refl, refl)))
+    goes_changed h (record (noted (enter_line h.machine f.number) h) { machine = w }) s (faults.sound_world_delivery h.machine w f s.machine mode is)
+    (pushed (Exc f.number f.code) (faults.pushed_record h.machine w f is) (is, (refl, refl))) refl (omega arith) refl refl
 delivery_by h f (Err exit) is s mode = stops_same h exit s
 
 popped_line : (h : HostWorld) (w : World) (n : ℕ) → IsReached h → IsSound w → world_exception_return h.machine ≡ Ok w →
     (p : faults.Popped h.machine.calls w.calls) → n ≡ p.number → TurnKeeps h (goes_on_with h (leave_line w n) w)
 popped_line h w n s sound is p same =
-    rw same (changes h (leave_line w p.number) w s sound (left_one (Exc p.number p.code) p.is (is, (refl, refl))))
+    rw same (goes_changed h (record (noted (leave_line w p.number) h) { machine = w }) s sound
+    (left_one (Exc p.number p.code) p.is (is, (refl, refl))) refl (omega arith) refl refl)
 
 return_by : (h : HostWorld) (r : Result World Exit) → world_exception_return h.machine ≡ r → IsReached h →
     TurnKeeps h (after_exception_return h r)
@@ -325,6 +412,7 @@ stepped_keeps h s =
 trapped_keeps : (h : HostWorld) (t : Trap) → IsReached h → Suits h.machine.mode t → TurnKeeps h (trapped h t)
 trapped_keeps h (RealVector n) s suits = reached_keeps h n (world_popped h.machine) refl s suits
 trapped_keeps h Entry s suits = entry_keeps h s
+trapped_keeps h CallReturn s suits = call_return_by h (end_call h.machine) refl s
 trapped_keeps h (ProtectedVector n) s suits = protected_vector_keeps h n s suits
 trapped_keeps h (ExceptionHandler n) s suits = stops_same h (exit_of_record (top h.machine)) s
 trapped_keeps h ExceptionReturn s suits = return_by h (world_exception_return h.machine) refl s
@@ -351,13 +439,25 @@ leaves_settled w host None l = tt
 leaves_settled w host (Some exit) l = record { machine = l.machine; outside = l.outside }
 
 -- neither the count of turns nor the exit matters to the records
+call_settled : (w after : HostWorld) (e : Option Exit) (call : Call) (r : Record) → StartsCall (with_turn_counted w) call r after →
+    StartsCall w call r (record after { exit = e })
+call_settled w after e call r h =
+    record { popped = h.popped; pops = h.pops; asked = h.asked; starts = h.starts; keeps = h.keeps; lines = h.lines }
+
+starts_settled : (w after : HostWorld) (e : Option Exit) (call : Call) (r : Record) → StartsRealCall (with_turn_counted w) call r after →
+    StartsRealCall w call r (record after { exit = e })
+starts_settled w after e (Int n) r h = call_settled w after e (Int n) r h
+starts_settled w after e Far r h = call_settled w after e Far r h
+starts_settled w after e Iret r h = call_settled w after e Iret r h
+starts_settled w after e (Reflect n) r h = record { popped = h.popped; pops = h.pops; starts = h.starts; keeps = h.keeps; lines = h.lines }
+
 enters_settled : (w after : HostWorld) (e : Option Exit) (r : Record) → Enters (with_turn_counted w) r after → Enters w r (record after { exit = e })
-enters_settled w after e (Sim call saved vif at) h = h
+enters_settled w after e (Sim call saved vif at) h = starts_settled w after e call (Sim call saved vif at) h
 enters_settled w after e (Back slot at) h = h
 enters_settled w after e (Exc number code) h = h
 
 leaves_one_settled : (w after : HostWorld) (e : Option Exit) (r : Record) → Leaves (with_turn_counted w) r after → Leaves w r (record after { exit = e })
-leaves_one_settled w after e (Sim call saved vif at) h = h
+leaves_one_settled w after e (Sim call saved vif at) h = record { returns = h.returns; lines = h.lines }
 leaves_one_settled w after e (Back slot at) h = h
 leaves_one_settled w after e (Exc number code) h = h
 

@@ -1,5 +1,6 @@
 pub mod Keys
 pub mod Nested
+pub mod RealCalls
 pub mod Run
 pub mod Start
 pub mod Touched

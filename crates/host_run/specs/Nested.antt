@@ -5,26 +5,23 @@ use Rattle.client_world.specs.declared.calls.Record.TheVariants.{Sim, Back, Exc}
 use Rattle.client_world.specs.declared.trace.TraceLine.{TraceLine}
 use Rattle.client_world.specs.World.{HostWorld, depth}
 use Rattle.protected_faults.specs.Worlds.{world_exception_return, world_protected_delivery}
-use Rattle.host_run.specs.Turn.{enter_line, leave_line, noted}
+use Rattle.host_run.specs.RealCalls.{HasMoreLines, ReturnsFromCall, StartsRealCall}
+use Rattle.host_run.specs.Turn.{enter_line, leave_line}
 
--- the trace of the second host is that of the first with one more line
-abbrev pub HasOneMoreLine : HostWorld → TraceLine → HostWorld → Type 0
-HasOneMoreLine w line v = (v.kept ≡ (noted line w).kept) × (v.lines ≡ (noted line w).lines)
-
--- a turn that adds a record: an exception of protected mode is delivered. No turn adds another record yet
+-- a turn that adds a record: it starts a call of real mode, or delivers an exception of protected mode. No turn adds another record yet
 abbrev pub Enters : HostWorld → Record → HostWorld → Type 0
-Enters w (Sim call saved vif at) v = ⊥
+Enters w (Sim call saved vif at) v = StartsRealCall w call (Sim call saved vif at) v
 Enters w (Back slot at) v = ⊥
 Enters w (Exc number code) v =
     (world_protected_delivery w.machine (record { number = number; code = code }) ≡ Ok v.machine)
-    × HasOneMoreLine w (enter_line w.machine number) v
+    × HasMoreLines w (enter_line w.machine number ∷ []) v
 
--- a turn that takes a record away: its exception returns. No turn takes another record away yet
+-- a turn that takes a record away: its call or its exception returns. No turn takes another record away yet
 abbrev pub Leaves : HostWorld → Record → HostWorld → Type 0
-Leaves w (Sim call saved vif at) v = ⊥
+Leaves w (Sim call saved vif at) v = ReturnsFromCall w call v
 Leaves w (Back slot at) v = ⊥
 Leaves w (Exc number code) v =
-    (world_exception_return w.machine ≡ Ok v.machine) × HasOneMoreLine w (leave_line v.machine number) v
+    (world_exception_return w.machine ≡ Ok v.machine) × HasMoreLines w (leave_line v.machine number ∷ []) v
 
 -- what a turn from one host to the next does to the records
 pub data Stacked (w v : HostWorld) : Type 0 where

@@ -2,6 +2,8 @@
 use Rattle.std.specs.Prelude.{ℕ, ◌+◌, Bool, true, false, [], ◌∷◌, ◌++◌, length, ◌&&◌, ◌||◌, not, nat_eq, nat_le, nat_lt, if◌then◌else◌, None, Some, Ok, Err}
 use Rattle.std.specs.declared.option.Option.{Option}
 use Rattle.std.specs.declared.result.Result.{Result}
+use Rattle.client_world.specs.declared.calls.Call.{Call}
+use Rattle.client_world.specs.declared.calls.Call.TheVariants.{Int, Far, Iret, Reflect}
 use Rattle.client_world.specs.declared.calls.Record.{Record}
 use Rattle.client_world.specs.declared.calls.Record.TheVariants.{Sim, Back, Exc}
 use Rattle.client_world.specs.declared.calls.What.TheVariants as whats
@@ -30,10 +32,11 @@ use Rattle.mode_gates.specs.Entry.{asked_width, entry, with_carry}
 use Rattle.mode_stack.specs.Stack.{top}
 use Rattle.protected_faults.specs.Return.{exit_of_record}
 use Rattle.protected_faults.specs.Worlds.{world_exception_return, world_protected_delivery}
+use Rattle.translation.specs.SimulatedCall.{begin_call, end_call, reflect}
 use Rattle.vector_services.specs.Rows.{vector_service}
 use Rattle.dos_blocks.specs.Services.{dos_service}
 use Rattle.host_run.specs.declared.traps.Trap.{Trap}
-use Rattle.host_run.specs.declared.traps.Trap.TheVariants.{RealVector, Entry, ProtectedVector, ExceptionHandler, ExceptionReturn, NoTrap}
+use Rattle.host_run.specs.declared.traps.Trap.TheVariants.{RealVector, Entry, CallReturn, ProtectedVector, ExceptionHandler, ExceptionReturn, NoTrap}
 use Rattle.host_run.specs.Traps.{current_trap}
 
 -- what a turn does: the host after it, and the exit that ends the run, if there is one
@@ -58,6 +61,10 @@ noted line h = record h {
   kept = if nat_lt (length h.kept) h.keep then h.kept ++ line ∷ [] else h.kept;
   lines = h.lines + 1;
 }
+
+-- the run goes on with another machine, and one more line of the trace
+abbrev pub goes_on_with : HostWorld → TraceLine → World → Outcome
+goes_on_with h line w = goes_on (record (noted line h) { machine = w })
 
 -- ---- the default vectors of real mode
 
@@ -114,11 +121,32 @@ after_entry h (Err exit) = ends h exit
 unfoldable pub after_entry_trap : HostWorld → Outcome
 after_entry_trap h = after_entry h (entry h.machine)
 
+-- ---- calls of real mode
+
+-- the line of the trace of a call that starts: the depth before it, and the registers with which its procedure starts
+abbrev pub call_enter_line : World → Call → World → TraceLine
+call_enter_line w call v = lines.Enter (depth w) (whats.Call call) v.regs v.vif
+
+-- the line of a call that returns: the depth after it, and the registers that its procedure left
+abbrev pub call_leave_line : World → Call → World → TraceLine
+call_leave_line w call v = lines.Leave (depth v) (whats.Call call) w.regs w.vif
+
+-- the call of a record; every other record names no call
+abbrev pub call_of_record : Option Record → Call
+call_of_record None = Far
+call_of_record (Some (Sim call saved vif at)) = call
+call_of_record (Some (Back slot at)) = Far
+call_of_record (Some (Exc number code)) = Far
+
+abbrev pub after_call_return : HostWorld → Result World Exit → Outcome
+after_call_return h (Ok w) = goes_on_with h (call_leave_line h.machine (call_of_record (top h.machine)) w) w
+after_call_return h (Err exit) = ends h exit
+
 -- ---- the default vectors of protected mode
 
--- the functions of INT 31h that aren't served yet: simulated calls, callbacks and raw switches
+-- the functions of INT 31h that aren't served yet: callbacks and raw switches
 abbrev pub is_unbuilt : ℕ → Bool
-is_unbuilt ax = nat_le 0x0300 ax && nat_le ax 0x0306
+is_unbuilt ax = nat_le 0x0303 ax && nat_le ax 0x0306
 
 -- the high byte of a function of INT 31h on memory blocks and their pages
 abbrev pub is_of_blocks : ℕ → Bool
@@ -132,16 +160,13 @@ service ax w =
     if is_of_blocks (high_byte ax) then block_service ax w else
     vector_service ax w
 
--- the calls that are served so far: INT 21h function 4Ch, INT 2Fh AX = 1686h, and INT 31h but for the functions above
-abbrev pub is_served : World → ℕ → Bool
-is_served w n =
-    nat_eq n 0x21 && nat_eq (high_byte w.regs.eax) 0x4C
-    || nat_eq n 0x2F && nat_eq (low_half w.regs.eax) 0x1686
-    || nat_eq n 0x31 && not (is_unbuilt (low_half w.regs.eax))
-
--- the run goes on with another machine, and one more line of the trace
-abbrev pub goes_on_with : HostWorld → TraceLine → World → Outcome
-goes_on_with h line w = goes_on (record (noted line h) { machine = w })
+-- the call of real mode that a function of INT 31h asks for: 0300h the interrupt BL, 0301h a procedure with a far return, 0302h one with IRET
+abbrev pub asked_call : ℕ → World → Option Call
+asked_call ax w =
+    if nat_eq ax 0x0300 then Some (Int (low_byte w.regs.ebx)) else
+    if nat_eq ax 0x0301 then Some Far else
+    if nat_eq ax 0x0302 then Some Iret else
+    None
 
 -- INT 21h function 4Ch: the client ends itself with the code in AL
 abbrev pub after_exit_call : HostWorld → Outcome
@@ -152,20 +177,42 @@ abbrev pub after_presence_call : HostWorld → World → Outcome
 after_presence_call h w =
     goes_on_with h (lines.Int2f (low_half w.regs.eax)) (record w { regs = record w.regs { eax = with_low_half w.regs.eax 0 } })
 
--- INT 31h: the carry goes into the flags that were popped
+-- a function of INT 31h: the carry goes into the flags that were popped
 abbrev pub after_service : HostWorld → ℕ → Served → Outcome
 after_service h ax s =
     goes_on_with h (lines.Int31 ax s.carry) (record s.world { regs = with_carry (is_set s.carry) s.world.regs })
 
+-- a call that the client asks for, of a host; w is the machine after its frame is popped. It starts, after a line of its own; or the carry is set
+abbrev pub after_begin : HostWorld → ℕ → World → Call → Served → Outcome
+after_begin h ax w call s =
+    if is_set s.carry then after_service h ax s
+    else goes_on_with (noted (lines.Int31 ax Clear) h) (call_enter_line w call s.world) s.world
+
 abbrev pub after_int31 : HostWorld → World → Outcome
-after_int31 h w = after_service h (low_half w.regs.eax) (service (low_half w.regs.eax) w)
+after_int31 h w = elim (asked_call (low_half w.regs.eax) w) [
+  | Some call ↦ after_begin h (low_half w.regs.eax) w call (begin_call w call)
+  | None ↦ after_service h (low_half w.regs.eax) (service (low_half w.regs.eax) w)
+]
+
+-- every other interrupt is reflected to real mode
+abbrev pub after_reflection : HostWorld → ℕ → World → Result World Exit → Outcome
+after_reflection h n w (Ok v) = goes_on_with h (call_enter_line w (Reflect n) v) v
+after_reflection h n w (Err exit) = ends h exit
+
+-- INT 21h function 4Ch, and INT 2Fh AX = 1686h
+abbrev pub is_exit_call : World → ℕ → Bool
+is_exit_call w n = nat_eq n 0x21 && nat_eq (high_byte w.regs.eax) 0x4C
+
+abbrev pub is_presence_call : World → ℕ → Bool
+is_presence_call w n = nat_eq n 0x2F && nat_eq (low_half w.regs.eax) 0x1686
 
 -- the default vector n of a host; w is the machine after its frame is popped
 unfoldable pub after_protected_call : HostWorld → ℕ → World → Outcome
 after_protected_call h n w =
-    if nat_eq n 0x21 then after_exit_call h else
-    if nat_eq n 0x2F then after_presence_call h w else
-    after_int31 h w
+    if is_exit_call h.machine n then after_exit_call h else
+    if is_presence_call h.machine n then after_presence_call h w else
+    if nat_eq n 0x31 then after_int31 h w else
+    after_reflection h n w (reflect w n)
 
 -- the frame is popped first; an exit leaves the machine as it was before
 abbrev pub after_protected_pop : HostWorld → ℕ → Result World Exit → Outcome
@@ -173,7 +220,9 @@ after_protected_pop h n (Ok w) = after_protected_call h n w
 after_protected_pop h n (Err exit) = ends h exit
 
 unfoldable pub after_protected_vector : HostWorld → ℕ → Outcome
-after_protected_vector h n = if is_served h.machine n then after_protected_pop h n (world_popped h.machine) else ends h exits.Unbuilt
+after_protected_vector h n =
+    if nat_eq n 0x31 && is_unbuilt (low_half h.machine.regs.eax) then ends h exits.Unbuilt
+    else after_protected_pop h n (world_popped h.machine)
 
 -- ---- exceptions of protected mode
 
@@ -231,6 +280,7 @@ stepped h = after_step h (world_step h.machine)
 abbrev pub trapped : HostWorld → Trap → Outcome
 trapped h (RealVector n) = vector_reached h n
 trapped h Entry = after_entry_trap h
+trapped h CallReturn = after_call_return h (end_call h.machine)
 trapped h (ProtectedVector n) = after_protected_vector h n
 trapped h (ExceptionHandler n) = ends h (exit_of_record (top h.machine))
 trapped h ExceptionReturn = after_exception_return h (world_exception_return h.machine)

@@ -227,6 +227,7 @@ impl Host {
         match t {
             Trap::RealVector(n) => self.reach_vector(n),
             Trap::Entry => self.serve_entry(),
+            Trap::CallReturn => self.return_from_call(),
             Trap::ProtectedVector(n) => self.serve_protected_vector(n),
             Trap::ExceptionHandler(_) => Err(default_handler_exit(&self.machine)),
             Trap::ExceptionReturn => self.return_from_exception(),

@@ -7,6 +7,7 @@
 //! and `vector_services`, all of which are built on the machine.
 #![tactic(auto)]
 
+mod calls;
 mod exceptions;
 mod host;
 mod laws;

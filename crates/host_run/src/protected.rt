@@ -1,5 +1,5 @@
 // The entry to protected mode, and the default vectors of protected mode.
-ghost use Rattle.std.specs.Prelude.{◌≡◌, ◌≤◌, ◌+◌, ◌*◌, false, nat_eq};
+ghost use Rattle.std.specs.Prelude.{◌≡◌, ◌≤◌, ◌+◌, ◌*◌, ◌||◌, true, false, nat_eq};
 ghost use Rattle.client_world.specs.declared.registers.Mode.TheVariants.{Protected as protected, Real as real};
 ghost use Rattle.client_world.specs.Registers.{low_half};
 ghost use Rattle.fault_service.specs.Worlds.{world_popped};
@@ -10,19 +10,24 @@ ghost use Rattle.host_run.specs.Turn.{
   after_entry_trap,
   goes_on,
   after_int31,
-  is_served,
+  after_service,
+  is_exit_call,
+  is_presence_call,
   is_unbuilt,
   after_presence_call,
   after_protected_pop,
   after_protected_vector,
 };
 
+use crate::calls::asked_call;
 use crate::host::Host;
 use crate::serving::{can_pop, pop_in_mode, serve_function};
+use client_world::limits::GREATEST_DEPTH;
 use client_world::{Carry, Exit, Regs, TraceLine};
 use cpu_values::{part8, put16};
 use guest_space::Machine;
 use mode_gates::{asked_width, entry, with_carry};
+use mode_stack::depth;
 
 // The low half of EAX.
 fn ax(m: &Machine) -> u16
@@ -35,15 +40,21 @@ fn ax(m: &Machine) -> u16
 fn is_unbuilt(ax: u16) -> bool
     ensures { result ≡ is_unbuilt ax }
 {
-    0x0300 <= ax && ax <= 0x0306
+    0x0303 <= ax && ax <= 0x0306
 }
 
-// The calls of protected mode that are served so far.
-fn is_served(m: &Machine, n: u8) -> bool
-    ensures { result ≡ is_served m.now.world n }
+// INT 21h function 4Ch, which ends the client.
+fn is_exit_call(m: &Machine, n: u8) -> bool
+    ensures { result ≡ is_exit_call m.now.world n }
 {
-    let ah = part8(m.regs().eax, true);
-    n == 0x21 && ah == 0x4C || n == 0x2F && ax(m) == 0x1686 || n == 0x31 && !is_unbuilt(ax(m))
+    n == 0x21 && part8(m.regs().eax, true) == 0x4C
+}
+
+// INT 2Fh AX = 1686h, which asks for the mode.
+fn is_presence_call(m: &Machine, n: u8) -> bool
+    ensures { result ≡ is_presence_call m.now.world n }
+{
+    n == 0x2F && ax(m) == 0x1686
 }
 
 // The line of the trace of a call of the entry.
@@ -86,11 +97,12 @@ impl Host {
     }
 
     // INT 21h function 4Ch: the client ends itself, if its frame can be popped.
-    #[tactic(auto, using(crate::proofs::Frames::exit_popped, crate::proofs::Frames::exit_bad))]
-    fn end_client(&mut self) -> Result<(), Exit>
+    #[tactic(auto, using(crate::proofs::Frames::exit_popped, crate::proofs::Frames::popped_bad))]
+    fn end_client(&mut self, n: u8) -> Result<(), Exit>
+        requires exit { is_exit_call self.old.world.machine n ≡ true }
         requires room { self.old.world.lines + 2 ≤ 2 * self.old.world.steps }
         ensures { ComesTo self.old self.new result
-            (after_protected_pop self.old.world 0x21 (world_popped self.old.world.machine)) }
+            (after_protected_pop self.old.world n (world_popped self.old.world.machine)) }
     {
         if !can_pop(&self.machine) {
             return Err(Exit::BadFrame);
@@ -115,7 +127,18 @@ impl Host {
         });
     }
 
-    // INT 31h, with its frame popped: the carry goes into the flags that were popped.
+    // A service of INT 31h has returned: the carry goes into the flags that were popped.
+    pub(crate) fn finish_service(&mut self, ax: u16, carry: Carry)
+        requires room { self.old.world.lines + 2 ≤ 2 * self.old.world.steps }
+        ensures answer { after_service self.old.world ax (record { carry = carry; world = self.old.world.machine }) ≡ goes_on self.new.world }
+        ensures steps { self.new.world.steps ≡ self.old.world.steps }
+    {
+        self.note(TraceLine::Int31 { ax, carry });
+        let r = self.machine.regs();
+        self.machine.set_regs(with_carry(is_set(carry), r));
+    }
+
+    // INT 31h, with its frame popped.
     fn serve_int31(&mut self)
         requires mode { self.old.world.machine.mode ≡ protected }
         requires room { self.old.world.lines + 2 ≤ 2 * self.old.world.steps }
@@ -123,26 +146,31 @@ impl Host {
         ensures steps { self.new.world.steps ≡ self.old.world.steps }
     {
         let number = ax(&self.machine);
-        let carry = serve_function(&mut self.machine, number);
-        self.note(TraceLine::Int31 { ax: number, carry });
-        let r = self.machine.regs();
-        self.machine.set_regs(with_carry(is_set(carry), r));
+        match asked_call(&self.machine, number) {
+            Some(call) => self.begin_call(number, call),
+            None => {
+                let carry = serve_function(&mut self.machine, number);
+                self.finish_service(number, carry);
+            }
+        }
     }
 
-    // A default vector of protected mode: its frame is popped first.
+    // A default vector of protected mode that serves: its frame is popped first.
     #[tactic(auto, unfolding(crate::specs::Turn::after_protected_call))]
     fn pop_and_serve(&mut self, n: u8) -> Result<(), Exit>
         requires mode { self.old.world.machine.mode ≡ protected }
-        requires other { nat_eq n 0x21 ≡ false }
+        requires exit { is_exit_call self.old.world.machine n ≡ false }
+        requires served { (is_presence_call self.old.world.machine n || nat_eq n 0x31) ≡ true }
         requires room { self.old.world.lines + 2 ≤ 2 * self.old.world.steps }
         ensures { ComesTo self.old self.new result
             (after_protected_pop self.old.world n (world_popped self.old.world.machine)) }
     {
+        let presence = is_presence_call(&self.machine, n);
         match pop_in_mode(&mut self.machine) {
             Ok(()) => {}
             Err(exit) => return Err(exit),
         }
-        if n == 0x2F {
+        if presence {
             self.answer_presence();
         } else {
             self.serve_int31();
@@ -150,7 +178,33 @@ impl Host {
         Ok(())
     }
 
-    // A default vector of protected mode, where its call is served.
+    // A default vector of protected mode that is reflected: its frame is popped first. An exit leaves the machine, so both are asked before.
+    #[tactic(auto, unfolding(crate::specs::Turn::after_protected_call), using(crate::proofs::Frames::popped_bad, crate::proofs::Frames::popped_deep))]
+    fn pop_and_reflect(&mut self, n: u8) -> Result<(), Exit>
+        requires mode { self.old.world.machine.mode ≡ protected }
+        requires exit { is_exit_call self.old.world.machine n ≡ false }
+        requires presence { is_presence_call self.old.world.machine n ≡ false }
+        requires other { nat_eq n 0x31 ≡ false }
+        requires room { self.old.world.lines + 2 ≤ 2 * self.old.world.steps }
+        ensures { ComesTo self.old self.new result
+            (after_protected_pop self.old.world n (world_popped self.old.world.machine)) }
+    {
+        if !can_pop(&self.machine) {
+            return Err(Exit::BadFrame);
+        }
+        if u32::from(depth(&self.machine)) >= GREATEST_DEPTH {
+            return Err(Exit::Deep);
+        }
+        match pop_in_mode(&mut self.machine) {
+            Ok(()) => {
+                self.reflect_interrupt(n);
+                Ok(())
+            }
+            Err(exit) => Err(exit),
+        }
+    }
+
+    // A default vector of protected mode.
     #[inline(never)]
     #[tactic(auto, unfolding(crate::specs::Turn::after_protected_vector))]
     pub(crate) fn serve_protected_vector(&mut self, n: u8) -> Result<(), Exit>
@@ -158,13 +212,15 @@ impl Host {
         requires room { self.old.world.lines + 2 ≤ 2 * self.old.world.steps }
         ensures { ComesTo self.old self.new result (after_protected_vector self.old.world n) }
     {
-        if !is_served(&self.machine, n) {
+        if n == 0x31 && is_unbuilt(ax(&self.machine)) {
             return Err(Exit::Unbuilt);
         }
-        if n == 0x21 {
-            self.end_client()
-        } else {
-            self.pop_and_serve(n)
+        if is_exit_call(&self.machine, n) {
+            return self.end_client(n);
         }
+        if is_presence_call(&self.machine, n) || n == 0x31 {
+            return self.pop_and_serve(n);
+        }
+        self.pop_and_reflect(n)
     }
 }

@@ -36,11 +36,12 @@ pub(crate) fn can_pop(m: &Machine) -> bool
     can_pop_iret(m)
 }
 
-/// The frame of an interrupt popped: the mode stays.
+/// The frame of an interrupt popped: the mode and the records of calls stay.
 pub(crate) fn pop_in_mode(m: &mut Machine) -> Result<(), Exit>
     ensures world { MatchResult result (λ _. world_popped m.old.world ≡ Ok m.new.world)
         (λ e. (world_popped m.old.world ≡ Err e) × (m.new ≡ m.old)) }
     ensures mode { m.new.world.mode ≡ m.old.world.mode }
+    ensures calls { m.new.world.calls ≡ m.old.world.calls }
 {
     match pop_iret(m) {
         Ok(()) => Ok(()),

@@ -6,3 +6,7 @@ use Rattle.host_run.proofs.serving.pop_in_mode.Goals as goal
 pub returns-in-Ok-clause-mode : goal.returns-in-Ok-clause-mode
 returns-in-Ok-clause-mode c =
     ap (λ (w : World). w.mode) (kept_world_popped c.args.m.now.world c.pop_iret.new.m.world (search rules))
+
+pub returns-in-Ok-clause-calls : goal.returns-in-Ok-clause-calls
+returns-in-Ok-clause-calls c =
+    ap (λ (w : World). w.calls) (kept_world_popped c.args.m.now.world c.pop_iret.new.m.world (search rules))

@@ -1,4 +1,4 @@
-use Rattle.host_run.proofs.KindModes.{entry_is_real, vector_is_protected, vector_is_real}
+use Rattle.host_run.proofs.KindModes.{call_return_is_real, entry_is_real, vector_is_protected, vector_is_real}
 use Rattle.host_run.proofs.host.Host.serve_trap.Goals as goal
 
 pub reach_vector-requires-clause-real : goal.reach_vector-requires-clause-real
@@ -11,3 +11,6 @@ serve_entry-requires-clause-real c = entry_is_real c.args.self.now.world.machine
 pub serve_protected_vector-requires-clause-mode : goal.serve_protected_vector-requires-clause-mode
 serve_protected_vector-requires-clause-mode c =
     vector_is_protected c.args.self.now.world.machine c.args.t c.in-ProtectedVector.n c.requires.trap c.in-ProtectedVector.is
+
+return_from_call-requires-real : goal.return_from_call-requires-real
+return_from_call-requires-real c = call_return_is_real c.args.self.now.world.machine c.args.t c.requires.trap c.in-CallReturn.is

@@ -1,0 +1,49 @@
+-- How a turn starts a call of real mode, and how a call returns: the world after it, the record that it keeps meanwhile, and its lines of the
+-- trace. Source: own.
+use Rattle.std.specs.Prelude.{◌≡◌, List, [], ◌∷◌, ℕ, Some, Ok}
+use Rattle.client_world.specs.declared.calls.Call.{Call}
+use Rattle.client_world.specs.declared.calls.Call.TheVariants.{Int, Far, Iret, Reflect}
+use Rattle.client_world.specs.declared.calls.Record.{Record}
+use Rattle.client_world.specs.declared.calls.Record.TheVariants.{Sim}
+use Rattle.client_world.specs.declared.services.Carry.TheVariants.{Clear}
+use Rattle.client_world.specs.declared.trace.TraceLine.{TraceLine}
+use Rattle.client_world.specs.declared.trace.TraceLine.TheVariants.{Int31}
+use Rattle.client_world.specs.Registers.{low_half}
+use Rattle.client_world.specs.Services.{es_di}
+use Rattle.client_world.specs.World.{World, HostWorld}
+use Rattle.fault_service.specs.Worlds.{world_popped}
+use Rattle.host_run.specs.Turn.{asked_call, call_enter_line, call_leave_line, noted}
+use Rattle.translation.specs.SimulatedCall.{begin_call, end_call, no_structure, reflect}
+
+-- the trace of the second host is that of the first with these lines after it
+abbrev pub HasMoreLines : HostWorld → List TraceLine → HostWorld → Type 0
+HasMoreLines w [] v = (v.kept ≡ w.kept) × (v.lines ≡ w.lines)
+HasMoreLines w (line ∷ lines) v = HasMoreLines (noted line w) lines v
+
+-- the client asks for a call by a function of INT 31h. `popped` is the machine after the frame of that interrupt is popped
+pub record StartsCall (w : HostWorld) (call : Call) (r : Record) (v : HostWorld) : Type 0 where
+  pub popped : World
+  pub pops : world_popped w.machine ≡ Ok popped
+  pub asked : asked_call (low_half popped.regs.eax) popped ≡ Some call
+  pub starts : begin_call popped call ≡ record { carry = Clear; world = v.machine }
+  pub keeps : r ≡ Sim call popped.regs popped.vif (es_di popped)
+  pub lines : HasMoreLines w (Int31 (low_half popped.regs.eax) Clear ∷ call_enter_line popped call v.machine ∷ []) v
+
+-- an interrupt that no handler of the client takes is reflected
+pub record StartsReflection (w : HostWorld) (n : ℕ) (r : Record) (v : HostWorld) : Type 0 where
+  pub popped : World
+  pub pops : world_popped w.machine ≡ Ok popped
+  pub starts : reflect popped n ≡ Ok v.machine
+  pub keeps : r ≡ Sim (Reflect n) popped.regs popped.vif no_structure
+  pub lines : HasMoreLines w (call_enter_line popped (Reflect n) v.machine ∷ []) v
+
+abbrev pub StartsRealCall : HostWorld → Call → Record → HostWorld → Type 0
+StartsRealCall w (Int n) r v = StartsCall w (Int n) r v
+StartsRealCall w Far r v = StartsCall w Far r v
+StartsRealCall w Iret r v = StartsCall w Iret r v
+StartsRealCall w (Reflect n) r v = StartsReflection w n r v
+
+-- the innermost call returns to the client
+pub record ReturnsFromCall (w : HostWorld) (call : Call) (v : HostWorld) : Type 0 where
+  pub returns : end_call w.machine ≡ Ok v.machine
+  pub lines : HasMoreLines w (call_leave_line w.machine call v.machine ∷ []) v

@@ -1,0 +1,119 @@
+// Calls of real mode: those that the client asks for, interrupts that are reflected, and the return from both.
+ghost use Rattle.std.specs.Prelude.{◌≡◌, ◌≤◌, ◌<◌, ◌+◌, ◌*◌, false, Ok, Err, IfSome, MatchResult};
+ghost use Rattle.client_world.specs.declared.calls.What.TheVariants.{Call as a_call};
+ghost use Rattle.client_world.specs.declared.limits.TheConstants.{GREATEST_DEPTH};
+ghost use Rattle.client_world.specs.declared.registers.Mode.TheVariants.{Protected as protected, Real as real};
+ghost use Rattle.client_world.specs.declared.trace.TraceLine.TheVariants.{Enter, Leave};
+ghost use Rattle.client_world.specs.World.{depth};
+ghost use Rattle.mode_stack.specs.Stack.{top};
+ghost use Rattle.host_run.specs.Turn.{after_begin, after_call_return, after_reflection, asked_call, call_of_record, goes_on};
+ghost use Rattle.host_run.specs.View.{ComesTo};
+ghost use Rattle.translation.specs.SimulatedCall.{begin_call, end_call, is_reflection, reflect};
+
+use crate::host::Host;
+use client_world::{Begun, Call, Carry, Exit, Record, TraceLine, What};
+use cpu_values::part8;
+use guest_space::Machine;
+use mode_stack::{depth, top};
+use translation::{begin, end, reflect};
+
+// The call of real mode that a function of INT 31h asks for.
+pub(crate) fn asked_call(m: &Machine, ax: u16) -> Option<Call>
+    ensures asked { result ≡ asked_call ax m.now.world }
+    ensures no_reflection { IfSome result (λ call. is_reflection call ≡ false) }
+{
+    match ax {
+        0x0300 => Some(Call::Int(part8(m.regs().ebx, false))),
+        0x0301 => Some(Call::Far),
+        0x0302 => Some(Call::Iret),
+        _ => None,
+    }
+}
+
+// The line of the trace of a call that starts, with the depth before it.
+fn enter_line(depth: u8, call: Call, m: &Machine) -> TraceLine
+    ensures { result ≡ Enter depth (a_call call) m.now.world.regs m.now.world.vif }
+{
+    TraceLine::Enter {
+        depth,
+        what: What::Call(call),
+        regs: m.regs(),
+        vif: m.vif(),
+    }
+}
+
+// The call of the innermost record.
+fn innermost_call(m: &Machine) -> Call
+    ensures { result ≡ call_of_record (top m.now.world) }
+{
+    match top(m) {
+        Some(Record::Sim { call, .. }) => call,
+        Some(Record::Back { .. } | Record::Exc { .. }) | None => Call::Far,
+    }
+}
+
+impl Host {
+    // A call that the client asks for, with the frame of its interrupt popped.
+    pub(crate) fn begin_call(&mut self, ax: u16, call: Call)
+        requires mode { self.old.world.machine.mode ≡ protected }
+        requires call { is_reflection call ≡ false }
+        requires room { self.old.world.lines + 2 ≤ 2 * self.old.world.steps }
+        ensures answer { after_begin self.old.world ax self.old.world.machine call (begin_call self.old.world.machine call) ≡ goes_on self.new.world }
+        ensures steps { self.new.world.steps ≡ self.old.world.steps }
+    {
+        let depth = depth(&self.machine);
+        match begin(&mut self.machine, call) {
+            Begun::Run => {
+                self.note(TraceLine::Int31 {
+                    ax,
+                    carry: Carry::Clear,
+                });
+                let line = enter_line(depth, call, &self.machine);
+                self.note(line);
+            }
+            Begun::Refused => self.finish_service(ax, Carry::Set),
+        }
+    }
+
+    // An interrupt is reflected, with its frame popped.
+    #[tactic(auto, unfolding(translation::specs::SimulatedCall::reflect))]
+    pub(crate) fn reflect_interrupt(&mut self, n: u8)
+        requires mode { self.old.world.machine.mode ≡ protected }
+        requires shallow { depth self.old.world.machine < GREATEST_DEPTH }
+        requires room { self.old.world.lines + 2 ≤ 2 * self.old.world.steps }
+        ensures answer { after_reflection self.old.world n self.old.world.machine (reflect self.old.world.machine n) ≡ goes_on self.new.world }
+        ensures steps { self.new.world.steps ≡ self.old.world.steps }
+    {
+        let depth = depth(&self.machine);
+        // It isn't refused, since calls aren't nested too deeply.
+        if let Ok(()) = reflect(&mut self.machine, n) {
+            let line = enter_line(depth, Call::Reflect(n), &self.machine);
+            self.note(line);
+        }
+    }
+
+    // The return from a call or a reflection.
+    #[inline(never)]
+    pub(crate) fn return_from_call(&mut self) -> Result<(), Exit>
+        requires real { self.old.world.machine.mode ≡ real }
+        requires room { self.old.world.lines + 2 ≤ 2 * self.old.world.steps }
+        ensures { ComesTo self.old self.new result (after_call_return self.old.world (end_call self.old.world.machine)) }
+    {
+        let call = innermost_call(&self.machine);
+        let regs = self.machine.regs();
+        let vif = self.machine.vif();
+        match end(&mut self.machine) {
+            Ok(()) => {
+                let line = TraceLine::Leave {
+                    depth: depth(&self.machine),
+                    what: What::Call(call),
+                    regs,
+                    vif,
+                };
+                self.note(line);
+                Ok(())
+            }
+            Err(exit) => Err(exit),
+        }
+    }
+}

@@ -1,0 +1,4 @@
+pub mod HandOver
+pub mod RealStack
+pub mod SimulatedCall
+pub mod Structure
