@@ -37,6 +37,10 @@ exit_text BadFrame = codes "badframe"
 exit_text BadSwitch = codes "badswitch"
 exit_text Unbuilt = codes "unbuilt"
 
+-- the lines of how a run ended, and after how many turns
+abbrev pub exit_part : Exit → ℕ → List ℕ
+exit_part exit steps = codes "exit " ++ exit_text exit ++ line_end ++ codes "steps " ++ decimal steps ++ line_end
+
 -- how a mode is written
 abbrev pub mode_text : Mode → List ℕ
 mode_text Real = codes "real"
