@@ -76,7 +76,7 @@ meaning (first ∷ rest) =
     if bytes_eq first (codes "soak") then option_map Soaks (soak_meaning rest) else
     None
 
--- the same of the types of the code
+-- what values of the code's own types mean
 abbrev pub keys_in : KeySource → Keys
 keys_in (source.Pressed bytes) = Pressed bytes.items
 keys_in (source.Stored name) = Stored name.now

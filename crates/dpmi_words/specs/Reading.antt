@@ -44,7 +44,7 @@ name_and_value text = (
   if list_any (λ c. c == 0x3D) text then Some (after_first (λ c. c == 0x3D) text) else None,
 )
 
--- the same of what follows two hyphens; nothing may not follow
+-- the same for what follows two hyphens, which isn't empty
 abbrev pub option_after : Text → Option (Text × Option Text)
 option_after [] = None
 option_after (c ∷ cs) = Some (name_and_value (c ∷ cs))
