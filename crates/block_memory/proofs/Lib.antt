@@ -13,7 +13,6 @@ pub mod PageSums
 pub mod PageWrites
 pub mod RegionPages
 pub mod RowReads
-pub mod SizedAsks
 pub mod SizedBlocks
 pub mod SizedCalls
 pub mod SizedSound

@@ -211,11 +211,6 @@ can_hold_next blocks budget place base n to can more =
       room = omega (arith, sum, count);
     }
 
--- a block that has shrunk by a page
-
-cut : MemoryBlock → ℕ → MemoryBlock
-cut block n = record { base = block.base; bytes = take (PAGE_SIZE * n) block.bytes; locks = take n block.locks }
-
 -- what a block that has shrunk is
 record IsCut (o : Option MemoryBlock) (n : ℕ) (block : MemoryBlock) : Type 0 where
   was : MemoryBlock

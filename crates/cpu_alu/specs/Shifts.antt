@@ -68,13 +68,13 @@ abbrev pub moved_flags : ℕ → Bool → Bool → Flags → Flags → Flags
 moved_flags n carry overflow others f =
     if nat_eq n 0 then f else record others { cf = carry; of = if nat_eq n 1 then overflow else f.of }
 
--- a shift by n: SF, ZF and PF by the result, AF kept; OF is told by the moved word and carry
+-- a shift by n: SF, ZF and PF by the result, AF kept; OF comes from the moved word and the carry
 abbrev pub shift_of : (Moved → Moved) → (Moved → Bool) → ℕ → ℕ → ℕ → Flags → ℕ × Flags
 shift_of move overflow w a n f =
     let s : Moved = bits_moved move (shift_count n) (a, f.cf) in
     (s.0, moved_flags (shift_count n) s.1 (overflow s) (result_flags w s.0 f) f)
 
--- a rotate by n: SF, ZF, AF and PF kept; OF is told by the moved word and carry
+-- a rotate by n: SF, ZF, AF and PF kept; OF comes from the moved word and the carry
 abbrev pub rotate_of : (Moved → Moved) → (Moved → Bool) → ℕ → ℕ → Flags → ℕ × Flags
 rotate_of move overflow a n f =
     let s : Moved = bits_moved move (shift_count n) (a, f.cf) in

@@ -12,7 +12,7 @@ use Rattle.exec_core.specs.Dispatch.{core_row}
 use Rattle.exec_core.specs.FlagRows.{clc, stc, cmc, cld, std, lahf, sahf, wait}
 use Rattle.exec_core.specs.Moves.{mov, movzx, movsx, xchg, lea, xlat, cbw, cwd}
 use Rattle.exec_core.specs.Products.{Product, Quotient, with_double, multiply, multiply_two, multiply_three, is_empty, imul, divided, divide}
-use Rattle.exec_core.specs.Shifts.{DoubleFormula, shift, double_shift}
+use Rattle.exec_core.specs.Shifts.{DoubleFormula, shift, shift_in}
 use Rattle.exec_core.specs.Stacks.{push, pop, pusha, popa}
 use Rattle.exec_core.specs.Strings.{is_repeated, is_over, with_source_next, with_destination_next, repeated, goes_on_while, movs, cmps, stos, lods, scas}
 use Rattle.insn_forms.specs.declared.insn.Insn.{Insn}
@@ -40,9 +40,9 @@ shift_leaves : (f : Formula) (w : World) (i : Insn) → HoldWords w.regs → Lea
 unfolding shift
 shift_leaves f w i s = λ a count. words_put _ _ _ _ _ _ s
 
-double_shift_leaves : (f : DoubleFormula) (w : World) (i : Insn) → HoldWords w.regs → LeavesWords (double_shift f w i)
-unfolding double_shift
-double_shift_leaves f w i s = λ a b count. words_put _ _ _ _ _ _ s
+shift_in_leaves : (f : DoubleFormula) (w : World) (i : Insn) → HoldWords w.regs → LeavesWords (shift_in f w i)
+unfolding shift_in
+shift_in_leaves f w i s = λ a b count. words_put _ _ _ _ _ _ s
 
 setcc_leaves : (w : World) (i : Insn) (n : ℕ) → HoldWords w.regs → LeavesWords (setcc w i n)
 unfolding setcc
@@ -260,8 +260,8 @@ core_leaves ops.Rcr w i len s = shift_leaves _ w i s
 core_leaves ops.Shl w i len s = shift_leaves _ w i s
 core_leaves ops.Shr w i len s = shift_leaves _ w i s
 core_leaves ops.Sar w i len s = shift_leaves _ w i s
-core_leaves ops.Shld w i len s = double_shift_leaves _ w i s
-core_leaves ops.Shrd w i len s = double_shift_leaves _ w i s
+core_leaves ops.Shld w i len s = shift_in_leaves _ w i s
+core_leaves ops.Shrd w i len s = shift_in_leaves _ w i s
 core_leaves ops.Bt w i len s = bit_test_leaves w i s
 core_leaves ops.Bts w i len s = bit_change_leaves _ w i s
 core_leaves ops.Btr w i len s = bit_change_leaves _ w i s

@@ -12,7 +12,7 @@ use Rattle.client_world.specs.World.{World}
 use Rattle.exec_flow.specs.Dispatch.{flow_row}
 use Rattle.exec_flow.specs.FarTransfers.{code_selector, far_transfer, jump_far, call_far, far_frame_popped, retf, frame_popped, iret}
 use Rattle.exec_flow.specs.FlagImages.{pushf, flags_popped, popf, cli, sti}
-use Rattle.exec_flow.specs.Frames.{frames_pushed, frame_made, enter, leave, is_less, bound}
+use Rattle.exec_flow.specs.Frames.{frames_pushed, frame_made, enter, leave, is_less_signed, bound}
 use Rattle.exec_flow.specs.Interrupts.{int, int3, into}
 use Rattle.exec_flow.specs.Pointers.{offset_range}
 use Rattle.exec_flow.specs.Ports.{input, output}
@@ -176,7 +176,7 @@ leave_leaves w i s = λ bp. words_register _ _ _ _ s
 
 bound_leaves : (w : World) (i : Insn) → HoldWords w.regs → LeavesWords (bound w i)
 unfolding bound
-bound_leaves w i s = λ index pair. leaves_if (is_less i.width index pair || is_less i.width (pair / 2 ^ i.width) index) _ _ tt s
+bound_leaves w i s = λ index pair. leaves_if (is_less_signed i.width index pair || is_less_signed i.width (pair / 2 ^ i.width) index) _ _ tt s
 
 into_leaves : (w : World) (len : ℕ) → HoldWords w.regs → LeavesWords (into w len)
 unfolding into

@@ -16,7 +16,7 @@ use Rattle.insn_decode.specs.declared.decoding.Decoded.{Decoded}
 use Rattle.insn_decode.specs.declared.decoding.Decoded.TheVariants.{Whole, More, Invalid}
 use Rattle.insn_decode.specs.Decode.{decoded}
 use Rattle.insn_decode.proofs.Answering.{decoded_whole, decoded_only, decoded_more, more_decoded, decoded_invalid, invalid_decoded}
-use Rattle.insn_forms.specs.Grammar.{AllBytes, HasSpelling}
+use Rattle.insn_forms.specs.Grammar.{AllBytes, HasEncoding}
 use Rattle.cpu_step.specs.Step.{has_big_code, code, executed, unfinished, IsStep, step_of, client_step}
 use Rattle.cpu_step.proofs.CodeBytes.{IsCutOff, most_code, few_code}
 
@@ -52,8 +52,8 @@ outcome_is v are =
 take_and_drop : (n : ℕ) (bytes : List ℕ) → n ≤ length bytes → (bytes ≡ take n bytes ++ drop n bytes) × (length (take n bytes) ≡ n)
 take_and_drop n bytes h = (sym (take-append-drop n bytes), length-take-le n bytes h)
 
-more_spells_none : (w : World) → decoded (has_big_code w) (code w) ≡ More → HasSpelling (has_big_code w) (code w) → ⊥
-more_spells_none w e h =
+more_encodes_none : (w : World) → decoded (has_big_code w) (code w) ≡ More → HasEncoding (has_big_code w) (code w) → ⊥
+more_encodes_none w e h =
     let twice : Whole h.0 (length h.1) ≡ More = sym (decoded_only (has_big_code w) h.0 h.1 h.2 (code w) h.3 h.4) ∙ e in absurd cc
 
 few_or_full : (n : ℕ) → n ≤ code_room → (n < code_room) ⊎ (n ≡ code_room)
@@ -64,7 +64,7 @@ where_more : (v : MachineView) (outcome : Result MachineView Event) → AllBytes
 where_more v outcome are s e =
     let w = v.world in
     let begins = decoded_more (has_big_code w) (code w) are e in
-    let none = more_spells_none w e in
+    let none = more_encodes_none w e in
     elim (few_or_full (length (code w)) (most_code w 0 code_room)) [
       | inl few ↦
           let cut : IsCutOff w (0 + length (code w)) = few_code w 0 code_room few in
@@ -79,9 +79,9 @@ by_decoded : (v : MachineView) (outcome : Result MachineView Event) → AllBytes
     decoded (has_big_code v.world) (code v.world) ≡ d → outcome ≡ step_of v d
 by_decoded v outcome are s (Whole insn len) e =
     let bytes = code v.world in
-    let spelled = decoded_whole (has_big_code v.world) insn len bytes are e in
-    let parts = take_and_drop len bytes spelled.1 in
-    s.whole insn (take len bytes) (drop len bytes) parts.0 spelled.0 ∙ ap (executed v insn) parts.1
+    let encoded = decoded_whole (has_big_code v.world) insn len bytes are e in
+    let parts = take_and_drop len bytes encoded.1 in
+    s.whole insn (take len bytes) (drop len bytes) parts.0 encoded.0 ∙ ap (executed v insn) parts.1
 by_decoded v outcome are s Invalid e =
     let nor = decoded_invalid (has_big_code v.world) (code v.world) are e in s.invalid nor.0 nor.1
 by_decoded v outcome are s More e = where_more v outcome are s e

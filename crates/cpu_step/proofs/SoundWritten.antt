@@ -19,31 +19,31 @@ use Rattle.insn_plan.specs.Plan.{after_commit, with_state}
 
 -- ---- what is written are bytes
 
-abbrev AreBytes : List ℕ → Type 0
-AreBytes bytes = (i : ℕ) → i < length bytes → slice_index bytes i < 0x100
+abbrev BytesWithin : List ℕ → Type 0
+BytesWithin bytes = (i : ℕ) → i < length bytes → slice_index bytes i < 0x100
 
-no_bytes : AreBytes []
+no_bytes : BytesWithin []
 no_bytes i within = absurd (omega arith)
 
-one_more : (byte : ℕ) (bytes : List ℕ) → byte < 0x100 → AreBytes bytes → AreBytes (byte ∷ bytes)
+one_more : (byte : ℕ) (bytes : List ℕ) → byte < 0x100 → BytesWithin bytes → BytesWithin (byte ∷ bytes)
 one_more byte bytes small rest zero within = small
 one_more byte bytes small rest (suc i) within = rest i (omega arith)
 
-either_bytes : (c : Bool) (a b : List ℕ) → AreBytes a → AreBytes b → AreBytes (if c then a else b)
+either_bytes : (c : Bool) (a b : List ℕ) → BytesWithin a → BytesWithin b → BytesWithin (if c then a else b)
 either_bytes true a b one other = one
 either_bytes false a b one other = other
 
-word_is_bytes : (v : ℕ) → v < 0x10000 → AreBytes (v % 0x100 ∷ v / 0x100 ∷ [])
+word_is_bytes : (v : ℕ) → v < 0x10000 → BytesWithin (v % 0x100 ∷ v / 0x100 ∷ [])
 word_is_bytes v small = one_more (v % 0x100) (v / 0x100 ∷ []) (omega arith) (one_more (v / 0x100) [] (omega arith) no_bytes)
 
-dword_is_bytes : (v : ℕ) → v < 0x100000000 → AreBytes (v % 0x100 ∷ v / 0x100 % 0x100 ∷ v / 0x10000 % 0x100 ∷ v / 0x1000000 ∷ [])
+dword_is_bytes : (v : ℕ) → v < 0x100000000 → BytesWithin (v % 0x100 ∷ v / 0x100 % 0x100 ∷ v / 0x10000 % 0x100 ∷ v / 0x1000000 ∷ [])
 dword_is_bytes v small =
     one_more (v % 0x100) (v / 0x100 % 0x100 ∷ v / 0x10000 % 0x100 ∷ v / 0x1000000 ∷ []) (omega arith)
     (one_more (v / 0x100 % 0x100) (v / 0x10000 % 0x100 ∷ v / 0x1000000 ∷ []) (omega arith)
     (one_more (v / 0x10000 % 0x100) (v / 0x1000000 ∷ []) (omega arith)
     (one_more (v / 0x1000000) [] (omega arith) no_bytes)))
 
-pub number_is_bytes : (width value : ℕ) → AreBytes (number_bytes width value)
+pub number_is_bytes : (width value : ℕ) → BytesWithin (number_bytes width value)
 number_is_bytes width value =
     let word = value % 0x10000 in
     let dword = value % 0x100000000 in
@@ -56,7 +56,7 @@ number_is_bytes width value =
 -- ---- a write: where the access has a fault there are no places
 
 sound_at : (w : World) (r : Result (List Place) Fault) (bytes : List ℕ) → ((places : List Place) → r ≡ Ok places → MayWrite places) → IsSound w →
-    AreBytes bytes → IsSound (with_bytes_of w (places_of_access r) bytes)
+    BytesWithin bytes → IsSound (with_bytes_of w (places_of_access r) bytes)
 sound_at w (Ok places) bytes may s small = IsSound-with_bytes_of w places bytes s (may places refl) small
 sound_at w (Err f) bytes may s small = s
 

@@ -19,7 +19,7 @@ use Rattle.insn_decode.specs.declared.decoding.Decoded.{Decoded}
 use Rattle.insn_decode.specs.declared.decoding.Decoded.TheVariants.{Whole, More, Invalid}
 use Rattle.insn_decode.specs.Decode.{decoded}
 use Rattle.insn_forms.specs.declared.insn.Insn.{Insn}
-use Rattle.insn_forms.specs.Grammar.{Spelling, HasSpelling, BeginsSpelling}
+use Rattle.insn_forms.specs.Grammar.{Encoding, HasEncoding, BeginsEncoding}
 use Rattle.insn_plan.specs.Act.{Act}
 use Rattle.insn_plan.specs.Plan.{planned, carried_out}
 use Rattle.insn_plan.specs.Stack.{has_size_bit}
@@ -52,17 +52,17 @@ executed v insn len = carried_out (behind len v) (planned (behind len v).world (
 
 -- this is what the client's next instruction comes to
 pub record IsStep (v : MachineView) (outcome : Result MachineView Event) : Type 0 where
-  -- the first of the code bytes spell an instruction: what it does
-  pub whole : (insn : Insn) (front rest : List ℕ) → code v.world ≡ front ++ rest → Spelling (has_big_code v.world) insn front →
+  -- the first of the code bytes encode an instruction: what it does
+  pub whole : (insn : Insn) (front rest : List ℕ) → code v.world ≡ front ++ rest → Encoding (has_big_code v.world) insn front →
       outcome ≡ executed v insn (length front)
-  -- they spell none, and are the first bytes of none
-  pub invalid : ¬ HasSpelling (has_big_code v.world) (code v.world) → ¬ BeginsSpelling (has_big_code v.world) (code v.world) →
+  -- they encode none, and are the first bytes of none
+  pub invalid : ¬ HasEncoding (has_big_code v.world) (code v.world) → ¬ BeginsEncoding (has_big_code v.world) (code v.world) →
       outcome ≡ Err (fault (fault_with INVALID_OPCODE 0))
-  -- they spell none, and are the first bytes of one which is too long
-  pub too_long : ¬ HasSpelling (has_big_code v.world) (code v.world) → BeginsSpelling (has_big_code v.world) (code v.world) →
+  -- they encode none, and are the first bytes of one which is too long
+  pub too_long : ¬ HasEncoding (has_big_code v.world) (code v.world) → BeginsEncoding (has_big_code v.world) (code v.world) →
       length (code v.world) ≡ code_room → outcome ≡ Err (fault (fault_with GENERAL_PROTECTION 0))
-  -- they spell none, and are the first bytes of one whose next byte can't be fetched
-  pub cut_off : ¬ HasSpelling (has_big_code v.world) (code v.world) → BeginsSpelling (has_big_code v.world) (code v.world) →
+  -- they encode none, and are the first bytes of one whose next byte can't be fetched
+  pub cut_off : ¬ HasEncoding (has_big_code v.world) (code v.world) → BeginsEncoding (has_big_code v.world) (code v.world) →
       length (code v.world) < code_room → (f : Fault) → code_byte v.world (length (code v.world)) ≡ Err f → outcome ≡ Err (fault f)
 
 -- ---- what reading gives

@@ -194,7 +194,7 @@ packs-described (a ∷ b ∷ c ∷ d ∷ e ∷ f ∷ g ∷ h ∷ []) long small 
     (small 4 (omega arith)) (small 5 (omega arith)) (small 6 (omega arith)) parts.0 (not-true (has_bit g 0x20) parts.1)
 packs-described b long small good = absurd (omega arith)
 
--- what eight bytes spell fits a descriptor
+-- what eight bytes hold fits a descriptor
 pub fits-described : (b : List ℕ) → ((i : ℕ) → i < 8 → slice_index b i < 256) → FitsDescriptor (described b 0)
 unfolding described
 fits-described b small =

@@ -14,7 +14,7 @@ is_access_byte byte =
 abbrev pub kind_of : ℕ → Kind
 kind_of byte = if has_bit byte 8 then Code else Data (has_bit byte 2) (has_bit byte 4)
 
--- the fields that the eight bytes from an address on spell
+-- the fields that the eight bytes from an address on hold
 unfoldable pub described : List ℕ → ℕ → Desc
 described b at = record {
   base = slice_index b (at + 2) + 0x100 * slice_index b (at + 3) + 0x10000 * slice_index b (at + 4)

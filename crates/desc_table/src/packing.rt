@@ -120,7 +120,7 @@ fn kind(byte: u8) -> Kind
     }
 }
 
-// The fields that eight bytes spell.
+// The fields that eight bytes hold.
 #[tactic(auto, using(crate::proofs::RowWords::third_word), unfolding(crate::specs::Unpacked::described))]
 fn describe(b: &[u8; 8]) -> Desc
     ensures { result ≡ described b.now 0 }

@@ -7,16 +7,16 @@ use Rattle.std.proofs.lemmas.Bool.Decides.{eqb_tells}
 use Rattle.client_world.specs.declared.limits.TheConstants.{DEFAULT_BOUND}
 use Rattle.host_run.specs.Run.{run}
 use Rattle.dpmi_io.specs.Causes.{Rose}
-use Rattle.dpmi_io.specs.Content.{Files, Told, Gains}
+use Rattle.dpmi_io.specs.Content.{Files, Shown, Gains}
 use Rattle.dpmi_cli.specs.declared.prepare.Reason.TheVariants.{Words}
 use Rattle.dpmi_cli.specs.Answer.{Verdict, Refuses, Starts, verdict, answer, answer_to}
 use Rattle.dpmi_cli.specs.Causes.{NamedFailed, IsAbsent, HasVerdict, Answers}
-use Rattle.dpmi_cli.specs.Words.{meaning, file_names}
+use Rattle.dpmi_cli.specs.Words.{file_to_run, file_names}
 use Rattle.dpmi_cli.proofs.Files.{no_verdict}
 use Rattle.dpmi_cli.proofs.SmallStatus.{run_status-small}
 
 -- where the output didn't fail, the answer is whole
-pub gives_whole : (v : Verdict) (before now : Told) (m n result : ℕ) → Answers v before now m n result →
+pub gives_whole : (v : Verdict) (before now : Shown) (m n result : ℕ) → Answers v before now m n result →
     (Rose m n → ⊥) →
     (result ≡ (answer_to v).status) × Gains before now (answer_to v).text
 gives_whole (Refuses reason) before now m n result gave calm = elim gave.status_of_the_answer [
@@ -42,7 +42,7 @@ pub verdict_map : (words : List (List ℕ)) (files : Option Files) (v : Verdict)
 verdict_map words None v P holds (fs, has) = (fs, some_map (verdict words fs) v P holds has)
 verdict_map words (Some fs) v P holds has = some_map (verdict words fs) v P holds has
 
-verdict_sure : (found : Option Verdict) (N : Type 0) (before now : Told) (m n result : ℕ) →
+verdict_sure : (found : Option Verdict) (N : Type 0) (before now : Shown) (m n result : ℕ) →
     (result ≡ 3 → N ⊎ (option_map answer_to found ≡ None)) →
     (result ≢ 3 → result ≢ 5 → IsSomeAnd found (λ v. Answers v before now m n result)) → (N → ⊥) → (Rose m n → ⊥) →
     IfSome (option_map answer_to found) (λ a. (result ≡ 5) ⊎ ((result ≡ a.status) × Gains before now a.text))
@@ -56,13 +56,13 @@ verdict_sure (Some v) N before now m n result cause gave named calm = elim (eqb_
 ]
 
 -- where no named file and no put failed and the files are known, the answer is given whole, or memory was short
-pub answers_of : (words : List (List ℕ)) (files : Option Files) (N : Type 0) (before now : Told) (m n result : ℕ) → (result ≡ 3 → N ⊎ IsAbsent words files) →
+pub answers_of : (words : List (List ℕ)) (files : Option Files) (N : Type 0) (before now : Shown) (m n result : ℕ) → (result ≡ 3 → N ⊎ IsAbsent words files) →
     (result ≢ 3 → result ≢ 5 → HasVerdict words files (λ v. Answers v before now m n result)) → (N → ⊥) → (Rose m n → ⊥) →
     IfSome files (λ fs. IfSome (answer words fs) (λ a. (result ≡ 5) ⊎ ((result ≡ a.status) × Gains before now a.text)))
 answers_of words None N before now m n result cause gave named calm = tt
 answers_of words (Some fs) N before now m n result cause gave named calm = verdict_sure (verdict words fs) N before now m n result cause gave named calm
 
-no_files : (words : List (List ℕ)) → meaning words ≡ None → file_names words ≡ []
+no_files : (words : List (List ℕ)) → file_to_run words ≡ None → file_names words ≡ []
 no_files words none = rw (none, file_names) refl
 
 blames_nothing : (blamed : Option (List ℕ)) → IsSomeAnd blamed (λ name. Contains [] name) → ⊥
@@ -71,7 +71,7 @@ blames_nothing (Some name) h = omega (arith, h.1)
 
 -- words that mean nothing name no file that could fail
 no_file_fails : (words : List (List ℕ)) (files : Option Files) (m n : ℕ) (blamed : Option (List ℕ)) →
-    meaning words ≡ None →
+    file_to_run words ≡ None →
     NamedFailed words m n blamed ⊎ IsAbsent words files → ⊥
 no_file_fails words files m n blamed none (inl failed) =
     blames_nothing blamed (subst (λ names. IsSomeAnd blamed (λ name. Contains names name)) (no_files words none) failed.1)
@@ -84,14 +84,14 @@ some_is : (found : Option Verdict) (v : Verdict) (P : Verdict → Type 0) → fo
 some_is found v P is has = let given : IsSomeAnd (Some v) P = subst (λ f. IsSomeAnd f P) is has in given
 
 only_verdict : (words : List (List ℕ)) (files : Option Files) (P : Verdict → Type 0) →
-    meaning words ≡ None → HasVerdict words files P → P (Refuses Words)
+    file_to_run words ≡ None → HasVerdict words files P → P (Refuses Words)
 only_verdict words None P none (fs, has) = some_is (verdict words fs) (Refuses Words) P (no_verdict words fs none) has
 only_verdict words (Some fs) P none has = some_is (verdict words fs) (Refuses Words) P (no_verdict words fs none) has
 
 -- words that mean nothing are refused as such, or memory was short
-pub wrong_words : (words : List (List ℕ)) (files : Option Files) (fm fn : ℕ) (blamed : Option (List ℕ)) (before now : Told) (m n result : ℕ) →
+pub wrong_words : (words : List (List ℕ)) (files : Option Files) (fm fn : ℕ) (blamed : Option (List ℕ)) (before now : Shown) (m n result : ℕ) →
     (result ≡ 3 → NamedFailed words fm fn blamed ⊎ IsAbsent words files) →
-    (result ≢ 3 → result ≢ 5 → HasVerdict words files (λ v. Answers v before now m n result)) → meaning words ≡ None →
+    (result ≢ 3 → result ≢ 5 → HasVerdict words files (λ v. Answers v before now m n result)) → file_to_run words ≡ None →
     (result ≡ 5) ⊎ Answers (Refuses Words) before now m n result
 wrong_words words files fm fn blamed before now m n result cause gave none = elim (eqb_tells result 5) [
   | inl five ↦ inl five.1

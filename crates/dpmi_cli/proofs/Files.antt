@@ -19,7 +19,7 @@ use Rattle.dpmi_cli.specs.declared.prepare.TheConstants.{FRONT_SIZE}
 use Rattle.dpmi_cli.specs.Answer.{Verdict, Refuses, Starts, verdict, verdict_of, answer_to}
 use Rattle.dpmi_cli.specs.Load.{IsFront, HasFront, Comes}
 use Rattle.dpmi_cli.specs.Causes.{NamedFailed, IsAbsent, HasVerdict}
-use Rattle.dpmi_cli.specs.Words.{meaning, file_names}
+use Rattle.dpmi_cli.specs.Words.{file_to_run, file_names}
 
 -- the verdict by the refusal, and the verdict on a file where the longest has m bytes
 abbrev by_refusal : List ℕ → Option LoadFault → Verdict
@@ -82,7 +82,7 @@ pub front_comes : (files : Option Files) (name bytes : List ℕ) (v : Verdict) �
 front_comes files name bytes v has is =
     file_comes files name bytes v has (λ file front. sym (verdict_front MAX_FILE FRONT_SIZE bytes file refl front) ∙ is)
 
-verdict_named : (words : List (List ℕ)) (name : List ℕ) (files : Files) → meaning words ≡ Some name →
+verdict_named : (words : List (List ℕ)) (name : List ℕ) (files : Files) → file_to_run words ≡ Some name →
     verdict words files ≡ option_map verdict_of (files name)
 verdict_named words name files is = rw (is, verdict) refl
 
@@ -91,7 +91,7 @@ some_and found v is = subst (λ f. IsSomeAnd f (λ u. u ≡ v)) (sym is) refl
 
 -- the verdict on the file is that on the words that name it
 pub words_come : (words : List (List ℕ)) (name : List ℕ) (files : Option Files) (v : Verdict) →
-    meaning words ≡ Some name →
+    file_to_run words ≡ Some name →
     Comes files name v → HasVerdict words files (λ u. u ≡ v)
 words_come words name None v is (file, comes) = (
   λ _. Some file,
@@ -100,7 +100,7 @@ words_come words name None v is (file, comes) = (
 words_come words name (Some files) v is comes = some_and (verdict words files) v (verdict_named words name files is ∙ comes)
 
 -- words that mean nothing are refused, whatever the files
-pub no_verdict : (words : List (List ℕ)) (fs : Files) → meaning words ≡ None →
+pub no_verdict : (words : List (List ℕ)) (fs : Files) → file_to_run words ≡ None →
     verdict words fs ≡ Some (Refuses Words)
 no_verdict words fs none = rw (none, verdict) refl
 

@@ -1,6 +1,4 @@
 mod Complete
-pub mod Decimal
 mod Files
 mod RunAnswers
 mod SmallStatus
-mod Whole

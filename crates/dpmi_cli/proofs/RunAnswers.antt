@@ -9,14 +9,14 @@ use Rattle.client_world.specs.Access.{IsHeld}
 use Rattle.host_run.specs.Run.{run, turns}
 use Rattle.host_run.specs.Touched.{touched_by_turn}
 use Rattle.dpmi_io.specs.Causes.{Rose}
-use Rattle.dpmi_io.specs.Content.{Told, Gains, GainsPart}
+use Rattle.dpmi_io.specs.Content.{Shown, Gains, GainsPart}
 use Rattle.dpmi_cli.specs.Answer.{Starts, run_status, exit_status}
 use Rattle.dpmi_cli.specs.Causes.{Answers}
-use Rattle.dpmi_cli.specs.Text.{text}
+use Rattle.dpmi_cli.specs.Text.{short_text}
 use Rattle.dpmi_cli.proofs.SmallStatus.{exit_status-small, run_status-small}
 
 -- the whole is a part
-part_whole : (a b : Told) (xs : List ℕ) → Gains a b xs → GainsPart a b xs
+part_whole : (a b : Shown) (xs : List ℕ) → Gains a b xs → GainsPart a b xs
 part_whole a b xs whole = (length xs, omega arith, subst (λ l. Gains a b l) (sym (take_all (length xs) xs (omega arith))) whole)
 
 status_is : (w : HostWorld) (e : Exit) → w.exit ≡ Some e → run_status w ≡ exit_status e
@@ -30,16 +30,16 @@ abbrev TouchesHold : Type 0
 TouchesHold = (w : HostWorld) (n : ℕ) → All (IsHeld (turns w n).machine) (touched_by_turn (turns w n))
 
 -- the run ended so, and its text was written whole
-pub gives_run : (w after : HostWorld) (e : Exit) (before now : Told) (m n result : ℕ) → TouchesHold →
-    after ≡ run w DEFAULT_BOUND → after.exit ≡ Some e → Gains before now (text after) →
+pub gives_run : (w after : HostWorld) (e : Exit) (before now : Shown) (m n result : ℕ) → TouchesHold →
+    after ≡ run w DEFAULT_BOUND → after.exit ≡ Some e → Gains before now (short_text after) →
     result ≡ exit_status e →
     Answers (Starts w) before now m n result
 gives_run w after e before now m n result held is ended whole status =
-    let text_is : Gains before now (text (run w DEFAULT_BOUND)) = subst (λ (v : HostWorld). Gains before now (text v)) is whole in
+    let text_is : Gains before now (short_text (run w DEFAULT_BOUND)) = subst (λ (v : HostWorld). Gains before now (short_text v)) is whole in
     let status_of_run : result ≡ run_status (run w DEFAULT_BOUND) =
     status ∙ sym (status_is after e ended) ∙ ap run_status is in
     record {
-      writes_the_answer = part_whole before now (text (run w DEFAULT_BOUND)) text_is;
+      writes_the_answer = part_whole before now (short_text (run w DEFAULT_BOUND)) text_is;
       status_of_the_answer = inl status_of_run;
       whole_text = λ _. text_is;
       whole_line = λ _. inl text_is;
@@ -48,11 +48,11 @@ gives_run w after e before now m n result held is ended whole status =
     }
 
 -- the run ended, and the output failed in its text
-pub gives_cut : (w after : HostWorld) (before now : Told) (m n : ℕ) → TouchesHold →
-    after ≡ run w DEFAULT_BOUND → GainsPart before now (text after) → Rose m n →
+pub gives_cut : (w after : HostWorld) (before now : Shown) (m n : ℕ) → TouchesHold →
+    after ≡ run w DEFAULT_BOUND → GainsPart before now (short_text after) → Rose m n →
     Answers (Starts w) before now m n 4
 gives_cut w after before now m n held is part rose = record {
-  writes_the_answer = subst (λ (v : HostWorld). GainsPart before now (text v)) is part;
+  writes_the_answer = subst (λ (v : HostWorld). GainsPart before now (short_text v)) is part;
   status_of_the_answer = inr (refl, run_status-small (run w DEFAULT_BOUND));
   whole_text = λ small. absurd (omega arith);
   whole_line = λ two. absurd (omega arith);

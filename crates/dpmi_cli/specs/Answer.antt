@@ -17,8 +17,8 @@ use Rattle.dpmi_cli.specs.declared.prepare.Reason.TheVariants.{Words, FileTooLon
 use Rattle.dpmi_cli.specs.declared.prepare.Prepared.{Prepared}
 use Rattle.dpmi_cli.specs.declared.prepare.Prepared.TheVariants.{Refused, Ready}
 use Rattle.dpmi_cli.specs.declared.status.TheConstants.{EXITED, ENDED_OTHERWISE, REFUSED}
-use Rattle.dpmi_cli.specs.Text.{text, refused}
-use Rattle.dpmi_cli.specs.Words.{meaning}
+use Rattle.dpmi_cli.specs.Text.{short_text, refused}
+use Rattle.dpmi_cli.specs.Words.{file_to_run}
 
 -- what comes of the words and the files: a refusal, or the world in which a run starts
 pub data Verdict : Type 0 where
@@ -36,7 +36,7 @@ verdict_of file =
 
 -- the verdict on the words; none where the file that they name isn't there
 abbrev pub verdict : List (List ℕ) → Files → Option Verdict
-verdict words files = elim (meaning words) [
+verdict words files = elim (file_to_run words) [
   | None ↦ Some (Refuses Words)
   | Some name ↦ option_map verdict_of (files name)
 ]
@@ -73,7 +73,7 @@ pub record Answer : Type 0 where
 abbrev pub answer_to : Verdict → Answer
 answer_to (Refuses reason) = record { text = refused reason; status = REFUSED }
 answer_to (Starts w) =
-    let end = run w DEFAULT_BOUND in record { text = text end; status = run_status end }
+    let end = run w DEFAULT_BOUND in record { text = short_text end; status = run_status end }
 
 -- the answer to the words, by the files
 abbrev pub answer : List (List ℕ) → Files → Option Answer

@@ -1,8 +1,8 @@
--- What a call of the command wrote and answered, and why. Source: own.
+-- What a call of the command wrote and returned, and why. Source: own.
 use Rattle.std.specs.Prelude.{ℕ, List, ◌≡◌, ◌⊎◌, ◌<◌, None, Some, Contains, IsSomeAnd}
 use Rattle.std.specs.declared.option.Option.{Option}
 use Rattle.dpmi_io.specs.Causes.{Rose}
-use Rattle.dpmi_io.specs.Content.{Files, Told, Gains, GainsPart}
+use Rattle.dpmi_io.specs.Content.{Files, Shown, Gains, GainsPart}
 use Rattle.dpmi_cli.specs.declared.status.TheConstants.{REFUSED, OUTPUT_FAILED}
 use Rattle.dpmi_cli.specs.Words.{file_names}
 use Rattle.dpmi_cli.specs.Answer.{Verdict, verdict, answer, answer_to, TouchesWhatIsHeld}
@@ -12,18 +12,18 @@ abbrev pub NamedFailed : List (List ℕ) → ℕ → ℕ → Option (List ℕ) �
 NamedFailed words before now blamed =
     Rose before now × IsSomeAnd blamed (λ name. Contains (file_names words) name)
 
--- the files are told, and one that the words need isn't there
+-- the files are known, and one that the words need isn't there
 abbrev pub IsAbsent : List (List ℕ) → Option Files → Type 0
 IsAbsent words None = ⊥
 IsAbsent words (Some files) = answer words files ≡ None
 
--- the words and the files have such a verdict; where the files aren't told, the words and some files have
+-- the words and the files have such a verdict; where the files aren't known, the words and some files have
 abbrev pub HasVerdict : List (List ℕ) → Option Files → (Verdict → Type 0) → Type 0
 HasVerdict words None P = (files : Files) × IsSomeAnd (verdict words files) P
 HasVerdict words (Some files) P = IsSomeAnd (verdict words files) P
 
 -- the call wrote and returned the answer to the verdict, but for what a failure of the output cut off
-pub record Answers (v : Verdict) (before now : Told) (faults_before faults_now result : ℕ) : Type 0 where
+pub record Answers (v : Verdict) (before now : Shown) (faults_before faults_now result : ℕ) : Type 0 where
   pub writes_the_answer : GainsPart before now (answer_to v).text
   pub status_of_the_answer :
       (result ≡ (answer_to v).status) ⊎ ((result ≡ OUTPUT_FAILED) × ((answer_to v).status < REFUSED))

@@ -14,17 +14,17 @@ use Rattle.dpmi_cli.specs.Answer.{Verdict, Refuses, Starts, verdict_of}
 abbrev pub IsFront : List ℕ → List ℕ → Type 0
 IsFront bytes file = bytes ≡ take FRONT_SIZE file
 
--- the file of that name has these first bytes; where the files aren't told, some file has
+-- the file of that name has these first bytes; where the files aren't known, some file has
 abbrev pub HasFront : Option Files → List ℕ → List ℕ → Type 0
 HasFront None name bytes = (file : List ℕ) × IsFront bytes file
 HasFront (Some files) name bytes = IsSomeAnd (files name) (IsFront bytes)
 
--- the file of that name has that verdict; where the files aren't told, some file has
+-- the file of that name has that verdict; where the files aren't known, some file has
 abbrev pub Comes : Option Files → List ℕ → Verdict → Type 0
 Comes None name v = (file : List ℕ) × (verdict_of file ≡ v)
 Comes (Some files) name v = option_map verdict_of (files name) ≡ Some v
 
--- the file of that name failed in this call and is blamed, or the files are told and have none of that name
+-- the file of that name failed in this call and is blamed, or the files are known and have none of that name
 abbrev pub FailsAt : Option Files → List ℕ → ℕ → ℕ → Option (List ℕ) → Type 0
 FailsAt files name before now blamed = (Rose before now × (blamed ≡ Some name)) ⊎ Lacks files name
 

@@ -9,13 +9,13 @@ names_file [] = false
 names_file (b ∷ bs) = not (nat_eq b 0x2D)
 
 -- the name of the file that is to be run; words mean a run exactly where they are `run` and such a name
-abbrev pub meaning : List (List ℕ) → Option (List ℕ)
-meaning [] = None
-meaning (command ∷ []) = None
-meaning (command ∷ name ∷ []) =
+abbrev pub file_to_run : List (List ℕ) → Option (List ℕ)
+file_to_run [] = None
+file_to_run (command ∷ []) = None
+file_to_run (command ∷ name ∷ []) =
     if pointwise nat_eq command (codes "run") && names_file name then Some name else None
-meaning (command ∷ name ∷ third ∷ rest) = None
+file_to_run (command ∷ name ∷ third ∷ rest) = None
 
 -- the names of the files that the words need
 abbrev pub file_names : List (List ℕ) → List (List ℕ)
-file_names words = elim (meaning words) [ None ↦ [] | Some name ↦ name ∷ [] ]
+file_names words = elim (file_to_run words) [ None ↦ [] | Some name ↦ name ∷ [] ]

@@ -6,7 +6,7 @@ ghost use Rattle.dpmi_cli.specs.Answer.{answer, exit_status, Verdict};
 ghost use Rattle.dpmi_cli.specs.Answer.Verdict.{Refuses, Starts};
 ghost use Rattle.dpmi_cli.specs.Causes.{NamedFailed, IsAbsent, HasVerdict, Answers};
 ghost use Rattle.dpmi_cli.specs.Load.{IsNew};
-ghost use Rattle.dpmi_cli.specs.Words.{meaning};
+ghost use Rattle.dpmi_cli.specs.Words.{file_to_run};
 
 use crate::prepare::{Prepared, Reason, Stop, prepare};
 use crate::report::{write_all_of, write_refusal};
@@ -51,7 +51,7 @@ fn run_client<O: Sink>(host: &mut Host, out: &mut O) -> u8
     }
 }
 
-// Answers the words.
+// Does what the words mean.
 fn answer_words<F: Shelf, O: Sink>(
     alloc: Global,
     words: &[String],
@@ -77,10 +77,10 @@ fn answer_words<F: Shelf, O: Sink>(
     }
 }
 
-/// All that the program does. The words after its name, the files and the output are handed in, and the status
-/// is answered: 0 and 1 for a run by its exit, 2 for a refusal, 3 where a file that the words name failed or isn't
-/// there, 4 where the output failed, 5 for want of memory. With 3 and 5 nothing is written. All memory is taken
-/// before the load. Source: own.
+/// All that the program does, with the words after its name, the files and the output. Returns the status: 0 and 1
+/// for a run by its exit, 2 for a refusal, 3 where a file that the words name failed or isn't there, 4 where the
+/// output failed, 5 where memory ran out. With 3 and 5 nothing is written. All memory is taken before the load.
+/// Source: own.
 pub fn dpmi<F: Shelf, O: Sink>(alloc: Global, words: &[String], shelf: &mut F, out: &mut O) -> u8
     ensures answers { result ≢ FILE_FAILED → result ≢ NO_MEMORY →
         HasVerdict (map string_bytes words.now) (F.files shelf.old)
@@ -93,13 +93,13 @@ pub fn dpmi<F: Shelf, O: Sink>(alloc: Global, words: &[String], shelf: &mut F, o
         O.taken out.new ≡ O.taken out.old }
     ensures known { result ≤ NO_MEMORY }
 
-    // Where no file that the words name fails, nor the output, and the files are told.
+    // Where no file that the words name fails, nor the output, and the files are known.
     ensures answers_when_it_can { (NamedFailed (map string_bytes words.now) (F.faults shelf.old) (F.faults shelf.new) (F.blamed shelf.new) → ⊥) →
         (Rose (O.faults out.old) (O.faults out.new) → ⊥) →
         IfSome (F.files shelf.old) (λ files. IfSome (answer (map string_bytes words.now) files)
         (λ a. (result ≡ NO_MEMORY)
         ⊎ ((result ≡ a.status) × Gains (O.taken out.old) (O.taken out.new) a.text))) }
-    ensures wrong_words_are_refused { meaning (map string_bytes words.now) ≡ None →
+    ensures wrong_words_are_refused { file_to_run (map string_bytes words.now) ≡ None →
         (result ≡ NO_MEMORY)
         ⊎ Answers (Refuses Reason.Words)
         (O.taken out.old) (O.taken out.new) (O.faults out.old) (O.faults out.new) result }

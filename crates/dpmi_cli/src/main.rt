@@ -4,7 +4,6 @@
 #![tactic(auto)]
 
 mod command;
-mod line;
 mod prepare;
 mod report;
 mod status;

@@ -65,10 +65,10 @@ fn read_front<F: Shelf>(shelf: &mut F, name: String, buf: &mut [u8]) -> Result<u
     }
 }
 
-// Loads a file's first bytes into a new host. None is answered where it is taken, else the reason.
+// Loads a file's first bytes into a new host. Returns None where it is taken, else the reason.
 fn load_front(front: &[u8], host: &mut Host) -> Option<Reason>
     requires blank { host.old.world ≡ blank DEFAULT_PAGES [] DEFAULT_TRACE }
-    ensures told { verdict_of front.now ≡ load_verdict result host.new.world }
+    ensures verdict { verdict_of front.now ≡ load_verdict result host.new.world }
     ensures new { IsNew (load_verdict result host.new.world) }
 {
     if front.len() > MAX_FILE as usize {
@@ -80,7 +80,7 @@ fn load_front(front: &[u8], host: &mut Host) -> Option<Reason>
     }
 }
 
-// Reads a file and loads it into a new host. None is answered where it is taken, else the reason.
+// Reads a file and loads it into a new host. Returns None where it is taken, else the reason.
 fn load_file<F: Shelf>(
     shelf: &mut F,
     name: String,
@@ -89,7 +89,7 @@ fn load_file<F: Shelf>(
 ) -> Result<Option<Reason>, ShelfFail>
     requires room { length buf.old ≡ FRONT_SIZE }
     requires blank { host.old.world ≡ blank DEFAULT_PAGES [] DEFAULT_TRACE }
-    ensures told { IfOk result (λ reason.
+    ensures verdict { IfOk result (λ reason.
         Comes (F.files shelf.old) (string_bytes name) (load_verdict reason host.new.world)) }
     ensures new { IfOk result (λ reason. IsNew (load_verdict reason host.new.world)) }
     ensures failed { OnErr result
@@ -104,7 +104,7 @@ fn load_file<F: Shelf>(
 
 // Takes all the memory, reads the file of that name and loads it.
 fn prepare_file<F: Shelf>(alloc: Global, name: &str, shelf: &mut F) -> Result<Prepared, Stop>
-    ensures told { IfOk result (λ p. Comes (F.files shelf.old) name.now (verdict_in p)) }
+    ensures verdict { IfOk result (λ p. Comes (F.files shelf.old) name.now (verdict_in p)) }
     ensures new { IfOk result (λ p. IsNew (verdict_in p)) }
     ensures failed { IsErrOf result Stop.Shelf →
         FailsAt (F.files shelf.old) name.now (F.faults shelf.old) (F.faults shelf.new) (F.blamed shelf.new) }
@@ -122,7 +122,7 @@ fn prepare_file<F: Shelf>(alloc: Global, name: &str, shelf: &mut F) -> Result<Pr
 /// Reads the words, takes all the memory, reads the file and loads it.
 /// `Memory`: an allocation was refused. `Shelf`: the file failed or isn't there.
 pub fn prepare<F: Shelf>(alloc: Global, words: &[String], shelf: &mut F) -> Result<Prepared, Stop>
-    ensures told { IfOk result (λ p.
+    ensures verdict { IfOk result (λ p.
         HasVerdict (map string_bytes words.now) (F.files shelf.old) (λ v. v ≡ verdict_in p)) }
     ensures new { IfOk result (λ p. IsNew (verdict_in p)) }
     ensures failed { IsErrOf result Stop.Shelf →

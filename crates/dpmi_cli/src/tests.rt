@@ -277,7 +277,7 @@ fn a_file_fails(rt: HostRuntime) -> Result<(), Fail> {
     Ok(())
 }
 
-// The text is put in pieces of at most 8 bytes: two of the head, one of the console, three after it.
+// The text is put in pieces of at most 8 bytes: two of the head, one of the console, one for the end of its line, three after it.
 #[test]
 fn each_put_fails_in_turn(rt: HostRuntime) -> Result<(), Fail> {
     let run = words(&rt, &["run", "A.EXE"])?;
@@ -286,8 +286,9 @@ fn each_put_fails_in_turn(rt: HostRuntime) -> Result<(), Fail> {
         "console ",
         "console 1\n",
         "console 1\nA",
-        "console 1\nA\nexit ex",
-        "console 1\nA\nexit exited 0\ns",
+        "console 1\nA\n",
+        "console 1\nA\nexit exi",
+        "console 1\nA\nexit exited 0\nst",
     ];
     for (i, text) in kept.iter().enumerate() {
         let mut shelf = MemShelf::new(rt.alloc());

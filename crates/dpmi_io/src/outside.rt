@@ -2,7 +2,7 @@
 ghost use Rattle.std.specs.Prelude.{◌≡◌, ◌≤◌, ◌<◌, List, ℕ, Some, None, length, take, string_bytes, IfOk, OnOk, OnErr, IsErrOf, IsSome};
 ghost use Rattle.std.specs.declared.option.Option.{Option};
 ghost use Rattle.dpmi_io.specs.Causes.{Rose};
-ghost use Rattle.dpmi_io.specs.Content.{Files, Starts, Lacks, Gives, Told, Gains, GainsPart};
+ghost use Rattle.dpmi_io.specs.Content.{Files, Starts, Lacks, Gives, Shown, Gains, GainsPart};
 
 use thiserror::Error;
 
@@ -27,20 +27,20 @@ pub trait Shelf {
     /// The name of the open file.
     ghost open_name: { Self → Option (List ℕ) };
 
-    /// The name of the file at the last call that answered `Failed`.
+    /// The name of the file at the last call that returned `Failed`.
     ghost blamed: { Self → Option (List ℕ) };
 
-    /// The files, where they are told.
+    /// The files, where they are known.
     ghost files: { Self → Option Files };
 
-    /// The bytes left of the open file, where they are told.
+    /// The bytes left of the open file, where they are known.
     ghost left: { Self → Option (List ℕ) };
 
-    /// How often a call answered `Failed`, up to the greatest u64.
+    /// How often a call returned `Failed`, up to the greatest u64.
     ghost faults: { Self → ℕ };
 
     /// Starts the file of that name, in the place of the one that was open.
-    /// `Missing`: the files are told, and none has the name. `Failed`: the count of faults rose.
+    /// `Missing`: the files are known, and none has the name. `Failed`: the count of faults rose.
     fn open(&mut self, name: String) -> Result<(), ShelfFail>
         ensures files { files self.new ≡ files self.old }
         ensures opened { OnOk result (open_name self.new ≡ Some (string_bytes name)) }
@@ -76,8 +76,8 @@ pub trait Shelf {
 
 /// Where text goes. Source: own.
 pub trait Sink {
-    /// What is told of the bytes taken.
-    ghost taken: { Self → Told };
+    /// What is shown of the bytes taken.
+    ghost taken: { Self → Shown };
 
     /// How often a call failed, up to the greatest u64.
     ghost faults: { Self → ℕ };

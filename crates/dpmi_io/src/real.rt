@@ -1,4 +1,4 @@
-// The files of the system and a writer of the system. They tell nothing of content.
+// The files of the system and a writer of the system. They show nothing of content.
 ghost use Rattle.std.specs.Prelude.{◌≡◌, None};
 
 use crate::{Shelf, ShelfFail, Sink, SinkFail};

@@ -2,7 +2,6 @@
 use Rattle.std.specs.Prelude.{ℕ, List, [], ◌∷◌, slice_index}
 use Rattle.std.specs.Int.{to_be_bytes, w16, w32}
 use Rattle.hex.specs.Hex.{encode_lower, lower_digits}
-use Rattle.sha2.specs.Sha256.{sha256}
 
 -- a number below 16, a byte, a word and a doubleword, with one, two, four and eight digits
 abbrev pub hex_digit : ℕ → ℕ
@@ -16,7 +15,3 @@ hex_word n = encode_lower (to_be_bytes w16 n)
 
 abbrev pub hex_doubleword : ℕ → List ℕ
 hex_doubleword n = encode_lower (to_be_bytes w32 n)
-
--- the SHA-256 digest of some bytes, in 64 digits. Source: FIPS 180-4
-abbrev pub digest_text : List ℕ → List ℕ
-digest_text bytes = encode_lower (sha256 bytes)

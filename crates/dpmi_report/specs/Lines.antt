@@ -37,6 +37,10 @@ exit_text BadFrame = codes "badframe"
 exit_text BadSwitch = codes "badswitch"
 exit_text Unbuilt = codes "unbuilt"
 
+-- the lines of how a run ended, and after how many turns
+abbrev pub exit_part : Exit → ℕ → List ℕ
+exit_part exit steps = codes "exit " ++ exit_text exit ++ line_end ++ codes "steps " ++ decimal steps ++ line_end
+
 -- how a mode is written
 abbrev pub mode_text : Mode → List ℕ
 mode_text Real = codes "real"
@@ -76,7 +80,7 @@ desc_line selector d origin =
     ++ codes " access=" ++ hex_byte (access_byte d) ++ codes " flags=" ++ (hex_digit (flags_byte d / 16) ∷ [])
     ++ codes " origin=" ++ origin_text origin ++ line_end
 
--- the same of the row at an index, which may hold none
+-- the line of the row at an index; none where it holds no descriptor
 abbrev pub desc_text : ℕ → Row → List ℕ
 desc_text index None = []
 desc_text index (Some row) = desc_line (selector_of index) row.0 row.1

@@ -8,15 +8,11 @@ use Rattle.client_world.specs.Services.{is_set}
 use Rattle.client_world.specs.declared.trace.TraceLine.{TraceLine}
 use Rattle.client_world.specs.declared.trace.TraceLine.TheVariants.{Int31, Int21, Int2f, Int20, Entry, EntryRefused, ToProtected, ToReal, Enter, Leave}
 use Rattle.client_world.specs.World.{HostWorld}
-use Rattle.dpmi_report.specs.Lines.{line_end, exit_text, dos_line}
+use Rattle.dpmi_report.specs.Lines.{line_end, exit_part, dos_line}
 
 -- the number of the client
 abbrev pub soak_head : ℕ → List ℕ
 soak_head number = codes "soak " ++ decimal number ++ line_end
-
--- how the run ended, and after how many turns
-abbrev pub exit_part : Exit → ℕ → List ℕ
-exit_part exit steps = codes "exit " ++ exit_text exit ++ line_end ++ codes "steps " ++ decimal steps ++ line_end
 
 -- the line is that of a service of INT 31h
 abbrev pub is_service : TraceLine → Bool

@@ -7,7 +7,7 @@ use Rattle.client_world.specs.declared.outcome.Exit.{Exit}
 use Rattle.client_world.specs.declared.registers.Mode.{Mode}
 use Rattle.client_world.specs.declared.registers.Regs.{Regs}
 use Rattle.client_world.specs.World.{World, HostWorld, depth}
-use Rattle.dpmi_report.specs.Lines.{line_end, exit_text, mode_text, regs_text, desc_row, block_row, dos_line}
+use Rattle.dpmi_report.specs.Lines.{line_end, exit_part, mode_text, regs_text, desc_row, block_row, dos_line}
 use Rattle.dpmi_report.specs.Rows.{up_to}
 use Rattle.dpmi_report.specs.Trace.{trace_row}
 
@@ -29,8 +29,7 @@ trace_part w = trace_head (length w.kept) w.lines ++ up_to (trace_row w.kept) (l
 
 -- how the run ended, and after how many turns
 abbrev pub end_part : Exit → ℕ → List ℕ
-end_part exit steps =
-    codes "report" ++ line_end ++ codes "exit " ++ exit_text exit ++ line_end ++ codes "steps " ++ decimal steps ++ line_end
+end_part exit steps = codes "report" ++ line_end ++ exit_part exit steps
 
 -- the mode, the depth n and the registers
 abbrev pub processor_text : Mode → ℕ → Regs → Bool → List ℕ

@@ -13,6 +13,7 @@ mod summary;
 mod tests;
 mod trace;
 
-pub use parts::put_dos;
+pub use line::{Line, add};
+pub use parts::{put_console, put_dos, put_exit};
 pub use report::{write_run, write_state};
 pub use summary::write_summary;

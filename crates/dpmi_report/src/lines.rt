@@ -2,9 +2,9 @@
 ghost use Rattle.std.specs.Prelude.{◌≡◌, ◌≤◌, ◌<◌, ◌+◌, ◌/◌, ◌++◌, ◌^◌, length};
 ghost use Rattle.client_world.specs.Descriptor.{access_byte, flags_byte};
 ghost use Rattle.dpmi_report.specs.Digits.{hex_word, hex_doubleword};
-ghost use Rattle.dpmi_report.specs.Lines.{exit_text, mode_text, wide_text, narrow_text, regs_text, origin_text, desc_line, digest_line, block_line_with};
+ghost use Rattle.dpmi_report.specs.Lines.{exit_text, exit_part, mode_text, wide_text, narrow_text, regs_text, origin_text, desc_line, digest_line, block_line_with};
 ghost use Rattle.dpmi_report.specs.Text.{console_head, trace_head, end_part, processor_text, descs_head};
-ghost use Rattle.dpmi_report.specs.Summary.{soak_head, exit_part, services_text, console_digest_text};
+ghost use Rattle.dpmi_report.specs.Summary.{soak_head, services_text, console_digest_text};
 
 use crate::line::{
     Line, add, add_decimal, add_digest, add_hex_byte, add_hex_digit, add_hex_doubleword,
@@ -76,20 +76,37 @@ pub fn trace_line(kept: u32, lines: u32) -> Line
     line
 }
 
-/// The lines of the report's head, of the exit and of the turns.
+// Adds the lines of the exit and of the turns.
 #[tactic(auto, using(crate::proofs::Decimal::decimal_short))]
+fn add_exit_lines(lines: &mut Line, exit: Exit, steps: u32)
+    requires { length lines.old.items ≤ 90 }
+    ensures { lines.new.items ≡ lines.old.items ++ exit_part exit steps }
+{
+    add(lines, b"exit ");
+    add_exit(lines, exit);
+    add(lines, b"\n");
+    add(lines, b"steps ");
+    add_decimal(lines, u64::from(steps));
+    add(lines, b"\n");
+}
+
+/// The lines of the exit and of the turns.
+pub fn exit_lines(exit: Exit, steps: u32) -> Line
+    ensures { result.items ≡ exit_part exit steps }
+{
+    let mut lines = Line::new();
+    add_exit_lines(&mut lines, exit, steps);
+    lines
+}
+
+/// The lines of the report's head, of the exit and of the turns.
 pub fn end_lines(exit: Exit, steps: u32) -> Line
     ensures { result.items ≡ end_part exit steps }
 {
     let mut lines = Line::new();
     add(&mut lines, b"report");
     add(&mut lines, b"\n");
-    add(&mut lines, b"exit ");
-    add_exit(&mut lines, exit);
-    add(&mut lines, b"\n");
-    add(&mut lines, b"steps ");
-    add_decimal(&mut lines, u64::from(steps));
-    add(&mut lines, b"\n");
+    add_exit_lines(&mut lines, exit, steps);
     lines
 }
 
@@ -265,21 +282,6 @@ pub fn soak_line(number: u64) -> Line
     add_decimal(&mut line, number);
     add(&mut line, b"\n");
     line
-}
-
-/// The lines of the exit and of the turns.
-#[tactic(auto, using(crate::proofs::Decimal::decimal_short))]
-pub fn exit_lines(exit: Exit, steps: u32) -> Line
-    ensures { result.items ≡ exit_part exit steps }
-{
-    let mut lines = Line::new();
-    add(&mut lines, b"exit ");
-    add_exit(&mut lines, exit);
-    add(&mut lines, b"\n");
-    add(&mut lines, b"steps ");
-    add_decimal(&mut lines, u64::from(steps));
-    add(&mut lines, b"\n");
-    lines
 }
 
 /// The line of the services of INT 31h, and of those that were refused.

@@ -3,7 +3,7 @@ ghost use Rattle.std.specs.Prelude.{◌≡◌, ◌≤◌, ◌<◌, ◌+◌, ◌+
 ghost use Rattle.client_world.specs.declared.host_frames.TheConstants.{DESCRIPTORS};
 ghost use Rattle.dpmi_io.specs.Causes.{Rose};
 ghost use Rattle.dpmi_io.specs.Content.{Gains, GainsPart};
-ghost use Rattle.dpmi_report.specs.Lines.{line_end, desc_row, dos_line};
+ghost use Rattle.dpmi_report.specs.Lines.{line_end, exit_part, desc_row, dos_line};
 ghost use Rattle.dpmi_report.specs.Rows.{up_to};
 ghost use Rattle.dpmi_report.specs.Text.{console_head, console_part, trace_head, trace_part, end_part, processor_text, processor_part, descs_head, descs_part};
 ghost use Rattle.dpmi_report.specs.Trace.{trace_row};
@@ -11,8 +11,8 @@ ghost use Rattle.dpmi_report.specs.Trace.{trace_row};
 use crate::digest::dos_digest;
 use crate::line::Line;
 use crate::lines::{
-    console_line, descriptor_line, descriptors_line, dos_line, end_lines, processor_lines,
-    trace_line,
+    console_line, descriptor_line, descriptors_line, dos_line, end_lines, exit_lines,
+    processor_lines, trace_line,
 };
 use crate::trace::event_line;
 use client_world::Exit;
@@ -61,7 +61,8 @@ fn put_console_bytes<O: Sink>(host: &Host, out: &mut O) -> Result<(), SinkFail>
     put_all(out, console)
 }
 
-/// Puts the console's part.
+/// Puts the console's part: the number of its bytes, those bytes, and the end of a line. Where it fails a first part was put, and the
+/// output's count of faults rose. Source: own.
 pub fn put_console<O: Sink>(host: &Host, out: &mut O) -> Result<(), SinkFail>
     ensures whole { OnOk result (Gains (O.taken out.old) (O.taken out.new) (console_part host.now.world)) }
     ensures part { OnErr result (GainsPart (O.taken out.old) (O.taken out.new) (console_part host.now.world)) }
@@ -157,6 +158,25 @@ pub fn put_trace<O: Sink>(host: &Host, out: &mut O) -> Result<(), SinkFail>
         Ok(()) => Ok(()),
         Err(fail) => Err(fail),
     }
+}
+
+// The lines of the exit and of the turns.
+fn exit_lines_of(host: &Host, exit: Exit) -> Line
+    ensures { result.items ≡ exit_part exit host.now.world.steps }
+{
+    exit_lines(exit, host.steps())
+}
+
+/// Puts how a run ended, and after how many turns: two lines. Where it fails a first part of them was put, and the
+/// output's count of faults rose. Source: own.
+pub fn put_exit<O: Sink>(host: &Host, exit: Exit, out: &mut O) -> Result<(), SinkFail>
+    ensures whole { OnOk result (Gains (O.taken out.old) (O.taken out.new) (exit_part exit host.now.world.steps)) }
+    ensures part { OnErr result (GainsPart (O.taken out.old) (O.taken out.new) (exit_part exit host.now.world.steps)) }
+    ensures quiet { OnOk result (O.faults out.new ≡ O.faults out.old) }
+    ensures failed { OnErr result (Rose (O.faults out.old) (O.faults out.new)) }
+{
+    let lines = exit_lines_of(host, exit);
+    put_all(out, lines.as_slice())
 }
 
 // The lines of the report's head, of the exit and of the turns.

@@ -3,12 +3,12 @@ ghost use Rattle.std.specs.Prelude.{◌≡◌, ◌≤◌, ◌++◌, OnOk, OnErr,
 ghost use Rattle.dpmi_io.specs.Causes.{Rose};
 ghost use Rattle.dpmi_io.specs.Content.{Gains, GainsPart};
 ghost use Rattle.sha2.specs.Sha256.{sha256};
-ghost use Rattle.dpmi_report.specs.Lines.{dos_line};
-ghost use Rattle.dpmi_report.specs.Summary.{soak_head, exit_part, is_service, is_refusal, services_line, console_line, summary_at};
+ghost use Rattle.dpmi_report.specs.Lines.{exit_part, dos_line};
+ghost use Rattle.dpmi_report.specs.Summary.{soak_head, is_service, is_refusal, services_line, console_line, summary_at};
 
 use crate::line::Line;
-use crate::lines::{console_digest_line, exit_lines, services_line, soak_line};
-use crate::parts::put_dos;
+use crate::lines::{console_digest_line, services_line, soak_line};
+use crate::parts::{put_dos, put_exit};
 use client_world::{Carry, Exit, TraceLine};
 use dpmi_io::{Sink, SinkFail, put_all};
 use host_run::Host;
@@ -75,13 +75,6 @@ fn count_refusals(host: &Host) -> u32
     count
 }
 
-// The lines of the exit and of the turns.
-fn exit_lines_of(host: &Host, exit: Exit) -> Line
-    ensures { result.items ≡ exit_part exit host.now.world.steps }
-{
-    exit_lines(exit, host.steps())
-}
-
 // The line of the services.
 fn services_line_of(host: &Host) -> Line
     ensures { result.items ≡ services_line host.now.world.kept }
@@ -107,17 +100,6 @@ fn put_soak<O: Sink>(number: u64, out: &mut O) -> Result<(), SinkFail>
 {
     let line = soak_line(number);
     put_all(out, line.as_slice())
-}
-
-// Puts the lines of the exit and of the turns.
-fn put_exit<O: Sink>(host: &Host, exit: Exit, out: &mut O) -> Result<(), SinkFail>
-    ensures whole { OnOk result (Gains (O.taken out.old) (O.taken out.new) (exit_part exit host.now.world.steps)) }
-    ensures part { OnErr result (GainsPart (O.taken out.old) (O.taken out.new) (exit_part exit host.now.world.steps)) }
-    ensures quiet { OnOk result (O.faults out.new ≡ O.faults out.old) }
-    ensures failed { OnErr result (Rose (O.faults out.old) (O.faults out.new)) }
-{
-    let lines = exit_lines_of(host, exit);
-    put_all(out, lines.as_slice())
 }
 
 // Puts the line of the services.

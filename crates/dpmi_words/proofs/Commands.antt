@@ -13,7 +13,7 @@ use Rattle.clap.proofs.OnLiterals.{clap_on_literals}
 use Rattle.clap.proofs.TakesLemmas.{leaf_takes}
 use Rattle.clap.specs.declared.parser.matches.Found.{Found}
 use Rattle.clap.proofs.WalkLemmas.{first_value-rows}
-use Rattle.dpmi_words.specs.Reading.{Text, Reading, nothing_read, operand, has_given, is_listed, reads, finished, finished_by, given_by, value_of, run_options, soak_options}
+use Rattle.dpmi_words.specs.Reading.{Text, Reading, nothing_read, operand_name, has_given, is_among, reads, finished, finished_by, given_by, value_given, run_options, soak_options}
 use Rattle.dpmi_words.specs.Command.{run_app, soak_app, Assigns}
 use Rattle.dpmi_words.proofs.Walks.{Rules, Tied, Idle, row, walk_at, all_steps, when_Some}
 
@@ -24,9 +24,9 @@ or_true true b h = inl refl
 or_true false b h = inr h
 
 -- what holds of each listed name
-each_name : (P : Text → Type 0) (names : List Text) → AllByRecursion P names → (n : Text) → is_listed names n ≡ true → P n
+each_name : (P : Text → Type 0) (names : List Text) → AllByRecursion P names → (n : Text) → is_among names n ≡ true → P n
 each_name P [] all n h = absurd (true≢false (sym h))
-each_name P (x ∷ xs) all n h = elim (or_true (bytes_eq x n) (is_listed xs n) h) [
+each_name P (x ∷ xs) all n h = elim (or_true (bytes_eq x n) (is_among xs n) h) [
   | inl same ↦ subst P ((bytes_eq-Decides x n).0 same) all.0
   | inr later ↦ each_name P xs all.1 n later
 ]
@@ -69,7 +69,7 @@ finished_is (Some r) given e = go r.waiting refl e
     go : (w : Option Text) → r.waiting ≡ w → finished_by w r.given ≡ Some given → (x : Reading) × (Some r ≡ Some x) × (x.waiting ≡ None) × (x.given ≡ given)
     go (Some n) is h = cc
     go None is h =
-        let both = when_Some (has_given operand r.given) (Some r.given) given h in
+        let both = when_Some (has_given operand_name r.given) (Some r.given) given h in
         let same : r.given ≡ given = let s = both.1 in cc in
         (r, refl, is, same)
 
@@ -128,11 +128,11 @@ soak_matches words given e =
     ∙ ends.2.rows
 
 -- the first value of a name in the rows
-pub first_given : (name : Text) (given : List (Text × Text)) → first_of name (map row given) ≡ value_of name given
+pub first_given : (name : Text) (given : List (Text × Text)) → first_of name (map row given) ≡ value_given name given
 first_given name [] = refl
 first_given name (p ∷ ps) = go (bytes_eq p.0 name) (first_given name ps)
   where
-    go : (b : Bool) → first_of name (map row ps) ≡ value_of name ps →
+    go : (b : Bool) → first_of name (map row ps) ≡ value_given name ps →
         option_and_then (λ (r : Row). slice_get r.values 0) (cond b (Some (row p)) (find (λ (r : Row). bytes_eq r.id name) (map row ps)))
         ≡ option_map (λ (q : Text × Text). q.1) (cond b (Some p) (find (λ (q : Text × Text). bytes_eq q.0 name) ps))
     go true h = refl

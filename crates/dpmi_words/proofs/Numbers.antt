@@ -5,7 +5,7 @@ use Rattle.std.specs.List.{list_all}
 use Rattle.std.specs.Char.{digit_value}
 use Rattle.std.specs.Str.Parse.{AllDigits, IsNumeral, digits_value, without_leading_plus}
 use Rattle.std.proofs.lemmas.Str.Parse.{without_leading_plus_none}
-use Rattle.dpmi_words.specs.Numbers.{is_digit, is_number, is_between, number_of}
+use Rattle.dpmi_words.specs.Numbers.{is_digit, is_decimal, is_between, number_in_text}
 
 and_true : (a b : Bool) → (a && b) ≡ true → (a ≡ true) × (b ≡ true)
 and_true true b h = (refl, h)
@@ -27,13 +27,13 @@ no_plus (b ∷ rest) h e =
 
 -- `parse` reads numbers below `limit`
 pub number_refused : (digits least most limit : ℕ) (text : List ℕ) → most < limit →
-    ((IsNumeral 10 (without_leading_plus text) × (digits_value 10 (without_leading_plus text) < limit)) → ⊥) → None ≡ number_of digits least most text
+    ((IsNumeral 10 (without_leading_plus text) × (digits_value 10 (without_leading_plus text) < limit)) → ⊥) → None ≡ number_in_text digits least most text
 number_refused digits least most limit text fits fails = go _ refl
   where
-    go : (b : Bool) → (is_number digits text && is_between least most (digits_value 10 text)) ≡ b → None ≡ cond b (Some (digits_value 10 text)) None
+    go : (b : Bool) → (is_decimal digits text && is_between least most (digits_value 10 text)) ≡ b → None ≡ cond b (Some (digits_value 10 text)) None
     go false e = refl
     go true e =
-        let parts = and_true (is_number digits text) _ e in
+        let parts = and_true (is_decimal digits text) _ e in
         let number = and_true (nat_lt 0 (length text)) _ parts.0 in
         let inner = and_true (nat_le (length text) digits) (list_all is_digit text) number.1 in
         let same : without_leading_plus text ≡ text = without_leading_plus_none text (no_plus text inner.1) in

@@ -15,7 +15,7 @@ use Rattle.clap.specs.Walk.{Rule, Row, Held, Walk, Text, idle, option, arg_by_lo
 use Rattle.clap.specs.Takes.{settle_passes, turn_passes, walk_passes}
 use Rattle.clap.specs.Simple.{Shape}
 use Rattle.clap.specs.Walk.{Waiting}
-use Rattle.dpmi_words.specs.Reading.{Reading, option_of, operand, option_word, with_value, step_by, has_given, is_hyphened, is_listed, is_blank, gives, step, reads}
+use Rattle.dpmi_words.specs.Reading.{Reading, option_of, operand_name, option_word, with_value, step_by, has_given, is_hyphened, is_among, is_blank, gives, step, reads}
 
 -- ---- the rules
 
@@ -23,17 +23,17 @@ abbrev pub built_option : Text → Rule
 built_option name = filled (record (new_rule name) { long = Some name })
 
 abbrev pub built_operand : Rule
-built_operand = with_index 1 (filled (new_rule operand))
+built_operand = with_index 1 (filled (new_rule operand_name))
 
 abbrev pub row : Text × Text → Row
 row p = record { id = p.0; values = p.1 ∷ []; count = None; source = Some CommandLine; reading = reading_of vp.String }
 
 pub record Rules (names : List Text) (c : List Rule) : Type 0 where
-  pub long : (n : Text) → is_listed names n ≡ true → arg_by_long c n ≡ Some (built_option n)
-  pub by_id : (n : Text) → is_listed names n ≡ true → arg_by_id c n ≡ Some (built_option n)
+  pub long : (n : Text) → is_among names n ≡ true → arg_by_long c n ≡ Some (built_option n)
+  pub by_id : (n : Text) → is_among names n ≡ true → arg_by_id c n ≡ Some (built_option n)
   pub index : arg_by_index c 1 ≡ Some built_operand
-  pub operand_by_id : arg_by_id c operand ≡ Some built_operand
-  pub other : (n : Text) → is_listed names n ≡ true → bytes_eq n operand ≡ false
+  pub operand_by_id : arg_by_id c operand_name ≡ Some built_operand
+  pub other : (n : Text) → is_among names n ≡ true → bytes_eq n operand_name ≡ false
 
 -- ---- rows
 
@@ -112,12 +112,12 @@ idle_pending c given n v rule new = record {
   passes = rw (rule, has_row_given n given, new) refl;
 }
 
-pub idle_operand : (c : List Rule) (given : List (Text × Text)) (v : Text) → arg_by_id c operand ≡ Some built_operand → has_given operand given ≡ false →
-    Idle c (given ++ (operand, v) ∷ []) (record { rows = map row given; pending = Some (operand, v ∷ []); skip = 0 })
+pub idle_operand : (c : List Rule) (given : List (Text × Text)) (v : Text) → arg_by_id c operand_name ≡ Some built_operand → has_given operand_name given ≡ false →
+    Idle c (given ++ (operand_name, v) ∷ []) (record { rows = map row given; pending = Some (operand_name, v ∷ []); skip = 0 })
 idle_operand c given v rule new = record {
-  rows = rw rule (used_new operand v given new);
+  rows = rw rule (used_new operand_name v given new);
   skip = refl;
-  passes = rw (rule, has_row_given operand given, new) refl;
+  passes = rw (rule, has_row_given operand_name given, new) refl;
 }
 
 -- a word that is no flag
@@ -145,7 +145,7 @@ value_read c rows k word n e rule = rw (plain_dashes word e, plain_long word e, 
 operand_read : (c : List Rule) (given : List (Text × Text)) (h : Held) (word : Text) → is_hyphened word ≡ false → arg_by_index c 1 ≡ Some built_operand →
     Idle c given h →
     walked c [] (record { held = h; waiting = idle; position = 1; is_trailing = false; stopped = None }) word
-    ≡ record { held = record { rows = map row given; pending = Some (operand, word ∷ []); skip = 0 }; waiting = idle; position = 2; is_trailing = false; stopped = None }
+    ≡ record { held = record { rows = map row given; pending = Some (operand_name, word ∷ []); skip = 0 }; waiting = idle; position = 2; is_trailing = false; stopped = None }
 unfolding walked
 operand_read c given h word e rule is = rw (plain_dashes word e, plain_long word e, plain_short word e, rule, and_false (is_pending built_operand h.pending), is.rows, is.skip) refl
 
@@ -173,14 +173,14 @@ operand_passes s given h word e rule again is = rw (plain_dashes word e, plain_l
 -- ---- one step of both
 
 abbrev pub place : List (Text × Text) → ℕ
-place given = cond (has_given operand given) 2 1
+place given = cond (has_given operand_name given) 2 1
 
 abbrev pub walk_at : List (Text × Text) → Waiting → Held → Walk
 walk_at given waiting h = record { held = h; waiting = waiting; position = place given; is_trailing = false; stopped = None }
 
 abbrev pub Tied : List Text → List Rule → Option Text → List (Text × Text) → Walk → Type 0
 Tied names c None given w = (h : Held) × Idle c given h × (w ≡ walk_at given idle h)
-Tied names c (Some n) given w = (is_listed names n ≡ true) × (has_given n given ≡ false)
+Tied names c (Some n) given w = (is_among names n ≡ true) × (has_given n given ≡ false)
     × (w ≡ walk_at given (option n) (record { rows = map row given; pending = Some (n, []); skip = 0 }))
 
 pub unless_Some : {A : Type 0} (b : Bool) (o : Option A) (x : A) → cond b None o ≡ Some x → (b ≡ false) × (o ≡ Some x)
@@ -208,11 +208,11 @@ given_more : (m n v : Text) (given : List (Text × Text)) → has_given m (given
 given_more m n v [] = or_false_right (bytes_eq n m)
 given_more m n v (p ∷ ps) = ap (λ b. bytes_eq p.0 m || b) (given_more m n v ps) ∙ or_assoc (bytes_eq p.0 m) (has_given m ps) (bytes_eq n m)
 
-place_kept : (n v : Text) (given : List (Text × Text)) → bytes_eq n operand ≡ false → place given ≡ place (given ++ (n, v) ∷ [])
-place_kept n v given other = rw (given_more operand n v given, other, or_false_right (has_given operand given)) refl
+place_kept : (n v : Text) (given : List (Text × Text)) → bytes_eq n operand_name ≡ false → place given ≡ place (given ++ (n, v) ∷ [])
+place_kept n v given other = rw (given_more operand_name n v given, other, or_false_right (has_given operand_name given)) refl
 
-place_operand : (v : Text) (given : List (Text × Text)) → place (given ++ (operand, v) ∷ []) ≡ 2
-place_operand v given = rw (given_more operand operand v given, or_true (has_given operand given)) refl
+place_operand : (v : Text) (given : List (Text × Text)) → place (given ++ (operand_name, v) ∷ []) ≡ 2
+place_operand v given = rw (given_more operand_name operand_name v given, or_true (has_given operand_name given)) refl
   where
     or_true : (b : Bool) → (b || true) ≡ true
     or_true true = refl
@@ -245,7 +245,7 @@ value_step names s rules given n word w r2 tied e =
     )
 
 attached_step : (names : List Text) (s : Shape) → Rules names s.rules → s.args_override_self ≡ false → (given : List (Text × Text)) (h : Held) (n v word : Text) (r2 : Reading) →
-    Idle s.rules given h → long_of word ≡ Some (n, Some v) → is_listed names n ≡ true →
+    Idle s.rules given h → long_of word ≡ Some (n, Some v) → is_among names n ≡ true →
     gives n v (record { waiting = None; given = given }) ≡ Some r2 → StepsWith names s word (walk_at given idle h) r2
 attached_step names s rules again given h n v word r2 idle_now long listed e =
     let is = gives_is n v (record { waiting = None; given = given }) r2 e in
@@ -261,7 +261,7 @@ attached_step names s rules again given h n v word r2 idle_now long listed e =
     )
 
 separate_step : (names : List Text) (s : Shape) → Rules names s.rules → s.args_override_self ≡ false → (given : List (Text × Text)) (h : Held) (n word : Text) →
-    Idle s.rules given h → long_of word ≡ Some (n, None) → is_listed names n ≡ true → has_given n given ≡ false →
+    Idle s.rules given h → long_of word ≡ Some (n, None) → is_among names n ≡ true → has_given n given ≡ false →
     StepsWith names s word (walk_at given idle h) (record { waiting = Some n; given = given })
 separate_step names s rules again given h n word idle_now long listed new =
     let rule = rules.long n listed in (
@@ -271,21 +271,21 @@ separate_step names s rules again given h n word idle_now long listed new =
 
 operand_step : (names : List Text) (s : Shape) → Rules names s.rules → s.args_override_self ≡ false → (given : List (Text × Text)) (h : Held) (word : Text) (r2 : Reading) →
     Idle s.rules given h → is_hyphened word ≡ false →
-    gives operand word (record { waiting = None; given = given }) ≡ Some r2 → StepsWith names s word (walk_at given idle h) r2
+    gives operand_name word (record { waiting = None; given = given }) ≡ Some r2 → StepsWith names s word (walk_at given idle h) r2
 operand_step names s rules again given h word r2 idle_now plain e =
-    let is = gives_is operand word (record { waiting = None; given = given }) r2 e in
+    let is = gives_is operand_name word (record { waiting = None; given = given }) r2 e in
     let first : walk_at given idle h ≡ record { held = h; waiting = idle; position = 1; is_trailing = false; stopped = None } = rw is.0 refl in
     subst (λ w. StepsWith names s word w r2) (sym first) (rw is.1 (
       operand_passes s given h word plain rules.index again idle_now,
       (
-        record { rows = map row given; pending = Some (operand, word ∷ []); skip = 0 },
+        record { rows = map row given; pending = Some (operand_name, word ∷ []); skip = 0 },
         idle_operand s.rules given word rules.operand_by_id is.0,
         operand_read s.rules given h word plain rules.index idle_now ∙ rw (place_operand word given) refl,
       ),
     ))
 
 value_or_name : (names : List Text) (s : Shape) → Rules names s.rules → s.args_override_self ≡ false → (given : List (Text × Text)) (h : Held) (n word : Text) (v : Option Text) (r2 : Reading) →
-    Idle s.rules given h → long_of word ≡ Some (n, v) → is_listed names n ≡ true → has_given n given ≡ false →
+    Idle s.rules given h → long_of word ≡ Some (n, v) → is_among names n ≡ true → has_given n given ≡ false →
     with_value n v (record { waiting = None; given = given }) ≡ Some r2 → StepsWith names s word (walk_at given idle h) r2
 value_or_name names s rules again given h n word (Some v) r2 idle_now long listed new e = attached_step names s rules again given h n v word r2 idle_now long listed e
 value_or_name names s rules again given h n word None r2 idle_now long listed new e =
@@ -297,13 +297,13 @@ option_step : (names : List Text) (s : Shape) → Rules names s.rules → s.args
     option_word names o (record { waiting = None; given = given }) ≡ Some r2 → StepsWith names s word (walk_at given idle h) r2
 option_step names s rules again given h word None r2 idle_now long e = cc
 option_step names s rules again given h word (Some p) r2 idle_now long e =
-    let first = when_Some (is_listed names p.0 && not (has_given p.0 given)) _ r2 e in
-    let both = and_not (is_listed names p.0) (has_given p.0 given) first.0 in
+    let first = when_Some (is_among names p.0 && not (has_given p.0 given)) _ r2 e in
+    let both = and_not (is_among names p.0) (has_given p.0 given) first.0 in
     value_or_name names s rules again given h p.0 word p.1 r2 idle_now long both.0 both.1 first.1
 
 idle_step : (names : List Text) (s : Shape) → Rules names s.rules → s.args_override_self ≡ false → (given : List (Text × Text)) (h : Held) (word : Text) (r2 : Reading) (b : Bool) →
     Idle s.rules given h → is_hyphened word ≡ b →
-    cond b (option_word names (option_of word) (record { waiting = None; given = given })) (gives operand word (record { waiting = None; given = given })) ≡ Some r2 →
+    cond b (option_word names (option_of word) (record { waiting = None; given = given })) (gives operand_name word (record { waiting = None; given = given })) ≡ Some r2 →
     StepsWith names s word (walk_at given idle h) r2
 idle_step names s rules again given h word r2 true idle_now is e = option_step names s rules again given h word (option_of word) r2 idle_now (long_is word) e
 idle_step names s rules again given h word r2 false idle_now is e = operand_step names s rules again given h word r2 idle_now is e

@@ -5,7 +5,7 @@ use Rattle.clap.specs.Walk.{Rule}
 use Rattle.clap.specs.Matches.{first_value}
 use Rattle.clap.specs.declared.parser.matches.Found.{Found}
 use Rattle.clap.specs.Simple.{App, new_rule, new_shape, with_rule}
-use Rattle.dpmi_words.specs.Reading.{Text, operand, run_options, soak_options, value_of}
+use Rattle.dpmi_words.specs.Reading.{Text, operand_name, run_options, soak_options, value_given}
 
 -- an option with a value
 abbrev pub option_rule : Text → Rule
@@ -21,7 +21,7 @@ with_option app name = with_rule app (option_rule name)
 
 -- the command of a first word with these options and the operand
 abbrev pub command_app : Text → List Text → App
-command_app name options = with_rule (fold with_option (quiet_app name) options) (new_rule operand)
+command_app name options = with_rule (fold with_option (quiet_app name) options) (new_rule operand_name)
 
 -- the commands of `run` and of `soak`
 abbrev pub run_app : App
@@ -32,4 +32,4 @@ soak_app = command_app (codes "soak") soak_options
 
 -- each value was assigned that the words give, and no other
 abbrev pub Assigns : List (Text × Text) → Found → Type 0
-Assigns given found = (name : Text) → first_value found name ≡ value_of name given
+Assigns given found = (name : Text) → first_value found name ≡ value_given name given

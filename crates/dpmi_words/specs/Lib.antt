@@ -1,6 +1,6 @@
 pub mod Command
 pub mod Meaning
 pub mod Numbers
+pub mod OptionWords
 pub mod Reading
 pub mod Seen
-pub mod Spellings

@@ -4,8 +4,8 @@ use Rattle.std.specs.declared.option.Option.{Option}
 use Rattle.std.specs.Str.{bytes_eq}
 use Rattle.hex.specs.Hex.{decode_of}
 use Rattle.client_world.specs.declared.limits.TheConstants.{MAX_STEPS, DEFAULT_BOUND, MAX_PAGES, DEFAULT_PAGES, MAX_TRACE, DEFAULT_TRACE}
-use Rattle.dpmi_words.specs.Reading.{Text, operand, given_by, run_options, soak_options, value_of}
-use Rattle.dpmi_words.specs.Numbers.{number_of, number_or}
+use Rattle.dpmi_words.specs.Reading.{Text, operand_name, given_by, run_options, soak_options, value_given}
+use Rattle.dpmi_words.specs.Numbers.{number_in_text, number_or}
 use Rattle.dpmi_words.specs.declared.meaning.KeySource.{KeySource}
 use Rattle.dpmi_words.specs.declared.meaning.KeySource.TheVariants as source
 use Rattle.dpmi_words.specs.declared.meaning.Run.{Run}
@@ -51,7 +51,7 @@ run_with file keys bound pages trace =
 -- the run of the value of each name, each number in its range
 abbrev pub run_of_values : (Text → Option Text) → Option RunMeaning
 run_of_values value = run_with
-    (value operand)
+    (value operand_name)
     (keys_of (value (codes "keys")) (value (codes "keys-file")))
     (number_or DEFAULT_BOUND 1 MAX_STEPS (value (codes "bound")))
     (number_or DEFAULT_PAGES 1 MAX_PAGES (value (codes "pages")))
@@ -59,14 +59,14 @@ run_of_values value = run_with
 
 -- the number of the made client: any number of 64 bits
 abbrev pub soak_of_values : (Text → Option Text) → Option ℕ
-soak_of_values value = option_and_then (number_of 20 0 (2 ^ 64 - 1)) (value operand)
+soak_of_values value = option_and_then (number_in_text 20 0 (2 ^ 64 - 1)) (value operand_name)
 
 -- the words after `run`, and after `soak`
 abbrev pub run_meaning : List Text → Option RunMeaning
-run_meaning words = option_and_then (λ given. run_of_values (λ name. value_of name given)) (given_by run_options words)
+run_meaning words = option_and_then (λ given. run_of_values (λ name. value_given name given)) (given_by run_options words)
 
 abbrev pub soak_meaning : List Text → Option ℕ
-soak_meaning words = option_and_then (λ given. soak_of_values (λ name. value_of name given)) (given_by soak_options words)
+soak_meaning words = option_and_then (λ given. soak_of_values (λ name. value_given name given)) (given_by soak_options words)
 
 -- the meaning of the words, by the first; none where they mean nothing
 abbrev pub meaning : List Text → Option Meaning
@@ -76,7 +76,7 @@ meaning (first ∷ rest) =
     if bytes_eq first (codes "soak") then option_map Soaks (soak_meaning rest) else
     None
 
--- the same of the types of the code
+-- what values of the code's own types mean
 abbrev pub keys_in : KeySource → Keys
 keys_in (source.Pressed bytes) = Pressed bytes.items
 keys_in (source.Stored name) = Stored name.now

@@ -10,8 +10,8 @@ abbrev pub Text : Type 0
 Text = List ℕ
 
 -- the name under which the operand, FILE or N, is kept; no option has it
-abbrev pub operand : Text
-operand = codes "operand"
+abbrev pub operand_name : Text
+operand_name = codes "operand"
 
 -- what the words so far gave: the option that waits for its value, and each value with its name
 pub record Reading : Type 0 where
@@ -44,7 +44,7 @@ name_and_value text = (
   if list_any (λ c. c == 0x3D) text then Some (after_first (λ c. c == 0x3D) text) else None,
 )
 
--- the same of what follows two hyphens; nothing may not follow
+-- the same for what follows two hyphens, which isn't empty
 abbrev pub option_after : Text → Option (Text × Option Text)
 option_after [] = None
 option_after (c ∷ cs) = Some (name_and_value (c ∷ cs))
@@ -58,8 +58,8 @@ abbrev pub has_given : Text → List (Text × Text) → Bool
 has_given name = list_any (λ p. bytes_eq p.0 name)
 
 -- the name is one of these
-abbrev pub is_listed : List Text → Text → Bool
-is_listed names name = list_any (λ n. bytes_eq n name) names
+abbrev pub is_among : List Text → Text → Bool
+is_among names name = list_any (λ n. bytes_eq n name) names
 
 -- one value more; it isn't empty, and its name has none yet
 abbrev pub gives : Text → Text → Reading → Option Reading
@@ -75,7 +75,7 @@ with_value name (Some value) r = gives name value r
 -- the option is listed, and wasn't given before
 abbrev pub names_option : List Text → Text → Option Text → Reading → Option Reading
 names_option names name value r =
-    if is_listed names name && not (has_given name r.given) then with_value name value r else None
+    if is_among names name && not (has_given name r.given) then with_value name value r else None
 
 -- a word with a hyphen is an option
 abbrev pub option_word : List Text → Option (Text × Option Text) → Reading → Option Reading
@@ -85,7 +85,7 @@ option_word names (Some p) r = names_option names p.0 p.1 r
 -- a word is the value of the option that waits, which begins with no hyphen; or it is an option; or the operand
 abbrev pub step_by : List Text → Option Text → Text → Reading → Option Reading
 step_by names (Some name) word r = if is_hyphened word then None else gives name word r
-step_by names None word r = if is_hyphened word then option_word names (option_of word) r else gives operand word r
+step_by names None word r = if is_hyphened word then option_word names (option_of word) r else gives operand_name word r
 
 -- one word more; none where it breaks a rule
 abbrev pub step : List Text → Text → Reading → Option Reading
@@ -99,7 +99,7 @@ reads names (word ∷ rest) r = option_and_then (reads names rest) (step names w
 -- at the end no option waits, and the operand is there
 abbrev pub finished_by : Option Text → List (Text × Text) → Option (List (Text × Text))
 finished_by (Some name) given = None
-finished_by None given = if has_given operand given then Some given else None
+finished_by None given = if has_given operand_name given then Some given else None
 
 abbrev pub finished : Reading → Option (List (Text × Text))
 finished r = finished_by r.waiting r.given
@@ -109,8 +109,8 @@ abbrev pub given_by : List Text → List Text → Option (List (Text × Text))
 given_by names words = option_and_then finished (reads names words nothing_read)
 
 -- the value of a name
-abbrev pub value_of : Text → List (Text × Text) → Option Text
-value_of name given = option_map (λ p. p.1) (find (λ p. bytes_eq p.0 name) given)
+abbrev pub value_given : Text → List (Text × Text) → Option Text
+value_given name given = option_map (λ p. p.1) (find (λ p. bytes_eq p.0 name) given)
 
 -- the options of `run`
 abbrev pub run_options : List Text

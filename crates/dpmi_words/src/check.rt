@@ -8,7 +8,7 @@ ghost use Rattle.dpmi_words.specs.Reading.{
   has_given,
   gives,
   is_hyphened,
-  is_listed,
+  is_among,
   option_word,
   step,
   finished,
@@ -52,7 +52,7 @@ fn has(given: &[Given<'_>], name: &str) -> bool
 
 // Whether the name is one of these.
 fn is_among(names: &[&str], name: &str) -> bool
-    ensures { result ≡ is_listed (texts names.now) name.now }
+    ensures { result ≡ is_among (texts names.now) name.now }
 {
     for n in names {
         if *n == name {

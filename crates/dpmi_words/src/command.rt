@@ -5,7 +5,7 @@ ghost use Rattle.clap.specs.Simple.{app_of, new_rule, with_rule};
 ghost use Rattle.clap.specs.Walk.{rule_of};
 ghost use Rattle.clap.specs.Values.{kind_of};
 ghost use Rattle.clap.specs.Matches.{found_of};
-ghost use Rattle.dpmi_words.specs.Reading.{operand, given_by, run_options, soak_options};
+ghost use Rattle.dpmi_words.specs.Reading.{operand_name, given_by, run_options, soak_options};
 ghost use Rattle.dpmi_words.specs.Command.{command_app, quiet_app, option_rule, Assigns};
 ghost use Rattle.dpmi_words.specs.Seen.{texts};
 
@@ -24,7 +24,7 @@ fn option<'a>(alloc: Global, name: &'a str) -> Arg<'a>
 
 // The operand.
 fn positional<'a>(alloc: Global) -> Arg<'a>
-    ensures rule { rule_of result ≡ new_rule operand }
+    ensures rule { rule_of result ≡ new_rule operand_name }
     ensures local { result.global ≡ false }
 {
     Arg::new(alloc, OPERAND)

@@ -11,5 +11,5 @@ mod number;
 #[cfg(test)]
 mod tests;
 
-pub use laws::an_option_is_spelled_either_way;
+pub use laws::an_option_is_written_either_way;
 pub use meaning::{KeySource, Run, Words, read_words};

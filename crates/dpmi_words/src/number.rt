@@ -1,7 +1,7 @@
 // Numbers in decimal digits.
 ghost use Rattle.std.specs.Prelude.{◌≡◌, ◌-◌, ◌^◌, cond, Some, None, option_map};
 ghost use Rattle.std.specs.List.{list_all};
-ghost use Rattle.dpmi_words.specs.Numbers.{is_digit, is_between, number_of, number_or};
+ghost use Rattle.dpmi_words.specs.Numbers.{is_digit, is_between, number_in_text, number_or};
 
 // Whether the bytes are decimal digits.
 fn are_digits(bytes: &[u8]) -> bool
@@ -28,7 +28,7 @@ fn in_range(n: u32, least: u32, most: u32) -> Option<u32>
 
 /// The number that the text is: 1 to 10 decimal digits, with a value in the range.
 pub fn number(text: &str, least: u32, most: u32) -> Option<u32>
-    ensures { result ≡ number_of 10 least most text.now }
+    ensures { result ≡ number_in_text 10 least most text.now }
 {
     if text.len() > 10 || !are_digits(text.as_bytes()) {
         return None;
@@ -51,7 +51,7 @@ pub fn optional_number(text: Option<&str>, usual: u32, least: u32, most: u32) ->
 
 /// The number of 64 bits that the text is: 1 to 20 decimal digits.
 pub fn seed(text: &str) -> Option<u64>
-    ensures { result ≡ number_of 20 0 (2 ^ 64 - 1) text.now }
+    ensures { result ≡ number_in_text 20 0 (2 ^ 64 - 1) text.now }
 {
     if text.len() > 20 || !are_digits(text.as_bytes()) {
         return None;

@@ -20,7 +20,7 @@ use Rattle.exec_core.specs.Decimal.{adjust, aad, aam}
 use Rattle.exec_core.specs.FlagRows.{clc, stc, cmc, cld, std, lahf, sahf, wait}
 use Rattle.exec_core.specs.Moves.{mov, movzx, movsx, xchg, lea, xlat, cbw, cwd}
 use Rattle.exec_core.specs.Products.{multiply, imul, divide}
-use Rattle.exec_core.specs.Shifts.{shift, double_shift}
+use Rattle.exec_core.specs.Shifts.{shift, shift_in}
 use Rattle.exec_core.specs.Stacks.{push, pop, pusha, popa}
 use Rattle.exec_core.specs.Strings.{movs, cmps, stos, lods, scas}
 
@@ -132,8 +132,8 @@ core_row ops.Rcr w i len = shift rcr_of w i
 core_row ops.Shl w i len = shift shl_of w i
 core_row ops.Shr w i len = shift shr_of w i
 core_row ops.Sar w i len = shift sar_of w i
-core_row ops.Shld w i len = double_shift shld_of w i
-core_row ops.Shrd w i len = double_shift shrd_of w i
+core_row ops.Shld w i len = shift_in shld_of w i
+core_row ops.Shrd w i len = shift_in shrd_of w i
 core_row ops.Bt w i len = bit_test w i
 core_row ops.Bts w i len = bit_change bit_set w i
 core_row ops.Btr w i len = bit_change bit_reset w i

@@ -22,8 +22,8 @@ abbrev pub DoubleFormula : Type 0
 DoubleFormula = ℕ → ℕ → ℕ → ℕ → Flags → ℕ × Flags
 
 -- SHLD, SHRD: bits of the second operand come in, by the count in the third
-unfoldable pub double_shift : DoubleFormula → World → Insn → Act
-double_shift formula w i = do
+unfoldable pub shift_in : DoubleFormula → World → Insn → Act
+shift_in formula w i = do
   a ← source w.regs i.addr32 i.width i.first
   b ← source w.regs i.addr32 i.width i.second
   count ← source w.regs i.addr32 8 i.third

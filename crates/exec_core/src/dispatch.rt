@@ -23,7 +23,7 @@ use crate::shift_operations::{
     RotateLeft, RotateLeftThroughCarry, RotateRight, RotateRightThroughCarry, ShiftArithmeticRight,
     ShiftLeft, ShiftRight,
 };
-use crate::shifts::{ShiftLeftDouble, ShiftRightDouble, double_shift, shift};
+use crate::shifts::{ShiftLeftDouble, ShiftRightDouble, shift_in, shift};
 use crate::stacks::{pop, popa, push, pusha};
 use crate::strings::{cmps, lods, movs, scas, stos};
 use client_world::Event;
@@ -111,8 +111,8 @@ pub fn run_core(m: &mut Machine, insn: &Insn, len: u8) -> Result<(), Event>
         Op::Shl => shift::<ShiftLeft>(m, insn),
         Op::Shr => shift::<ShiftRight>(m, insn),
         Op::Sar => shift::<ShiftArithmeticRight>(m, insn),
-        Op::Shld => double_shift::<ShiftLeftDouble>(m, insn),
-        Op::Shrd => double_shift::<ShiftRightDouble>(m, insn),
+        Op::Shld => shift_in::<ShiftLeftDouble>(m, insn),
+        Op::Shrd => shift_in::<ShiftRightDouble>(m, insn),
         Op::Bt => bit_test(m, insn),
         Op::Bts => bit_change::<Set>(m, insn),
         Op::Btr => bit_change::<Reset>(m, insn),

@@ -2,7 +2,7 @@
 ghost use Rattle.std.specs.Prelude.{◌≡◌, IsTrue};
 ghost use Rattle.cpu_alu.specs.DoubleShifts.{shld_of, shrd_of};
 ghost use Rattle.cpu_values.specs.Word.{IsWidth, cut};
-ghost use Rattle.exec_core.specs.Shifts.{DoubleFormula, shift, double_shift};
+ghost use Rattle.exec_core.specs.Shifts.{DoubleFormula, shift, shift_in};
 ghost use Rattle.guest_space.specs.Registers.{with_registers};
 ghost use Rattle.insn_forms.specs.Kinds.{is_width};
 ghost use Rattle.insn_plan.specs.Act.{with_flags};
@@ -130,10 +130,10 @@ impl DoubleShift for ShiftRightDouble {
 
 /// SHLD, SHRD. Source: as above.
 #[inline(never)]
-#[tactic(auto, unfolding(crate::specs::Shifts::double_shift, insn_plan::specs::Plan::carried_out))]
-pub(crate) fn double_shift<O: DoubleShift>(m: &mut Machine, i: &Insn) -> Result<(), Event>
+#[tactic(auto, unfolding(crate::specs::Shifts::shift_in, insn_plan::specs::Plan::carried_out))]
+pub(crate) fn shift_in<O: DoubleShift>(m: &mut Machine, i: &Insn) -> Result<(), Event>
     requires { IsTrue (is_width i.now.width) }
-    ensures { CarriesOut m.old m.new result (double_shift O.formula m.old.world i.now) }
+    ensures { CarriesOut m.old m.new result (shift_in O.formula m.old.world i.now) }
 {
     let a = source(m, i.addr32, i.width, &i.first)?;
     let b = source(m, i.addr32, i.width, &i.second)?;

@@ -56,13 +56,13 @@ leave w i = do
   done (with_regs (with_register (items_popped w i.width 1 (at_frame w)) i.width 5 bp) (unchanged w))
 
 -- a number of the operand size is less than another in two's complement
-abbrev pub is_less : ℕ → ℕ → ℕ → Bool
-is_less width a b = nat_lt (cut width (a + 2 ^ (width - 1))) (cut width (b + 2 ^ (width - 1)))
+abbrev pub is_less_signed : ℕ → ℕ → ℕ → Bool
+is_less_signed width a b = nat_lt (cut width (a + 2 ^ (width - 1))) (cut width (b + 2 ^ (width - 1)))
 
 -- BOUND: exception 5 where the index is below the first number of the pair, or above the second
 unfoldable pub bound : World → Insn → Act
 bound w i = do
   index ← source w.regs i.addr32 i.width i.first
   pair ← memory_bytes w i (2 * byte_count i.width) i.second
-  (if is_less i.width index pair || is_less i.width (pair / 2 ^ i.width) index then raise (fault_with BOUNDS_CHECK 0)
+  (if is_less_signed i.width index pair || is_less_signed i.width (pair / 2 ^ i.width) index then raise (fault_with BOUNDS_CHECK 0)
       else done (unchanged w))

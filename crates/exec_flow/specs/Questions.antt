@@ -1,6 +1,6 @@
 -- Questions about descriptors: VERR, VERW, LAR, LSL, ARPL. In real mode they are invalid opcodes.
 -- Source: 80386 Programmer's Reference Manual, ch. 17, each under its name; the mask of LAR, and that descriptors which aren't present
--- answer as others do, are own.
+-- count as others do, are own.
 use Rattle.std.specs.Prelude.{ℕ, ◌+◌, ◌-◌, ◌*◌, ◌/◌, Bool, true, false, None, Some, nat_lt, if◌then◌else◌}
 use Rattle.client_world.specs.declared.descriptors.Desc.{Desc}
 use Rattle.client_world.specs.declared.registers.Flags.{Flags}
@@ -17,7 +17,7 @@ use Rattle.exec_flow.specs.Raising.{in_protected}
 abbrev pub with_zero : World → Bool → Flags
 with_zero w zero_flag = record w.regs.flags { zf = zero_flag }
 
--- what is asked of a segment: of one that isn't held the answer is no
+-- the questions of VERR and VERW; of a segment that isn't held both are false
 abbrev pub is_readable : Row → Bool
 is_readable None = false
 is_readable (Some row) = true

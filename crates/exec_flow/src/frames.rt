@@ -7,7 +7,7 @@ ghost use Rattle.exec_flow.specs.Frames.{
   frame_made,
   enter,
   leave,
-  is_less,
+  is_less_signed,
   bound,
 };
 ghost use Rattle.client_world.specs.declared.segments.SegReg.TheVariants.{Ss};
@@ -136,9 +136,9 @@ fn rank(width: u8, a: u64) -> u64
 }
 
 // Whether a number of a width is less than another in two's complement.
-fn is_less(width: u8, a: u64, b: u64) -> bool
+fn is_less_signed(width: u8, a: u64, b: u64) -> bool
     requires { IsTrue (is_width width) }
-    ensures { result ≡ is_less width a b }
+    ensures { result ≡ is_less_signed width a b }
 {
     rank(width, a) < rank(width, b)
 }
@@ -153,7 +153,7 @@ pub(crate) fn bound(m: &Machine, i: &Insn) -> Result<(), Event>
     let index = u64::from(source(m, i.addr32, i.width, &i.first)?);
     let pair = memory_bytes(m, i, 2 * byte_count(i.width), &i.second)?;
     let second = pair / (1u64 << i.width);
-    if is_less(i.width, index, pair) || is_less(i.width, second, index) {
+    if is_less_signed(i.width, index, pair) || is_less_signed(i.width, second, index) {
         Err(exception(BOUNDS_CHECK))
     } else {
         Ok(())

@@ -23,10 +23,7 @@ use Rattle.block_memory.proofs.RowReads.{row_pages_read, row_base_read}
 use Rattle.guest_space.proofs.BlockViews.{IsView, held_blocks, held_budget, holds_blocks, in_memory, memory_ranges}
 use Rattle.guest_space.proofs.BlockCalls.{at_handle}
 
--- the row of a handle that isn't held, and of one that is
-
-pub no_row : (w : World) (handle : ℕ) → handle ≡ 0 → None ≡ row_seen (block_at w.blocks handle)
-no_row w handle none = sym (ap (λ (h : ℕ). row_seen (block_at w.blocks h)) none)
+-- the row of a handle that is held
 
 row_at_place : (k : Processor) (b : List ℕ) (v : MachineView) → IsView k b v → Holds b k.budget → IsSound (held_world k b) → (handle place base pages : ℕ) →
     handle ≡ suc place → place < MAX_BLOCKS → pages_of (handles_part b) place ≢ 0 → base ≡ base_of (handles_part b) place → pages ≡ pages_of (handles_part b) place →

@@ -1,4 +1,4 @@
--- What reads and writes through a segment register answer, and the machine after them. These words stay closed above this crate.
+-- What reads and writes through a segment register return, and the machine after them. These words stay closed above this crate.
 -- Source: 80386 Programmer's Reference Manual, ch. 2, "Memory Organization and Segmentation", and ch. 5.
 use Rattle.std.specs.Prelude.{◌≡◌, ℕ, Bool, true, false, List, [], ◌∷◌, None, Some, Ok, Err, if◌then◌else◌, slice_set}
 use Rattle.std.specs.declared.option.Option.{Option}

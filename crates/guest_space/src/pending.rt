@@ -132,7 +132,7 @@ impl Machine {
         }
     }
 
-    /// Makes all of some writes in their order, or, where one of them has a fault, none of them: the first such fault is the answer. Of the
+    /// Makes all of some writes in their order, or, where one of them has a fault, none of them, and returns the first such fault. Of the
     /// memory only the bytes of the writes' places change, and none of the host's frames.
     pub fn write_all(&mut self, writes: &[Write]) -> Result<(), Fault>
         ensures done { OnOk result ((first_refusal self.old.world writes.now ≡ None)

@@ -28,7 +28,7 @@ fn stack_or(seg: SegReg, number: u8) -> u8
     }
 }
 
-// Whether what the segment holds suits the register: CS wants code, and SS data that may be written.
+// Whether what the segment holds suits the register: CS takes code, and SS data that may be written.
 fn suits_register(seg: SegReg, kind: Kind) -> bool
     ensures { result ≡ suits_register seg kind }
 {

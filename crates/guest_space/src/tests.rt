@@ -1,4 +1,4 @@
-// A machine is the memory and what the processor keeps, and nothing else; and what its accesses answer.
+// A machine is the memory and what the processor keeps, and nothing else; and what its accesses return.
 use crate::machine::Machine;
 use crate::segments::fault_with;
 use client_world::{

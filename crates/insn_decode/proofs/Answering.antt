@@ -4,12 +4,12 @@ use Rattle.std.proofs.lemmas.List.{append-nil, take_at}
 use Rattle.insn_decode.specs.declared.stop.Stop.TheVariants as stops
 use Rattle.insn_forms.specs.declared.insn.Insn.{Insn}
 use Rattle.insn_decode.specs.declared.decoding.Decoded.TheVariants.{Whole, More, Invalid}
-use Rattle.insn_forms.specs.Grammar.{AllBytes, Spelling, HasSpelling, BeginsSpelling}
+use Rattle.insn_forms.specs.Grammar.{AllBytes, Encoding, HasEncoding, BeginsEncoding}
 use Rattle.insn_decode.specs.Reading.{Read, insn_at}
 use Rattle.insn_decode.specs.Decode.{answer_of, decoded}
 use Rattle.insn_decode.proofs.LawfulReaders.{ok_is, ok_not_err, bytes_append}
 use Rattle.insn_decode.proofs.InsnReaders.{insn_reads}
-use Rattle.insn_decode.proofs.Spellings.{to_readers, from_readers}
+use Rattle.insn_decode.proofs.Encodings.{to_readers, from_readers}
 
 -- a list of bytes, by its places
 pub bytes_by_place : (xs : List ℕ) → ((i : ℕ) → get_or xs i 0 < 256) → AllBytes xs
@@ -29,26 +29,26 @@ read_cases (Err stops.Invalid) = inr (inr refl)
 
 -- what is read is what the bytes encode
 read_is : (big : Bool) (bytes : List ℕ) (insn : Insn) (rest : List ℕ) → AllBytes bytes → insn_at big bytes ≡ Ok (insn, rest)
-    → (front : List ℕ) × Spelling big insn front × (bytes ≡ front ++ rest)
+    → (front : List ℕ) × Encoding big insn front × (bytes ≡ front ++ rest)
 read_is big bytes insn rest are e =
     let f = (insn_reads big).found bytes insn rest e in
     (f.0, from_readers big insn f.0 (bytes_front f.0 rest (subst AllBytes f.2 are)) f.1, f.2)
 
 -- what the bytes encode is read
-is_read : (big : Bool) (insn : Insn) (front rest : List ℕ) → Spelling big insn front
+is_read : (big : Bool) (insn : Insn) (front rest : List ℕ) → Encoding big insn front
     → insn_at big (front ++ rest) ≡ Ok (insn, rest)
 is_read big insn front rest s = (insn_reads big).again insn front rest (to_readers big insn front s)
 
-all_read : (big : Bool) (insn : Insn) (bytes : List ℕ) → Spelling big insn bytes → insn_at big bytes ≡ Ok (insn, [])
+all_read : (big : Bool) (insn : Insn) (bytes : List ℕ) → Encoding big insn bytes → insn_at big bytes ≡ Ok (insn, [])
 all_read big insn bytes s = ap (insn_at big) (sym (append-nil bytes)) ∙ is_read big insn bytes [] s
 
 -- ---- the laws of the grammar
 
-pub one_insn : (big : Bool) (a b : Insn) (bytes : List ℕ) → Spelling big a bytes → Spelling big b bytes → a ≡ b
+pub one_insn : (big : Bool) (a b : Insn) (bytes : List ℕ) → Encoding big a bytes → Encoding big b bytes → a ≡ b
 one_insn big a b bytes s t =
     ap (λ (p : Insn × List ℕ). p.0) (ok_is (a, []) (b, []) (sym (all_read big a bytes s) ∙ all_read big b bytes t))
 
-pub no_longer : (big : Bool) (a b : Insn) (bytes tail : List ℕ) → Spelling big a bytes → Spelling big b (bytes ++ tail)
+pub no_longer : (big : Bool) (a b : Insn) (bytes tail : List ℕ) → Encoding big a bytes → Encoding big b (bytes ++ tail)
     → tail ≡ []
 no_longer big a b bytes tail s t =
     ap (λ (p : Insn × List ℕ). p.1)
@@ -60,7 +60,7 @@ not_nothing : (xs : List ℕ) (n : ℕ) (tail : List ℕ) → xs ++ n ∷ tail �
 not_nothing [] n tail e = cc
 not_nothing (x ∷ xs) n tail e = cc
 
-pub decoded_only : (big : Bool) (insn : Insn) (front rest bytes : List ℕ) → bytes ≡ front ++ rest → Spelling big insn front
+pub decoded_only : (big : Bool) (insn : Insn) (front rest bytes : List ℕ) → bytes ≡ front ++ rest → Encoding big insn front
     → decoded big bytes ≡ Whole insn (length front)
 unfolding decoded
 decoded_only big insn front rest bytes e s =
@@ -68,7 +68,7 @@ decoded_only big insn front rest bytes e s =
     let n : length bytes - length rest ≡ length front = rw e (omega (arith, length-append front rest)) in
     rw (r, n) refl
 
-pub more_decoded : (big : Bool) (bytes : List ℕ) → AllBytes bytes → BeginsSpelling big bytes → decoded big bytes ≡ More
+pub more_decoded : (big : Bool) (bytes : List ℕ) → AllBytes bytes → BeginsEncoding big bytes → decoded big bytes ≡ More
 unfolding decoded
 more_decoded big bytes are s =
     let whole = all_read big s.0 (bytes ++ s.1 ∷ s.2) s.3 in
@@ -76,7 +76,7 @@ more_decoded big bytes are s =
       | inl a ↦
           let f = read_is big bytes a.0.0 a.0.1 are a.1 in
           let nil = no_longer big a.0.0 s.0 f.0 (a.0.1 ++ s.1 ∷ s.2) f.1
-          (subst (Spelling big s.0)
+          (subst (Encoding big s.0)
           (ap (λ (l : List ℕ). l ++ s.1 ∷ s.2) f.2 ∙ append_assoc f.0 a.0.1 (s.1 ∷ s.2)) s.3) in
           absurd (not_nothing a.0.1 s.1 s.2 nil)
       | inr (inl m) ↦ rw m refl
@@ -88,7 +88,7 @@ cut : (bytes front rest : List ℕ) → bytes ≡ front ++ rest
 cut bytes front rest e = (rw e (take_at front rest (length front) refl), rw e (omega (arith, length-append front rest)))
 
 pub decoded_whole : (big : Bool) (insn : Insn) (len : ℕ) (bytes : List ℕ) → AllBytes bytes
-    → decoded big bytes ≡ Whole insn len → Spelling big insn (take len bytes) × (len ≤ length bytes)
+    → decoded big bytes ≡ Whole insn len → Encoding big insn (take len bytes) × (len ≤ length bytes)
 unfolding decoded
 decoded_whole big insn len bytes are e =
     elim (read_cases (insn_at big bytes)) [
@@ -99,41 +99,41 @@ decoded_whole big insn len bytes are e =
           let i : a.0.0 ≡ insn = cc in
           let n : length f.0 ≡ len = cc in
           let t = cut bytes f.0 a.0.1 f.2 in
-          subst (λ (q : Insn × ℕ). Spelling big q.0 (take q.1 bytes) × (q.1 ≤ length bytes)) (λ j. (i j, n j))
-          (subst (Spelling big a.0.0) (sym t.0) f.1, t.1)
+          subst (λ (q : Insn × ℕ). Encoding big q.0 (take q.1 bytes) × (q.1 ≤ length bytes)) (λ j. (i j, n j))
+          (subst (Encoding big a.0.0) (sym t.0) f.1, t.1)
       | inr (inl m) ↦ let no : More ≡ Whole insn len = sym (ap (answer_of bytes) m) ∙ e in absurd cc
       | inr (inr i) ↦ let no : Invalid ≡ Whole insn len = sym (ap (answer_of bytes) i) ∙ e in absurd cc
     ]
 
-pub decoded_more : (big : Bool) (bytes : List ℕ) → AllBytes bytes → decoded big bytes ≡ More → BeginsSpelling big bytes
+pub decoded_more : (big : Bool) (bytes : List ℕ) → AllBytes bytes → decoded big bytes ≡ More → BeginsEncoding big bytes
 unfolding decoded
 decoded_more big bytes are e =
     elim (read_cases (insn_at big bytes)) [
       | inl a ↦ let no : Whole a.0.0 (length bytes - length a.0.1) ≡ More = sym (ap (answer_of bytes) a.1) ∙ e in absurd cc
       | inr (inl m) ↦
           let s = (insn_reads big).more bytes m in
-          let spelled = from_readers big s.0 (bytes ++ s.1) (bytes_append bytes s.1 are s.3) s.2 in
-          begun big bytes s.0 s.1 spelled m
+          let encoded = from_readers big s.0 (bytes ++ s.1) (bytes_append bytes s.1 are s.3) s.2 in
+          begun big bytes s.0 s.1 encoded m
       | inr (inr i) ↦ let no : Invalid ≡ More = sym (ap (answer_of bytes) i) ∙ e in absurd cc
     ]
   where
-    begun : (big : Bool) (bytes : List ℕ) (insn : Insn) (tail : List ℕ) → Spelling big insn (bytes ++ tail)
-        → insn_at big bytes ≡ Err stops.More → BeginsSpelling big bytes
+    begun : (big : Bool) (bytes : List ℕ) (insn : Insn) (tail : List ℕ) → Encoding big insn (bytes ++ tail)
+        → insn_at big bytes ≡ Err stops.More → BeginsEncoding big bytes
     begun big bytes insn [] s m =
         absurd (ok_not_err (insn, []) stops.More
-        (sym (is_read big insn bytes [] (subst (Spelling big insn) (append-nil bytes) s))
+        (sym (is_read big insn bytes [] (subst (Encoding big insn) (append-nil bytes) s))
         ∙ ap (insn_at big) (append-nil bytes) ∙ m))
     begun big bytes insn (n ∷ tail) s m = (insn, n, tail, s)
 
 pub decoded_invalid : (big : Bool) (bytes : List ℕ) → AllBytes bytes → decoded big bytes ≡ Invalid
-    → (HasSpelling big bytes → ⊥) × (BeginsSpelling big bytes → ⊥)
+    → (HasEncoding big bytes → ⊥) × (BeginsEncoding big bytes → ⊥)
 decoded_invalid big bytes are e = (
   (λ h. let no : Whole h.0 (length h.1) ≡ Invalid = sym (decoded_only big h.0 h.1 h.2 bytes h.3 h.4) ∙ e in absurd cc),
   (λ h. let no : More ≡ Invalid = sym (more_decoded big bytes are h) ∙ e in absurd cc),
 )
 
 pub invalid_decoded : (big : Bool) (bytes : List ℕ) → AllBytes bytes
-    → (HasSpelling big bytes → ⊥) × (BeginsSpelling big bytes → ⊥) → decoded big bytes ≡ Invalid
+    → (HasEncoding big bytes → ⊥) × (BeginsEncoding big bytes → ⊥) → decoded big bytes ≡ Invalid
 unfolding decoded
 invalid_decoded big bytes are nor =
     elim (read_cases (insn_at big bytes)) [

@@ -13,7 +13,7 @@ use Rattle.insn_forms.specs.Prefixes.{is_prefix, is_one_of}
 use Rattle.insn_forms.specs.Addressing.{modrm_size}
 use Rattle.insn_forms.specs.Operands.{has_op, is_row}
 use Rattle.insn_forms.specs.Grammar.{AllBytes, ArePrefixes, is_row_with, opcode_bytes}
-use Rattle.insn_decode.specs.Reading.{with_prefix, any_below, any_row, made, checked, two_at, opcode_at, head_at}
+use Rattle.insn_decode.specs.Reading.{with_prefix, any_below, any_row, opcode_head, checked, two_at, opcode_at, head_at}
 use Rattle.insn_decode.proofs.LawfulReaders.{Reads, answer, ok_is, ok_not_err, err_not_ok, more_not_invalid, chosen}
 
 -- ---- tests
@@ -97,10 +97,10 @@ no_row_at_0f : (b : ℕ) → eqb b 0x0f ≡ true → (reg : ℕ) → has_op (row
 unfolding row_one map_one_00
 no_row_at_0f b e reg = rw (eqb-true b 0x0f e) refl
 
-starts : (m : Prefixes) (b : ℕ) → any_row (made m One b) ≡ true → Starts b
+starts : (m : Prefixes) (b : ℕ) → any_row (opcode_head m One b) ≡ true → Starts b
 unfolding opcode_row
 starts m b e =
-    let r = some_row (made m One b) e in
+    let r = some_row (opcode_head m One b) e in
     record {
       no_prefix = elim (cases_Bool (is_prefix b)) [
         | inl is ↦ absurd (false≢true (sym (no_row m.lock (row_one b r.0) true (no_row_at_prefix b is r.0)) ∙ r.2))
@@ -119,7 +119,7 @@ folded m [] = m
 folded m (b ∷ bs) = folded (with_prefix m b) bs
 
 -- after the prefixes that gave m
-pub record SpellsHead (m : Prefixes) (head : Head) (bytes : List ℕ) : Type 0 where
+pub record EncodesHead (m : Prefixes) (head : Head) (bytes : List ℕ) : Type 0 where
   pub before : List ℕ
   pub are : ArePrefixes before
   pub says : head.prefixes ≡ folded m before
@@ -162,7 +162,7 @@ unfolding is_row opcode_row row_one map_one_00
 lock_in_one true = refl
 lock_in_one false = refl
 
-some_in_one : (m : Prefixes) → any_row (made m One 0) ≡ true
+some_in_one : (m : Prefixes) → any_row (opcode_head m One 0) ≡ true
 unfolding any_row modrm_size opcode_row row_one map_one_00
 some_in_one m = lock_in_one m.lock
 
@@ -171,7 +171,7 @@ unfolding is_row opcode_row row_two map_two_a0 group_0fba
 lock_in_two true = refl
 lock_in_two false = refl
 
-some_in_two : (m : Prefixes) → any_row (made m Two 0xba) ≡ true
+some_in_two : (m : Prefixes) → any_row (opcode_head m Two 0xba) ≡ true
 unfolding any_row modrm_size opcode_row row_two map_two_a0 group_0fba
 some_in_two m = lock_in_two m.lock
 
@@ -181,7 +181,7 @@ record IsMade (m : Prefixes) (map : OpMap) (b : ℕ) (x : Head) : Type 0 where
   pub prefixes : x.prefixes ≡ m
   pub opcode : opcode_bytes x.map x.opcode ≡ opcode_bytes map b
 
-is_made : (m : Prefixes) (map : OpMap) (b : ℕ) (x : Head) → any_row (made m map b) ≡ true → made m map b ≡ x
+is_made : (m : Prefixes) (map : OpMap) (b : ℕ) (x : Head) → any_row (opcode_head m map b) ≡ true → opcode_head m map b ≡ x
     → IsMade m map b x
 is_made m map b x h e = subst (λ (y : Head). IsMade m map b y) e (record { has_row = h; prefixes = refl; opcode = refl })
 
@@ -189,17 +189,17 @@ opcode_found : (m : Prefixes) (b : ℕ) (bs : List ℕ) (x : Head) (rest : List 
     → (any_row x ≡ true) × (x.prefixes ≡ m) × (b ∷ bs ≡ opcode_bytes x.map x.opcode ++ rest)
 unfolding opcode_at two_at
 opcode_found m b [] x rest e =
-    elim (chosen (eqb b 0x0f) (two_at m []) (checked (made m One b) []) (Ok (x, rest)) e) [
+    elim (chosen (eqb b 0x0f) (two_at m []) (checked (opcode_head m One b) []) (Ok (x, rest)) e) [
       | inl a ↦ absurd (err_not_ok (x, rest) More a.1)
       | inr a ↦
-          let k = checked_ok (made m One b) x [] rest a.1 in
+          let k = checked_ok (opcode_head m One b) x [] rest a.1 in
           let g = is_made m One b x k.0 k.1 in
           (g.has_row, g.prefixes, ap (λ (l : List ℕ). b ∷ l) k.2 ∙ ap (λ (l : List ℕ). l ++ rest) (sym g.opcode))
     ]
 opcode_found m b (c ∷ bs) x rest e =
-    elim (chosen (eqb b 0x0f) (two_at m (c ∷ bs)) (checked (made m One b) (c ∷ bs)) (Ok (x, rest)) e) [
+    elim (chosen (eqb b 0x0f) (two_at m (c ∷ bs)) (checked (opcode_head m One b) (c ∷ bs)) (Ok (x, rest)) e) [
       | inl a ↦
-          let k = checked_ok (made m Two c) x bs rest a.1 in
+          let k = checked_ok (opcode_head m Two c) x bs rest a.1 in
           let g = is_made m Two c x k.0 k.1 in (
             g.has_row,
             g.prefixes,
@@ -207,13 +207,13 @@ opcode_found m b (c ∷ bs) x rest e =
                 ∙ ap (λ (l : List ℕ). l ++ rest) (sym g.opcode),
           )
       | inr a ↦
-          let k = checked_ok (made m One b) x (c ∷ bs) rest a.1 in
+          let k = checked_ok (opcode_head m One b) x (c ∷ bs) rest a.1 in
           let g = is_made m One b x k.0 k.1 in
           (g.has_row, g.prefixes, ap (λ (l : List ℕ). b ∷ l) k.2 ∙ ap (λ (l : List ℕ). l ++ rest) (sym g.opcode))
     ]
 
 head_found : (m : Prefixes) (bytes : List ℕ) (x : Head) (rest : List ℕ) → head_at m bytes ≡ Ok (x, rest)
-    → (front : List ℕ) × SpellsHead m x front × (bytes ≡ front ++ rest)
+    → (front : List ℕ) × EncodesHead m x front × (bytes ≡ front ++ rest)
 unfolding head_at
 head_found m [] x rest e = absurd (err_not_ok (x, rest) More e)
 head_found m (b ∷ bs) x rest e =
@@ -235,17 +235,17 @@ head_found m (b ∷ bs) x rest e =
           (opcode_bytes x.map x.opcode, record { before = []; are = tt; says = o.1; has_row = o.0; whole = refl }, o.2)
     ]
 
-opcode_again : (m : Prefixes) (map : OpMap) (b : ℕ) (rest : List ℕ) → any_row (made m map b) ≡ true
-    → head_at m (opcode_bytes map b ++ rest) ≡ Ok (made m map b, rest)
+opcode_again : (m : Prefixes) (map : OpMap) (b : ℕ) (rest : List ℕ) → any_row (opcode_head m map b) ≡ true
+    → head_at m (opcode_bytes map b ++ rest) ≡ Ok (opcode_head m map b, rest)
 unfolding head_at opcode_at two_at is_prefix
 opcode_again m One b rest e =
     let s = starts m b e in
-    rw (s.no_prefix, s.no_map) (checked_again (made m One b) rest e)
-opcode_again m Two b rest e = checked_again (made m Two b) rest e
+    rw (s.no_prefix, s.no_map) (checked_again (opcode_head m One b) rest e)
+opcode_again m Two b rest e = checked_again (opcode_head m Two b) rest e
 
 head_again : (m : Prefixes) (ps : List ℕ) (map : OpMap) (b : ℕ) (rest : List ℕ) → ArePrefixes ps
-    → any_row (made (folded m ps) map b) ≡ true
-    → head_at m (ps ++ (opcode_bytes map b ++ rest)) ≡ Ok (made (folded m ps) map b, rest)
+    → any_row (opcode_head (folded m ps) map b) ≡ true
+    → head_at m (ps ++ (opcode_bytes map b ++ rest)) ≡ Ok (opcode_head (folded m ps) map b, rest)
 unfolding head_at
 head_again m [] map b rest are e = opcode_again m map b rest e
 head_again m (p ∷ ps) map b rest are e = rw (are.0) (head_again (with_prefix m p) ps map b rest are.1 e)
@@ -253,21 +253,21 @@ head_again m (p ∷ ps) map b rest are e = rw (are.0) (head_again (with_prefix m
 opcode_more : (m : Prefixes) (b : ℕ) (bs : List ℕ) → opcode_at m b bs ≡ Err More → (b ≡ 0x0f) × (bs ≡ [])
 unfolding opcode_at two_at
 opcode_more m b [] e =
-    elim (chosen (eqb b 0x0f) (two_at m []) (checked (made m One b) []) (Err More) e) [
+    elim (chosen (eqb b 0x0f) (two_at m []) (checked (opcode_head m One b) []) (Err More) e) [
       | inl a ↦ (eqb-true b 0x0f a.0, refl)
-      | inr a ↦ absurd (checked_not_more (made m One b) [] a.1)
+      | inr a ↦ absurd (checked_not_more (opcode_head m One b) [] a.1)
     ]
 opcode_more m b (c ∷ bs) e =
-    elim (chosen (eqb b 0x0f) (two_at m (c ∷ bs)) (checked (made m One b) (c ∷ bs)) (Err More) e) [
-      | inl a ↦ absurd (checked_not_more (made m Two c) bs a.1)
-      | inr a ↦ absurd (checked_not_more (made m One b) (c ∷ bs) a.1)
+    elim (chosen (eqb b 0x0f) (two_at m (c ∷ bs)) (checked (opcode_head m One b) (c ∷ bs)) (Err More) e) [
+      | inl a ↦ absurd (checked_not_more (opcode_head m Two c) bs a.1)
+      | inr a ↦ absurd (checked_not_more (opcode_head m One b) (c ∷ bs) a.1)
     ]
 
 head_more : (m : Prefixes) (bytes : List ℕ) → head_at m bytes ≡ Err More
-    → (x : Head) × (tail : List ℕ) × SpellsHead m x (bytes ++ tail) × AllBytes tail
+    → (x : Head) × (tail : List ℕ) × EncodesHead m x (bytes ++ tail) × AllBytes tail
 unfolding head_at
 head_more m [] e = (
-  made m One 0,
+  opcode_head m One 0,
   0 ∷ [],
   record { before = []; are = tt; says = refl; has_row = some_in_one m; whole = refl },
   (omega arith, tt),
@@ -289,7 +289,7 @@ head_more m (b ∷ bs) e =
           )
       | inr a ↦
           let o = opcode_more m b bs a.1 in (
-            made m Two 0xba,
+            opcode_head m Two 0xba,
             0xba ∷ [],
             record { before = []; are = tt; says = refl; has_row = some_in_two m; whole = rw (o.0, o.1) refl },
             (omega arith, tt),
@@ -300,14 +300,14 @@ opcode_invalid : (m : Prefixes) (b : ℕ) (bs rest : List ℕ) → opcode_at m b
     → opcode_at m b (bs ++ rest) ≡ Err Invalid
 unfolding opcode_at two_at
 opcode_invalid m b [] rest e =
-    elim (chosen (eqb b 0x0f) (two_at m []) (checked (made m One b) []) (Err Invalid) e) [
+    elim (chosen (eqb b 0x0f) (two_at m []) (checked (opcode_head m One b) []) (Err Invalid) e) [
       | inl a ↦ absurd (more_not_invalid a.1)
-      | inr a ↦ rw (a.0) (checked_stays (made m One b) [] rest a.1)
+      | inr a ↦ rw (a.0) (checked_stays (opcode_head m One b) [] rest a.1)
     ]
 opcode_invalid m b (c ∷ bs) rest e =
-    elim (chosen (eqb b 0x0f) (two_at m (c ∷ bs)) (checked (made m One b) (c ∷ bs)) (Err Invalid) e) [
-      | inl a ↦ rw (a.0) (checked_stays (made m Two c) bs (bs ++ rest) a.1)
-      | inr a ↦ rw (a.0) (checked_stays (made m One b) (c ∷ bs) (c ∷ bs ++ rest) a.1)
+    elim (chosen (eqb b 0x0f) (two_at m (c ∷ bs)) (checked (opcode_head m One b) (c ∷ bs)) (Err Invalid) e) [
+      | inl a ↦ rw (a.0) (checked_stays (opcode_head m Two c) bs (bs ++ rest) a.1)
+      | inr a ↦ rw (a.0) (checked_stays (opcode_head m One b) (c ∷ bs) (c ∷ bs ++ rest) a.1)
     ]
 
 head_invalid : (m : Prefixes) (bytes rest : List ℕ) → head_at m bytes ≡ Err Invalid
@@ -320,15 +320,15 @@ head_invalid m (b ∷ bs) rest e =
       | inr a ↦ rw (a.0) (opcode_invalid m b bs rest a.1)
     ]
 
-head_spelled : (m : Prefixes) (x : Head) (front rest : List ℕ) → SpellsHead m x front
+head_encoded : (m : Prefixes) (x : Head) (front rest : List ℕ) → EncodesHead m x front
     → head_at m (front ++ rest) ≡ Ok (x, rest)
-head_spelled m x front rest h =
-    let is : made (folded m h.before) x.map x.opcode ≡ x = ap (λ (k : Prefixes). made k x.map x.opcode) (sym h.says) in
-    let row : any_row (made (folded m h.before) x.map x.opcode) ≡ true = ap any_row is ∙ h.has_row in
+head_encoded m x front rest h =
+    let is : opcode_head (folded m h.before) x.map x.opcode ≡ x = ap (λ (k : Prefixes). opcode_head k x.map x.opcode) (sym h.says) in
+    let row : any_row (opcode_head (folded m h.before) x.map x.opcode) ≡ true = ap any_row is ∙ h.has_row in
     ap (λ (l : List ℕ). head_at m (l ++ rest)) h.whole
     ∙ ap (head_at m) (append_assoc h.before (opcode_bytes x.map x.opcode) rest)
     ∙ head_again m h.before x.map x.opcode rest h.are row
     ∙ ap (λ (y : Head). answer (y, rest)) is
 
-pub head_reads : (m : Prefixes) → Reads (SpellsHead m) (head_at m)
-head_reads m = record { found = head_found m; again = head_spelled m; more = head_more m; invalid = head_invalid m }
+pub head_reads : (m : Prefixes) → Reads (EncodesHead m) (head_at m)
+head_reads m = record { found = head_found m; again = head_encoded m; more = head_more m; invalid = head_invalid m }

@@ -16,11 +16,11 @@ use Rattle.insn_forms.specs.Operands.{has_op, may_lock, is_m, is_row, imm_size, 
 use Rattle.insn_forms.specs.Grammar.{AllBytes, little, wide_of, addr32_of, row_with, is_row_with}
 use Rattle.insn_decode.specs.Reading.{◌>>=◌, Read, number_at, no_prefixes, any_below, any_row, head_at, modrm_at, addressing_at, operand_at, rest_at, insn_at}
 use Rattle.insn_decode.proofs.LawfulReaders.{Reads, ok_is, ok_not_err, err_not_ok, more_not_invalid, chosen, bind_ok, bind_err, Then, then_reads, then_some, Done, done_reads, Number, number_reads, some_number}
-use Rattle.insn_decode.proofs.HeadReaders.{SpellsHead, head_reads, any_found, any_from}
+use Rattle.insn_decode.proofs.HeadReaders.{EncodesHead, head_reads, any_found, any_from}
 
 -- ---- ModRM
 
-pub record SpellsModrm (head : Head) (m : ℕ) (bytes : List ℕ) : Type 0 where
+pub record EncodesModrm (head : Head) (m : ℕ) (bytes : List ℕ) : Type 0 where
   pub number : Number (modrm_size head.map head.opcode) m bytes
   pub has_row : is_row_with head m ≡ true
 
@@ -53,7 +53,7 @@ reg_row head e =
     let r = any_found 8 (λ reg. is_row head.prefixes.lock (opcode_row head.map head.opcode reg) true) e in
     (8 * r.0, omega (arith, r.1), made_byte head r.0 r.1 r.2)
 
-some_modrm : (head : Head) → any_row head ≡ true → (m : ℕ) × (g : List ℕ) × SpellsModrm head m g × AllBytes g
+some_modrm : (head : Head) → any_row head ≡ true → (m : ℕ) × (g : List ℕ) × EncodesModrm head m g × AllBytes g
 unfolding any_row
 some_modrm head e =
     elim (chosen (eqb (modrm_size head.map head.opcode) 0) (is_row_with head 0)
@@ -80,7 +80,7 @@ row_up lock r true e = e
 row_up lock r false e = memory_too (has_op r) lock (may_lock r) (not (is_m r.first || is_m r.second)) e
 
 -- where a ModRM byte has a row, the head has
-pub row_any : (head : Head) (m : ℕ) (bytes : List ℕ) → SpellsModrm head m bytes → any_row head ≡ true
+pub row_any : (head : Head) (m : ℕ) (bytes : List ℕ) → EncodesModrm head m bytes → any_row head ≡ true
 unfolding any_row
 row_any head m bytes h =
     elim (cases_Bool (eqb (modrm_size head.map head.opcode) 0)) [
@@ -104,7 +104,7 @@ at_most_one n (b ∷ bs) (inr o) e =
     absurd (ok_not_err (b + 256 * 0, bs) More (subst (λ (k : ℕ). number_at k (b ∷ bs) ≡ Err More) o e))
 
 modrm_found : (head : Head) (bytes : List ℕ) (m : ℕ) (rest : List ℕ) → modrm_at head bytes ≡ Ok (m, rest)
-    → (front : List ℕ) × SpellsModrm head m front × (bytes ≡ front ++ rest)
+    → (front : List ℕ) × EncodesModrm head m front × (bytes ≡ front ++ rest)
 unfolding modrm_at
 modrm_found head bytes m rest e =
     let a = bind_ok (number_at (modrm_size head.map head.opcode) bytes)
@@ -113,12 +113,12 @@ modrm_found head bytes m rest e =
     elim (chosen (is_row_with head a.0.0) (Ok a.0) (Err Invalid) (Ok (m, rest)) a.2) [
       | inl c ↦
           let k : a.0 ≡ (m, rest) = ok_is a.0 (m, rest) c.1 in
-          let spelled : SpellsModrm head a.0.0 n.0 = record { number = n.1; has_row = c.0 } in
-          (n.0, subst (λ (p : ℕ × List ℕ). SpellsModrm head p.0 n.0) k spelled, n.2 ∙ ap (λ (p : ℕ × List ℕ). n.0 ++ p.1) k)
+          let encoded : EncodesModrm head a.0.0 n.0 = record { number = n.1; has_row = c.0 } in
+          (n.0, subst (λ (p : ℕ × List ℕ). EncodesModrm head p.0 n.0) k encoded, n.2 ∙ ap (λ (p : ℕ × List ℕ). n.0 ++ p.1) k)
       | inr c ↦ absurd (err_not_ok (m, rest) Invalid c.1)
     ]
 
-modrm_again : (head : Head) (m : ℕ) (front rest : List ℕ) → SpellsModrm head m front
+modrm_again : (head : Head) (m : ℕ) (front rest : List ℕ) → EncodesModrm head m front
     → modrm_at head (front ++ rest) ≡ Ok (m, rest)
 unfolding modrm_at
 modrm_again head m front rest h =
@@ -126,7 +126,7 @@ modrm_again head m front rest h =
     rw (n, h.has_row) refl
 
 modrm_more : (head : Head) → any_row head ≡ true → (bytes : List ℕ) → modrm_at head bytes ≡ Err More
-    → (m : ℕ) × (tail : List ℕ) × SpellsModrm head m (bytes ++ tail) × AllBytes tail
+    → (m : ℕ) × (tail : List ℕ) × EncodesModrm head m (bytes ++ tail) × AllBytes tail
 unfolding modrm_at
 modrm_more head any bytes e =
     elim (bind_err (number_at (modrm_size head.map head.opcode) bytes)
@@ -162,26 +162,26 @@ modrm_invalid head bytes rest e =
           ]
     ]
 
-pub modrm_reads : (head : Head) → any_row head ≡ true → Reads (SpellsModrm head) (modrm_at head)
+pub modrm_reads : (head : Head) → any_row head ≡ true → Reads (EncodesModrm head) (modrm_at head)
 modrm_reads head any =
     record { found = modrm_found head; again = modrm_again head; more = modrm_more head any; invalid = modrm_invalid head }
 
 -- ---- what follows
 
 module _ (big : Bool) (head : Head) where
-  abbrev pub SpellsDisp : ℕ → ℕ → Addressing → List ℕ → Type 0
-  SpellsDisp m sib = Then (Number (disp_size (addr32_of big head) (row_with head m) m sib))
+  abbrev pub EncodesDisp : ℕ → ℕ → Addressing → List ℕ → Type 0
+  EncodesDisp m sib = Then (Number (disp_size (addr32_of big head) (row_with head m) m sib))
       (λ disp. Done (record { modrm = m; sib = sib; disp = disp }))
 
-  abbrev pub SpellsSib : ℕ → Addressing → List ℕ → Type 0
-  SpellsSib m = Then (Number (sib_size (addr32_of big head) (row_with head m) m)) (λ sib. SpellsDisp m sib)
+  abbrev pub EncodesSib : ℕ → Addressing → List ℕ → Type 0
+  EncodesSib m = Then (Number (sib_size (addr32_of big head) (row_with head m) m)) (λ sib. EncodesDisp m sib)
 
-  abbrev pub SpellsAddressing : Addressing → List ℕ → Type 0
-  SpellsAddressing = Then (SpellsModrm head) (λ m. SpellsSib m)
+  abbrev pub EncodesAddressing : Addressing → List ℕ → Type 0
+  EncodesAddressing = Then (EncodesModrm head) (λ m. EncodesSib m)
 
 module _ (big : Bool) (head : Head) where
   disp_reads : (m sib : ℕ)
-      → Reads (SpellsDisp big head m sib)
+      → Reads (EncodesDisp big head m sib)
       (λ bytes. number_at (disp_size (addr32_of big head) (row_with head m) m sib) bytes
       >>= λ d. Ok (record { modrm = m; sib = sib; disp = d.0 }, d.1))
   disp_reads m sib =
@@ -192,53 +192,53 @@ module _ (big : Bool) (head : Head) where
       (number_reads _) (λ d f h. done_reads (record { modrm = m; sib = sib; disp = d }))
       (λ d f h. (record { modrm = m; sib = sib; disp = d }, [], record { same = refl; none = refl }, tt))
 
-  some_disp : (m sib : ℕ) → (p : Addressing) × (g : List ℕ) × SpellsDisp big head m sib p g × AllBytes g
+  some_disp : (m sib : ℕ) → (p : Addressing) × (g : List ℕ) × EncodesDisp big head m sib p g × AllBytes g
   some_disp m sib =
       let n = some_number (disp_size (addr32_of big head) (row_with head m) m sib) in
       then_some (Number (disp_size (addr32_of big head) (row_with head m) m sib))
       (λ disp. Done (record { modrm = m; sib = sib; disp = disp })) n.0 n.1
       (record { modrm = m; sib = sib; disp = n.0 }) [] n.2 n.3 (record { same = refl; none = refl }) tt
 
-  sib_reads : (m : ℕ) → Reads (SpellsSib big head m)
+  sib_reads : (m : ℕ) → Reads (EncodesSib big head m)
       (λ bytes. number_at (sib_size (addr32_of big head) (row_with head m) m) bytes
       >>= λ sib. number_at (disp_size (addr32_of big head) (row_with head m) m sib.0) sib.1
       >>= λ d. Ok (record { modrm = m; sib = sib.0; disp = d.0 }, d.1))
   sib_reads m =
-      then_reads (Number (sib_size (addr32_of big head) (row_with head m) m)) (λ sib. SpellsDisp big head m sib)
+      then_reads (Number (sib_size (addr32_of big head) (row_with head m) m)) (λ sib. EncodesDisp big head m sib)
       (number_at (sib_size (addr32_of big head) (row_with head m) m))
       (λ sib bytes. number_at (disp_size (addr32_of big head) (row_with head m) m sib) bytes
       >>= λ d. Ok (record { modrm = m; sib = sib; disp = d.0 }, d.1))
       (number_reads _) (λ sib f h. disp_reads m sib) (λ sib f h. some_disp m sib)
 
-  some_sib : (m : ℕ) → (p : Addressing) × (g : List ℕ) × SpellsSib big head m p g × AllBytes g
+  some_sib : (m : ℕ) → (p : Addressing) × (g : List ℕ) × EncodesSib big head m p g × AllBytes g
   some_sib m =
       let n = some_number (sib_size (addr32_of big head) (row_with head m) m) in
       let d = some_disp m n.0 in
       then_some (Number (sib_size (addr32_of big head) (row_with head m) m))
-      (λ sib. SpellsDisp big head m sib) n.0 n.1 d.0 d.1 n.2 n.3 d.2 d.3
+      (λ sib. EncodesDisp big head m sib) n.0 n.1 d.0 d.1 n.2 n.3 d.2 d.3
 
-  addressing_reads : any_row head ≡ true → Reads (SpellsAddressing big head) (addressing_at (addr32_of big head) head)
+  addressing_reads : any_row head ≡ true → Reads (EncodesAddressing big head) (addressing_at (addr32_of big head) head)
   unfolding addressing_at
   addressing_reads any =
-      then_reads (SpellsModrm head) (λ m. SpellsSib big head m) (modrm_at head)
+      then_reads (EncodesModrm head) (λ m. EncodesSib big head m) (modrm_at head)
       (λ m bytes. number_at (sib_size (addr32_of big head) (row_with head m) m) bytes
       >>= λ sib. number_at (disp_size (addr32_of big head) (row_with head m) m sib.0) sib.1
       >>= λ d. Ok (record { modrm = m; sib = sib.0; disp = d.0 }, d.1))
       (modrm_reads head any) (λ m f h. sib_reads m) (λ m f h. some_sib m)
 
-  some_addressing : any_row head ≡ true → (p : Addressing) × (g : List ℕ) × SpellsAddressing big head p g × AllBytes g
+  some_addressing : any_row head ≡ true → (p : Addressing) × (g : List ℕ) × EncodesAddressing big head p g × AllBytes g
   some_addressing any =
       let m = some_modrm head any in
       let d = some_sib m.0 in
-      then_some (SpellsModrm head) (λ m. SpellsSib big head m) m.0 m.1 d.0 d.1 m.2 m.3 d.2 d.3
+      then_some (EncodesModrm head) (λ m. EncodesSib big head m) m.0 m.1 d.0 d.1 m.2 m.3 d.2 d.3
 
 module _ (big : Bool) (head : Head) (address : Addressing) where
-  abbrev pub SpellsOperand : Form → Operand → List ℕ → Type 0
-  SpellsOperand form = Then (Number (imm_size (wide_of big head) (addr32_of big head) form))
+  abbrev pub EncodesOperand : Form → Operand → List ℕ → Type 0
+  EncodesOperand form = Then (Number (imm_size (wide_of big head) (addr32_of big head) form))
       (λ n. Done (operand head (wide_of big head) (addr32_of big head) address form n))
 
   operand_reads : (form : Form)
-      → Reads (SpellsOperand form) (operand_at (wide_of big head) (addr32_of big head) head address form)
+      → Reads (EncodesOperand form) (operand_at (wide_of big head) (addr32_of big head) head address form)
   unfolding operand_at
   operand_reads form =
       then_reads (Number (imm_size (wide_of big head) (addr32_of big head) form))
@@ -253,7 +253,7 @@ module _ (big : Bool) (head : Head) (address : Addressing) where
         tt,
       ))
 
-  some_operand : (form : Form) → (o : Operand) × (g : List ℕ) × SpellsOperand form o g × AllBytes g
+  some_operand : (form : Form) → (o : Operand) × (g : List ℕ) × EncodesOperand form o g × AllBytes g
   some_operand form =
       let n = some_number (imm_size (wide_of big head) (addr32_of big head) form) in
       then_some (Number (imm_size (wide_of big head) (addr32_of big head) form))
@@ -267,14 +267,14 @@ module _ (big : Bool) (head : Head) (address : Addressing) where
   abbrev made_of : Operand → Operand → Operand → Insn
   made_of first second third = insn_of head (wide_of big head) (addr32_of big head) row_here first second third
 
-  abbrev pub SpellsThird : Operand → Operand → Insn → List ℕ → Type 0
-  SpellsThird first second = Then (SpellsOperand row_here.third) (λ third. Done (made_of first second third))
+  abbrev pub EncodesThird : Operand → Operand → Insn → List ℕ → Type 0
+  EncodesThird first second = Then (EncodesOperand row_here.third) (λ third. Done (made_of first second third))
 
-  abbrev pub SpellsSecond : Operand → Insn → List ℕ → Type 0
-  SpellsSecond first = Then (SpellsOperand row_here.second) (λ second. SpellsThird first second)
+  abbrev pub EncodesSecond : Operand → Insn → List ℕ → Type 0
+  EncodesSecond first = Then (EncodesOperand row_here.second) (λ second. EncodesThird first second)
 
-  abbrev pub SpellsRest : Insn → List ℕ → Type 0
-  SpellsRest = Then (SpellsOperand row_here.first) (λ first. SpellsSecond first)
+  abbrev pub EncodesRest : Insn → List ℕ → Type 0
+  EncodesRest = Then (EncodesOperand row_here.first) (λ first. EncodesSecond first)
 
   abbrev third_at : Operand → Operand → List ℕ → Read Insn
   third_at first second bytes = operand_at (wide_of big head) (addr32_of big head) head address row_here.third bytes
@@ -284,73 +284,73 @@ module _ (big : Bool) (head : Head) (address : Addressing) where
   second_at first bytes = operand_at (wide_of big head) (addr32_of big head) head address row_here.second bytes
       >>= λ s. third_at first s.0 s.1
 
-  third_reads : (first second : Operand) → Reads (SpellsThird first second) (third_at first second)
+  third_reads : (first second : Operand) → Reads (EncodesThird first second) (third_at first second)
   third_reads first second =
-      then_reads (SpellsOperand row_here.third) (λ third. Done (made_of first second third))
+      then_reads (EncodesOperand row_here.third) (λ third. Done (made_of first second third))
       (operand_at (wide_of big head) (addr32_of big head) head address row_here.third)
       (λ third bytes. Ok (made_of first second third, bytes))
       (operand_reads row_here.third) (λ third f h. done_reads (made_of first second third))
       (λ third f h. (made_of first second third, [], record { same = refl; none = refl }, tt))
 
-  some_third : (first second : Operand) → (i : Insn) × (g : List ℕ) × SpellsThird first second i g × AllBytes g
+  some_third : (first second : Operand) → (i : Insn) × (g : List ℕ) × EncodesThird first second i g × AllBytes g
   some_third first second =
       let o = some_operand row_here.third in
-      then_some (SpellsOperand row_here.third) (λ third. Done (made_of first second third)) o.0 o.1
+      then_some (EncodesOperand row_here.third) (λ third. Done (made_of first second third)) o.0 o.1
       (made_of first second o.0) [] o.2 o.3 (record { same = refl; none = refl }) tt
 
-  second_reads : (first : Operand) → Reads (SpellsSecond first) (second_at first)
+  second_reads : (first : Operand) → Reads (EncodesSecond first) (second_at first)
   second_reads first =
-      then_reads (SpellsOperand row_here.second) (λ second. SpellsThird first second)
+      then_reads (EncodesOperand row_here.second) (λ second. EncodesThird first second)
       (operand_at (wide_of big head) (addr32_of big head) head address row_here.second)
       (λ second. third_at first second)
       (operand_reads row_here.second) (λ second f h. third_reads first second) (λ second f h. some_third first second)
 
-  some_second : (first : Operand) → (i : Insn) × (g : List ℕ) × SpellsSecond first i g × AllBytes g
+  some_second : (first : Operand) → (i : Insn) × (g : List ℕ) × EncodesSecond first i g × AllBytes g
   some_second first =
       let o = some_operand row_here.second in
       let t = some_third first o.0 in
-      then_some (SpellsOperand row_here.second) (λ second. SpellsThird first second) o.0 o.1 t.0 t.1 o.2 o.3 t.2 t.3
+      then_some (EncodesOperand row_here.second) (λ second. EncodesThird first second) o.0 o.1 t.0 t.1 o.2 o.3 t.2 t.3
 
-  rest_reads : Reads SpellsRest (rest_at (wide_of big head) (addr32_of big head) head address)
+  rest_reads : Reads EncodesRest (rest_at (wide_of big head) (addr32_of big head) head address)
   unfolding rest_at
   rest_reads =
-      then_reads (SpellsOperand row_here.first) (λ first. SpellsSecond first)
+      then_reads (EncodesOperand row_here.first) (λ first. EncodesSecond first)
       (operand_at (wide_of big head) (addr32_of big head) head address row_here.first) (λ first. second_at first)
       (operand_reads row_here.first) (λ first f h. second_reads first) (λ first f h. some_second first)
 
-  some_rest : (i : Insn) × (g : List ℕ) × SpellsRest i g × AllBytes g
+  some_rest : (i : Insn) × (g : List ℕ) × EncodesRest i g × AllBytes g
   some_rest =
       let o = some_operand row_here.first in
       let t = some_second o.0 in
-      then_some (SpellsOperand row_here.first) (λ first. SpellsSecond first) o.0 o.1 t.0 t.1 o.2 o.3 t.2 t.3
+      then_some (EncodesOperand row_here.first) (λ first. EncodesSecond first) o.0 o.1 t.0 t.1 o.2 o.3 t.2 t.3
 
 module _ (big : Bool) where
-  abbrev pub SpellsTail : Head → Insn → List ℕ → Type 0
-  SpellsTail head = Then (SpellsAddressing big head) (λ address. SpellsRest big head address)
+  abbrev pub EncodesTail : Head → Insn → List ℕ → Type 0
+  EncodesTail head = Then (EncodesAddressing big head) (λ address. EncodesRest big head address)
 
-  abbrev pub SpellsInsn : Insn → List ℕ → Type 0
-  SpellsInsn = Then (SpellsHead no_prefixes) (λ head. SpellsTail head)
+  abbrev pub EncodesInsn : Insn → List ℕ → Type 0
+  EncodesInsn = Then (EncodesHead no_prefixes) (λ head. EncodesTail head)
 
   abbrev tail_at : Head → List ℕ → Read Insn
   tail_at head bytes = addressing_at (addr32_of big head) head bytes
       >>= λ p. rest_at (wide_of big head) (addr32_of big head) head p.0 p.1
 
-  tail_reads : (head : Head) → any_row head ≡ true → Reads (SpellsTail head) (tail_at head)
+  tail_reads : (head : Head) → any_row head ≡ true → Reads (EncodesTail head) (tail_at head)
   tail_reads head any =
-      then_reads (SpellsAddressing big head) (λ address. SpellsRest big head address)
+      then_reads (EncodesAddressing big head) (λ address. EncodesRest big head address)
       (addressing_at (addr32_of big head) head)
       (λ address. rest_at (wide_of big head) (addr32_of big head) head address)
       (addressing_reads big head any) (λ address f h. rest_reads big head address)
       (λ address f h. some_rest big head address)
 
-  some_tail : (head : Head) → any_row head ≡ true → (i : Insn) × (g : List ℕ) × SpellsTail head i g × AllBytes g
+  some_tail : (head : Head) → any_row head ≡ true → (i : Insn) × (g : List ℕ) × EncodesTail head i g × AllBytes g
   some_tail head any =
       let p = some_addressing big head any in
       let r = some_rest big head p.0 in
-      then_some (SpellsAddressing big head) (λ address. SpellsRest big head address) p.0 p.1 r.0 r.1 p.2 p.3 r.2 r.3
+      then_some (EncodesAddressing big head) (λ address. EncodesRest big head address) p.0 p.1 r.0 r.1 p.2 p.3 r.2 r.3
 
-  pub insn_reads : Reads SpellsInsn (insn_at big)
+  pub insn_reads : Reads EncodesInsn (insn_at big)
   unfolding insn_at
   insn_reads =
-      then_reads (SpellsHead no_prefixes) (λ head. SpellsTail head) (head_at no_prefixes) (λ head. tail_at head)
+      then_reads (EncodesHead no_prefixes) (λ head. EncodesTail head) (head_at no_prefixes) (λ head. tail_at head)
       (head_reads no_prefixes) (λ head f h. tail_reads head h.has_row) (λ head f h. some_tail head h.has_row)

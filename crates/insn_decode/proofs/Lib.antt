@@ -3,6 +3,6 @@ pub mod SizedNumbers
 pub mod WholeNumbers
 pub mod HeadReaders
 pub mod InsnReaders
-pub mod Spellings
+pub mod Encodings
 pub mod Answering
 pub mod SameStart

@@ -158,10 +158,10 @@ are_code_bytes words = (
 pub decoded_start : (big : Bool) (insn : Insn) (len : ℕ) (bytes other : List ℕ) → AllBytes bytes →
     take len bytes ≡ take len other → decoded big bytes ≡ Whole insn len → decoded big other ≡ Whole insn len
 decoded_start big insn len bytes other are same e =
-    let spelled = decoded_whole big insn len bytes are e in
-    let short : length (take len bytes) ≡ len = length-take-le len bytes spelled.1 in
+    let encoded = decoded_whole big insn len bytes are e in
+    let short : length (take len bytes) ≡ len = length-take-le len bytes encoded.1 in
     decoded_only big insn (take len bytes) (drop len other) other
-    (sym (take-append-drop len other) ∙ ap (λ (xs : List ℕ). xs ++ drop len other) (sym same)) spelled.0
+    (sym (take-append-drop len other) ∙ ap (λ (xs : List ℕ). xs ++ drop len other) (sym same)) encoded.0
     ∙ ap (Whole insn) short
 
 pub by_test : (x y : ℕ) → IsTrue (nat_eq x y) → x ≡ y

@@ -6,12 +6,12 @@ use Rattle.insn_decode.specs.declared.decoding.Decoded.TheVariants.{Whole, More,
 use Rattle.insn_forms.specs.declared.insn.Insn.{Insn}
 use Rattle.insn_decode.specs.Reading.{Read, insn_at}
 
--- the answer to what was read: the length is what the rest lacks
+-- what was read, as `decode` returns it: the length is that of the bytes without the rest
 abbrev pub answer_of : List ℕ → Read Insn → Decoded
 answer_of bytes (Ok x) = Whole x.0 (length bytes - length x.1)
 answer_of bytes (Err stops.More) = More
 answer_of bytes (Err stops.Invalid) = Invalid
 
--- the answer to the bytes
+-- what the bytes are decoded to
 unfoldable pub decoded : Bool → List ℕ → Decoded
 decoded big bytes = answer_of bytes (insn_at big bytes)

@@ -65,8 +65,8 @@ any_row head =
     else any_below 8 (λ reg. is_row head.prefixes.lock (opcode_row head.map head.opcode reg) true)
 
 -- the head of an opcode after these prefixes
-abbrev pub made : Prefixes → OpMap → ℕ → Head
-made m map opcode = record { prefixes = m; map = map; opcode = opcode }
+abbrev pub opcode_head : Prefixes → OpMap → ℕ → Head
+opcode_head m map opcode = record { prefixes = m; map = map; opcode = opcode }
 
 -- the head, if there is a row that begins so
 unfoldable pub checked : Head → List ℕ → Read Head
@@ -75,11 +75,11 @@ checked head bytes = if any_row head then Ok (head, bytes) else Err Invalid
 -- the opcode after 0F
 unfoldable pub two_at : Prefixes → List ℕ → Read Head
 two_at m [] = Err More
-two_at m (b ∷ bs) = checked (made m Two b) bs
+two_at m (b ∷ bs) = checked (opcode_head m Two b) bs
 
 -- the opcode, whose first byte is b
 unfoldable pub opcode_at : Prefixes → ℕ → List ℕ → Read Head
-opcode_at m b bs = if b == 0x0f then two_at m bs else checked (made m One b) bs
+opcode_at m b bs = if b == 0x0f then two_at m bs else checked (opcode_head m One b) bs
 
 -- the prefixes and the opcode; m is what the prefixes before say
 unfoldable pub head_at : Prefixes → List ℕ → Read Head

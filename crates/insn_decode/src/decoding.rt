@@ -1,6 +1,6 @@
 // The instruction that some bytes start with.
 ghost use Rattle.std.specs.Prelude.{◌≡◌, ◌≤◌, ◌↔◌, ℕ, List, ◌++◌, length, take};
-ghost use Rattle.insn_forms.specs.Grammar.{AllBytes, Spelling, HasSpelling, BeginsSpelling};
+ghost use Rattle.insn_forms.specs.Grammar.{AllBytes, Encoding, HasEncoding, BeginsEncoding};
 ghost use Rattle.insn_forms.specs.declared.insn.Insn.{Insn as AnInsn};
 ghost use Rattle.insn_decode.specs.Decode.{decoded};
 
@@ -25,15 +25,15 @@ pub enum Decoded {
 pub fn decode(bytes: &ArrayVec<u8, 15>, big: bool) -> Decoded
     // What is read is what the bytes encode.
     ensures whole { (insn : AnInsn) (len : ℕ) → result ≡ Decoded.Whole insn len →
-        Spelling big insn (take len bytes.now.items) × (len ≤ length bytes.now.items) }
+        Encoding big insn (take len bytes.now.items) × (len ≤ length bytes.now.items) }
     // What the bytes encode is read.
     ensures only { (insn : AnInsn) (front rest : List ℕ) → bytes.now.items ≡ front ++ rest →
-        Spelling big insn front → result ≡ Decoded.Whole insn (length front) }
-    // The bytes are the first of a spelling, and not all of it.
-    ensures more { result ≡ Decoded.More ↔ BeginsSpelling big bytes.now.items }
+        Encoding big insn front → result ≡ Decoded.Whole insn (length front) }
+    // The bytes are the first of an encoding, and not all of it.
+    ensures more { result ≡ Decoded.More ↔ BeginsEncoding big bytes.now.items }
     // The bytes neither start with an encoding nor are a prefix of one.
     ensures invalid { result ≡ Decoded.Invalid ↔
-        (¬ HasSpelling big bytes.now.items × ¬ BeginsSpelling big bytes.now.items) }
+        (¬ HasEncoding big bytes.now.items × ¬ BeginsEncoding big bytes.now.items) }
     // The same as a function of the bytes: they are read from left to right.
     ensures read { result ≡ decoded big bytes.now.items }
 {
@@ -51,7 +51,7 @@ fn answer(bytes: &[u8], big: bool) -> Decoded
     read(bytes, big)
 }
 
-// The answer that reading gives.
+// What reading gives.
 #[inline(always)]
 #[tactic(auto, unfolding(crate::specs::Decode::decoded))]
 fn read(bytes: &[u8], big: bool) -> Decoded

@@ -1,5 +1,5 @@
 //! The decoder: the instruction that some bytes start with.
-//! It promises that `decode` is insn_forms' grammar in both directions, and that bytes spell at most one instruction.
+//! It promises that `decode` is insn_forms' grammar in both directions, and that bytes encode at most one instruction.
 //! It uses insn_forms, client_world and arrayvec; the client's step hands it the code bytes that can be fetched, 15 at most.
 #![tactic(auto)]
 
@@ -16,5 +16,5 @@ mod stop;
 mod tests;
 
 pub use decoding::{Decoded, decode};
-pub use laws::{a_spelling_is_of_one_instruction, reading_is_the_grammar};
+pub use laws::{an_encoding_is_of_one_instruction, reading_is_the_grammar};
 pub use memo::{Entry, Memo};

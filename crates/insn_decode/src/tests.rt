@@ -5,7 +5,7 @@ use client_world::FarPtr;
 use client_world::SegReg::{self, Ds, Es, Fs, Gs, Ss};
 use insn_forms::{Insn, MemForm, Op, Operand, Rep};
 
-// The answer to the first 15 of the bytes.
+// What the first 15 of the bytes are decoded to.
 fn decoded(bytes: &[u8], big: bool) -> Decoded {
     let mut front = ArrayVec::new();
     for byte in bytes {
@@ -374,7 +374,7 @@ fn immediates_and_distances(rt: HostRuntime) {
 }
 
 #[test]
-fn spellings_of_15_and_16_bytes(rt: HostRuntime) {
+fn encodings_of_15_and_16_bytes(rt: HostRuntime) {
     let place = scaled(Gs, SP, AX, 4, 0x0403_0201);
     let mov = Insn {
         seg: Gs,

@@ -1,4 +1,4 @@
--- Every instruction that bytes spell is well formed.
+-- Every instruction that bytes encode is well formed.
 use Rattle.std.proofs.Common.{◌≡◌, ℕ, ◌/◌, ◌%◌, ◌<◌, Bool, true, false, ◌&&◌, ◌||◌, not, eqb, Option, Some, None, [], ◌∷◌, refl, sym, ap, subst, arith, inl, inr}
 use Rattle.std.specs.Prelude.{nat_lt, ◌==◌}
 use Rattle.std.proofs.lemmas.Bool.{cond_both, and_parts, and_from, or_left, lt-ltb, false≢true, cases_Bool}

@@ -1,4 +1,4 @@
--- The grammar: which bytes spell an instruction. A spelling is pieces, each of which has the size that the pieces before
+-- The grammar: which bytes encode an instruction. An encoding is pieces, each of which has the size that the pieces before
 -- it determine, and the instruction is a function of the pieces.
 -- Source: 80386 Programmer's Reference Manual, ch. 17, "80386 Instruction Encoding".
 use Rattle.std.specs.Prelude.{◌≡◌, ℕ, ◌+◌, ◌*◌, ◌<◌, Bool, true, List, [], ◌∷◌, ◌++◌, length}
@@ -52,9 +52,9 @@ row_with head modrm = opcode_row head.map head.opcode (reg_of modrm)
 abbrev pub is_row_with : Head → ℕ → Bool
 is_row_with head modrm = is_row head.prefixes.lock (row_with head modrm) (in_memory modrm)
 
--- ---- spellings
+-- ---- encodings
 
--- the pieces of a spelling in their order; modrm and sib are one byte or none, and the last three are the immediate,
+-- the pieces of an encoding in their order; modrm and sib are one byte or none, and the last three are the immediate,
 -- offset or far pointer of each of the row's forms
 pub record Pieces : Type 0 where
   pub prefixes : List ℕ
@@ -99,8 +99,8 @@ insn_of_pieces big head address first second third =
     (operand head (wide_of big head) (addr32_of big head) address r.second second)
     (operand head (wide_of big head) (addr32_of big head) address r.third third)
 
--- the bytes spell the instruction, where sizes are 32 bits by default if `big`, else 16
-pub record Spelling (big : Bool) (insn : Insn) (bytes : List ℕ) : Type 0 where
+-- the bytes encode the instruction, where sizes are 32 bits by default if `big`, else 16
+pub record Encoding (big : Bool) (insn : Insn) (bytes : List ℕ) : Type 0 where
   pub pieces : Pieces
   pub whole : bytes ≡ piece_bytes pieces
   pub prefixes : ArePrefixes pieces.prefixes
@@ -109,15 +109,15 @@ pub record Spelling (big : Bool) (insn : Insn) (bytes : List ℕ) : Type 0 where
       (little pieces.first) (little pieces.second) (little pieces.third)
   pub are_bytes : AllBytes bytes
 
--- some bytes spell the instruction
+-- some bytes encode the instruction
 abbrev pub IsInsn : Insn → Type 0
-IsInsn insn = (big : Bool) × (bytes : List ℕ) × Spelling big insn bytes
+IsInsn insn = (big : Bool) × (bytes : List ℕ) × Encoding big insn bytes
 
--- the first of the bytes spell an instruction
-abbrev pub HasSpelling : Bool → List ℕ → Type 0
-HasSpelling big bytes =
-    (insn : Insn) × (front : List ℕ) × (rest : List ℕ) × (bytes ≡ front ++ rest) × Spelling big insn front
+-- the first of the bytes encode an instruction
+abbrev pub HasEncoding : Bool → List ℕ → Type 0
+HasEncoding big bytes =
+    (insn : Insn) × (front : List ℕ) × (rest : List ℕ) × (bytes ≡ front ++ rest) × Encoding big insn front
 
--- the bytes are the first of a spelling of any length, and not all of it
-abbrev pub BeginsSpelling : Bool → List ℕ → Type 0
-BeginsSpelling big bytes = (insn : Insn) × (next : ℕ) × (tail : List ℕ) × Spelling big insn (bytes ++ next ∷ tail)
+-- the bytes are the first of an encoding of any length, and not all of it
+abbrev pub BeginsEncoding : Bool → List ℕ → Type 0
+BeginsEncoding big bytes = (insn : Insn) × (next : ℕ) × (tail : List ℕ) × Encoding big insn (bytes ++ next ∷ tail)

@@ -1,4 +1,4 @@
--- Which operands each operation has: what an executing crate may take for granted of an instruction that bytes spell.
+-- Which operands each operation has: what an executing crate may take for granted of an instruction that bytes encode.
 -- Source: 80386 Programmer's Reference Manual, ch. 17, the heading of each instruction.
 use Rattle.std.specs.Prelude.{ℕ, Bool, true, false, not, Option, Some, None, ◌==◌, ◌&&◌, ◌||◌, nat_lt, IsTrue}
 use Rattle.insn_forms.specs.declared.insn.Op.{Op}

@@ -14,7 +14,7 @@ use Rattle.insn_forms.specs.declared.rows.Row.{Row}
 abbrev pub row : Op → Form → Form → Form → Row
 row op first second third = record { op = Some op; first = first; second = second; third = third }
 
--- no spelling; the forms say what would be read
+-- no encoding; the forms say what would be read
 abbrev pub no_row : Form → Form → Row
 no_row first second = record { op = None; first = first; second = second; third = Empty }
 

@@ -167,7 +167,7 @@ row_width wide Ib second = form_width wide second
 row_width wide Dx second = form_width wide second
 row_width wide first second = form_width wide first
 
--- the operation of a row; one without an operation encodes nothing, and its answer here counts for nothing
+-- the operation of a row; one without an operation encodes nothing, and what is given for it here never counts
 abbrev pub op_of : Row → Op
 op_of r = elim r.op [ Some op ↦ op | None ↦ ops.Esc ]
 

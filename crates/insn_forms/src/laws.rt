@@ -1,9 +1,9 @@
-// What holds of every instruction that bytes spell.
+// What holds of every instruction that bytes encode.
 ghost use Rattle.insn_forms.specs.Grammar.{IsInsn};
 ghost use Rattle.insn_forms.specs.Kinds.{IsWellFormed};
 ghost use Rattle.insn_forms.specs.declared.insn.Insn.{Insn as AnInsn};
 
-/// Every instruction that bytes spell has the operands, the width and the numbers of its operation.
+/// Every instruction that bytes encode has the operands, the width and the numbers of its operation.
 pub fn every_instruction_is_well_formed()
     ensures { (insn : AnInsn) → IsInsn insn → IsWellFormed insn }
 {}

@@ -1,5 +1,5 @@
 //! The instructions of the 80386: their rows in the two opcode maps, and the grammar of their bytes.
-//! It promises that `row_of` is the opcode map of `specs/`, and that whatever bytes spell fits its operation.
+//! It promises that `row_of` is the opcode map of `specs/`, and that whatever bytes encode fits its operation.
 //! It uses client_world; the decoder reads by it, and the executing crates carry its instructions out.
 #![tactic(auto)]
 

@@ -61,7 +61,7 @@ pub enum Form {
     ModRm,
 }
 
-/// A row of an opcode map. `op` is `None` exactly where there is no spelling; its forms then say what would be read.
+/// A row of an opcode map. `op` is `None` exactly where there is no encoding; its forms then say what would be read.
 /// Source: 80386 Programmer's Reference Manual, appendix A.
 #[derive(Clone, Copy, Debug, PartialEq, Eq)]
 pub struct Row {

@@ -70,7 +70,7 @@ number_of (byte ∷ bytes) = byte + 0x100 * number_of bytes
 abbrev pub IsCount : ℕ → Type 0
 IsCount n = (n ≡ 1) ⊎ (n ≡ 2) ⊎ (n ≡ 4) ⊎ (n ≡ 6) ⊎ (n ≡ 8)
 
--- a read's answer
+-- the number that a read of bytes gives, or its fault
 abbrev pub number_read : Result (List ℕ) Fault → Result ℕ Event
 number_read (Ok bytes) = Ok (number_of bytes)
 number_read (Err f) = Err (fault f)

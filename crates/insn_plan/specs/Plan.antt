@@ -17,7 +17,7 @@ planned w (End (Raise f)) = Err (fault f)
 planned w (End (Interrupt number len)) = Err (Soft number len)
 planned w (Read input rest) = elim (value_of w input) [ Ok v ↦ planned w (rest v) | Err e ↦ Err e ]
 
--- an answer, and what is pending after it, are those of a plan
+-- a result, and what is pending after it, are those of a plan
 abbrev pub Leaves : Pending → Result (Unit {0}) Event → Result Pending Event → Type 0
 Leaves pending result plan = MatchResult result (λ _. plan ≡ Ok pending) (λ e. plan ≡ Err e)
 
@@ -37,7 +37,7 @@ unfoldable pub carried_out : MachineView → Result Pending Event → Result Mac
 carried_out v (Ok p) = after_commit v p
 carried_out v (Err e) = Err e
 
--- an answer, and the machine after it, are what is expected; an event changes nothing
+-- a result, and the machine after it, are what is expected; an event changes nothing
 abbrev pub Follows : MachineView → MachineView → Result (Unit {0}) Event → Result MachineView Event → Type 0
 Follows old new result expected = MatchResult result (λ _. expected ≡ Ok new) (λ e. (expected ≡ Err e) × (new ≡ old))
 

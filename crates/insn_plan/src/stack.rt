@@ -139,8 +139,8 @@ pub fn settle_pushes(m: &mut Machine, writes: &[Write], esp: u32) -> Result<(), 
     Ok(())
 }
 
-/// Makes the writes of some pushes and then sets ESP, where one look shows that none of the writes has a fault, and answers `true`; else it
-/// does nothing. Source: own.
+/// Makes the writes of some pushes and then sets ESP, where one look shows that none of the writes has a fault, and returns `true`; else it
+/// returns `false` and does nothing. Source: own.
 #[inline(always)]
 #[tactic(auto, unfolding(crate::specs::Plan::after_commit, client_world::specs::General::with_general))]
 pub fn settle_quickly(m: &mut Machine, writes: &[Write], esp: u32) -> bool

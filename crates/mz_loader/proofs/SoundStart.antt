@@ -9,7 +9,7 @@ use Rattle.client_world.specs.declared.outcome.LoadFault.{LoadFault}
 use Rattle.client_world.specs.DosMemory.{IsArena}
 use Rattle.client_world.specs.Soundness.{IsSound, SoundMegabyte}
 use Rattle.client_world.proofs.SoundWrites.{IsSound-dos, IsSound-regs, SoundMegabyte-set}
-use Rattle.guest_ram.specs.Bytes.{word_of, put}
+use Rattle.guest_ram.specs.Bytes.{AreBytes, word_of, put}
 use Rattle.guest_ram.specs.Listed.{listed}
 use Rattle.guest_ram.proofs.ListedLaws.{length-listed, at_listed}
 use Rattle.guest_space.specs.Arena.{spliced, NoneMade, with_entries}
@@ -22,9 +22,6 @@ use Rattle.mz_loader.specs.Refusal.{is_short, lacks_signature, has_bad_pages, ha
 use Rattle.mz_loader.specs.Start.{start_blocks, environment_paras, environment, environment_segment, psp_front, psp_environment, psp_command, psp_address, with_psp, image, relocated, all_relocated, with_program, start_regs, started}
 
 -- ---- bytes
-
-abbrev AreBytes : List ℕ → Type 0
-AreBytes xs = (at : ℕ) → slice_index xs at < 0x100
 
 more_bytes : (x : ℕ) (xs : List ℕ) → x < 0x100 → AreBytes xs → AreBytes (x ∷ xs)
 more_bytes x xs small rest zero = small

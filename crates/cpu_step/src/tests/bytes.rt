@@ -2,7 +2,7 @@
 use super::cases::*;
 use client_world::{Event, Fault, Regs};
 
-// A step: the code, the registers before it, the bytes from a linear address on, and what the step answers and leaves.
+// A step: the code, the registers before it, the bytes from a linear address on, and what the step returns and leaves.
 #[derive(Clone, Copy, Debug, PartialEq, Eq)]
 pub(crate) struct Bytes {
     pub(crate) code: &'static [u8],

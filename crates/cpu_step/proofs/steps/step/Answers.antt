@@ -2,5 +2,5 @@ use Rattle.cpu_step.proofs.steps.step.Goals as goal
 
 pub execute-requires : goal.execute-requires
 execute-requires c =
-    let spelled = c.decode.ensures.whole c.in-Whole.insn c.in-Whole.len c.in-Whole.is in
-    c.every_instruction_is_well_formed.ensures c.in-Whole.insn (c.has_big_code.result, _, spelled.0)
+    let encoded = c.decode.ensures.whole c.in-Whole.insn c.in-Whole.len c.in-Whole.is in
+    c.every_instruction_is_well_formed.ensures c.in-Whole.insn (c.has_big_code.result, _, encoded.0)

@@ -12,4 +12,4 @@ returns-in-Ok-Refused-clause-answers g c not_three not_five =
     subst (λ p. Answers (verdict_in p) before now (g.O.Sink.faults c.args.out.now) (g.O.Sink.faults c.refuse.new.out) c.refuse.result)
     (sym c.in-Ok-Refused.field-0-is) c.refuse.ensures.answers in
     let P : Verdict → Type 0 = λ v. Answers v before now (g.O.Sink.faults c.args.out.now) (g.O.Sink.faults c.refuse.new.out) c.refuse.result in
-    verdict_map (map string_bytes c.args.words.now) _ _ P gives c.in-Ok-Refused.ensures.told
+    verdict_map (map string_bytes c.args.words.now) _ _ P gives c.in-Ok-Refused.ensures.verdict

@@ -5,17 +5,17 @@ use Rattle.std.specs.String.{string_bytes}
 use Rattle.std.proofs.lemmas.Result.{IfOk-weaker}
 use Rattle.clap.specs.Matches.{found_of, first_value}
 use Rattle.clap.specs.declared.parser.matches.Found.{Found}
-use Rattle.dpmi_words.specs.Reading.{Text, operand, given_by, run_options, value_of}
+use Rattle.dpmi_words.specs.Reading.{Text, operand_name, given_by, run_options, value_given}
 use Rattle.dpmi_words.specs.Command.{Assigns}
 use Rattle.dpmi_words.specs.Meaning.{run_of_values}
 use Rattle.dpmi_words.proofs.meaning.read_run.Goals as goal
 
 -- the values that were assigned are those that the words give
 same_run : (o : Option (List (Text × Text))) (found : Found) → is_some o ≡ true → IfSome o (λ given. Assigns given found) →
-    run_of_values (first_value found) ≡ option_and_then (λ given. run_of_values (λ name. value_of name given)) o
+    run_of_values (first_value found) ≡ option_and_then (λ given. run_of_values (λ name. value_given name given)) o
 same_run None found some h = absurd (true≢false (sym some))
 same_run (Some given) found some h =
-    rw (h operand, h (codes "keys"), h (codes "keys-file"), h (codes "bound"), h (codes "pages"), h (codes "trace")) refl
+    rw (h operand_name, h (codes "keys"), h (codes "keys-file"), h (codes "bound"), h (codes "pages"), h (codes "trace")) refl
 
 pub returns-in-Ok : goal.returns-in-Ok
 returns-in-Ok c =

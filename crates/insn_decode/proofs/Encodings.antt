@@ -11,11 +11,11 @@ use Rattle.insn_forms.specs.declared.insn.Insn.{Insn}
 use Rattle.insn_forms.specs.Prefixes.{segment_of, repeat_of, or_else, last_of, has, rep_or_plain, prefixes_of}
 use Rattle.insn_forms.specs.Addressing.{sib_size, disp_size}
 use Rattle.insn_forms.specs.Operands.{operand, insn_of}
-use Rattle.insn_forms.specs.Grammar.{AllBytes, opcode_bytes, little, Pieces, head_of, addressing_of, AreRow, insn_of_pieces, Spelling, row_with, is_row_with, wide_of, addr32_of}
-use Rattle.insn_decode.specs.Reading.{no_prefixes, with_prefix, made}
+use Rattle.insn_forms.specs.Grammar.{AllBytes, opcode_bytes, little, Pieces, head_of, addressing_of, AreRow, insn_of_pieces, Encoding, row_with, is_row_with, wide_of, addr32_of}
+use Rattle.insn_decode.specs.Reading.{no_prefixes, with_prefix, opcode_head}
 use Rattle.insn_decode.proofs.LawfulReaders.{Number}
 use Rattle.insn_decode.proofs.HeadReaders.{folded}
-use Rattle.insn_decode.proofs.InsnReaders.{SpellsInsn, row_any}
+use Rattle.insn_decode.proofs.InsnReaders.{EncodesInsn, row_any}
 
 -- ---- prefixes: the prefixes one after another are those of the list
 
@@ -90,7 +90,7 @@ regroup : (a b c d e f g h : List ℕ)
 regroup a b c d e f g h = simp (append-nil, append_assoc) refl
 
 -- What the grammar has, the readers' pieces have.
-pub to_readers : (big : Bool) (insn : Insn) (bytes : List ℕ) → Spelling big insn bytes → SpellsInsn big insn bytes
+pub to_readers : (big : Bool) (insn : Insn) (bytes : List ℕ) → Encoding big insn bytes → EncodesInsn big insn bytes
 to_readers big insn bytes s =
     let p = s.pieces in
     let number : Number _ (little p.modrm) p.modrm = record { size = s.are_row.modrm; value_is = refl } in
@@ -202,8 +202,8 @@ same_insn big head address a b c x y z e f g =
     λ i. insn_of head (wide_of big head) (addr32_of big head) (row_with head address.modrm) (e i) (f i) (g i)
 
 -- What the readers' pieces have, the grammar has.
-pub from_readers : (big : Bool) (insn : Insn) (bytes : List ℕ) → AllBytes bytes → SpellsInsn big insn bytes
-    → Spelling big insn bytes
+pub from_readers : (big : Bool) (insn : Insn) (bytes : List ℕ) → AllBytes bytes → EncodesInsn big insn bytes
+    → Encoding big insn bytes
 from_readers big insn bytes are h =
     let head : Head = h.middle in
     let address : Addressing = h.second.middle in
@@ -226,7 +226,7 @@ from_readers big insn bytes are h =
       third = three.first.one;
     } in
     let head_is : head ≡ head_of p =
-    ap (λ (k : Prefixes). made k head.map head.opcode) (h.first.says ∙ prefixes_folded ps) in
+    ap (λ (k : Prefixes). opcode_head k head.map head.opcode) (h.first.says ∙ prefixes_folded ps) in
     let address_was : address ≡ record { modrm = m.middle; sib = s.middle; disp = d.middle } = d.second.same in
     let m_is : address.modrm ≡ m.middle = ap (λ (q : Addressing). q.modrm) address_was in
     let s_is : address.sib ≡ s.middle = ap (λ (q : Addressing). q.sib) address_was in

@@ -1,5 +1,5 @@
 use Rattle.insn_decode.proofs.Answering.{one_insn, no_longer}
-use Rattle.insn_decode.proofs.laws.a_spelling_is_of_one_instruction.Goals as goal
+use Rattle.insn_decode.proofs.laws.an_encoding_is_of_one_instruction.Goals as goal
 
 pub returns-clause-one : goal.returns-clause-one
 returns-clause-one c = one_insn
