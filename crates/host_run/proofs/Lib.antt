@@ -3,6 +3,7 @@ mod Frames
 mod KindModes
 mod Nested
 mod NoTraps
+mod RealCalls
 mod Runs
 mod Services
 mod Touches

@@ -43,8 +43,9 @@ use Rattle.protected_faults.specs.Return.{exit_of_record}
 use Rattle.protected_faults.specs.Worlds.{world_exception_return, world_protected_delivery}
 use Rattle.protected_faults.proofs.WorldLaws as faults
 use Rattle.translation.specs.SimulatedCall.{begin_call, end_call, is_reflection, no_structure, reflect}
-use Rattle.translation.proofs.PushedCalls.{PoppedCall, begun_record, ended_record, reflected_record, refused_begin}
-use Rattle.translation.proofs.SoundCalls.{sound_begin, sound_end, sound_reflect}
+use Rattle.translation.proofs.Begun.{refused_world}
+use Rattle.translation.proofs.SoundCalls.{sound_begin, sound_reflect}
+use Rattle.translation.proofs.SoundReturns.{sound_end}
 use Rattle.host_run.specs.declared.traps.Trap.{Trap}
 use Rattle.host_run.specs.declared.traps.Trap.TheVariants.{RealVector, Entry, CallReturn, ProtectedVector, ExceptionHandler, ExceptionReturn, NoTrap}
 use Rattle.host_run.specs.Keys.{HasKeys}
@@ -56,6 +57,7 @@ use Rattle.host_run.proofs.AskedCalls.{plain_call}
 use Rattle.host_run.proofs.Frames.{still_popped}
 use Rattle.host_run.proofs.Services.{calls_service, sound_service}
 use Rattle.host_run.proofs.KindModes.{Suits, trap_suits}
+use Rattle.host_run.proofs.RealCalls.{PoppedCall, begun_record, ended_record, reflected_record}
 
 -- a host whose machine is sound and whose keys are bytes
 pub record IsReached (h : HostWorld) : Type 0 where
@@ -277,7 +279,7 @@ begun_by : (h : HostWorld) (w : World) (call : Call) (c : Carry) → (begin_call
 begun_by h w call Set e s a =
     let next : IsNext h.machine (begin_call w call).world = record {
       sound = sound_begin w call a.next.sound a.mode;
-      calls = ap (λ (x : World). x.calls) (refused_begin w call e) ∙ a.next.calls;
+      calls = ap (λ (x : World). x.calls) (refused_world w call e) ∙ a.next.calls;
     } in
     service_keeps h (low_half w.regs.eax) (begin_call w call) s next
 begun_by h w call Clear e s a =
@@ -339,7 +341,7 @@ protected_vector_keeps h n s protected =
 -- ---- the return from a call of real mode
 
 returned_line : (h : HostWorld) (w : World) (call : Call) → IsReached h → IsSound w → end_call h.machine ≡ Ok w →
-    (p : PoppedCall h.machine.calls w.calls) → call ≡ p.call → TurnKeeps h (goes_on_with h (call_leave_line h.machine call w) w)
+    (p : PoppedCall h.machine w.calls) → call ≡ p.call → TurnKeeps h (goes_on_with h (call_leave_line h.machine call w) w)
 returned_line h w call s sound is p same =
     rw same (goes_changed h (record (noted (call_leave_line h.machine p.call w) h) { machine = w }) s sound
     (left_one (Sim p.call p.saved p.vif p.at) p.is (record { returns = is; lines = (refl, refl) })) refl (omega arith) refl refl)
@@ -347,7 +349,7 @@ returned_line h w call s sound is p same =
 call_return_by : (h : HostWorld) (r : Result World Exit) → end_call h.machine ≡ r → IsReached h → TurnKeeps h (after_call_return h r)
 call_return_by h (Ok w) is s =
     let p = ended_record h.machine w is in
-    returned_line h w (call_of_record (top h.machine)) s (sound_end h.machine w s.machine is) is p (ap call_of_record p.top_is)
+    returned_line h w (call_of_record (top h.machine)) s (sound_end h.machine w s.machine is) is p (ap call_of_record p.innermost)
 call_return_by h (Err exit) is s = stops_same h exit s
 
 -- ---- exceptions of protected mode
