@@ -1,3 +1,4 @@
+mod ClientChanges
 mod Frames
 mod KindModes
 mod Nested
