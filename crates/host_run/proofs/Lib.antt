@@ -1,4 +1,5 @@
 mod AskedCalls
+mod ClientChanges
 mod Frames
 mod KindModes
 mod Nested

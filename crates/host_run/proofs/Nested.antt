@@ -5,7 +5,7 @@ use Rattle.std.proofs.Math.Seq.{take-length}
 use Rattle.std.proofs.lemmas.Bool.{cases_lt}
 use Rattle.client_world.specs.declared.calls.Record.{Record}
 use Rattle.client_world.specs.World.{HostWorld}
-use Rattle.host_run.specs.Nested.{Enters, HasTurns, IsHandedOver, LastPush, Leaves, Matched, Stacked, host_depth, kept, popped, pushed}
+use Rattle.host_run.specs.Nested.{PushesRecord, HasTurns, IsHandedOver, LastPush, PopsRecord, Matched, Stacked, host_depth, kept, popped, pushed}
 
 -- a turn that stays above a depth keeps the records up to it
 pub turn_stays : (w v : HostWorld) (n : ℕ) → Stacked w v → n ≤ host_depth w → n ≤ host_depth v → take n v.machine.calls ≡ take n w.machine.calls
@@ -65,7 +65,7 @@ matched w n i j turns jn p = record {
   after = sym p.level;
 }
 
-handed_from : (w : ℕ → HostWorld) (n i j : ℕ) → HasTurns w n → j < n → Matched w i j → (r : Record) → (w (i + 1)).machine.calls ≡ (w i).machine.calls ++ (r ∷ []) → Enters (w i) r (w (i + 1)) → (s : Record) → (w j).machine.calls ≡ (w (j + 1)).machine.calls ++ (s ∷ []) → Leaves (w j) s (w (j + 1)) → IsHandedOver w i j
+handed_from : (w : ℕ → HostWorld) (n i j : ℕ) → HasTurns w n → j < n → Matched w i j → (r : Record) → (w (i + 1)).machine.calls ≡ (w i).machine.calls ++ (r ∷ []) → PushesRecord (w i) r (w (i + 1)) → (s : Record) → (w j).machine.calls ≡ (w (j + 1)).machine.calls ++ (s ∷ []) → PopsRecord (w j) s (w (j + 1)) → IsHandedOver w i j
 handed_from w n i j turns jn m r e h s f g =
     let d : ℕ = host_depth (w i) in
     let first : take (d + 1) (w (i + 1)).machine.calls ≡ (w i).machine.calls ++ (r ∷ []) =
@@ -79,10 +79,10 @@ handed_from w n i j turns jn m r e h s f g =
     record {
       innermost = r;
       push = e;
-      enters = h;
+      pushes = h;
       stays = held;
       pop = all;
-      leaves = subst (λ (q : Record). Leaves (w j) q (w (j + 1))) same.1 g;
+      pops = subst (λ (q : Record). PopsRecord (w j) q (w (j + 1))) same.1 g;
       rest = same.0;
     }
 

@@ -49,7 +49,7 @@ use Rattle.translation.proofs.SoundReturns.{sound_end}
 use Rattle.host_run.specs.declared.traps.Trap.{Trap}
 use Rattle.host_run.specs.declared.traps.Trap.TheVariants.{RealVector, Entry, CallReturn, ProtectedVector, ExceptionHandler, ExceptionReturn, NoTrap}
 use Rattle.host_run.specs.Keys.{HasKeys}
-use Rattle.host_run.specs.Nested.{Enters, Leaves, Stacked, kept, popped as left_one, pushed}
+use Rattle.host_run.specs.Nested.{PushesRecord, PopsRecord, Stacked, kept, popped as left_one, pushed}
 use Rattle.host_run.specs.RealCalls.{StartsCall, StartsRealCall}
 use Rattle.host_run.specs.Traps.{current_trap}
 use Rattle.host_run.specs.Turn.{Outcome, goes_on, ends, with_machine, noted, popped, seen, dos_served, multiplex_served, ends_client, vector_served, entry_line, after_entry, after_entry_trap, is_exit_call, is_presence_call, is_unbuilt, asked_call, call_enter_line, call_leave_line, call_of_record, after_begin, after_call_return, after_reflection, after_service, goes_on_with, after_presence_call, service, after_int31, after_protected_call, after_protected_pop, after_protected_vector, enter_line, after_protected_delivery, exception_number, leave_line, after_exception_return, delivered_in, after_interrupt, after_step, stepped, trapped, work, with_turn_counted, settled, turn}
@@ -453,20 +453,20 @@ starts_settled w after e Far r h = call_settled w after e Far r h
 starts_settled w after e Iret r h = call_settled w after e Iret r h
 starts_settled w after e (Reflect n) r h = record { popped = h.popped; pops = h.pops; starts = h.starts; keeps = h.keeps; lines = h.lines }
 
-enters_settled : (w after : HostWorld) (e : Option Exit) (r : Record) → Enters (with_turn_counted w) r after → Enters w r (record after { exit = e })
-enters_settled w after e (Sim call saved vif at) h = starts_settled w after e call (Sim call saved vif at) h
-enters_settled w after e (Back slot at) h = h
-enters_settled w after e (Exc number code) h = h
+pushes_settled : (w after : HostWorld) (e : Option Exit) (r : Record) → PushesRecord (with_turn_counted w) r after → PushesRecord w r (record after { exit = e })
+pushes_settled w after e (Sim call saved vif at) h = starts_settled w after e call (Sim call saved vif at) h
+pushes_settled w after e (Back slot at) h = h
+pushes_settled w after e (Exc number code) h = h
 
-leaves_one_settled : (w after : HostWorld) (e : Option Exit) (r : Record) → Leaves (with_turn_counted w) r after → Leaves w r (record after { exit = e })
-leaves_one_settled w after e (Sim call saved vif at) h = record { returns = h.returns; lines = h.lines }
-leaves_one_settled w after e (Back slot at) h = h
-leaves_one_settled w after e (Exc number code) h = h
+pops_settled : (w after : HostWorld) (e : Option Exit) (r : Record) → PopsRecord (with_turn_counted w) r after → PopsRecord w r (record after { exit = e })
+pops_settled w after e (Sim call saved vif at) h = record { returns = h.returns; lines = h.lines }
+pops_settled w after e (Back slot at) h = h
+pops_settled w after e (Exc number code) h = h
 
 stacked_settled : (w after : HostWorld) (e : Option Exit) → Stacked (with_turn_counted w) after → Stacked w (record after { exit = e })
 stacked_settled w after e (kept same) = kept same
-stacked_settled w after e (pushed r is h) = pushed r is (enters_settled w after e r h)
-stacked_settled w after e (left_one r is h) = left_one r is (leaves_one_settled w after e r h)
+stacked_settled w after e (pushed r is h) = pushed r is (pushes_settled w after e r h)
+stacked_settled w after e (left_one r is h) = left_one r is (pops_settled w after e r h)
 
 settled_keeps : (w : HostWorld) (o : Outcome) → TurnKeeps (with_turn_counted w) o → KeepsTurn w (settled o)
 settled_keeps w o k = record {

@@ -1,3 +1,4 @@
+pub mod Footprint
 pub mod Keys
 pub mod Nested
 pub mod RealCalls

@@ -9,25 +9,25 @@ use Rattle.host_run.specs.RealCalls.{HasMoreLines, ReturnsFromCall, StartsRealCa
 use Rattle.host_run.specs.Turn.{enter_line, leave_line}
 
 -- a turn that adds a record: it starts a call of real mode, or delivers an exception of protected mode. No turn adds another record yet
-abbrev pub Enters : HostWorld → Record → HostWorld → Type 0
-Enters w (Sim call saved vif at) v = StartsRealCall w call (Sim call saved vif at) v
-Enters w (Back slot at) v = ⊥
-Enters w (Exc number code) v =
+abbrev pub PushesRecord : HostWorld → Record → HostWorld → Type 0
+PushesRecord w (Sim call saved vif at) v = StartsRealCall w call (Sim call saved vif at) v
+PushesRecord w (Back slot at) v = ⊥
+PushesRecord w (Exc number code) v =
     (world_protected_delivery w.machine (record { number = number; code = code }) ≡ Ok v.machine)
     × HasMoreLines w (enter_line w.machine number ∷ []) v
 
 -- a turn that takes a record away: its call or its exception returns. No turn takes another record away yet
-abbrev pub Leaves : HostWorld → Record → HostWorld → Type 0
-Leaves w (Sim call saved vif at) v = ReturnsFromCall w call v
-Leaves w (Back slot at) v = ⊥
-Leaves w (Exc number code) v =
+abbrev pub PopsRecord : HostWorld → Record → HostWorld → Type 0
+PopsRecord w (Sim call saved vif at) v = ReturnsFromCall w call v
+PopsRecord w (Back slot at) v = ⊥
+PopsRecord w (Exc number code) v =
     (world_exception_return w.machine ≡ Ok v.machine) × HasMoreLines w (leave_line v.machine number ∷ []) v
 
 -- what a turn from one host to the next does to the records
 pub data Stacked (w v : HostWorld) : Type 0 where
   kept : v.machine.calls ≡ w.machine.calls → Stacked w v
-  pushed : (r : Record) → v.machine.calls ≡ w.machine.calls ++ r ∷ [] → Enters w r v → Stacked w v
-  popped : (r : Record) → w.machine.calls ≡ v.machine.calls ++ r ∷ [] → Leaves w r v → Stacked w v
+  pushed : (r : Record) → v.machine.calls ≡ w.machine.calls ++ r ∷ [] → PushesRecord w r v → Stacked w v
+  popped : (r : Record) → w.machine.calls ≡ v.machine.calls ++ r ∷ [] → PopsRecord w r v → Stacked w v
 
 -- the depth of nested calls
 abbrev pub host_depth : HostWorld → ℕ
@@ -55,8 +55,8 @@ pub record LastPush (w : ℕ → HostWorld) (i j : ℕ) : Type 0 where
 pub record IsHandedOver (w : ℕ → HostWorld) (i j : ℕ) : Type 0 where
   pub innermost : Record
   pub push : (w (i + 1)).machine.calls ≡ (w i).machine.calls ++ innermost ∷ []
-  pub enters : Enters (w i) innermost (w (i + 1))
+  pub pushes : PushesRecord (w i) innermost (w (i + 1))
   pub stays : (k : ℕ) → i < k → k ≤ j → take (host_depth (w i) + 1) (w k).machine.calls ≡ (w i).machine.calls ++ innermost ∷ []
   pub pop : (w j).machine.calls ≡ (w i).machine.calls ++ innermost ∷ []
-  pub leaves : Leaves (w j) innermost (w (j + 1))
+  pub pops : PopsRecord (w j) innermost (w (j + 1))
   pub rest : (w (j + 1)).machine.calls ≡ (w i).machine.calls

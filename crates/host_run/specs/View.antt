@@ -4,11 +4,16 @@ use Rattle.std.specs.Prelude.{◌≡◌, ℕ, List, MatchResult}
 use Rattle.std.specs.declared.result.Result.{Result}
 use Rattle.client_world.specs.declared.outcome.Exit.{Exit}
 use Rattle.client_world.specs.World.{HostWorld}
+use Rattle.host_memory.specs.View.{MachineView}
 use Rattle.host_run.specs.Turn.{Outcome, goes_on, ends}
 
 pub record HostView : Type 0 where
   pub world : HostWorld
   pub bytes : List ℕ
+
+-- its machine
+abbrev pub machine_view : HostView → MachineView
+machine_view h = record { world = h.world.machine; bytes = h.bytes }
 
 -- the answer of some work in a turn, and the host after it, are what was expected: the run goes on; or it ends, and the memory is as it was.
 -- It counts no turn

@@ -4,10 +4,13 @@ ghost use Rattle.client_world.specs.declared.limits.TheConstants.{CONSOLE_ROOM, 
 ghost use Rattle.client_world.specs.Soundness.{IsSound};
 ghost use Rattle.fault_service.specs.Worlds.{world_interrupt};
 ghost use Rattle.mz_loader.specs.Refusal.{refusal};
+ghost use Rattle.fault_service.specs.Delivery.{software_interrupt};
+ghost use Rattle.protected_faults.specs.ByMode.{delivery};
+ghost use Rattle.host_run.specs.Footprint.{ChangesOnly, after_client_interrupt, client_footprint, client_turn, trap_footprint, turn_footprint, work_footprint};
 ghost use Rattle.host_run.specs.Run.{run};
 ghost use Rattle.host_run.specs.Start.{blank, IsBlank, started_host};
 ghost use Rattle.host_run.specs.Traps.{current_trap};
-ghost use Rattle.host_run.specs.View.{ComesTo, HostView};
+ghost use Rattle.host_run.specs.View.{ComesTo, HostView, machine_view};
 ghost use Rattle.host_run.specs.Turn.{delivered, after_interrupt, stepped, trapped, work, turn};
 
 use crate::serving::step_machine;
@@ -18,7 +21,7 @@ use dos_calls::{Console, Keys};
 use fault_service::{deliver, soft_int};
 use guest_space::Machine;
 use insn_decode::Memo;
-use protected_faults::default_handler_exit;
+use protected_faults::{a_machine_changes_only_what_is_written, default_handler_exit};
 use std::alloc::{AllocError, Global};
 use std::marker::Model;
 
@@ -131,12 +134,13 @@ impl Host {
     }
 
     /// One turn: it serves a trap byte, or runs one client instruction with its software interrupt, or delivers its
-    /// exception. After an exit it answers that exit again and changes nothing.
+    /// exception. Of the memory it changes the bytes of its footprint alone. After an exit it returns that exit again and changes nothing.
     #[inline(always)]
     #[tactic(auto, unfolding(crate::specs::Turn::turn))]
     pub fn turn(&mut self) -> Result<(), Exit>
         requires { self.old.world.exit ≡ None → self.old.world.steps < MAX_STEPS }
         ensures world { self.new.world ≡ turn self.old.world }
+        ensures bytes { ChangesOnly (turn_footprint self.old.world) self.old.bytes self.new.bytes }
         ensures kept { IfErr result (λ _. self.new.bytes ≡ self.old.bytes) }
         ensures goes_on { OnOk result (self.new.world.exit ≡ None) }
         ensures ends { IfErr result (λ exit. self.new.world.exit ≡ Some exit) }
@@ -182,9 +186,11 @@ impl Host {
     }
 
     // An exception is delivered.
+    #[tactic(auto, unfolding(protected_faults::specs::ByMode::delivery))]
     fn deliver(&mut self, f: Fault) -> Result<(), Exit>
         requires room { self.old.world.lines + 2 ≤ 2 * self.old.world.steps }
-        ensures { ComesTo self.old self.new result (delivered self.old.world f) }
+        ensures host { ComesTo self.old self.new result (delivered self.old.world f) }
+        ensures machine { OnOk result (delivery (machine_view self.old) f ≡ Ok (machine_view self.new)) }
     {
         match self.machine.mode() {
             Mode::Real => deliver(&mut self.machine, f),
@@ -195,7 +201,9 @@ impl Host {
     // A software interrupt, or the exception that it raises.
     fn raise_interrupt(&mut self, number: u8, len: u8) -> Result<(), Exit>
         requires room { self.old.world.lines + 2 ≤ 2 * self.old.world.steps }
-        ensures { ComesTo self.old self.new result (after_interrupt self.old.world (world_interrupt self.old.world.machine number len)) }
+        ensures host { ComesTo self.old self.new result (after_interrupt self.old.world (world_interrupt self.old.world.machine number len)) }
+        ensures machine { OnOk result (after_client_interrupt (machine_view self.old) (software_interrupt (machine_view self.old) number len)
+            ≡ Ok (machine_view self.new)) }
     {
         match soft_int(&mut self.machine, number, len) {
             Ok(()) => Ok(()),
@@ -205,10 +213,11 @@ impl Host {
 
     // The next instruction.
     #[inline(always)]
-    #[tactic(auto, unfolding(crate::specs::Turn::stepped))]
+    #[tactic(auto, unfolding(crate::specs::Turn::stepped, crate::specs::Footprint::client_turn))]
     fn step_client(&mut self) -> Result<(), Exit>
         requires room { self.old.world.lines + 2 ≤ 2 * self.old.world.steps }
-        ensures { ComesTo self.old self.new result (stepped self.old.world) }
+        ensures host { ComesTo self.old self.new result (stepped self.old.world) }
+        ensures machine { OnOk result (client_turn (machine_view self.old) ≡ Ok (machine_view self.new)) }
     {
         match step_machine(&mut self.machine, &mut self.memo) {
             Ok(()) => Ok(()),
@@ -217,12 +226,24 @@ impl Host {
         }
     }
 
+    // The next instruction, whose footprint alone changes.
+    #[inline(always)]
+    fn run_client(&mut self) -> Result<(), Exit>
+        requires room { self.old.world.lines + 2 ≤ 2 * self.old.world.steps }
+        ensures host { ComesTo self.old self.new result (stepped self.old.world) }
+        ensures bytes { ChangesOnly (client_footprint self.old.world.machine) self.old.bytes self.new.bytes }
+    {
+        a_machine_changes_only_what_is_written(&self.machine);
+        self.step_client()
+    }
+
     // What a turn does at a trap, or where there is none.
     #[inline(always)]
     fn serve_trap(&mut self, t: Trap) -> Result<(), Exit>
         requires trap { t ≡ current_trap self.old.world.machine }
         requires room { self.old.world.lines + 2 ≤ 2 * self.old.world.steps }
-        ensures { ComesTo self.old self.new result (trapped self.old.world t) }
+        ensures host { ComesTo self.old self.new result (trapped self.old.world t) }
+        ensures bytes { ChangesOnly (trap_footprint self.old.world.machine t) self.old.bytes self.new.bytes }
     {
         match t {
             Trap::RealVector(n) => self.reach_vector(n),
@@ -231,17 +252,18 @@ impl Host {
             Trap::ProtectedVector(n) => self.serve_protected_vector(n),
             Trap::ExceptionHandler(_) => Err(default_handler_exit(&self.machine)),
             Trap::ExceptionReturn => self.return_from_exception(),
-            Trap::NoTrap => self.step_client(),
+            Trap::NoTrap => self.run_client(),
             _ => Err(Exit::Unbuilt),
         }
     }
 
     // What a turn does. It is counted already, so that there is room for two lines of the trace.
     #[inline(always)]
-    #[tactic(auto, unfolding(crate::specs::Turn::work))]
+    #[tactic(auto, unfolding(crate::specs::Turn::work, crate::specs::Footprint::work_footprint))]
     fn work(&mut self) -> Result<(), Exit>
         requires room { self.old.world.lines + 2 ≤ 2 * self.old.world.steps }
-        ensures { ComesTo self.old self.new result (work self.old.world) }
+        ensures host { ComesTo self.old self.new result (work self.old.world) }
+        ensures bytes { ChangesOnly (work_footprint self.old.world.machine) self.old.bytes self.new.bytes }
     {
         let t = current_trap(&self.machine);
         self.serve_trap(t)

@@ -1,5 +1,5 @@
 // The laws of the host's runs. Each is a function with nothing to do: its contract is the law.
-ghost use Rattle.std.specs.Prelude.{◌≡◌, ◌≢◌, ◌≤◌, ◌<◌, ◌+◌, ℕ, List, All, None, Some, IsSome};
+ghost use Rattle.std.specs.Prelude.{◌≡◌, ◌≢◌, ◌≤◌, ◌<◌, ◌+◌, ℕ, List, All, None, Ok, Some, IsSome};
 ghost use Rattle.client_world.specs.declared.outcome.Exit.{Exit as AnExit};
 ghost use Rattle.client_world.specs.declared.outcome.Exit.TheVariants.{ConsoleFull};
 ghost use Rattle.client_world.specs.Access.{IsHeld};
@@ -7,7 +7,10 @@ ghost use Rattle.client_world.specs.Soundness.{IsSound, IsSoundHost};
 ghost use Rattle.client_world.specs.World.{HostWorld};
 ghost use Rattle.dos_calls.specs.Kept.{Extends};
 ghost use Rattle.guest_ram.specs.Bytes.{AreBytes};
+ghost use Rattle.host_memory.specs.View.{MachineView};
 ghost use Rattle.mz_loader.specs.Refusal.{refusal};
+ghost use Rattle.protected_faults.specs.Memory.{IsMachineView};
+ghost use Rattle.host_run.specs.Footprint.{ChangesOnly, client_footprint, client_turn};
 ghost use Rattle.host_run.specs.Keys.{HasKeys};
 ghost use Rattle.host_run.specs.Nested.{HasTurns, IsHandedOver, LastPush, Matched, Stacked, host_depth};
 ghost use Rattle.host_run.specs.Run.{turns, run};
@@ -16,6 +19,9 @@ ghost use Rattle.host_run.specs.Touched.{touched_by_turn};
 ghost use Rattle.host_run.specs.Turn.{turn};
 
 use cpu_step::every_touched_place_is_held;
+use protected_faults::{
+    every_delivery_and_return_changes_only_its_bytes, every_step_changes_only_what_it_writes,
+};
 
 /// Each place that the client instruction of a turn fetches, reads or writes lies in memory that the client holds.
 pub fn every_touch_is_held()
@@ -72,6 +78,16 @@ pub fn every_touch_of_a_run_is_held()
     ensures { (w : HostWorld) (n : ℕ) → All (IsHeld (turns w n).machine) (touched_by_turn (turns w n)) }
 {
     every_touch_is_held();
+}
+
+/// The client's part of a turn changes no bytes of the memory but those of its footprint: what the instruction writes or its software interrupt
+/// pushes, and not what it only reads; or the frame of its exception, and in protected mode the row of the exception's record. So it is of
+/// the view of every machine; `Host::turn` promises it of each turn.
+pub fn every_client_turn_changes_only_its_footprint()
+    ensures { (v u : MachineView) → IsMachineView v → client_turn v ≡ Ok u → ChangesOnly (client_footprint v.world) v.bytes u.bytes }
+{
+    every_step_changes_only_what_it_writes();
+    every_delivery_and_return_changes_only_its_bytes();
 }
 
 /// The world of a new host is sound, and so is the world that a file starts, if the file is one of bytes and is taken.

@@ -1,8 +1,8 @@
 //! The host: it loads one client, and runs it turn by turn.
 //! It promises that a new host is the blank world, that a load leads from it to the file's first world or is refused
 //! for the first reason, that each turn is the model's turn, and that a run is the model's run; that every world so reached
-//! is sound, that its turns touch what the client holds, change the innermost record of a call at most and add to the console at its end
-//! alone, and that an exit leaves the machine.
+//! is sound, that its turns touch what the client holds, change no bytes of the memory but those of their footprint, change the innermost
+//! record of a call at most and add to the console at its end alone, and that an exit leaves the machine.
 //! It is built on `mz_loader`, `dos_calls`, `dos_blocks`, `fault_service`, `protected_faults`, `mode_gates`, `desc_services`, `block_services`
 //! and `vector_services`, all of which are built on the machine.
 #![tactic(auto)]
@@ -21,8 +21,9 @@ mod vectors;
 
 pub use host::Host;
 pub use laws::{
-    a_run_past_an_exit_is_over, every_exit_leaves_the_machine, every_run_is_sound,
-    every_start_is_sound, every_touch_is_held, every_touch_of_a_run_is_held,
-    every_turn_changes_the_innermost_record_at_most, every_turn_extends_the_console,
-    every_turn_is_sound, nested_calls_return_in_order, once_ended_a_run_stays,
+    a_run_past_an_exit_is_over, every_client_turn_changes_only_its_footprint,
+    every_exit_leaves_the_machine, every_run_is_sound, every_start_is_sound, every_touch_is_held,
+    every_touch_of_a_run_is_held, every_turn_changes_the_innermost_record_at_most,
+    every_turn_extends_the_console, every_turn_is_sound, nested_calls_return_in_order,
+    once_ended_a_run_stays,
 };

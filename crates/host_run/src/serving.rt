@@ -1,6 +1,7 @@
 // The services below, as turns see them: the world alone, and frames that can still be popped after them.
 ghost use Rattle.std.specs.Prelude.{◌≡◌, true, is_ok, Ok, Err, MatchResult};
 ghost use Rattle.client_world.specs.declared.registers.Mode.TheVariants.{Real, Protected as protected};
+ghost use Rattle.cpu_step.specs.Step.{client_step};
 ghost use Rattle.dos_calls.specs.Answering.{IfEnded};
 ghost use Rattle.dos_calls.specs.Calls.{dos_call};
 ghost use Rattle.dos_calls.specs.Multiplex.{multiplex_call};
@@ -20,7 +21,9 @@ use insn_decode::Memo;
 /// The client's next instruction, or its event, which leaves the machine.
 #[inline(always)]
 pub(crate) fn step_machine(m: &mut Machine, memo: &mut Memo) -> Result<(), Event>
-    ensures { MatchResult result (λ _. world_step m.old.world ≡ Ok m.new.world)
+    ensures machine { MatchResult result (λ _. client_step m.old ≡ Ok m.new)
+        (λ e. (client_step m.old ≡ Err e) × (m.new ≡ m.old)) }
+    ensures world { MatchResult result (λ _. world_step m.old.world ≡ Ok m.new.world)
         (λ e. (world_step m.old.world ≡ Err e) × (m.new ≡ m.old)) }
 {
     every_answer_depends_on_the_world_alone();

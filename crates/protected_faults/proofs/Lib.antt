@@ -5,6 +5,7 @@ pub mod Plans
 pub mod SoundAnswers
 pub mod FrameItems
 pub mod RoundTrip
+pub mod AwayWrites
 pub mod ByMode
 pub mod StepMemory
 pub mod WorldLaws

@@ -9,7 +9,6 @@ use Rattle.client_world.specs.declared.limits.TheConstants.{GREATEST_DEPTH}
 use Rattle.client_world.specs.declared.outcome.Exit.{Exit}
 use Rattle.client_world.specs.declared.outcome.Exit.TheVariants as exits
 use Rattle.client_world.specs.declared.registers.Mode.{Mode}
-use Rattle.client_world.specs.declared.registers.Regs.{Regs}
 use Rattle.client_world.specs.declared.registers.Width.{Width}
 use Rattle.client_world.specs.declared.segments.FarPtr.{FarPtr}
 use Rattle.client_world.specs.declared.segments.SegReg.TheVariants.{Cs}
@@ -29,11 +28,9 @@ use Rattle.guest_ram.specs.Bytes.{put}
 use Rattle.guest_ram.proofs.ListedLaws.{length-zeros}
 use Rattle.guest_space.specs.Far.{far_written}
 use Rattle.guest_space.specs.Records.{OnlyAtAndRow, record_place}
-use Rattle.guest_space.proofs.HostStacks.{only_far, stacks_place, stacks_places}
+use Rattle.guest_space.proofs.HostStacks.{stacks_place, stacks_places}
 use Rattle.guest_space.proofs.MemoryAlone.{other_far}
 use Rattle.guest_space.proofs.RecordWrites.{only_row}
-use Rattle.host_memory.specs.Holds.{Holds}
-use Rattle.host_memory.specs.Layout.{world_of}
 use Rattle.host_memory.specs.Records.{record_bytes, record_size}
 use Rattle.host_memory.specs.View.{MachineView}
 use Rattle.host_memory.proofs.OnlyAtLaws.{only_start}
@@ -43,8 +40,9 @@ use Rattle.mode_stack.proofs.Trips.{length-record_bytes}
 use Rattle.protected_faults.specs.Delivery.{after_delivery, delivery_to, exception_frame, frame_address, frame_size, protected_delivery, frame_offset}
 use Rattle.fault_service.specs.Delivery.{unserved}
 use Rattle.guest_space.specs.VectorLists.{vector_at}
-use Rattle.protected_faults.specs.Memory.{frame_places, DeliveryLaw, ReturnLaw, LiesInStack}
+use Rattle.protected_faults.specs.Memory.{frame_places, DeliveryLaw, IsMachineView, ReturnLaw, LiesInStack}
 use Rattle.protected_faults.specs.Return.{exception_popped, exception_return, is_exception, returned_or_bad}
+use Rattle.protected_faults.proofs.AwayWrites.{far_only, machine_away}
 use Rattle.protected_faults.proofs.KeptRecords.{exception_there}
 use Rattle.protected_faults.proofs.Plans.{pop_restores}
 
@@ -81,17 +79,15 @@ delivered_bytes : (v : MachineView) (f : Fault) (p : FarPtr) →
 unfolding after_delivery frame_written
 delivered_bytes v f p = ap (λ (n : ℕ). put (frame_written v f).bytes (record_place n) (record_bytes (Exc f.number f.code))) (depth_kept v f)
 
-pub delivery_law : (b : List ℕ) (budget : ℕ) (mode : Mode) (regs : Regs) (vif : Bool) (width : Option Width) → Holds b budget →
-    IsSound (world_of b budget mode regs vif width) → DeliveryLaw (record { world = world_of b budget mode regs vif width; bytes = b })
+pub delivery_law : (v : MachineView) → IsMachineView v → DeliveryLaw v
 unfolding frame_written
-delivery_law b budget mode regs vif width holds sound f u e =
-    let w = world_of b budget mode regs vif width in
-    let v : MachineView = record { world = w; bytes = b } in
+delivery_law v m f u e =
+    let w = v.world in
     let done = is_delivered v u f e in
-    subst (λ (c : List ℕ). OnlyAtAndRow (frame_places w) (depth w) b c)
+    subst (λ (c : List ℕ). OnlyAtAndRow (frame_places w) (depth w) v.bytes c)
     (sym (ap (λ (x : MachineView). x.bytes) done.is ∙ delivered_bytes v f (vector_at w.exception_vectors f.number)))
-    (only_row (frame_places w) b (frame_written v f).bytes budget (depth w) (record_bytes (Exc f.number f.code))
-    (only_far b budget mode regs vif width holds sound (frame_address w) (frame_size w) (exception_frame w f)) holds.size done.room
+    (only_row (frame_places w) v.bytes (frame_written v f).bytes w.budget (depth w) (record_bytes (Exc f.number f.code))
+    (far_only v (frame_address w) (frame_size w) (exception_frame w f) (machine_away v m)) m.holds.size done.room
     (length-record_bytes (Exc f.number f.code)))
 
 -- a return
@@ -125,15 +121,13 @@ pub returned_bytes : (v u : MachineView) → exception_return v ≡ Ok u →
 unfolding exception_return
 returned_bytes v u e = where_exception (is_exception (top v.world)) v u refl e
 
-pub return_law : (b : List ℕ) (budget : ℕ) (mode : Mode) (regs : Regs) (vif : Bool) (width : Option Width) → Holds b budget →
-    IsSound (world_of b budget mode regs vif width) → ReturnLaw (record { world = world_of b budget mode regs vif width; bytes = b })
-return_law b budget mode regs vif width holds sound u e =
-    let w = world_of b budget mode regs vif width in
-    let v : MachineView = record { world = w; bytes = b } in
+pub return_law : (v : MachineView) → IsMachineView v → ReturnLaw v
+return_law v m u e =
+    let w = v.world in
     let done = returned_bytes v u e in
-    let few = sound.depth in
-    subst (λ (c : List ℕ). OnlyAtAndRow [] (depth w - 1) b c) (sym done.1)
-    (only_row [] b b budget (depth w - 1) (zeros record_size) (only_start [] b) holds.size (omega (arith, few, done.0)) (length-zeros record_size))
+    let few = m.sound.depth in
+    subst (λ (c : List ℕ). OnlyAtAndRow [] (depth w - 1) v.bytes c) (sym done.1)
+    (only_row [] v.bytes v.bytes w.budget (depth w - 1) (zeros record_size) (only_start [] v.bytes) m.holds.size (omega (arith, few, done.0)) (length-zeros record_size))
 
 -- where the frame lies
 size_of_width : (mode : Mode) (width : Option Width) → 8 * byte_count (elim mode as (λ _. ℕ) [ Real ↦ 16 | Protected ↦ item_bits width ]) ≤ 32

@@ -1,28 +1,25 @@
--- The bytes that the client's next instruction changes.
-use Rattle.std.proofs.Common.{◌≡◌, ℕ, ◌+◌, ◌%◌, ◌^◌, Bool, List, ap, ◌∙◌, sym, subst, Option, None, Some, Result, Ok, Err}
+-- The bytes that the client's next instruction and its software interrupt change.
+use Rattle.std.proofs.Common.{◌≡◌, ℕ, false, List, ap, sym, subst, Option, None, Some, Result, Ok, Err}
 use Rattle.client_world.specs.declared.faults.Event.{Event}
 use Rattle.client_world.specs.declared.faults.Event.TheVariants.{Fault as fault}
 use Rattle.client_world.specs.declared.faults.Fault.{Fault}
-use Rattle.client_world.specs.declared.registers.Mode.{Mode}
-use Rattle.client_world.specs.declared.registers.Regs.{Regs}
-use Rattle.client_world.specs.declared.registers.Width.{Width}
-use Rattle.client_world.specs.Soundness.{IsSound, HasSegments}
-use Rattle.client_world.specs.World.{World}
+use Rattle.client_world.specs.Loading.{transfer_fault}
 use Rattle.cpu_step.specs.Step.{behind, client_row, client_step, code, executed, has_big_code, moved, step_of}
+use Rattle.exec_flow.specs.FarTransfers.{code_selector}
+use Rattle.exec_flow.specs.Interrupts.{interrupt_pushed}
+use Rattle.fault_service.specs.Delivery.{frame_pushed, handler_entered, handler_interrupts, has_real_vector, interrupt_vector, interrupted, real_delivery, software_interrupt}
+use Rattle.fault_service.proofs.SoundAnswers.{delivered_was, granted_was}
 use Rattle.guest_space.specs.Pending.{all_written, first_refusal, places_of_writes}
-use Rattle.guest_space.proofs.OwnParts.{regs_world, regs_sound}
-use Rattle.guest_space.proofs.WritesOnly.{only_writes}
-use Rattle.host_memory.specs.Holds.{Holds}
-use Rattle.host_memory.specs.Layout.{world_of}
 use Rattle.host_memory.specs.View.{MachineView, OnlyAt}
-use Rattle.host_memory.proofs.WorldParts.{regs_is}
 use Rattle.insn_decode.specs.declared.decoding.Decoded.{Decoded}
 use Rattle.insn_decode.specs.declared.decoding.Decoded.TheVariants.{Whole, More, Invalid}
 use Rattle.insn_decode.specs.Decode.{decoded}
 use Rattle.insn_forms.specs.declared.insn.Insn.{Insn}
 use Rattle.insn_plan.specs.Act.{Pending}
 use Rattle.insn_plan.specs.Plan.{carried_out, planned, after_commit, with_state}
-use Rattle.protected_faults.specs.StepMemory.{StepLaw, written_by, written_of, written_places}
+use Rattle.protected_faults.specs.Memory.{IsMachineView}
+use Rattle.protected_faults.specs.StepMemory.{InterruptLaw, RealDeliveryLaw, StepLaw, interrupt_places, written_by, written_of, written_places}
+use Rattle.protected_faults.proofs.AwayWrites.{behind_away, machine_away, writes_only}
 
 -- a view whose writes change their places alone
 abbrev WritesOnly : MachineView → Type 0
@@ -55,26 +52,34 @@ step_only v u More only e = absurd cc
 step_only v u Invalid only e = absurd cc
 
 -- those of a machine do
-moved_is : (b : List ℕ) (budget : ℕ) (mode : Mode) (regs : Regs) (vif : Bool) (width : Option Width) (len : ℕ) →
-    world_of b budget mode (record regs { eip = (regs.eip + len) % 2 ^ 32 }) vif width ≡ moved len (world_of b budget mode regs vif width)
-moved_is b budget mode regs vif width len =
-    regs_world b budget mode regs (record regs { eip = (regs.eip + len) % 2 ^ 32 }) vif width
-    ∙ ap (λ (r : Regs). record (world_of b budget mode regs vif width) { regs = record r { eip = (r.eip + len) % 2 ^ 32 } }) (sym (regs_is b budget mode regs vif width))
+behind_only : (v : MachineView) → IsMachineView v → (len : ℕ) → WritesOnly (behind len v)
+behind_only v m len p = writes_only (behind len v) p.writes (behind_away v len (machine_away v m))
 
-machine_only : (b : List ℕ) (budget : ℕ) (mode : Mode) (regs : Regs) (vif : Bool) (width : Option Width) → Holds b budget →
-    IsSound (world_of b budget mode regs vif width) → (len : ℕ) → WritesOnly (behind len (record { world = world_of b budget mode regs vif width; bytes = b }))
-machine_only b budget mode regs vif width holds sound len p =
-    let after = record regs { eip = (regs.eip + len) % 2 ^ 32 } in
-    let segments : HasSegments regs = subst HasSegments (regs_is b budget mode regs vif width) sound.segments in
-    subst (λ (w : World). OnlyAt (places_of_writes w p.writes) b (all_written (record { world = w; bytes = b }) p.writes).bytes)
-    (moved_is b budget mode regs vif width len)
-    (only_writes b budget mode after vif width holds
-    (regs_sound b budget mode regs after vif width sound
-    (record { es = segments.es; cs = segments.cs; ss = segments.ss; ds = segments.ds; fs = segments.fs; gs = segments.gs })) p.writes)
-
-pub step_law : (b : List ℕ) (budget : ℕ) (mode : Mode) (regs : Regs) (vif : Bool) (width : Option Width) → Holds b budget →
-    IsSound (world_of b budget mode regs vif width) → StepLaw (record { world = world_of b budget mode regs vif width; bytes = b })
+pub step_law : (v : MachineView) → IsMachineView v → StepLaw v
 unfolding client_step written_places
-step_law b budget mode regs vif width holds sound u e =
-    let w = world_of b budget mode regs vif width in
-    step_only (record { world = w; bytes = b }) u (decoded (has_big_code w) (code w)) (machine_only b budget mode regs vif width holds sound) e
+step_law v m u e = step_only v u (decoded (has_big_code v.world) (code v.world)) (behind_only v m) e
+
+-- ---- a software interrupt
+
+pushed_bytes : (v u : MachineView) (n : ℕ) → interrupted v n ≡ Ok u → u.bytes ≡ (all_written v (interrupt_pushed v.world).writes).bytes
+pushed_bytes v u n e =
+    let at = frame_pushed v in
+    let p = interrupt_vector at.world n in
+    let after = with_state (record at.world.regs { cs = code_selector at.world p.sel; eip = p.off }) (handler_interrupts at.world) at in
+    let entered : handler_entered at p ≡ Ok u =
+    granted_was (λ (f : Fault). f) (first_refusal v.world (interrupt_pushed v.world).writes) (handler_entered at p) u e in
+    let loaded : Ok after ≡ Ok u = granted_was (λ (f : Fault). f) (transfer_fault at.world p.sel p.off false) (Ok after) u entered in
+    let is : after ≡ u = cc in
+    sym (ap (λ (m : MachineView). m.bytes) is)
+
+pub interrupt_law : (v : MachineView) → IsMachineView v → InterruptLaw v
+unfolding software_interrupt
+interrupt_law v m n len u e =
+    let at = behind len v in
+    subst (λ (b : List ℕ). OnlyAt (interrupt_places v.world len) v.bytes b) (sym (pushed_bytes at u n e))
+    (writes_only at (interrupt_pushed at.world).writes (behind_away v len (machine_away v m)))
+
+pub real_delivery_law : (v : MachineView) → IsMachineView v → RealDeliveryLaw v
+unfolding real_delivery
+real_delivery_law v m f u e =
+    interrupt_law v m f.number 0 u (delivered_was (has_real_vector f.number) f (software_interrupt v f.number 0) u e)

@@ -1,16 +1,26 @@
 -- Which bytes of the memory a delivery and a return change. Source: own.
-use Rattle.std.specs.Prelude.{◌≡◌, ℕ, ◌+◌, ◌-◌, ◌*◌, ◌<◌, ◌≤◌, true, List, [], length, slice_index_or, Ok}
+use Rattle.std.specs.Prelude.{◌≡◌, ℕ, ◌+◌, ◌-◌, ◌*◌, ◌<◌, ◌≤◌, Bool, true, List, [], length, slice_index_or, Ok}
 use Rattle.client_world.specs.declared.faults.Fault.{Fault}
 use Rattle.client_world.specs.declared.memory_map.TheConstants.{PROTECTED_STACKS, PROTECTED_STACK_SIZE}
 use Rattle.client_world.specs.declared.place.Place.{Place}
 use Rattle.client_world.specs.declared.place.Place.TheVariants.{Dos, Nothing}
-use Rattle.client_world.specs.Access.{far_access}
+use Rattle.client_world.specs.Access.{far_access, may_touch, place_of}
+use Rattle.client_world.specs.Soundness.{IsSound}
 use Rattle.client_world.specs.World.{World, depth}
 use Rattle.guest_space.specs.Records.{OnlyAtAndRow}
 use Rattle.guest_space.specs.Transfer.{places_of_access}
+use Rattle.host_memory.specs.HoldsWorld.{HoldsWorld}
+use Rattle.host_memory.specs.Law.{StandsAt}
 use Rattle.host_memory.specs.View.{MachineView}
 use Rattle.protected_faults.specs.Delivery.{frame_address, frame_offset, frame_size, protected_delivery}
 use Rattle.protected_faults.specs.Return.{exception_return}
+
+-- what every machine promises of its view (`Machine::ram`): its world is sound, its bytes hold that world, and the byte of each place that
+-- the client may touch is at the place's address, which lies in none of the host's frames
+pub record IsMachineView (v : MachineView) : Type 0 where
+  pub sound : IsSound v.world
+  pub holds : HoldsWorld v.bytes v.world
+  pub places : (lin : ℕ) (write : Bool) → may_touch (place_of v.world lin) write ≡ true → StandsAt v.bytes v.world (place_of v.world lin)
 
 -- the places of the frame of an exception
 abbrev pub frame_places : World → List Place

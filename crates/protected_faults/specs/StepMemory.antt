@@ -1,10 +1,14 @@
--- Which bytes of the memory the client's next instruction changes: those of the places that it writes. Source: own.
-use Rattle.std.specs.Prelude.{◌≡◌, List, [], Ok, Err}
+-- Which bytes of the memory the client's next instruction changes: those of the places that it writes, or to which its software interrupt
+-- pushes. An exception of real mode is such an interrupt. Source: own.
+use Rattle.std.specs.Prelude.{◌≡◌, ℕ, List, [], Ok, Err}
 use Rattle.std.specs.declared.result.Result.{Result}
 use Rattle.client_world.specs.declared.faults.Event.{Event}
+use Rattle.client_world.specs.declared.faults.Fault.{Fault}
 use Rattle.client_world.specs.declared.place.Place.{Place}
 use Rattle.client_world.specs.World.{World}
 use Rattle.cpu_step.specs.Step.{client_row, client_step, code, has_big_code, moved}
+use Rattle.exec_flow.specs.Interrupts.{interrupt_pushed}
+use Rattle.fault_service.specs.Delivery.{real_delivery, software_interrupt}
 use Rattle.guest_space.specs.Pending.{places_of_writes}
 use Rattle.host_memory.specs.View.{MachineView, OnlyAt}
 use Rattle.insn_decode.specs.declared.decoding.Decoded.{Decoded}
@@ -31,3 +35,14 @@ written_places w = written_of w (decoded (has_big_code w) (code w))
 -- it changes at most their bytes
 abbrev pub StepLaw : MachineView → Type 0
 StepLaw v = (u : MachineView) → client_step v ≡ Ok u → OnlyAt (written_places v.world) v.bytes u.bytes
+
+-- the places to which a software interrupt pushes whose instruction has `len` bytes
+abbrev pub interrupt_places : World → ℕ → List Place
+interrupt_places w len = places_of_writes (moved len w) (interrupt_pushed (moved len w)).writes
+
+abbrev pub InterruptLaw : MachineView → Type 0
+InterruptLaw v = (n len : ℕ) (u : MachineView) → software_interrupt v n len ≡ Ok u → OnlyAt (interrupt_places v.world len) v.bytes u.bytes
+
+-- an exception of real mode pushes the instruction pointer of its instruction
+abbrev pub RealDeliveryLaw : MachineView → Type 0
+RealDeliveryLaw v = (f : Fault) (u : MachineView) → real_delivery v f ≡ Ok u → OnlyAt (interrupt_places v.world 0) v.bytes u.bytes

@@ -1,34 +1,27 @@
 // What holds of every delivery and every return. Each function has nothing to do: its contract is the law.
-ghost use Rattle.std.specs.Prelude.{◌≡◌, ◌≢◌, ◌<◌, None, ℕ, Bool, List, Ok};
-ghost use Rattle.std.specs.declared.option.Option.{Option};
+ghost use Rattle.std.specs.Prelude.{◌≡◌, ◌≢◌, ◌<◌, None, Ok};
 ghost use Rattle.client_world.specs.declared.faults.Fault.{Fault};
-ghost use Rattle.client_world.specs.declared.registers.Mode.{Mode};
 ghost use Rattle.client_world.specs.declared.registers.Mode.TheVariants.{Protected};
-ghost use Rattle.client_world.specs.declared.registers.Regs.{Regs};
-ghost use Rattle.client_world.specs.declared.registers.Width.{Width};
 ghost use Rattle.client_world.specs.declared.limits.TheConstants.{GREATEST_DEPTH};
 ghost use Rattle.client_world.specs.Soundness.{IsSound};
 ghost use Rattle.client_world.specs.World.{World, depth};
-ghost use Rattle.host_memory.specs.Holds.{Holds};
-ghost use Rattle.host_memory.specs.Layout.{world_of};
 ghost use Rattle.host_memory.specs.View.{MachineView};
 ghost use Rattle.protected_faults.specs.Delivery.{protected_delivery};
 ghost use Rattle.protected_faults.specs.Return.{exception_return};
-ghost use Rattle.protected_faults.specs.StepMemory.{StepLaw};
+ghost use Rattle.protected_faults.specs.StepMemory.{InterruptLaw, RealDeliveryLaw, StepLaw};
 ghost use Rattle.protected_faults.specs.Trip.{FrameLaw, RecordsLaw, TripLaw};
 ghost use Rattle.protected_faults.specs.Worlds.{world_exception_return, world_protected_delivery};
 ghost use Rattle.fault_service.specs.Worlds.{its_world};
-ghost use Rattle.protected_faults.specs.Memory.{DeliveryLaw, ReturnLaw, LiesInStack};
+ghost use Rattle.protected_faults.specs.Memory.{DeliveryLaw, IsMachineView, ReturnLaw, LiesInStack};
 
 use client_world::a_flags_image_gives_its_flags_back;
+use guest_space::Machine;
 
 /// A delivery changes no bytes of the memory but those of its frame and of its record's row, and a return none but those of the row of the
 /// record that it pops. The frame lies in the host's protected-mode stack of the depth.
 pub fn every_delivery_and_return_changes_only_its_bytes()
-    ensures delivery { (b : List ℕ) (budget : ℕ) (mode : Mode) (regs : Regs) (vif : Bool) (width : Option Width) → Holds b budget →
-        IsSound (world_of b budget mode regs vif width) → DeliveryLaw (record { world = world_of b budget mode regs vif width; bytes = b }) }
-    ensures back { (b : List ℕ) (budget : ℕ) (mode : Mode) (regs : Regs) (vif : Bool) (width : Option Width) → Holds b budget →
-        IsSound (world_of b budget mode regs vif width) → ReturnLaw (record { world = world_of b budget mode regs vif width; bytes = b }) }
+    ensures delivery { (v : MachineView) → IsMachineView v → DeliveryLaw v }
+    ensures back { (v : MachineView) → IsMachineView v → ReturnLaw v }
     ensures frame { (w : World) → IsSound w → w.width ≢ None → depth w < GREATEST_DEPTH → LiesInStack w }
 {}
 
@@ -59,8 +52,24 @@ pub fn a_return_gives_back_what_the_delivery_took()
     a_flags_image_gives_its_flags_back();
 }
 
-/// A client instruction changes no bytes of the memory but those of the places that it writes, and none of the host's frames.
+/// A client instruction changes no bytes of the memory but those of the places that it writes, and none of the host's frames. A software
+/// interrupt, and an exception of real mode, changes none but those of the places to which it pushes.
 pub fn every_step_changes_only_what_it_writes()
-    ensures { (b : List ℕ) (budget : ℕ) (mode : Mode) (regs : Regs) (vif : Bool) (width : Option Width) → Holds b budget →
-        IsSound (world_of b budget mode regs vif width) → StepLaw (record { world = world_of b budget mode regs vif width; bytes = b }) }
+    ensures step { (v : MachineView) → IsMachineView v → StepLaw v }
+    ensures interrupt { (v : MachineView) → IsMachineView v → InterruptLaw v }
+    ensures exception { (v : MachineView) → IsMachineView v → RealDeliveryLaw v }
 {}
+
+/// So it is in every machine.
+#[inline(always)]
+pub fn a_machine_changes_only_what_is_written(m: &Machine)
+    ensures step { StepLaw m.now }
+    ensures interrupt { InterruptLaw m.now }
+    ensures exception { RealDeliveryLaw m.now }
+    ensures delivery { DeliveryLaw m.now }
+    ensures back { ReturnLaw m.now }
+{
+    every_step_changes_only_what_it_writes();
+    every_delivery_and_return_changes_only_its_bytes();
+    let _ram = m.ram();
+}

@@ -1,5 +1,11 @@
-use Rattle.protected_faults.proofs.StepMemory.{step_law}
+use Rattle.protected_faults.proofs.StepMemory.{interrupt_law, real_delivery_law, step_law}
 use Rattle.protected_faults.proofs.laws.every_step_changes_only_what_it_writes.Goals as goal
 
-pub returns : goal.returns
-returns c = step_law
+pub returns-clause-step : goal.returns-clause-step
+returns-clause-step c = step_law
+
+pub returns-clause-interrupt : goal.returns-clause-interrupt
+returns-clause-interrupt c = interrupt_law
+
+pub returns-clause-exception : goal.returns-clause-exception
+returns-clause-exception c = real_delivery_law
