@@ -1,0 +1,3 @@
+pub mod RealStack
+pub mod SimulatedCall
+pub mod Structure

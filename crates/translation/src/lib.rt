@@ -1,0 +1,17 @@
+//! Calls of real-mode procedures from protected mode: those that a client asks for (INT 31h functions 0300h to 0302h), interrupts that are
+//! reflected, and the return from both.
+//! It promises that each leaves the world that its definition names, or is refused or gives its exit and changes nothing.
+//! It uses the stack of records and the machine of guest_space.
+#![tactic(auto)]
+
+mod calling;
+mod client_words;
+mod real_stack;
+mod reflecting;
+mod returning;
+mod structure;
+
+pub use calling::begin;
+pub use reflecting::reflect;
+pub use returning::end;
+pub use structure::STRUCTURE_SIZE;
