@@ -1,17 +1,83 @@
--- A run that is reachable ends at 100000000h at the latest.
-use Rattle.std.proofs.Common.{◌≡◌, ℕ, ◌+◌, ◌≤◌, ◌^◌, Bool, true, false, ◌&&◌, refl, arith, Result, Ok, Err, Option, None, Some, nat_lt, nat_le, if◌then◌else◌, not, ◌||◌}
-use Rattle.std.specs.Prelude.{IsTrue}
-use Rattle.std.proofs.lemmas.Bool.{leb-true}
+-- A run that is reachable ends at 100000000h at the latest; and the parts of a structure.
+use Rattle.std.proofs.Common.{◌≡◌, ℕ, ◌+◌, ◌≤◌, ◌^◌, Bool, true, false, ◌&&◌, not, refl, inl, inr, ap, ◌∙◌, sym, arith, List, length, Option, None, Some, Result, Ok, Err}
+use Rattle.std.specs.Prelude.{IsTrue, nat_lt, nat_le, if◌then◌else◌}
+use Rattle.std.proofs.lemmas.Bool.{cases_Bool}
+use Rattle.std.proofs.lemmas.Bool.Decides.{nat_tests}
 use Rattle.client_world.specs.declared.descriptors.Desc.{Desc}
 use Rattle.client_world.specs.declared.faults.Fault.{Fault}
 use Rattle.client_world.specs.declared.segments.FarPtr.{FarPtr}
 use Rattle.client_world.specs.declared.segments.SegReg.TheVariants.{Es}
-use Rattle.client_world.specs.Access.{base_in_row, is_reachable, protected_base}
-use Rattle.client_world.specs.Descriptor.{byte_limit, expands_down, greatest_offset, is_inside}
-use Rattle.client_world.specs.Selector.{Row, is_null, row_of_selector}
+use Rattle.client_world.specs.declared.faults.TheConstants.{SEGMENT_NOT_PRESENT, GENERAL_PROTECTION}
+use Rattle.client_world.specs.Access.{base_in_row, fault_with, is_reachable, protected_base, stack_or, suits_register}
+use Rattle.client_world.specs.Descriptor.{byte_limit, expands_down, greatest_offset, is_inside, is_writable}
+use Rattle.client_world.specs.Selector.{Row, is_null, row_of_selector, selector_code}
 use Rattle.client_world.specs.World.{World}
-use Rattle.guest_space.proofs.Fars.{reached}
+use Rattle.guest_space.proofs.Fars.{parts_reachable, reached}
+use Rattle.guest_space.specs.Far.{further}
+use Rattle.translation.specs.declared.structure.TheConstants.{STRUCTURE_SIZE}
 use Rattle.translation.specs.Structure.{has_structure}
 
-pub structure_ends : (w : World) (at : FarPtr) → IsTrue (has_structure w at) → at.off + 0x32 ≤ 2 ^ 32
-structure_ends w at e = ?
+up_ends : (end limit : ℕ) → (nat_le end limit && nat_le end (2 ^ 32)) ≡ true → end ≤ 2 ^ 32
+up_ends end limit e = grind (arith, nat_tests)
+
+down_ends : (offset end limit greatest : ℕ) → greatest ≤ 0xFFFFFFFF → (nat_lt limit offset && nat_le end (greatest + 1)) ≡ true → end ≤ 2 ^ 32
+down_ends offset end limit greatest h e = grind (arith, nat_tests)
+
+greatest_fits : (size : Bool) → (if size then 0xFFFFFFFF else 0xFFFF) ≤ 0xFFFFFFFF
+greatest_fits true = omega arith
+greatest_fits false = omega arith
+
+inside_ends : (d : Desc) (offset n : ℕ) → is_inside d offset n ≡ true → offset + n ≤ 2 ^ 32
+inside_ends d offset n e = elim (cases_Bool (expands_down d.kind)) [
+  | inl down ↦ down_ends offset (offset + n) (byte_limit d) (greatest_offset d) (greatest_fits d.size) (rw down at e)
+  | inr up ↦ up_ends (offset + n) (byte_limit d + 1) (rw up at e)
+]
+
+-- a test that was passed, and what came after it
+passed : (c : Bool) (f : Fault) (r : Result ℕ Fault) (base : ℕ) → (if c then Err f else r) ≡ Ok base → (c ≡ false) × (r ≡ Ok base)
+passed true f r base e = absurd cc
+passed false f r base e = (refl, e)
+
+not_false : (c : Bool) → not c ≡ false → c ≡ true
+not_false true e = refl
+not_false false e = absurd cc
+
+row_ends : (sel : ℕ) (row : Row) (offset n base : ℕ) (write : Bool) → base_in_row Es sel row offset n write ≡ Ok base → offset + n ≤ 2 ^ 32
+row_ends sel None offset n base write e = absurd cc
+row_ends sel (Some row) offset n base write e =
+    let suits = passed (not (suits_register Es row.0.kind)) (fault_with (stack_or Es GENERAL_PROTECTION) (selector_code sel)) _ base e in
+    let present = passed (not row.0.present) (fault_with (stack_or Es SEGMENT_NOT_PRESENT) (selector_code sel)) _ base suits.1 in
+    let writable = passed (write && not (is_writable row.0.kind)) (fault_with GENERAL_PROTECTION 0) _ base present.1 in
+    let inside = passed (not (is_inside row.0 offset n)) (fault_with (stack_or Es GENERAL_PROTECTION) 0) _ base writable.1 in
+    inside_ends row.0 offset n (not_false (is_inside row.0 offset n) inside.0)
+
+pub run_ends : (w : World) (p : FarPtr) (n : ℕ) (write : Bool) → is_reachable w p n write ≡ true → p.off + n ≤ 2 ^ 32
+run_ends w p n write e =
+    let run = reached w p n write e in
+    let some = passed (is_null p.sel) (fault_with GENERAL_PROTECTION 0) _ run.base run.is in
+    row_ends p.sel (row_of_selector w.descriptors p.sel) p.off n run.base write some.1
+
+-- a structure is a run that may be read, and one that may be written
+both : (a b : Bool) → (a && b) ≡ true → (a ≡ true) × (b ≡ true)
+both true b e = (refl, e)
+both false b e = absurd cc
+
+pub structure_read : (w : World) (at : FarPtr) → IsTrue (has_structure w at) → is_reachable w at STRUCTURE_SIZE false ≡ true
+structure_read w at e = (both (is_reachable w at STRUCTURE_SIZE false) (is_reachable w at STRUCTURE_SIZE true) e).0
+
+pub structure_written : (w : World) (at : FarPtr) → IsTrue (has_structure w at) → is_reachable w at STRUCTURE_SIZE true ≡ true
+structure_written w at e = (both (is_reachable w at STRUCTURE_SIZE false) (is_reachable w at STRUCTURE_SIZE true) e).1
+
+pub structure_ends : (w : World) (at : FarPtr) → IsTrue (has_structure w at) → at.off + STRUCTURE_SIZE ≤ 2 ^ 32
+structure_ends w at e = run_ends w at STRUCTURE_SIZE true (structure_written w at e)
+
+no_further : (at : FarPtr) → further at 0 ≡ at
+no_further at =
+    let same : at.off + 0 ≡ at.off = omega arith in
+    ap (λ (off : ℕ). let p : FarPtr = record { sel = at.sel; off = off } in p) same
+
+pub first_reachable : (w : World) (at : FarPtr) (bytes : List ℕ) → IsTrue (has_structure w at) → length bytes ≡ 0x0C →
+    IsTrue (is_reachable w at (length bytes) true)
+first_reachable w at bytes e size =
+    ap (λ (p : FarPtr). is_reachable w p (length bytes) true) (sym (no_further at))
+    ∙ parts_reachable w at STRUCTURE_SIZE 0 (length bytes) true (structure_written w at e) (omega (arith, size))

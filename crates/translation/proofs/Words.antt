@@ -43,3 +43,15 @@ word_of_two [] e = absurd (omega (arith, e))
 word_of_two (a ∷ []) e = absurd (omega (arith, e))
 word_of_two (a ∷ b ∷ []) e = omega arith
 word_of_two (a ∷ b ∷ c ∷ bytes) e = absurd (omega (arith, e))
+
+-- one word more that is read
+pub readable_more : (w : World) (k n : ℕ) (all : Bool) → k < n → is_ok (client_word w k) ≡ true → all ≡ are_readable_words w k (n - k) →
+    all ≡ are_readable_words w (k + 1) (n - (k + 1))
+readable_more w k n all h ok e = e ∙ readable_step w k n h ∙ ap (λ (b : Bool). b && are_readable_words w (k + 1) (n - (k + 1))) ok
+
+pub words_more : (w : World) (k n word : ℕ) (before after all : List ℕ) → k < n → word_read (client_word w k) ≡ word → after ≡ before ++ word ∷ [] →
+    before ++ client_words w k (n - k) ≡ all → after ++ client_words w (k + 1) (n - (k + 1)) ≡ all
+words_more w k n word before after all h is pushed e =
+    let rest = client_words w (k + 1) (n - (k + 1)) in
+    ap (λ (xs : List ℕ). xs ++ rest) pushed ∙ append_assoc before (word ∷ []) rest
+    ∙ ap (λ (x : ℕ). before ++ x ∷ rest) (sym is) ∙ ap (λ (xs : List ℕ). before ++ xs) (sym (words_step w k n h)) ∙ e

@@ -1,5 +1,6 @@
 // Interrupts of protected mode that are reflected to real mode.
-ghost use Rattle.std.specs.Prelude.{◌≡◌, ◌≢◌, ◌<◌, None, Ok, Err, MatchResult};
+ghost use Rattle.std.specs.Prelude.{◌≡◌, ◌≢◌, ◌<◌, ◌≤◌, None, Ok, Err, MatchResult};
+ghost use Rattle.arrayvec.specs.ArrayVec.{array_vec_len};
 ghost use Rattle.client_world.specs.declared.limits.TheConstants.{GREATEST_DEPTH};
 ghost use Rattle.client_world.specs.declared.registers.Mode.TheVariants.{Protected as protected};
 ghost use Rattle.client_world.specs.World.{depth};

@@ -1,0 +1,6 @@
+use Rattle.std.proofs.Common.{arith}
+use Rattle.translation.proofs.Reaches.{first_reachable}
+use Rattle.translation.proofs.structure.write_results.Goals as goal
+
+pub write_bytes-requires-clause-reachable : goal.write_bytes-requires-clause-reachable
+write_bytes-requires-clause-reachable c = first_reachable c.args.m.now.world c.args.at c.index_results.result c.requires (omega arith)
