@@ -1,2 +1,3 @@
 pub mod Reaches
 pub mod Words
+pub mod Resumed

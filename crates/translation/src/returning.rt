@@ -1,6 +1,8 @@
 // The return from a simulated call and from a reflected interrupt.
-ghost use Rattle.std.specs.Prelude.{◌≡◌, ◌≢◌, ◌<◌, ◌||◌, IsTrue, false, None, Ok, Err, MatchResult, take};
+ghost use Rattle.std.specs.Prelude.{◌≡◌, ◌≢◌, ◌<◌, ◌-◌, ◌||◌, IsTrue, false, None, Ok, Err, MatchResult, take};
+ghost use Rattle.client_world.specs.declared.registers.Mode.TheVariants.{Protected as protected};
 ghost use Rattle.client_world.specs.World.{depth};
+ghost use Rattle.guest_space.specs.Transfer.{HasOtherMemory};
 ghost use Rattle.translation.specs.SimulatedCall.{after_results, after_return, can_go_on, client_regs, end_call, is_reflection, still_loadable, with_place_of};
 
 ghost use Rattle.translation.specs.Structure.{has_structure};
@@ -80,15 +82,34 @@ fn can_go_on(m: &Machine, saved: &Regs) -> bool
 // Writes the results of a call into its structure.
 fn give_results(m: &mut Machine, call: Call, at: FarPtr)
     requires { IsTrue (is_reflection call || has_structure m.old.world at) }
-    ensures { m.new.world ≡ after_results m.old.world call at }
+    ensures results { m.new.world ≡ after_results m.old.world call at }
+    ensures rest { HasOtherMemory m.old.world m.new.world }
 {
     if !is_reflection(call) {
         write_results(m, at);
     }
 }
 
-// Goes on with the client of the innermost record.
-#[tactic(auto, unfolding(crate::specs::SimulatedCall::after_return))]
+// Takes the innermost record away, and goes on in protected mode with these registers.
+#[tactic(auto, using(guest_space::proofs::RecordWrites::has_width))]
+fn go_on(m: &mut Machine, r: Regs, vif: bool)
+    requires { 0 < depth m.old.world }
+    ensures { m.new.world ≡ record m.old.world {
+      mode = protected;
+      regs = r;
+      vif = vif;
+      calls = take (depth m.old.world - 1) m.old.world.calls;
+    } }
+{
+    m.soundness();
+    pop(m);
+    m.set_regs(r);
+    m.set_vif(vif);
+    m.set_mode(Mode::Protected);
+}
+
+// Gives the results of a call, and goes on with the client of the innermost record.
+#[tactic(auto, unfolding(crate::specs::SimulatedCall::after_return), using(crate::proofs::Resumed::same_depth, crate::proofs::Resumed::resumed))]
 fn resume(m: &mut Machine, call: Call, saved: &Regs, vif: bool, at: FarPtr)
     requires structure { IsTrue (is_reflection call || has_structure m.old.world at) }
     requires depth { 0 < depth m.old.world }
@@ -96,10 +117,7 @@ fn resume(m: &mut Machine, call: Call, saved: &Regs, vif: bool, at: FarPtr)
 {
     let r = client_regs(m, call, saved);
     give_results(m, call, at);
-    pop(m);
-    m.set_regs(r);
-    m.set_vif(vif);
-    m.set_mode(Mode::Protected);
+    go_on(m, r, vif);
 }
 
 /// Ends the innermost simulated call or reflection, at the trap to which its procedure returns, and goes on with the client. `Stray` where the

@@ -3,6 +3,7 @@ ghost use Rattle.std.specs.Prelude.{◌≡◌, ◌+◌, ◌≤◌, IsTrue, lengt
 ghost use Rattle.client_world.specs.Access.{is_reachable};
 ghost use Rattle.guest_ram.specs.Bytes.{dword, word_of};
 ghost use Rattle.guest_space.specs.Pending.{number_bytes};
+ghost use Rattle.guest_space.specs.Transfer.{HasOtherMemory};
 ghost use Rattle.translation.specs.Structure.{has_structure, index_results, other_results, structure_bytes, structure_flags, structure_regs, with_results};
 
 use byteorder::{ByteOrder, LittleEndian};
@@ -145,8 +146,10 @@ fn second_part(at: FarPtr, m: &Machine) -> FarPtr
 #[tactic(auto, unfolding(crate::specs::Structure::with_results, guest_space::specs::Far::far_put, guest_space::specs::Far::far_written, guest_space::specs::Transfer::with_places))]
 pub(crate) fn write_results(m: &mut Machine, at: FarPtr)
     requires { IsTrue (has_structure m.old.world at) }
-    ensures { m.new.world ≡ with_results m.old.world at }
+    ensures results { m.new.world ≡ with_results m.old.world at }
+    ensures rest { HasOtherMemory m.old.world m.new.world }
 {
+    every_write_changes_the_memory_alone();
     a_reachable_run_is_reachable_in_parts();
     a_write_changes_no_access();
     let r = m.regs();
