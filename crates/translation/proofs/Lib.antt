@@ -1,3 +1,7 @@
+pub mod Begun
 pub mod Reaches
-pub mod Words
+pub mod ReadBytes
 pub mod Resumed
+pub mod SoundCallee
+pub mod SoundCalls
+pub mod Words

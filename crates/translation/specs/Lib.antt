@@ -1,3 +1,4 @@
+pub mod HandOver
 pub mod RealStack
 pub mod SimulatedCall
 pub mod Structure

@@ -1,6 +1,6 @@
 -- The stack of a real-mode procedure that the host calls: where its words lie in the megabyte, and which can be written. Offsets wrap in their
 -- segment, as single pushes would. Source: 80386 Programmer's Reference Manual, ch. 15; where the host's stacks lie is own.
-use Rattle.std.specs.Prelude.{ℕ, zero, suc, ◌+◌, ◌-◌, ◌*◌, ◌/◌, ◌%◌, Bool, true, ◌&&◌, not, nat_eq, nat_lt, List, [], ◌∷◌}
+use Rattle.std.specs.Prelude.{ℕ, zero, suc, ◌+◌, ◌-◌, ◌*◌, ◌/◌, ◌%◌, Bool, true, ◌&&◌, not, nat_eq, nat_lt, slice_index, List, [], ◌∷◌}
 use Rattle.client_world.specs.declared.memory_map.TheConstants.{REAL_STACK_SEGMENT, REAL_STACK_SIZE, ROM_START, SEGMENT_SIZE}
 use Rattle.client_world.specs.declared.segments.FarPtr.{FarPtr}
 use Rattle.client_world.specs.Access.{dos_address, linear_address}
@@ -41,3 +41,12 @@ with_words_at dos segment offset (v ∷ vs) = with_words_at (with_word_at dos se
 -- the host's real-mode stack of the depth, which is empty
 abbrev pub host_real_stack : World → FarPtr
 host_real_stack w = record { sel = REAL_STACK_SEGMENT; off = (depth w + 1) * REAL_STACK_SIZE }
+
+-- the word there, and the n words from there on
+abbrev pub stack_word : List ℕ → ℕ → ℕ → ℕ
+stack_word dos segment offset =
+    slice_index dos (real_address segment offset) + 0x100 * slice_index dos (real_address segment (offset + 1))
+
+abbrev pub stack_words : List ℕ → ℕ → ℕ → ℕ → List ℕ
+stack_words dos segment offset zero = []
+stack_words dos segment offset (suc n) = stack_word dos segment offset ∷ stack_words dos segment (next_word offset) n

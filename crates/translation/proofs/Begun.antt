@@ -1,0 +1,105 @@
+-- A call that isn't refused, a reflection that is made: what was asked holds, and the world after it.
+use Rattle.std.proofs.Common.{◌≡◌, ◌≢◌, ℕ, ◌<◌, ◌≤◌, Bool, true, false, not, List, [], ◌∷◌, length, refl, ap, ◌∙◌, sym, arith, Option, None, Some, Result, Ok, Err}
+use Rattle.std.specs.Prelude.{nat_le, nat_lt, if◌then◌else◌}
+use Rattle.std.proofs.lemmas.Bool.{leb-false, ltb-false}
+use Rattle.client_world.specs.declared.calls.Call.{Call}
+use Rattle.client_world.specs.declared.limits.TheConstants.{GREATEST_DEPTH, MAX_CALL_WORDS}
+use Rattle.client_world.specs.declared.outcome.Exit.{Exit}
+use Rattle.client_world.specs.declared.outcome.Exit.TheVariants as exits
+use Rattle.client_world.specs.declared.registers.Regs.{Regs}
+use Rattle.client_world.specs.declared.services.Carry.TheVariants.{Clear, Set}
+use Rattle.client_world.specs.Services.{Served, cx, es_di}
+use Rattle.client_world.specs.World.{World, depth}
+use Rattle.service_rows.specs.declared.refusal.Refusal.{Refusal}
+use Rattle.service_rows.specs.declared.refusal.Refusal.TheVariants.{InvalidAddress, InvalidValue, LinearMemoryUnavailable}
+use Rattle.service_rows.specs.Reasons.{first_reason, outcome, service_answer}
+use Rattle.translation.specs.SimulatedCall.{after_reflection, are_readable_words, begin_call, call_regs, call_service, call_words, called_world, has_stack, reflect}
+use Rattle.translation.specs.Structure.{has_structure, structure_bytes, structure_flags, structure_regs}
+
+none_refused : (o : Option Refusal) (w u : World) → (service_answer o w u).carry ≡ Clear → o ≡ None
+none_refused None w u e = refl
+none_refused (Some refusal) w u e = absurd cc
+
+after_answer : (o : Option Refusal) (w u : World) → o ≡ None → (service_answer o w u).world ≡ u
+after_answer None w u e = refl
+after_answer (Some refusal) w u e = absurd cc
+
+refused_answer : (o : Option Refusal) (w u : World) → (service_answer o w u).carry ≡ Set → (service_answer o w u).world ≡ w
+refused_answer None w u e = absurd cc
+refused_answer (Some refusal) w u e = refl
+
+none_of_five : (p q r s t : Refusal) (a b c d e : Bool) → first_reason ((p, a) ∷ (q, b) ∷ (r, c) ∷ (s, d) ∷ (t, e) ∷ []) ≡ None →
+    (a ≡ false) × (b ≡ false) × (c ≡ false) × (d ≡ false) × (e ≡ false)
+none_of_five p q r s t true b c d e h = absurd cc
+none_of_five p q r s t false true c d e h = absurd cc
+none_of_five p q r s t false false true d e h = absurd cc
+none_of_five p q r s t false false false true e h = absurd cc
+none_of_five p q r s t false false false false true h = absurd cc
+none_of_five p q r s t false false false false false h = (refl, refl, refl, refl, refl)
+
+not_not : (b : Bool) → not b ≡ false → b ≡ true
+not_not true e = refl
+not_not false e = absurd cc
+
+-- a call that runs
+pub record Runs (w : World) (call : Call) (r : Regs) (image : ℕ) : Type 0 where
+  pub few : cx w ≤ MAX_CALL_WORDS
+  pub room : depth w < GREATEST_DEPTH
+  pub there : has_structure w (es_di w) ≡ true
+  pub readable : are_readable_words w 0 (cx w) ≡ true
+  pub stack : has_stack (call_regs w call r (length (call_words w call image))) (length (call_words w call image)) ≡ true
+
+runs_by : (w : World) (call : Call) (r : Regs) (image : ℕ) → first_reason (call_service w call r image).reasons ≡ None → Runs w call r image
+unfolding call_service
+runs_by w call r image e =
+    let stack = has_stack (call_regs w call r (length (call_words w call image))) (length (call_words w call image)) in
+    let none = none_of_five InvalidValue LinearMemoryUnavailable InvalidAddress InvalidAddress InvalidAddress (nat_lt MAX_CALL_WORDS (cx w))
+        (nat_le GREATEST_DEPTH (depth w)) (not (has_structure w (es_di w))) (not (are_readable_words w 0 (cx w))) (not stack) e in
+    record {
+      few = ltb-false MAX_CALL_WORDS (cx w) none.0;
+      room = leb-false GREATEST_DEPTH (depth w) none.1;
+      there = not_not (has_structure w (es_di w)) none.2;
+      readable = not_not (are_readable_words w 0 (cx w)) none.3;
+      stack = not_not stack none.4;
+    }
+
+world_after : (w : World) (call : Call) (r : Regs) (image : ℕ) → (outcome (call_service w call r image) w).carry ≡ Clear →
+    (outcome (call_service w call r image) w).world ≡ called_world w call r image (call_words w call image)
+unfolding call_service
+world_after w call r image e = after_answer _ w _ (none_refused _ w _ e)
+
+pub runs : (w : World) (call : Call) → (begin_call w call).carry ≡ Clear →
+    Runs w call (structure_regs (structure_bytes w (es_di w))) (structure_flags (structure_bytes w (es_di w)))
+unfolding begin_call
+runs w call e =
+    let s = structure_bytes w (es_di w) in
+    let service = call_service w call (structure_regs s) (structure_flags s) in
+    runs_by w call (structure_regs s) (structure_flags s) (none_refused (first_reason service.reasons) w service.after e)
+
+pub begun_world : (w : World) (call : Call) → (begin_call w call).carry ≡ Clear →
+    (begin_call w call).world
+    ≡ called_world w call (structure_regs (structure_bytes w (es_di w))) (structure_flags (structure_bytes w (es_di w)))
+    (call_words w call (structure_flags (structure_bytes w (es_di w))))
+unfolding begin_call
+begun_world w call e =
+    let s = structure_bytes w (es_di w) in world_after w call (structure_regs s) (structure_flags s) e
+
+pub refused_world : (w : World) (call : Call) → (begin_call w call).carry ≡ Set → (begin_call w call).world ≡ w
+unfolding begin_call
+refused_world w call e =
+    let s = structure_bytes w (es_di w) in
+    let service = call_service w call (structure_regs s) (structure_flags s) in
+    refused_answer (first_reason service.reasons) w service.after e
+
+-- a reflection that is made
+pub record IsMade (w u : World) (n : ℕ) : Type 0 where
+  pub room : depth w < GREATEST_DEPTH
+  pub is : u ≡ after_reflection w n
+
+made_where : (deep : Bool) (w u : World) (n : ℕ) → nat_le GREATEST_DEPTH (depth w) ≡ deep → (if deep then Err exits.Deep else Ok (after_reflection w n)) ≡ Ok u → IsMade w u n
+made_where true w u n is e = absurd cc
+made_where false w u n is e = record { room = leb-false GREATEST_DEPTH (depth w) is; is = cc }
+
+pub is_made : (w u : World) (n : ℕ) → reflect w n ≡ Ok u → IsMade w u n
+unfolding reflect
+is_made w u n e = made_where (nat_le GREATEST_DEPTH (depth w)) w u n refl e

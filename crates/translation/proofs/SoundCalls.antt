@@ -1,0 +1,66 @@
+-- A call, a reflection and a return lead from a sound world to a sound one, and leave the rest as it was.
+use Rattle.std.proofs.Common.{◌≡◌, ◌≢◌, ℕ, zero, suc, ◌+◌, ◌-◌, ◌<◌, ◌≤◌, inl, inr, Bool, true, false, ◌||◌, not, List, [], ◌∷◌, ◌++◌, length, take, refl, ap, ◌∙◌, sym, subst, arith, Option, None, Some, Result, Ok, Err}
+use Rattle.std.specs.Prelude.{if◌then◌else◌, slice_index}
+use Rattle.std.proofs.lemmas.Bool.{cases_Bool}
+use Rattle.client_world.specs.declared.calls.Call.{Call}
+use Rattle.client_world.specs.declared.calls.Call.TheVariants.{Reflect}
+use Rattle.client_world.specs.declared.outcome.Exit.{Exit}
+use Rattle.client_world.specs.declared.registers.Mode.{Mode}
+use Rattle.client_world.specs.declared.registers.Mode.TheVariants.{Real, Protected}
+use Rattle.client_world.specs.declared.registers.Regs.{Regs}
+use Rattle.client_world.specs.declared.registers.Width.{Width}
+use Rattle.client_world.specs.declared.segments.FarPtr.{FarPtr}
+use Rattle.client_world.specs.declared.services.Carry.{Carry}
+use Rattle.client_world.specs.declared.services.Carry.TheVariants.{Clear, Set}
+use Rattle.client_world.specs.Services.{cx, es_di}
+use Rattle.client_world.specs.Soundness.{IsSound, HasSegments, SoundWidth}
+use Rattle.client_world.specs.World.{World, depth}
+use Rattle.translation.specs.SimulatedCall.{after_reflection, begin_call, call_regs, call_words, callee_interrupts, callee_regs, callee_stack, callee_start, callee_world, called_world, no_structure, reflect, reflection_regs, reflection_words}
+use Rattle.translation.specs.RealStack.{host_real_stack}
+use Rattle.translation.specs.Structure.{structure_bytes, structure_flags, structure_regs}
+use Rattle.translation.proofs.Begun.{begun_world, is_made, refused_world, runs}
+use Rattle.translation.proofs.ReadBytes.{far_are_bytes}
+use Rattle.translation.proofs.SoundCallee.{callee_segments, sound_callee, stack_is_word, start_is_word, structure_segments}
+
+protected_by : (width : Option Width) (w : World) → w.mode ≡ Protected → SoundWidth width w → width ≢ None
+protected_by None w is s = λ e. (let real = s.mode in cc)
+protected_by (Some width) w is s = λ e. cc
+
+call_segments : (w : World) (call : Call) (r : Regs) (n : ℕ) → IsSound w → HasSegments r → HasSegments (call_regs w call r n)
+unfolding call_regs
+call_segments w call r n s h =
+    callee_segments r (callee_start w call r) (callee_stack w r) n h (start_is_word w call r s h) (stack_is_word w r h)
+
+sound_by_carry : (carry : Carry) (w : World) (call : Call) → IsSound w → w.mode ≡ Protected → (begin_call w call).carry ≡ carry → IsSound (begin_call w call).world
+sound_by_carry Set w call s mode e = subst IsSound (sym (refused_world w call e)) s
+sound_by_carry Clear w call s mode e =
+    let bytes = structure_bytes w (es_di w) in
+    let r = structure_regs bytes in
+    let image = structure_flags bytes in
+    let run = runs w call e in
+    subst IsSound (sym (begun_world w call e))
+    (sound_callee w call (es_di w) (call_regs w call r (length (call_words w call image))) (callee_interrupts call image) (call_words w call image)
+    s (protected_by w.width w mode s.width) run.room
+    (call_segments w call r (length (call_words w call image)) s (structure_segments bytes (far_are_bytes w (es_di w) 0x32 s))))
+
+pub sound_begin : (w : World) (call : Call) → IsSound w → w.mode ≡ Protected → IsSound (begin_call w call).world
+sound_begin w call s mode = sound_by_carry (begin_call w call).carry w call s mode refl
+
+no_segments : (r : Regs) → HasSegments r → HasSegments (record r { ds = 0; es = 0; fs = 0; gs = 0 })
+no_segments r h = record { es = omega arith; cs = h.cs; ss = h.ss; ds = omega arith; fs = omega arith; gs = omega arith }
+
+reflected_segments : (w : World) (n : ℕ) → IsSound w → HasSegments (reflection_regs w n)
+unfolding reflection_regs
+reflected_segments w n s =
+    callee_segments (record w.regs { ds = 0; es = 0; fs = 0; gs = 0 }) (callee_start w (Reflect n) w.regs) (host_real_stack w) (length (reflection_words w n))
+    (no_segments w.regs s.segments) (start_is_word w (Reflect n) w.regs s s.segments) (omega arith)
+
+sound_made : (w : World) (n : ℕ) → IsSound w → w.mode ≡ Protected → depth w < 16 → IsSound (after_reflection w n)
+unfolding after_reflection
+sound_made w n s mode room =
+    sound_callee w (Reflect n) no_structure (reflection_regs w n) false (reflection_words w n) s (protected_by w.width w mode s.width) room
+    (reflected_segments w n s)
+
+pub sound_reflect : (w u : World) (n : ℕ) → IsSound w → w.mode ≡ Protected → reflect w n ≡ Ok u → IsSound u
+sound_reflect w u n s mode e =
+    let made = is_made w u n e in subst IsSound (sym made.is) (sound_made w n s mode made.room)
