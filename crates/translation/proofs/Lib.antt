@@ -1,7 +1,10 @@
 pub mod Begun
+pub mod Ended
+pub mod NamedWords
 pub mod Reaches
 pub mod ReadBytes
 pub mod Resumed
 pub mod SoundCallee
 pub mod SoundCalls
+pub mod SoundReturns
 pub mod Words
