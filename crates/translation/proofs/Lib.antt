@@ -1,5 +1,6 @@
 pub mod Begun
 pub mod Ended
+pub mod HandedOver
 pub mod NamedWords
 pub mod Reaches
 pub mod ReadBytes
@@ -7,4 +8,5 @@ pub mod Resumed
 pub mod SoundCallee
 pub mod SoundCalls
 pub mod SoundReturns
+pub mod StackWords
 pub mod Words
