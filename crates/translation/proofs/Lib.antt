@@ -1,9 +1,13 @@
 pub mod Begun
 pub mod Ended
 pub mod HandedOver
+pub mod KeptBytes
+pub mod KeptWorld
 pub mod NamedWords
+pub mod PutPart
 pub mod Reaches
 pub mod ReadBytes
+pub mod ResultsBack
 pub mod Resumed
 pub mod SoundCallee
 pub mod SoundCalls
