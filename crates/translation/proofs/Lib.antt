@@ -8,6 +8,7 @@ pub mod PutPart
 pub mod Reaches
 pub mod ReadBytes
 pub mod ResultsBack
+pub mod RealRules
 pub mod Resumed
 pub mod SoundCallee
 pub mod SoundCalls

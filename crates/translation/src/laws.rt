@@ -1,14 +1,16 @@
 // What holds of every call, reflection and return. Each function has nothing to do: its contract is the law.
-ghost use Rattle.std.specs.Prelude.{◌≡◌, ◌≢◌, ℕ, ◌%◌, Ok};
+ghost use Rattle.std.specs.Prelude.{◌≡◌, ◌≢◌, ℕ, ◌%◌, ◌<◌, true, is_none, Ok};
 ghost use Rattle.client_world.specs.declared.calls.Call.{Call};
 ghost use Rattle.client_world.specs.declared.memory_map.TheConstants.{SEGMENT_SIZE};
-ghost use Rattle.client_world.specs.declared.registers.Mode.TheVariants.{Protected as protected};
+ghost use Rattle.client_world.specs.declared.registers.Mode.TheVariants.{Protected as protected, Real as real};
+ghost use Rattle.client_world.specs.declared.segments.SegReg.TheVariants.{Ss};
 ghost use Rattle.client_world.specs.declared.services.Carry.TheVariants.{Clear as clear, Set as set};
 ghost use Rattle.client_world.specs.Services.{es_di};
 ghost use Rattle.client_world.specs.Soundness.{IsSound};
 ghost use Rattle.client_world.specs.World.{World};
+ghost use Rattle.guest_space.specs.Transfer.{access_fault};
 ghost use Rattle.translation.specs.HandOver.{HasBegun, HasEnded, HasReflected, LeftForCallee, LeftForClient};
-ghost use Rattle.translation.specs.RealStack.{real_address};
+ghost use Rattle.translation.specs.RealStack.{is_writable_word, real_address};
 ghost use Rattle.translation.specs.SimulatedCall.{begin_call, end_call, reflect};
 ghost use Rattle.translation.specs.Structure.{structure_bytes};
 
@@ -47,4 +49,10 @@ pub fn a_return_hands_over_the_results()
 /// Different offsets of a real segment are different bytes of the megabyte.
 pub fn the_bytes_of_a_real_segment_are_apart()
     ensures { (segment a b : ℕ) → a % SEGMENT_SIZE ≢ b % SEGMENT_SIZE → real_address segment a ≢ real_address segment b }
+{}
+
+/// A word of a callee's stack can be written exactly where the callee, in real mode, could push it.
+pub fn a_stack_word_can_be_written_by_the_rules_of_real_mode()
+    ensures { (w : World) (offset : ℕ) → w.mode ≡ real → w.regs.ss < 0x10000 → offset < SEGMENT_SIZE →
+        is_writable_word w.regs.ss offset ≡ is_none (access_fault w Ss offset 2 true) }
 {}
