@@ -1,10 +1,17 @@
 pub mod Begun
 pub mod Ended
+pub mod HandedOver
+pub mod KeptBytes
+pub mod KeptWorld
 pub mod NamedWords
+pub mod PutPart
 pub mod Reaches
 pub mod ReadBytes
+pub mod ResultsBack
+pub mod RealRules
 pub mod Resumed
 pub mod SoundCallee
 pub mod SoundCalls
 pub mod SoundReturns
+pub mod StackWords
 pub mod Words

@@ -71,7 +71,7 @@ structure_written w at e = (both (is_reachable w at STRUCTURE_SIZE false) (is_re
 pub structure_ends : (w : World) (at : FarPtr) → IsTrue (has_structure w at) → at.off + STRUCTURE_SIZE ≤ 2 ^ 32
 structure_ends w at e = run_ends w at STRUCTURE_SIZE true (structure_written w at e)
 
-no_further : (at : FarPtr) → further at 0 ≡ at
+pub no_further : (at : FarPtr) → further at 0 ≡ at
 no_further at =
     let same : at.off + 0 ≡ at.off = omega arith in
     ap (λ (off : ℕ). let p : FarPtr = record { sel = at.sel; off = off } in p) same

@@ -54,11 +54,11 @@ join_bytes (x ∷ xs) ys one other = one_byte x (xs ++ ys) (one 0) (join_bytes x
 join : {xs ys : List ℕ} → HasBytes xs → HasBytes ys → HasBytes (xs ++ ys)
 join {xs} {ys} one other = record { each = join_bytes xs ys one.each other.each }
 
-index_bytes : (r : Regs) → AreBytes (index_results r)
+pub index_bytes : (r : Regs) → AreBytes (index_results r)
 unfolding index_results
 index_bytes r = (join (join (dword_bytes r.edi) (dword_bytes r.esi)) (dword_bytes r.ebp)).each
 
-other_bytes : (r : Regs) (vif : Bool) → AreBytes (other_results r vif)
+pub other_bytes : (r : Regs) (vif : Bool) → AreBytes (other_results r vif)
 unfolding other_results
 other_bytes r vif =
     (join (join (join (join (join (join (join (join (dword_bytes r.ebx) (dword_bytes r.edx)) (dword_bytes r.ecx)) (dword_bytes r.eax))

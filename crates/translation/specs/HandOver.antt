@@ -9,7 +9,7 @@ use Rattle.client_world.specs.declared.segments.FarPtr.{FarPtr}
 use Rattle.client_world.specs.Registers.{flags_image}
 use Rattle.client_world.specs.Services.{cx, es_di}
 use Rattle.client_world.specs.World.{World}
-use Rattle.guest_ram.specs.Bytes.{region}
+use Rattle.guest_ram.specs.Bytes.{put}
 use Rattle.translation.specs.RealStack.{host_real_stack, stack_words}
 use Rattle.translation.specs.SimulatedCall.{callee_interrupts, callee_regs, callee_stack, callee_start, client_regs, client_words, is_reflection, no_structure, return_frame}
 use Rattle.translation.specs.Structure.{index_results, other_results, structure_bytes, structure_flags, structure_regs}
@@ -40,8 +40,8 @@ pub record HasReflected (w v : World) (n : ℕ) : Type 0 where
   pub vif : v.vif ≡ false
   pub words : callee_words v 3 ≡ return_frame (Reflect n) (flags_image w.regs.flags w.vif)
 
--- from w a return led to v: one record is popped; the client goes on with its registers; the structure of a call has the callee's registers, and
--- its other bytes as they were
+-- from w a return led to v: one record is popped; the client goes on with its registers; bytes 00h to 0Bh and 10h to 29h of a call's structure are
+-- the callee's registers, and the others are as they were
 pub record HasEnded (w v : World) : Type 0 where
   pub call : Call
   pub saved : Regs
@@ -51,5 +51,13 @@ pub record HasEnded (w v : World) : Type 0 where
   pub mode : v.mode ≡ Protected
   pub regs : v.regs ≡ client_regs w call saved
   pub vif : v.vif ≡ on
-  pub results : is_reflection call ≡ false → structure_bytes v at
-      ≡ index_results w.regs ++ region (structure_bytes w at) 0x0C 4 ++ other_results w.regs w.vif ++ region (structure_bytes w at) 0x2A 8
+  pub results : is_reflection call ≡ false →
+      structure_bytes v at ≡ put (put (structure_bytes w at) 0x00 (index_results w.regs)) 0x10 (other_results w.regs w.vif)
+
+-- of the world nothing has changed but the mode, the registers, the virtual interrupt flag, the megabyte and the records
+abbrev pub LeftForCallee : World → World → Type 0
+LeftForCallee w v = v ≡ record w { mode = v.mode; regs = v.regs; vif = v.vif; dos = v.dos; calls = v.calls }
+
+-- nothing but those and the bytes of memory blocks
+abbrev pub LeftForClient : World → World → Type 0
+LeftForClient w v = v ≡ record w { mode = v.mode; regs = v.regs; vif = v.vif; dos = v.dos; blocks = v.blocks; calls = v.calls }

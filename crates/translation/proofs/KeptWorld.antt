@@ -1,0 +1,42 @@
+-- What a call, a reflection and a return leave as it was.
+use Rattle.std.proofs.Common.{◌≡◌, ℕ, ◌-◌, Bool, List, refl, ap, sym, subst, take, Ok}
+use Rattle.client_world.specs.declared.calls.Call.{Call}
+use Rattle.client_world.specs.declared.registers.Mode.TheVariants.{Protected}
+use Rattle.client_world.specs.declared.registers.Regs.{Regs}
+use Rattle.client_world.specs.declared.segments.FarPtr.{FarPtr}
+use Rattle.client_world.specs.declared.services.Carry.{Carry}
+use Rattle.client_world.specs.declared.services.Carry.TheVariants.{Clear, Set}
+use Rattle.client_world.specs.World.{World, depth}
+use Rattle.translation.specs.HandOver.{LeftForCallee, LeftForClient}
+use Rattle.translation.specs.SimulatedCall.{after_reflection, after_results, after_return, begin_call, callee_world, client_regs, end_call, reflect}
+use Rattle.translation.proofs.Begun.{begun_world, is_made, refused_world}
+use Rattle.translation.proofs.Ended.{is_return}
+use Rattle.translation.proofs.SoundReturns.{results_alone}
+
+callee_left : (w : World) (call : Call) (at : FarPtr) (r : Regs) (on : Bool) (words : List ℕ) → LeftForCallee w (callee_world w call at r on words)
+unfolding callee_world
+callee_left w call at r on words = refl
+
+by_carry : (carry : Carry) (w : World) (call : Call) → (begin_call w call).carry ≡ carry → LeftForCallee w (begin_call w call).world
+by_carry Set w call e = subst (λ (u : World). LeftForCallee w u) (sym (refused_world w call e)) refl
+by_carry Clear w call e = subst (λ (u : World). LeftForCallee w u) (sym (begun_world w call e)) (callee_left w call _ _ _ _)
+
+pub begin_left : (w : World) (call : Call) → LeftForCallee w (begin_call w call).world
+begin_left w call = by_carry (begin_call w call).carry w call refl
+
+reflection_left : (w : World) (n : ℕ) → LeftForCallee w (after_reflection w n)
+unfolding after_reflection
+reflection_left w n = callee_left w _ _ _ _ _
+
+pub reflect_left : (w u : World) (n : ℕ) → reflect w n ≡ Ok u → LeftForCallee w u
+reflect_left w u n e = subst (λ (x : World). LeftForCallee w x) (sym (is_made w u n e).is) (reflection_left w n)
+
+return_left : (w : World) (call : Call) (saved : Regs) (on : Bool) (at : FarPtr) → LeftForClient w (after_return w call saved on at)
+unfolding after_return
+return_left w call saved on at =
+    ap (λ (x : World). record x { mode = Protected; regs = client_regs w call saved; vif = on; calls = take (depth w - 1) w.calls }) (results_alone w call at)
+
+pub end_left : (w u : World) → end_call w ≡ Ok u → LeftForClient w u
+end_left w u e =
+    let done = is_return w u e in
+    subst (λ (x : World). LeftForClient w x) (sym done.is) (return_left w done.call done.saved done.on done.at)

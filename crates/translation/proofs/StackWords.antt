@@ -1,0 +1,135 @@
+-- Words that were put on a real stack are read there again: different offsets of a segment lie at different bytes of the megabyte.
+use Rattle.std.proofs.Common.{◌≡◌, ◌≢◌, ℕ, zero, suc, ◌+◌, ◌*◌, ◌/◌, ◌%◌, ◌<◌, ◌≤◌, inl, inr, Bool, true, false, ◌&&◌, not, List, [], ◌∷◌, ◌++◌, length, slice_index, slice_set, refl, ap, ◌∙◌, sym, arith, get_or-set_same, get_or-set_other, length-set}
+use Rattle.std.specs.Prelude.{nat_eq, nat_lt, if◌then◌else◌}
+use Rattle.std.proofs.lemmas.Bool.{cases_Bool, ltb-true}
+use Rattle.std.proofs.lemmas.Bool.Decides.{nat_tests}
+use Rattle.client_world.specs.declared.memory_map.TheConstants.{DOS_SIZE, REAL_STACK_SEGMENT, ROM_START, SEGMENT_SIZE}
+use Rattle.guest_space.specs.Dos.{with_dos_byte}
+use Rattle.translation.specs.RealStack.{are_writable_words, is_writable_word, next_word, real_address, stack_word, stack_words, with_word_at, with_words_at}
+
+pub addresses_apart : (segment a b : ℕ) → a % SEGMENT_SIZE ≢ b % SEGMENT_SIZE → real_address segment a ≢ real_address segment b
+addresses_apart segment a b other = λ e. other (omega (arith, e))
+
+-- a byte of the megabyte
+set_low : (low : Bool) (dos : List ℕ) (at x other : ℕ) → other ≢ at → slice_index (if low then slice_set dos at x else dos) other ≡ slice_index dos other
+set_low true dos at x other apart = get_or-set_other dos at other x 0 apart
+set_low false dos at x other apart = refl
+
+other_byte : (dos : List ℕ) (at x other : ℕ) → other ≢ at → slice_index (with_dos_byte dos at x) other ≡ slice_index dos other
+other_byte dos at x other apart = set_low (nat_lt at ROM_START) dos at x other apart
+
+same_low : (low : Bool) (dos : List ℕ) (at x : ℕ) → low ≡ true → at < length dos → slice_index (if low then slice_set dos at x else dos) at ≡ x
+same_low true dos at x e inside = get_or-set_same dos at x 0 inside
+same_low false dos at x e inside = absurd cc
+
+same_byte : (dos : List ℕ) (at x : ℕ) → nat_lt at ROM_START ≡ true → at < length dos → slice_index (with_dos_byte dos at x) at ≡ x
+same_byte dos at x low inside = same_low (nat_lt at ROM_START) dos at x low inside
+
+set_size : (low : Bool) (dos : List ℕ) (at x : ℕ) → length (if low then slice_set dos at x else dos) ≡ length dos
+set_size true dos at x = length-set dos at x
+set_size false dos at x = refl
+
+word_size : (dos : List ℕ) (segment offset v : ℕ) → length (with_word_at dos segment offset v) ≡ length dos
+unfolding with_word_at
+word_size dos segment offset v =
+    let low = real_address segment offset in
+    let high = real_address segment (offset + 1) in
+    set_size (nat_lt high ROM_START) (with_dos_byte dos low (v % 0x100)) high (v / 0x100 % 0x100)
+    ∙ set_size (nat_lt low ROM_START) dos low (v % 0x100)
+
+-- a word that is put elsewhere changes no byte
+word_kept : (dos : List ℕ) (segment offset v k : ℕ) → offset % SEGMENT_SIZE ≢ k % SEGMENT_SIZE → (offset + 1) % SEGMENT_SIZE ≢ k % SEGMENT_SIZE →
+    slice_index (with_word_at dos segment offset v) (real_address segment k) ≡ slice_index dos (real_address segment k)
+unfolding with_word_at
+word_kept dos segment offset v k first second =
+    let at = real_address segment offset in
+    let one : real_address segment k ≢ real_address segment (offset + 1) = addresses_apart segment k (offset + 1) (λ e. second (sym e)) in
+    let other : real_address segment k ≢ at = addresses_apart segment k offset (λ e. first (sym e)) in
+    other_byte (with_dos_byte dos at (v % 0x100)) (real_address segment (offset + 1)) (v / 0x100 % 0x100) (real_address segment k) one
+    ∙ other_byte dos at (v % 0x100) (real_address segment k) other
+
+pub words_kept : (dos : List ℕ) (segment offset : ℕ) (vs : List ℕ) (k : ℕ) →
+    ((i : ℕ) → i < 2 * length vs → (offset + i) % SEGMENT_SIZE ≢ k % SEGMENT_SIZE) →
+    slice_index (with_words_at dos segment offset vs) (real_address segment k) ≡ slice_index dos (real_address segment k)
+words_kept dos segment offset [] k apart = refl
+words_kept dos segment offset (v ∷ vs) k apart =
+    let zero_is : offset + 0 ≡ offset = omega arith in
+    words_kept (with_word_at dos segment offset v) segment (next_word offset) vs k
+    (λ i inside e. (let same : (offset + (2 + i)) % SEGMENT_SIZE ≡ k % SEGMENT_SIZE = omega (arith, e) in apart (2 + i) (omega arith) same))
+    ∙ word_kept dos segment offset v k (λ e. apart 0 (omega arith) (ap (λ (n : ℕ). n % SEGMENT_SIZE) zero_is ∙ e)) (apart 1 (omega arith))
+
+-- where a word can be written
+pub record CanPut (segment offset : ℕ) : Type 0 where
+  pub inside : offset ≢ 0xFFFF
+  pub low : nat_lt (real_address segment offset) ROM_START ≡ true
+  pub high : nat_lt (real_address segment (offset + 1)) ROM_START ≡ true
+
+three : (a b c : Bool) → (a && b && c) ≡ true → (a ≡ true) × (b ≡ true) × (c ≡ true)
+three true true c e = (refl, refl, e)
+three true false c e = absurd cc
+three false b c e = absurd cc
+
+not_last : (offset : ℕ) → not (nat_eq offset 0xFFFF) ≡ true → offset ≢ 0xFFFF
+not_last offset e = grind (arith, nat_tests)
+
+can_put : (segment offset : ℕ) → is_writable_word segment offset ≡ true → CanPut segment offset
+unfolding is_writable_word
+can_put segment offset e =
+    let parts = three (not (nat_eq offset 0xFFFF)) (nat_lt (real_address segment offset) ROM_START) (nat_lt (real_address segment (offset + 1)) ROM_START) e in
+    record { inside = not_last offset parts.0; low = parts.1; high = parts.2 }
+
+address_inside : (segment offset : ℕ) → real_address segment offset < DOS_SIZE
+address_inside segment offset = omega arith
+
+-- a word that was put is read
+word_back : (dos : List ℕ) (segment offset v : ℕ) → length dos ≡ DOS_SIZE → CanPut segment offset → v < 0x10000 →
+    stack_word (with_word_at dos segment offset v) segment offset ≡ v
+unfolding with_word_at
+word_back dos segment offset v size can small =
+    let at = real_address segment offset in
+    let next = real_address segment (offset + 1) in
+    let low_dos = with_dos_byte dos at (v % 0x100) in
+    let apart : at ≢ next = addresses_apart segment offset (offset + 1) (λ e. absurd (omega (arith, e))) in
+    let low : slice_index (with_dos_byte low_dos next (v / 0x100 % 0x100)) at ≡ v % 0x100 =
+    other_byte low_dos next (v / 0x100 % 0x100) at apart ∙ same_byte dos at (v % 0x100) can.low (omega (arith, address_inside segment offset, size)) in
+    let long : length low_dos ≡ length dos = set_size (nat_lt at ROM_START) dos at (v % 0x100) in
+    let high : slice_index (with_dos_byte low_dos next (v / 0x100 % 0x100)) next ≡ v / 0x100 % 0x100 =
+    same_byte low_dos next (v / 0x100 % 0x100) can.high (omega (arith, address_inside segment (offset + 1), size, long)) in
+    omega (arith, low, high)
+
+-- the words of a list
+abbrev pub AreWords : List ℕ → Type 0
+AreWords [] = Unit {0}
+AreWords (v ∷ vs) = (v < 0x10000) × AreWords vs
+
+pub join_words : (xs ys : List ℕ) → AreWords xs → AreWords ys → AreWords (xs ++ ys)
+join_words [] ys one other = other
+join_words (x ∷ xs) ys one other = (one.0, join_words xs ys one.1 other)
+
+both : (a b : Bool) → (a && b) ≡ true → (a ≡ true) × (b ≡ true)
+both true b e = (refl, e)
+both false b e = absurd cc
+
+pub words_back : (dos : List ℕ) (segment offset : ℕ) (vs : List ℕ) → length dos ≡ DOS_SIZE → length vs < 0x8000 →
+    are_writable_words segment offset (length vs) ≡ true → AreWords vs →
+    stack_words (with_words_at dos segment offset vs) segment offset (length vs) ≡ vs
+words_back dos segment offset [] size few can small = refl
+words_back dos segment offset (v ∷ vs) size few can small =
+    let puts = both (is_writable_word segment offset) (are_writable_words segment (next_word offset) (length vs)) can in
+    let first = with_word_at dos segment offset v in
+    let all = with_words_at first segment (next_word offset) vs in
+    let low : slice_index all (real_address segment offset) ≡ slice_index first (real_address segment offset) =
+    words_kept first segment (next_word offset) vs offset (λ i inside e. absurd (omega (arith, e))) in
+    let high : slice_index all (real_address segment (offset + 1)) ≡ slice_index first (real_address segment (offset + 1)) =
+    words_kept first segment (next_word offset) vs (offset + 1) (λ i inside e. absurd (omega (arith, e))) in
+    let here : stack_word all segment offset ≡ v =
+    ap (λ (x : ℕ). x + 0x100 * slice_index all (real_address segment (offset + 1))) low
+    ∙ ap (λ (x : ℕ). slice_index first (real_address segment offset) + 0x100 * x) high
+    ∙ word_back dos segment offset v size (can_put segment offset puts.0) small.0 in
+    ap (λ (x : ℕ). x ∷ stack_words all segment (next_word offset) (length vs)) here
+    ∙ ap (λ (xs : List ℕ). v ∷ xs) (words_back first segment (next_word offset) vs (word_size dos segment offset v ∙ size) (omega arith) puts.1 small.1)
+
+-- the host's stacks can be written
+pub low_word : (offset : ℕ) → offset < 0x8000 → is_writable_word REAL_STACK_SEGMENT offset ≡ true
+unfolding is_writable_word
+low_word offset small = grind (arith, nat_tests)
