@@ -1,6 +1,7 @@
 mod AskedCalls
 mod ClientChanges
 mod Frames
+mod HandOver
 mod KindModes
 mod Nested
 mod NoTraps

@@ -1,4 +1,5 @@
 pub mod Footprint
+pub mod HandOver
 pub mod Keys
 pub mod Nested
 pub mod RealCalls

@@ -11,6 +11,7 @@ ghost use Rattle.host_memory.specs.View.{MachineView};
 ghost use Rattle.mz_loader.specs.Refusal.{refusal};
 ghost use Rattle.protected_faults.specs.Memory.{IsMachineView};
 ghost use Rattle.host_run.specs.Footprint.{ChangesOnly, client_footprint, client_turn};
+ghost use Rattle.host_run.specs.HandOver.{HandsOver};
 ghost use Rattle.host_run.specs.Keys.{HasKeys};
 ghost use Rattle.host_run.specs.Nested.{HasTurns, IsHandedOver, LastPush, Matched, Stacked, host_depth};
 ghost use Rattle.host_run.specs.Run.{turns, run};
@@ -48,8 +49,8 @@ pub fn every_run_is_sound()
     ensures host_end { (w : HostWorld) → IsSoundHost w → HasKeys w → (n : ℕ) → IsSoundHost (run w n) }
 {}
 
-/// A turn leaves the records of the nested calls as they are, or adds one as it delivers an exception of protected mode, or takes the
-/// innermost one away as its exception returns; and so does each turn of a run.
+/// A turn leaves the records of the nested calls as they are, or adds one as it starts a call of real mode or delivers an exception of
+/// protected mode, or takes the innermost one away as its call or exception returns; and so does each turn of a run.
 pub fn every_turn_changes_the_innermost_record_at_most()
     ensures turn { (w : HostWorld) → IsSound w.machine → HasKeys w → Stacked w (turn w) }
     ensures turns { (w : HostWorld) → IsSound w.machine → HasKeys w → (n : ℕ) → Stacked (turns w n) (turns w (n + 1)) }
@@ -63,6 +64,17 @@ pub fn nested_calls_return_in_order()
         (host_depth (w (k + 1)) ≤ host_depth (w k) + 1) × (host_depth (w k) ≤ host_depth (w (k + 1)) + 1) }
     ensures partner { (w : ℕ → HostWorld) (n i j : ℕ) → HasTurns w n → j < n → LastPush w i j → Matched w i j }
     ensures record_stays { (w : ℕ → HostWorld) (n i j : ℕ) → HasTurns w n → j < n → Matched w i j → IsHandedOver w i j }
+{}
+
+/// A call of real mode hands over what it should, whatever is nested in it: the procedure starts with the registers of the client's structure
+/// and with the client's words, or a reflected interrupt with the client's general registers and flags; and the turn that takes its record
+/// away gives the client those of the procedure, and the structure its results. So it is of each two turns of which the second takes away
+/// the record that the first added, in a row of hosts whose machines are sound, and in each run.
+pub fn every_call_of_real_mode_hands_over()
+    ensures matched { (w : ℕ → HostWorld) (i j : ℕ) → IsSound (w i).machine → IsSound (w j).machine → (h : IsHandedOver w i j) →
+        HandsOver (w i) (w (i + 1)) (w j) (w (j + 1)) h.innermost }
+    ensures run { (w : HostWorld) (i j : ℕ) → IsSound w.machine → HasKeys w → (h : IsHandedOver (turns w) i j) →
+        HandsOver (turns w i) (turns w (i + 1)) (turns w j) (turns w (j + 1)) h.innermost }
 {}
 
 /// What the client wrote stays: a turn adds bytes at the console's end alone. So the console after some turns is a prefix of the console after

@@ -1,0 +1,93 @@
+-- Two matched turns of a call hand over what the call's start and its return do, since the record of the first is that of the second.
+use Rattle.std.proofs.Common.{◌≡◌, ◌∙◌, ℕ, ◌+◌, List, [], ◌∷◌, ◌++◌, ap, refl, sym, subst, Ok}
+use Rattle.std.proofs.lemmas.List.{same_from_push}
+use Rattle.client_world.specs.declared.calls.Call.{Call}
+use Rattle.client_world.specs.declared.calls.Call.TheVariants.{Int, Far, Iret, Reflect}
+use Rattle.client_world.specs.declared.calls.Record.{Record}
+use Rattle.client_world.specs.declared.calls.Record.TheVariants.{Sim, Back, Exc}
+use Rattle.client_world.specs.declared.services.Carry.TheVariants.{Clear}
+use Rattle.client_world.specs.Services.{Served, es_di}
+use Rattle.client_world.specs.Soundness.{IsSound}
+use Rattle.client_world.specs.World.{World, HostWorld}
+use Rattle.fault_service.specs.Worlds.{world_popped}
+use Rattle.fault_service.proofs.SoundAnswers.{sound_world_popped}
+use Rattle.host_run.specs.HandOver.{HandsOver, HandsOverCall, HandsOverRealCall}
+use Rattle.host_run.specs.Keys.{HasKeys}
+use Rattle.host_run.specs.Nested.{IsHandedOver, PopsRecord, PushesRecord}
+use Rattle.host_run.specs.RealCalls.{ReturnsFromCall, StartsCall, StartsRealCall}
+use Rattle.host_run.specs.Run.{turns}
+use Rattle.host_run.proofs.Sound.{turns_sound}
+use Rattle.translation.specs.HandOver.{HasBegun, HasEnded}
+use Rattle.translation.specs.SimulatedCall.{begin_call}
+use Rattle.translation.specs.Structure.{structure_bytes}
+use Rattle.translation.proofs.HandedOver.{has_begun, has_reflected}
+use Rattle.translation.proofs.ResultsBack.{has_ended}
+
+-- a turn that adds a record, one that takes it away, and the records below it
+record Matches (w v x y : HostWorld) (r : Record) : Type 0 where
+  starts : IsSound w.machine
+  ends : IsSound x.machine
+  pushes : PushesRecord w r v
+  pops : PopsRecord x r y
+  innermost : x.machine.calls ≡ y.machine.calls ++ r ∷ []
+
+same_record : (x y : HostWorld) (r : Record) → x.machine.calls ≡ y.machine.calls ++ r ∷ [] → (e : HasEnded x.machine y.machine) →
+    Sim e.call e.saved e.on e.at ≡ r
+same_record x y r innermost e =
+    (same_from_push y.machine.calls y.machine.calls (Sim e.call e.saved e.on e.at) r (sym e.popped ∙ innermost)).1
+
+begun_call : (w u : World) (call : Call) → IsSound w → begin_call w call ≡ record { carry = Clear; world = u } →
+    HasBegun w u call (structure_bytes w (es_di w))
+begun_call w u call s e =
+    subst (λ (x : World). HasBegun w x call (structure_bytes w (es_di w))) (ap (λ (a : Served). a.world) e)
+    (has_begun w call s (ap (λ (a : Served). a.carry) e))
+
+call_by : (w v x y : HostWorld) (call : Call) (r : Record) → IsSound w.machine → IsSound x.machine → StartsCall w call r v → ReturnsFromCall x call y →
+    x.machine.calls ≡ y.machine.calls ++ r ∷ [] → HandsOverCall w v x y call
+call_by w v x y call r starts ends pushes pops innermost =
+    let ended = has_ended x.machine y.machine ends pops.returns in
+    record {
+      popped = pushes.popped;
+      pops = pushes.pops;
+      begun = begun_call pushes.popped v.machine call (sound_world_popped w.machine pushes.popped starts pushes.pops) pushes.starts;
+      ended = ended;
+      same = same_record x y r innermost ended ∙ pushes.keeps;
+      enter = pushes.lines;
+      leave = pops.lines;
+    }
+
+real_call_by : (w v x y : HostWorld) (call : Call) (r : Record) → IsSound w.machine → IsSound x.machine → StartsRealCall w call r v →
+    ReturnsFromCall x call y → x.machine.calls ≡ y.machine.calls ++ r ∷ [] → HandsOverRealCall w v x y call
+real_call_by w v x y (Int n) r starts ends pushes pops innermost = call_by w v x y (Int n) r starts ends pushes pops innermost
+real_call_by w v x y Far r starts ends pushes pops innermost = call_by w v x y Far r starts ends pushes pops innermost
+real_call_by w v x y Iret r starts ends pushes pops innermost = call_by w v x y Iret r starts ends pushes pops innermost
+real_call_by w v x y (Reflect n) r starts ends pushes pops innermost =
+    let ended = has_ended x.machine y.machine ends pops.returns in
+    record {
+      popped = pushes.popped;
+      pops = pushes.pops;
+      begun = has_reflected pushes.popped v.machine n (sound_world_popped w.machine pushes.popped starts pushes.pops) pushes.starts;
+      ended = ended;
+      same = same_record x y r innermost ended ∙ pushes.keeps;
+      enter = pushes.lines;
+      leave = pops.lines;
+    }
+
+by_record : (w v x y : HostWorld) (r : Record) → Matches w v x y r → HandsOver w v x y r
+by_record w v x y (Sim call saved vif at) m = real_call_by w v x y call (Sim call saved vif at) m.starts m.ends m.pushes m.pops m.innermost
+by_record w v x y (Back slot at) m = tt
+by_record w v x y (Exc number code) m = tt
+
+pub hands_over : (w : ℕ → HostWorld) (i j : ℕ) → IsSound (w i).machine → IsSound (w j).machine → (h : IsHandedOver w i j) →
+    HandsOver (w i) (w (i + 1)) (w j) (w (j + 1)) h.innermost
+hands_over w i j first last h = by_record (w i) (w (i + 1)) (w j) (w (j + 1)) h.innermost (record {
+  starts = first;
+  ends = last;
+  pushes = h.pushes;
+  pops = h.pops;
+  innermost = h.pop ∙ ap (λ (calls : List Record). calls ++ h.innermost ∷ []) (sym h.rest);
+})
+
+pub run_hands_over : (w : HostWorld) (i j : ℕ) → IsSound w.machine → HasKeys w → (h : IsHandedOver (turns w) i j) →
+    HandsOver (turns w i) (turns w (i + 1)) (turns w j) (turns w (j + 1)) h.innermost
+run_hands_over w i j s keys h = hands_over (turns w) i j (turns_sound w i (record { machine = s; keys = keys })).machine (turns_sound w j (record { machine = s; keys = keys })).machine h

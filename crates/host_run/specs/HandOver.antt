@@ -1,0 +1,52 @@
+-- What a call of real mode hands over in a run: the turn that starts it gives its procedure the client's registers, structure and words, and
+-- the turn that ends it gives the client those of the procedure. Source: DPMI 0.9, INT 31h functions 0300h to 0302h, and "Interrupts".
+use Rattle.std.specs.Prelude.{◌≡◌, ℕ, [], ◌∷◌, Ok}
+use Rattle.client_world.specs.declared.calls.Call.{Call}
+use Rattle.client_world.specs.declared.calls.Call.TheVariants.{Int, Far, Iret, Reflect}
+use Rattle.client_world.specs.declared.calls.Record.{Record}
+use Rattle.client_world.specs.declared.calls.Record.TheVariants.{Sim, Back, Exc}
+use Rattle.client_world.specs.declared.services.Carry.TheVariants.{Clear}
+use Rattle.client_world.specs.declared.trace.TraceLine.TheVariants.{Int31}
+use Rattle.client_world.specs.Registers.{low_half}
+use Rattle.client_world.specs.Services.{es_di}
+use Rattle.client_world.specs.World.{World, HostWorld}
+use Rattle.fault_service.specs.Worlds.{world_popped}
+use Rattle.host_run.specs.RealCalls.{HasMoreLines}
+use Rattle.host_run.specs.Turn.{call_enter_line, call_leave_line}
+use Rattle.translation.specs.HandOver.{HasBegun, HasEnded, HasReflected}
+use Rattle.translation.specs.SimulatedCall.{no_structure}
+use Rattle.translation.specs.Structure.{structure_bytes}
+
+-- the turn from w to v starts a call that the client asks for, and the turn from x to y ends it. `popped` is the machine with the frame of the
+-- client's INT 31h popped: the procedure starts with the registers of its structure and with its words, and at the end the client has its
+-- registers and virtual interrupt flag of then, and its structure of then the results
+pub record HandsOverCall (w v x y : HostWorld) (call : Call) : Type 0 where
+  pub popped : World
+  pub pops : world_popped w.machine ≡ Ok popped
+  pub begun : HasBegun popped v.machine call (structure_bytes popped (es_di popped))
+  pub ended : HasEnded x.machine y.machine
+  pub same : Sim ended.call ended.saved ended.on ended.at ≡ Sim call popped.regs popped.vif (es_di popped)
+  pub enter : HasMoreLines w (Int31 (low_half popped.regs.eax) Clear ∷ call_enter_line popped call v.machine ∷ []) v
+  pub leave : HasMoreLines x (call_leave_line x.machine call y.machine ∷ []) y
+
+-- the same of an interrupt that is reflected: the general registers and the flags pass both ways
+pub record HandsOverReflection (w v x y : HostWorld) (n : ℕ) : Type 0 where
+  pub popped : World
+  pub pops : world_popped w.machine ≡ Ok popped
+  pub begun : HasReflected popped v.machine n
+  pub ended : HasEnded x.machine y.machine
+  pub same : Sim ended.call ended.saved ended.on ended.at ≡ Sim (Reflect n) popped.regs popped.vif no_structure
+  pub enter : HasMoreLines w (call_enter_line popped (Reflect n) v.machine ∷ []) v
+  pub leave : HasMoreLines x (call_leave_line x.machine (Reflect n) y.machine ∷ []) y
+
+abbrev pub HandsOverRealCall : HostWorld → HostWorld → HostWorld → HostWorld → Call → Type 0
+HandsOverRealCall w v x y (Int n) = HandsOverCall w v x y (Int n)
+HandsOverRealCall w v x y Far = HandsOverCall w v x y Far
+HandsOverRealCall w v x y Iret = HandsOverCall w v x y Iret
+HandsOverRealCall w v x y (Reflect n) = HandsOverReflection w v x y n
+
+-- by the record that the first of two turns adds and the second takes away; of exceptions and callbacks nothing is said here yet
+abbrev pub HandsOver : HostWorld → HostWorld → HostWorld → HostWorld → Record → Type 0
+HandsOver w v x y (Sim call saved vif at) = HandsOverRealCall w v x y call
+HandsOver w v x y (Back slot at) = Unit {0}
+HandsOver w v x y (Exc number code) = Unit {0}
