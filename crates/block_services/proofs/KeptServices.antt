@@ -7,7 +7,7 @@ use Rattle.service_rows.proofs.AnswerLaws.{of_answer}
 use Rattle.guest_space.proofs.FarPuts.{other_far_put}
 use Rattle.client_world.specs.Services.{es_di}
 use Rattle.block_services.specs.Gaps.{first_gap, lowest_handle}
-use Rattle.block_services.specs.Rows.{allocate_block, mark_pageable, function_of, asked_pages, discard_pages, relock_pages, free_block, free_memory_information, lock_pages, with_new_block, mark_paging_candidates, new_base, page_size, resize_block, with_resized_block, block_service, si_di, unlock_pages}
+use Rattle.block_services.specs.Rows.{allocate_block, mark_pageable, block_function, asked_pages, discard_pages, relock_pages, free_block, free_memory_information, lock_pages, with_new_block, mark_paging_candidates, new_base, page_size, resize_block, with_resized_block, block_service, si_di, unlock_pages}
 use Rattle.block_services.proofs.EachService.{of_each_service}
 
 abbrev pub Kept : World → World → Type 0
@@ -28,7 +28,7 @@ kept_memory w v e = e ∙ ap (λ (x : World). record w { regs = x.regs; dos = v.
     w_is : v ≡ record w { dos = v.dos; blocks = v.blocks } → record w { dos = v.dos; blocks = v.blocks } ≡ v
     w_is e = sym e
 
-kept_after : (ax : ℕ) (w : World) → Kept w (function_of ax w).after
+kept_after : (ax : ℕ) (w : World) → Kept w (block_function ax w).after
 unfolding allocate_block mark_pageable discard_pages relock_pages free_block free_memory_information lock_pages mark_paging_candidates page_size resize_block unlock_pages unsupported
 kept_after ax w = of_each_service (λ (a : Service). Kept w a.after) w (record {
   f500 = kept_memory w _ (other_far_put w (es_di w) 0x30 _);
@@ -47,4 +47,4 @@ kept_after ax w = of_each_service (λ (a : Service). Kept w a.after) w (record {
 
 pub kept_service : (ax : ℕ) (w : World) → Kept w (block_service ax w).world
 unfolding block_service
-kept_service ax w = of_answer (Kept w) (first_reason (function_of ax w).reasons) w (function_of ax w).after refl (λ e. kept_after ax w)
+kept_service ax w = of_answer (Kept w) (first_reason (block_function ax w).reasons) w (block_function ax w).after refl (λ e. kept_after ax w)

@@ -23,7 +23,7 @@ use Rattle.service_rows.proofs.WidthLaws.{protected_width}
 use Rattle.block_services.specs.Free.{free_numbers, free_table, largest_new_block, with_dwords}
 use Rattle.block_services.specs.Gaps.{first_gap, lowest_handle}
 use Rattle.block_services.specs.Pages.{with_pages}
-use Rattle.block_services.specs.Rows.{allocate_block, mark_pageable, function_of, asked_pages, bx_cx, discard_pages, first_page, relock_pages, free_block, free_memory_information, free_pages, lock_pages, with_new_block, mark_paging_candidates, new_base, page_count, page_size, resize_block, with_resized_block, block_service, si_di, unlock_pages, with_blocks}
+use Rattle.block_services.specs.Rows.{allocate_block, mark_pageable, block_function, asked_pages, bx_cx, discard_pages, first_page, relock_pages, free_block, free_memory_information, free_pages, lock_pages, with_new_block, mark_paging_candidates, new_base, page_count, page_size, resize_block, with_resized_block, block_service, si_di, unlock_pages, with_blocks}
 use Rattle.block_services.proofs.EachService.{of_each_service}
 use Rattle.block_services.proofs.GoodBlocks.{Good, changed_good, freed_good, made_good, resized_good}
 use Rattle.block_services.proofs.HandleLaws.{handle_within, is_free}
@@ -148,7 +148,7 @@ sound_pageable : (w : World) (on : Bool) → IsSound w → IsSound (record w { p
 sound_pageable w on s = IsSound-vectors w w.interrupt_vectors w.exception_vectors (with_pages on w.pageable (first_page w) (page_count w)) s
     s.interrupt_vectors s.exception_vectors (length-with_pages on w.pageable (first_page w) (page_count w) ∙ s.pageable)
 
-sound_after : (ax : ℕ) (w : World) → IsSound w → w.width ≢ None → first_reason (function_of ax w).reasons ≡ None → IsSound (function_of ax w).after
+sound_after : (ax : ℕ) (w : World) → IsSound w → w.width ≢ None → first_reason (block_function ax w).reasons ≡ None → IsSound (block_function ax w).after
 unfolding allocate_block mark_pageable discard_pages relock_pages free_block free_memory_information lock_pages mark_paging_candidates page_size resize_block unlock_pages unsupported
 sound_after ax w s width = of_each_service (λ (a : Service). first_reason a.reasons ≡ None → IsSound a.after) w (record {
   f500 = λ e. sound_far_put w (es_di w) 0x30 _ s (table_small w (largest_new_block w.blocks (free_pages w)));
@@ -172,4 +172,4 @@ sound_after ax w s width = of_each_service (λ (a : Service). first_reason a.rea
 pub sound_service : (ax : ℕ) (w : World) → IsSound w → w.mode ≡ Protected → IsSound (block_service ax w).world
 unfolding block_service
 sound_service ax w s protected =
-    of_answer IsSound (first_reason (function_of ax w).reasons) w (function_of ax w).after s (sound_after ax w s (protected_width w s protected))
+    of_answer IsSound (first_reason (block_function ax w).reasons) w (block_function ax w).after s (sound_after ax w s (protected_width w s protected))

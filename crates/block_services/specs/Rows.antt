@@ -196,8 +196,8 @@ discard_pages w = record {
 }
 
 -- the service of a function number
-unfoldable pub function_of : ℕ → World → Service
-function_of ax w =
+unfoldable pub block_function : ℕ → World → Service
+block_function ax w =
     if nat_eq ax 0x0500 then free_memory_information w else
     if nat_eq ax 0x0501 then allocate_block w else
     if nat_eq ax 0x0502 then free_block w else
@@ -212,4 +212,4 @@ function_of ax w =
 
 -- the carry that INT 31h returns, and the world after it
 unfoldable pub block_service : ℕ → World → Served
-block_service ax w = outcome (function_of ax w) w
+block_service ax w = outcome (block_function ax w) w

@@ -3,7 +3,7 @@ ghost use Rattle.std.specs.Prelude.{◌≡◌, ◌≢◌, None};
 ghost use Rattle.client_world.specs.declared.registers.Mode.TheVariants.{Protected as protected};
 ghost use Rattle.client_world.specs.declared.services.Carry.TheVariants.{Set as refused};
 ghost use Rattle.service_rows.specs.Reasons.{Does};
-ghost use Rattle.block_services.specs.Rows.{function_of, block_service};
+ghost use Rattle.block_services.specs.Rows.{block_function, block_service};
 
 use crate::blocks::{allocate_block, free_block, resize_block};
 use crate::free::free_memory_information;
@@ -16,10 +16,10 @@ use guest_space::Machine;
 use service_rows::Refusal;
 
 // What the function of that number does, or why it refuses.
-#[tactic(auto, unfolding(crate::specs::Rows::function_of, service_rows::specs::Rows::unsupported))]
+#[tactic(auto, unfolding(crate::specs::Rows::block_function, service_rows::specs::Rows::unsupported))]
 fn ask(m: &mut Machine, ax: u16) -> Result<(), Refusal>
     requires { m.old.world.width ≢ None }
-    ensures { Does (function_of ax m.old.world) result m.old m.new }
+    ensures { Does (block_function ax m.old.world) result m.old m.new }
 {
     match ax {
         0x0500 => free_memory_information(m),

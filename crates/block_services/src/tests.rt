@@ -72,7 +72,7 @@ fn registers(call: [u32; 5]) -> Regs {
 
 #[test]
 #[tactic(auto, unfolding(host_memory::specs::Blank::blank_world))]
-fn calls_answer_as_their_rows_say(rt: HostRuntime) -> Result<(), Fail> {
+fn calls_return_what_their_rows_say(rt: HostRuntime) -> Result<(), Fail> {
     let mut m = Machine::new(rt.alloc(), 8)?;
     m.set_width(Width::Sixteen);
     m.set_mode(Mode::Protected);

@@ -24,49 +24,49 @@ abbrev pub keep_selector : List ℕ
 keep_selector = 0x89 ∷ 0xC3 ∷ []
 
 -- MOV AX,0000h; MOV CX, 0 to 3; INT 31h; MOV BX,AX: allocates descriptors
-abbrev pub allocate_descriptors : ℕ → List ℕ
-allocate_descriptors p = (0xB8 ∷ 0 ∷ 0 ∷ 0xB9 ∷ p % 4 ∷ 0 ∷ []) ++ int_31 ++ keep_selector
+abbrev pub allocate_descriptors_piece : ℕ → List ℕ
+allocate_descriptors_piece p = (0xB8 ∷ 0 ∷ 0 ∷ 0xB9 ∷ p % 4 ∷ 0 ∷ []) ++ int_31 ++ keep_selector
 
 -- MOV AX,0008h; MOV CX,p; MOV DX,0FFFh; INT 31h: sets the limit of BX to p * 10000h + FFFh
-abbrev pub set_limit : ℕ → List ℕ
-set_limit p = (0xB8 ∷ 8 ∷ 0 ∷ 0xB9 ∷ []) ++ word p ++ (0xBA ∷ 0xFF ∷ 0x0F ∷ []) ++ int_31
+abbrev pub set_limit_piece : ℕ → List ℕ
+set_limit_piece p = (0xB8 ∷ 8 ∷ 0 ∷ 0xB9 ∷ []) ++ word p ++ (0xBA ∷ 0xFF ∷ 0x0F ∷ []) ++ int_31
 
 -- MOV AX,0501h; MOV BX,0; MOV CX,p; INT 31h: allocates p bytes
-abbrev pub allocate_memory : ℕ → List ℕ
-allocate_memory p = (0xB8 ∷ 1 ∷ 5 ∷ 0xBB ∷ 0 ∷ 0 ∷ 0xB9 ∷ []) ++ word p ++ int_31
+abbrev pub allocate_memory_piece : ℕ → List ℕ
+allocate_memory_piece p = (0xB8 ∷ 1 ∷ 5 ∷ 0xBB ∷ 0 ∷ 0 ∷ 0xB9 ∷ []) ++ word p ++ int_31
 
 -- MOV AX,0502h; INT 31h: frees the block of SI:DI
-abbrev pub free_memory : List ℕ
-free_memory = (0xB8 ∷ 2 ∷ 5 ∷ []) ++ int_31
+abbrev pub free_memory_piece : List ℕ
+free_memory_piece = (0xB8 ∷ 2 ∷ 5 ∷ []) ++ int_31
 
 -- MOV DL, 20h to 5Fh; MOV AH,02h; INT 21h: prints a character
-abbrev pub print_character : ℕ → List ℕ
-print_character p = 0xB2 ∷ (0x20 + p % 64) ∷ 0xB4 ∷ 2 ∷ 0xCD ∷ 0x21 ∷ []
+abbrev pub print_character_piece : ℕ → List ℕ
+print_character_piece p = 0xB2 ∷ (0x20 + p % 64) ∷ 0xB4 ∷ 2 ∷ 0xCD ∷ 0x21 ∷ []
 
 -- MOV AX,0002h; MOV BX,p; INT 31h; MOV BX,AX: asks for the descriptor of segment p
-abbrev pub map_segment : ℕ → List ℕ
-map_segment p = (0xB8 ∷ 2 ∷ 0 ∷ 0xBB ∷ []) ++ word p ++ int_31 ++ keep_selector
+abbrev pub map_segment_piece : ℕ → List ℕ
+map_segment_piece p = (0xB8 ∷ 2 ∷ 0 ∷ 0xBB ∷ []) ++ word p ++ int_31 ++ keep_selector
 
 -- MOV AX,0600h; MOV BX,0040h; MOV CX,0; XOR SI,SI; MOV DI,p; INT 31h: locks p bytes at 00400000h
-abbrev pub lock_memory : ℕ → List ℕ
-lock_memory p =
+abbrev pub lock_memory_piece : ℕ → List ℕ
+lock_memory_piece p =
     (0xB8 ∷ 0 ∷ 6 ∷ 0xBB ∷ 0x40 ∷ 0 ∷ 0xB9 ∷ 0 ∷ 0 ∷ 0x31 ∷ 0xF6 ∷ 0xBF ∷ []) ++ word p ++ int_31
 
 -- MOV AX,0001h; INT 31h: frees the descriptor of BX
-abbrev pub free_descriptor : List ℕ
-free_descriptor = (0xB8 ∷ 1 ∷ 0 ∷ []) ++ int_31
+abbrev pub free_descriptor_piece : List ℕ
+free_descriptor_piece = (0xB8 ∷ 1 ∷ 0 ∷ []) ++ int_31
 
 -- the piece of a kind, with its parameter
 abbrev pub piece : ℕ → ℕ → List ℕ
 piece kind p =
-    if nat_eq kind 0 then allocate_descriptors p else
-    if nat_eq kind 1 then set_limit p else
-    if nat_eq kind 2 then allocate_memory p else
-    if nat_eq kind 3 then free_memory else
-    if nat_eq kind 4 then print_character p else
-    if nat_eq kind 5 then map_segment p else
-    if nat_eq kind 6 then lock_memory p else
-    free_descriptor
+    if nat_eq kind 0 then allocate_descriptors_piece p else
+    if nat_eq kind 1 then set_limit_piece p else
+    if nat_eq kind 2 then allocate_memory_piece p else
+    if nat_eq kind 3 then free_memory_piece else
+    if nat_eq kind 4 then print_character_piece p else
+    if nat_eq kind 5 then map_segment_piece p else
+    if nat_eq kind 6 then lock_memory_piece p else
+    free_descriptor_piece
 
 -- the piece that a number chooses: three bits from bit 56 on are the kind, and sixteen from bit 32 on the parameter
 abbrev pub chosen_piece : ℕ → List ℕ

@@ -4,7 +4,7 @@ use Rattle.client_world.specs.World.{World}
 use Rattle.service_rows.specs.Reasons.{Service}
 use Rattle.service_rows.specs.Rows.{unsupported}
 use Rattle.service_rows.proofs.AnswerLaws.{if_has}
-use Rattle.desc_services.specs.Rows.{allocate_descriptors, free_descriptor, segment_to_descriptor, selector_increment, get_segment_base, set_segment_base, set_segment_limit, set_access_rights, create_alias, get_descriptor, set_descriptor, allocate_specific, function_of}
+use Rattle.desc_services.specs.Rows.{allocate_descriptors, free_descriptor, segment_to_descriptor, selector_increment, get_segment_base, set_segment_base, set_segment_limit, set_access_rights, create_alias, get_descriptor, set_descriptor, allocate_specific, descriptor_function}
 
 pub record Each (P : Service → Type 0) (w : World) : Type 0 where
   pub f0 : P (allocate_descriptors w)
@@ -21,8 +21,8 @@ pub record Each (P : Service → Type 0) (w : World) : Type 0 where
   pub fD : P (allocate_specific w)
   pub other : P (unsupported w)
 
-pub of_each_service : (P : Service → Type 0) (w : World) → Each P w → (ax : ℕ) → P (function_of ax w)
-unfolding function_of
+pub of_each_service : (P : Service → Type 0) (w : World) → Each P w → (ax : ℕ) → P (descriptor_function ax w)
+unfolding descriptor_function
 of_each_service P w e ax =
     if_has P _ _ _ e.f0 (if_has P _ _ _ e.f1 (if_has P _ _ _ e.f2 (if_has P _ _ _ e.f3 (if_has P _ _ _ e.f6 (if_has P _ _ _ e.f7
     (if_has P _ _ _ e.f8 (if_has P _ _ _ e.f9 (if_has P _ _ _ e.fA (if_has P _ _ _ e.fB (if_has P _ _ _ e.fC (if_has P _ _ _ e.fD e.other)))))))))))

@@ -5,9 +5,9 @@ use Rattle.client_world.specs.Services.{bx, cx, desc_of, es_di}
 use Rattle.client_world.specs.World.{World}
 use Rattle.guest_space.specs.Transfer.{HasOtherMemory}
 use Rattle.guest_space.proofs.FarPuts.{other_far_put}
-use Rattle.desc_services.specs.FreeRun.{first_free_run}
+use Rattle.service_rows.specs.FreeRun.{first_free_run}
 use Rattle.service_rows.specs.Reasons.{Service, first_reason}
-use Rattle.desc_services.specs.Rows.{with_new_alias, function_of, free_descriptor, get_segment_base, get_descriptor, with_new_run, allocate_descriptors, create_alias, allocate_specific, segment_to_descriptor, with_segment, segment_index, with_new_segment, descriptor_service, set_segment_base, set_segment_limit, set_descriptor, set_access_rights, selector_increment}
+use Rattle.desc_services.specs.Rows.{with_new_alias, descriptor_function, free_descriptor, get_segment_base, get_descriptor, with_new_run, allocate_descriptors, create_alias, allocate_specific, segment_to_descriptor, with_segment, segment_index, with_new_segment, descriptor_service, set_segment_base, set_segment_limit, set_descriptor, set_access_rights, selector_increment}
 use Rattle.service_rows.specs.Rows.{unsupported}
 use Rattle.service_rows.proofs.AnswerLaws.{of_answer}
 use Rattle.desc_services.proofs.EachService.{of_each_service}
@@ -39,7 +39,7 @@ kept_segment : (w : World) (o : Option ℕ) → Kept w (with_segment o w)
 kept_segment w None = kept_segment_made w (first_free_run w.descriptors 1)
 kept_segment w (Some index) = refl
 
-kept_after : (ax : ℕ) (w : World) → Kept w (function_of ax w).after
+kept_after : (ax : ℕ) (w : World) → Kept w (descriptor_function ax w).after
 unfolding allocate_descriptors free_descriptor segment_to_descriptor selector_increment get_segment_base set_segment_base set_segment_limit set_access_rights create_alias get_descriptor set_descriptor allocate_specific unsupported
 kept_after ax w = of_each_service (λ (s : Service). Kept w s.after) w (record {
   f0 = kept_made w (first_free_run w.descriptors (cx w));
@@ -59,4 +59,4 @@ kept_after ax w = of_each_service (λ (s : Service). Kept w s.after) w (record {
 
 pub kept_service : (ax : ℕ) (w : World) → Kept w (descriptor_service ax w).world
 unfolding descriptor_service
-kept_service ax w = of_answer (Kept w) (first_reason (function_of ax w).reasons) w (function_of ax w).after refl (λ none. kept_after ax w)
+kept_service ax w = of_answer (Kept w) (first_reason (descriptor_function ax w).reasons) w (descriptor_function ax w).after refl (λ none. kept_after ax w)

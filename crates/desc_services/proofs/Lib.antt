@@ -4,7 +4,6 @@ pub mod KeptServices
 pub mod LimitLaws
 pub mod PutLaws
 pub mod RowLaws
-pub mod RunLaws
 pub mod SegmentLaws
 pub mod SoundServices
 pub mod WithRun

@@ -6,7 +6,6 @@ use Rattle.std.proofs.lemmas.List.{get_or_past}
 use Rattle.client_world.specs.declared.descriptors.Desc.{Desc}
 use Rattle.client_world.specs.declared.descriptors.Origin.{Origin}
 use Rattle.client_world.specs.declared.descriptors.Origin.TheVariants.{Own, Low, Entry, Psp, Segment, Dos, Host}
-use Rattle.client_world.specs.declared.registers.Mode.TheVariants.{Real, Protected}
 use Rattle.client_world.specs.declared.registers.Width.{Width}
 use Rattle.client_world.specs.declared.host_frames.TheConstants.{DESCRIPTORS, FIRST_FREE_DESCRIPTOR}
 use Rattle.client_world.specs.Descriptor.{FitsDescriptor}
@@ -167,14 +166,3 @@ pub may_make_at : (w : World) (first n : ℕ) (d : Desc) → IsSound w → w.wid
 may_make_at w first n d s width from some run fits =
     let within = run.within in
     may_make w first (Some (d, Own)) s width (run.free first (omega arith) (omega arith)) (omega arith) (high_is_clients first from) fits tt
-
-in_protected : (width : Option Width) (w : World) → SoundWidth width w → w.mode ≡ Protected → width ≢ None
-in_protected None w s protected none = apart (sym s.mode ∙ protected)
-  where
-    apart : Real ≢ Protected
-    apart e = cc
-in_protected (Some width) w s protected none = cc
-
--- in protected mode there is a width
-pub protected_width : (w : World) → IsSound w → w.mode ≡ Protected → w.width ≢ None
-protected_width w s protected = in_protected w.width w s.width protected

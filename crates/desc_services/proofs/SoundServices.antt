@@ -17,16 +17,17 @@ use Rattle.client_world.specs.World.{World}
 use Rattle.client_world.proofs.SoundWrites.{IsSound-regs}
 use Rattle.desc_table.specs.Unpacked.{kind_of}
 use Rattle.guest_space.specs.Far.{far_bytes}
-use Rattle.desc_services.specs.FreeRun.{first_free_run}
+use Rattle.service_rows.specs.FreeRun.{first_free_run}
 use Rattle.service_rows.specs.Reasons.{Service, first_reason}
-use Rattle.desc_services.specs.Rows.{with_new_alias, alias_of, function_of, data_at, free_descriptor, fresh, get_segment_base, get_descriptor, is_freeable_origin, is_freeable_row, limited, with_new_run, allocate_descriptors, create_alias, allocate_specific, segment_to_descriptor, packed_of, redescribed, with_segment, segment_index, with_new_segment, descriptor_service, set_segment_base, set_segment_limit, set_descriptor, set_access_rights, selector_increment, with_base, with_desc, with_limit, with_rights, with_row, with_run}
+use Rattle.desc_services.specs.Rows.{with_new_alias, alias_of, descriptor_function, data_at, free_descriptor, fresh, get_segment_base, get_descriptor, is_freeable_origin, is_freeable_row, limited, with_new_run, allocate_descriptors, create_alias, allocate_specific, segment_to_descriptor, packed_of, redescribed, with_segment, segment_index, with_new_segment, descriptor_service, set_segment_base, set_segment_limit, set_descriptor, set_access_rights, selector_increment, with_base, with_desc, with_limit, with_rights, with_row, with_run}
 use Rattle.service_rows.specs.Rows.{unsupported, with_ax}
 use Rattle.service_rows.proofs.AnswerLaws.{no_reason, of_answer}
 use Rattle.guest_space.proofs.FarPuts.{sound_far_put}
 use Rattle.desc_services.proofs.EachService.{of_each_service}
 use Rattle.desc_services.proofs.FarBytes.{far_bytes_are_bytes, packed_bytes, unpacked_fits}
-use Rattle.desc_services.proofs.PutLaws.{changeable_plain, may_change, may_free, may_make_low, may_make_at, may_redescribe, protected_width, row_of_held}
-use Rattle.desc_services.proofs.RunLaws.{free_run_of}
+use Rattle.desc_services.proofs.PutLaws.{changeable_plain, may_change, may_free, may_make_low, may_make_at, may_redescribe, row_of_held}
+use Rattle.service_rows.proofs.RunLaws.{free_run_of}
+use Rattle.service_rows.proofs.WidthLaws.{protected_width}
 use Rattle.desc_services.proofs.SegmentLaws.{may_make_segment_at}
 use Rattle.desc_services.proofs.WithRun.{free_tail, with_none, with_more}
 
@@ -175,7 +176,7 @@ packed_of_bytes : (row : Row) → FitsRow row → (at : ℕ) → slice_index (pa
 packed_of_bytes None fits at = omega arith
 packed_of_bytes (Some row) fits at = packed_bytes row.0 fits at
 
-sound_after : (ax : ℕ) (w : World) → IsSound w → w.width ≢ None → first_reason (function_of ax w).reasons ≡ None → IsSound (function_of ax w).after
+sound_after : (ax : ℕ) (w : World) → IsSound w → w.width ≢ None → first_reason (descriptor_function ax w).reasons ≡ None → IsSound (descriptor_function ax w).after
 unfolding allocate_descriptors free_descriptor segment_to_descriptor selector_increment get_segment_base set_segment_base set_segment_limit set_access_rights create_alias get_descriptor set_descriptor allocate_specific unsupported
 sound_after ax w s width = of_each_service (λ (a : Service). first_reason a.reasons ≡ None → IsSound a.after) w (record {
   f0 = λ e. sound_made w (first_free_run w.descriptors (cx w)) s width refl;
@@ -201,4 +202,4 @@ sound_after ax w s width = of_each_service (λ (a : Service). first_reason a.rea
 pub sound_service : (ax : ℕ) (w : World) → IsSound w → w.mode ≡ Protected → IsSound (descriptor_service ax w).world
 unfolding descriptor_service
 sound_service ax w s protected =
-    of_answer IsSound (first_reason (function_of ax w).reasons) w (function_of ax w).after s (sound_after ax w s (protected_width w s protected))
+    of_answer IsSound (first_reason (descriptor_function ax w).reasons) w (descriptor_function ax w).after s (sound_after ax w s (protected_width w s protected))

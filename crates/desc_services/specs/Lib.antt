@@ -1,3 +1,2 @@
-pub mod FreeRun
 pub mod MayPut
 pub mod Rows

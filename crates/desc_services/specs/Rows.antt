@@ -16,7 +16,7 @@ use Rattle.desc_table.specs.Unpacked.{is_access_byte, is_packed, kind_of, unpack
 use Rattle.guest_space.specs.Far.{far_bytes, far_put}
 use Rattle.service_rows.specs.declared.refusal.Refusal.TheVariants.{InvalidSelector, InvalidValue, InvalidAddress, DescriptorUnavailable}
 use Rattle.service_rows.specs.FirstIndex.{first_index}
-use Rattle.desc_services.specs.FreeRun.{first_free_run}
+use Rattle.service_rows.specs.FreeRun.{first_free_run}
 use Rattle.service_rows.specs.Reasons.{Service, outcome}
 use Rattle.service_rows.specs.Rows.{unsupported, with_ax}
 
@@ -260,8 +260,8 @@ allocate_specific w = record {
 }
 
 -- the service of a function number
-unfoldable pub function_of : ℕ → World → Service
-function_of ax w =
+unfoldable pub descriptor_function : ℕ → World → Service
+descriptor_function ax w =
     if nat_eq ax 0x0000 then allocate_descriptors w else
     if nat_eq ax 0x0001 then free_descriptor w else
     if nat_eq ax 0x0002 then segment_to_descriptor w else
@@ -277,4 +277,4 @@ function_of ax w =
 
 -- the carry that INT 31h returns, and the world after it
 unfoldable pub descriptor_service : ℕ → World → Served
-descriptor_service ax w = outcome (function_of ax w) w
+descriptor_service ax w = outcome (descriptor_function ax w) w

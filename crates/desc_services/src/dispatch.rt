@@ -3,7 +3,7 @@ ghost use Rattle.std.specs.Prelude.{◌≡◌, ◌≢◌, None};
 ghost use Rattle.client_world.specs.declared.registers.Mode.TheVariants.{Protected as protected};
 ghost use Rattle.client_world.specs.declared.services.Carry.TheVariants.{Set as refused};
 ghost use Rattle.service_rows.specs.Reasons.{Does};
-ghost use Rattle.desc_services.specs.Rows.{function_of, descriptor_service};
+ghost use Rattle.desc_services.specs.Rows.{descriptor_function, descriptor_service};
 
 use crate::fields::{set_access_rights, set_segment_limit};
 use crate::freeing::free_descriptor;
@@ -17,10 +17,10 @@ use guest_space::Machine;
 use service_rows::Refusal;
 
 // What the function of that number does, or why it refuses.
-#[tactic(auto, unfolding(crate::specs::Rows::function_of, service_rows::specs::Rows::unsupported))]
+#[tactic(auto, unfolding(crate::specs::Rows::descriptor_function, service_rows::specs::Rows::unsupported))]
 fn ask(m: &mut Machine, ax: u16) -> Result<(), Refusal>
     requires { m.old.world.width ≢ None }
-    ensures { Does (function_of ax m.old.world) result m.old m.new }
+    ensures { Does (descriptor_function ax m.old.world) result m.old m.new }
 {
     match ax {
         0x0000 => allocate_descriptors(m),
@@ -40,7 +40,7 @@ fn ask(m: &mut Machine, ax: u16) -> Result<(), Refusal>
 }
 
 /// Serves a function of INT 31h on descriptors, for a client in protected mode. Source: DPMI 0.9, INT 31h functions 0000h to 000Dh.
-#[tactic(auto, using(crate::proofs::PutLaws::protected_width), unfolding(crate::specs::Rows::descriptor_service))]
+#[tactic(auto, using(service_rows::proofs::WidthLaws::protected_width), unfolding(crate::specs::Rows::descriptor_service))]
 pub fn serve(m: &mut Machine, ax: u16) -> Carry
     requires { m.old.world.mode ≡ protected }
     ensures served { record { carry = result; world = m.new.world } ≡ descriptor_service ax m.old.world }

@@ -4,7 +4,7 @@ ghost use Rattle.client_world.specs.declared.descriptors.Origin.TheVariants.{Own
 ghost use Rattle.client_world.specs.declared.host_frames.TheConstants.{FIRST_FREE_DESCRIPTOR};
 ghost use Rattle.service_rows.specs.declared.refusal.Refusal.TheVariants.{DescriptorUnavailable as unavailable};
 ghost use Rattle.client_world.specs.FreeRuns.{IsFreeRunOf, IsFirstFreeRunOf};
-ghost use Rattle.desc_services.specs.FreeRun.{first_free_run};
+ghost use Rattle.service_rows.specs.FreeRun.{first_free_run};
 ghost use Rattle.service_rows.specs.Reasons.{Does};
 ghost use Rattle.desc_services.specs.Rows.{allocate_descriptors, create_alias, with_run};
 

@@ -8,3 +8,4 @@ pub mod SoundBlocks
 pub mod SelectorLaws
 pub mod RunPuts
 pub mod ServiceLaws
+pub mod NamedLaws

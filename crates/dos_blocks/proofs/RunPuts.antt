@@ -27,7 +27,7 @@ use Rattle.dos_blocks.proofs.SelectorLaws.{HasSelectorBlock}
 
 -- ---- where entries are
 
-later_after : (es : List DosEntry) (from to i j : ℕ) (d : DosEntry) → Fills from es to → i < j → j < length es → (get_or es i d).at < (get_or es j d).at
+pub later_after : (es : List DosEntry) (from to i j : ℕ) (d : DosEntry) → Fills from es to → i < j → j < length es → (get_or es i d).at < (get_or es j d).at
 later_after [] from to i j d f less small = absurd (omega arith)
 later_after (e ∷ es) from to i zero d f less small = absurd (omega arith)
 later_after (e ∷ es) from to zero (suc j) d f less small =
@@ -47,7 +47,7 @@ one_place es from to i j d f one other same = elim (cases_order i j) [
 ]
 
 -- no descriptor belongs to a block that would begin where a free entry's does
-no_descriptor : (w : World) (place index : ℕ) → IsSound w → place < length w.arena → is_free (entry_of_place w.arena place).state ≡ true →
+pub no_descriptor : (w : World) (place index : ℕ) → IsSound w → place < length w.arena → is_free (entry_of_place w.arena place).state ≡ true →
     ¬ HasOrigin (row_at_index w.descriptors index) (Dos (block_segment (entry_of_place w.arena place)))
 no_descriptor w place index s small free has =
     let other = s.runs.entries index (block_segment (entry_of_place w.arena place)) has in
@@ -65,7 +65,7 @@ no_descriptor w place index s small free has =
     inside_of (x ∷ xs) (suc place) entry e = let rest = inside_of xs place entry e in omega arith
 
 -- a row that has an origin is in the table
-has_within : (rows : List Row) (index : ℕ) (origin : Origin) → HasOrigin (row_at_index rows index) origin → index < length rows
+pub has_within : (rows : List Row) (index : ℕ) (origin : Origin) → HasOrigin (row_at_index rows index) origin → index < length rows
 has_within rows index origin has = elim (cases_lt index (length rows)) [
   | inl inside ↦ inside
   | inr past ↦ absurd (subst (λ (r : Row). HasOrigin r origin) (get_or_past rows index None past) has)

@@ -10,7 +10,7 @@ use Rattle.client_world.specs.DosMemory.{is_dpmi, block_segment}
 use Rattle.client_world.specs.Selector.{Row, index_of, is_local, row_at_index}
 use Rattle.client_world.specs.Soundness.{IsSound, HasOrigin, HasRun, IsRunOf, descriptors_for}
 use Rattle.client_world.specs.World.{World}
-use Rattle.desc_services.specs.FreeRun.{are_free, is_free_run}
+use Rattle.service_rows.specs.FreeRun.{are_free, is_free_run}
 use Rattle.dos_blocks.specs.Blocks.{nowhere, entry_of_place}
 use Rattle.dos_blocks.specs.Services.{first_of_segment, is_of_segment, place_of_segment, place_of_selector, segment_of_origin, segment_of_row, segment_of_selector}
 use Rattle.dos_blocks.proofs.Founds.{HasBlock, found_block, number}
@@ -26,11 +26,11 @@ of_origin (Segment own) segment e = absurd (none-some segment e)
 of_origin (Dos own) segment e = ap (λ (s : ℕ). Dos s) (ap number e)
 of_origin Host segment e = absurd (none-some segment e)
 
-row_tells : (row : Row) (segment : ℕ) → segment_of_row row ≡ Some segment → HasOrigin row (Dos segment)
+pub row_tells : (row : Row) (segment : ℕ) → segment_of_row row ≡ Some segment → HasOrigin row (Dos segment)
 row_tells None segment e = absurd (none-some segment e)
 row_tells (Some row) segment e = of_origin row.1 segment e
 
-row_is : (row : Row) (segment : ℕ) → HasOrigin row (Dos segment) → segment_of_row row ≡ Some segment
+pub row_is : (row : Row) (segment : ℕ) → HasOrigin row (Dos segment) → segment_of_row row ≡ Some segment
 row_is None segment has = absurd has
 row_is (Some row) segment has = ap segment_of_origin has
 

@@ -14,11 +14,11 @@ use Rattle.client_world.proofs.SoundWrites.{IsSound-regs}
 use Rattle.guest_space.specs.Arena.{with_entries}
 use Rattle.guest_space.specs.DosRuns.{CanPutRun, with_entries_and_run}
 use Rattle.guest_space.proofs.DosRunsSound.{IsSound-run}
-use Rattle.desc_services.specs.FreeRun.{first_free_run}
-use Rattle.desc_services.proofs.PutLaws.{protected_width}
-use Rattle.desc_services.proofs.RunLaws.{free_run_of, run_of_test}
+use Rattle.service_rows.specs.FreeRun.{first_free_run}
+use Rattle.service_rows.proofs.RunLaws.{free_run_of, run_of_test}
+use Rattle.service_rows.proofs.WidthLaws.{protected_width}
 use Rattle.dos_blocks.specs.Blocks.{Done, entry_of_place, first_fit, possible}
-use Rattle.dos_blocks.specs.Services.{allocate_block, answered, can_have, dos_service, free_block, freed_with_run, given_at, place_of_selector, resize_block, resized_with_run, run_of_block, with_refusal}
+use Rattle.dos_blocks.specs.Services.{allocate_dos_block, reported, can_have, dos_service, free_dos_block, freed_with_run, given_at, place_of_selector, resize_dos_block, resized_with_run, run_of_block, with_refusal}
 use Rattle.dos_blocks.proofs.Founds.{found_fit}
 use Rattle.dos_blocks.proofs.NeighbourLaws.{entry_within}
 use Rattle.dos_blocks.proofs.RunPuts.{can_free_run, can_give_run, can_resize_run}
@@ -30,14 +30,14 @@ of_choice : {A : Type 0} (P : A → Type 0) (c : Bool) (one other : A) → (c �
 of_choice P true one other chosen left = chosen refl
 of_choice P false one other chosen left = left refl
 
-of_answered : (P : World → Type 0) (answer : Result (Unit {0}) DosRefusal) (w : World) → P w → ((refusal : DosRefusal) → P (with_refusal refusal w)) →
-    P (answered (record { answer = answer; world = w })).world
-unfolding answered
-of_answered P (Ok v) w here refused = here
-of_answered P (Err refusal) w here refused = refused refusal
+of_reported : (P : World → Type 0) (answer : Result (Unit {0}) DosRefusal) (w : World) → P w → ((refusal : DosRefusal) → P (with_refusal refusal w)) →
+    P (reported (record { answer = answer; world = w })).world
+unfolding reported
+of_reported P (Ok v) w here refused = here
+of_reported P (Err refusal) w here refused = refused refusal
 
-of_each_service : (P : World → Type 0) (ax : ℕ) (w : World) → P w → P (answered (allocate_block w)).world → P (answered (free_block w)).world →
-    P (answered (resize_block w)).world → P (dos_service ax w).world
+of_each_service : (P : World → Type 0) (ax : ℕ) (w : World) → P w → P (reported (allocate_dos_block w)).world → P (reported (free_dos_block w)).world →
+    P (reported (resize_dos_block w)).world → P (dos_service ax w).world
 unfolding dos_service
 of_each_service P ax w same given freed resized =
     let Q : Served → Type 0 = λ (s : Served). P s.world in
@@ -61,8 +61,8 @@ sound_refusal : (w : World) (refusal : DosRefusal) → IsSound w → IsSound (wi
 sound_refusal w (NoMemory most) s = sound_registers w _ _ w.regs.edx s
 sound_refusal w WrongBlock s = sound_registers w _ w.regs.ebx w.regs.edx s
 
-sound_answered : (done : Done (Unit {0})) → IsSound done.world → IsSound (answered done).world
-sound_answered done s = of_answered IsSound done.answer done.world s (λ refusal. sound_refusal done.world refusal s)
+sound_reported : (done : Done (Unit {0})) → IsSound done.world → IsSound (reported done).world
+sound_reported done s = of_reported IsSound done.answer done.world s (λ refusal. sound_refusal done.world refusal s)
 
 sound_put : (w : World) (place at old first before after : ℕ) (new : List DosEntry) → IsSound w → place < length w.arena → after < 0x10000 →
     CanPutRun w at old new (run_of_block (entry_of_place w.arena place) first before after) →
@@ -83,8 +83,8 @@ sound_given w n (Some place) (Some first) s width some small e f =
     sound_registers (with_entries_and_run w place 1 _ (run_of_block (entry_of_place w.arena place) first 0 n)) _ w.regs.ebx _
     (sound_put w place place 1 first 0 n _ s fit.small small (can_give_run w n place first s width some fit run.0 run.1))
 
-sound_allocate : (w : World) → IsSound w → w.width ≢ None → IsSound (allocate_block w).world
-unfolding allocate_block
+sound_allocate : (w : World) → IsSound w → w.width ≢ None → IsSound (allocate_dos_block w).world
+unfolding allocate_dos_block
 sound_allocate w s width = elim (cases_eq (bx w) 0) [
   | inl none ↦ rw (eq-eqb (bx w) 0 none) s
   | inr some ↦ rw (ne_eqb (bx w) 0 some)
@@ -98,8 +98,8 @@ sound_freed w sel (Some place) s width e =
     let block = selector_block w sel place s (sym e) in
     sound_put w place _ _ (index_of sel) _ 0 _ s block.small (omega arith) (can_free_run w sel place s width block)
 
-sound_free : (w : World) → IsSound w → w.width ≢ None → IsSound (free_block w).world
-unfolding free_block
+sound_free : (w : World) → IsSound w → w.width ≢ None → IsSound (free_dos_block w).world
+unfolding free_dos_block
 sound_free w s width = sound_freed w (dx w) (place_of_selector w (dx w)) s width refl
 
 sound_resized : (w : World) (n sel : ℕ) (o : Option ℕ) → IsSound w → w.width ≢ None → n < 0x10000 → place_of_selector w sel ≡ o →
@@ -116,15 +116,15 @@ sound_resized w n sel (Some place) s width small e =
     (run_of_test w.descriptors _ _ rest.1))))
     (λ left. s)
 
-sound_resize : (w : World) → IsSound w → w.width ≢ None → IsSound (resize_block w).world
-unfolding resize_block
+sound_resize : (w : World) → IsSound w → w.width ≢ None → IsSound (resize_dos_block w).world
+unfolding resize_dos_block
 sound_resize w s width = sound_resized w (bx w) (dx w) (place_of_selector w (dx w)) s width (omega arith) refl
 
 pub sound_service : (ax : ℕ) (w : World) → IsSound w → w.mode ≡ Protected → IsSound (dos_service ax w).world
 sound_service ax w s protected =
     let width = protected_width w s protected in
-    of_each_service IsSound ax w s (sound_answered (allocate_block w) (sound_allocate w s width)) (sound_answered (free_block w) (sound_free w s width))
-    (sound_answered (resize_block w) (sound_resize w s width))
+    of_each_service IsSound ax w s (sound_reported (allocate_dos_block w) (sound_allocate w s width)) (sound_reported (free_dos_block w) (sound_free w s width))
+    (sound_reported (resize_dos_block w) (sound_resize w s width))
 
 -- ---- the rest is kept
 
@@ -135,8 +135,8 @@ kept_refusal : (w v : World) (refusal : DosRefusal) → Kept w v → Kept w (wit
 kept_refusal w v (NoMemory most) k = ap (λ (x : World). with_refusal (NoMemory most) x) k
 kept_refusal w v WrongBlock k = ap (λ (x : World). with_refusal WrongBlock x) k
 
-kept_answered : (w : World) (done : Done (Unit {0})) → Kept w done.world → Kept w (answered done).world
-kept_answered w done k = of_answered (Kept w) done.answer done.world k (λ refusal. kept_refusal w done.world refusal k)
+kept_reported : (w : World) (done : Done (Unit {0})) → Kept w done.world → Kept w (reported done).world
+kept_reported w done k = of_reported (Kept w) done.answer done.world k (λ refusal. kept_refusal w done.world refusal k)
 
 kept_put : (w : World) (place old : ℕ) (new : List DosEntry) (run : DosRun) → Kept w (with_entries_and_run w place old new run)
 unfolding with_entries
@@ -148,8 +148,8 @@ kept_given w n None first = refl
 kept_given w n (Some place) None = refl
 kept_given w n (Some place) (Some first) = refl
 
-kept_allocate : (w : World) → Kept w (allocate_block w).world
-unfolding allocate_block
+kept_allocate : (w : World) → Kept w (allocate_dos_block w).world
+unfolding allocate_dos_block
 kept_allocate w = of_choice (λ (d : Done (Unit {0})). Kept w d.world) (nat_eq (bx w) 0) _ _ (λ none. refl)
     (λ some. kept_given w (bx w) (first_fit w.arena (bx w) 0) (first_free_run w.descriptors (descriptors_for (bx w))))
 
@@ -157,8 +157,8 @@ kept_freed : (w : World) (first : ℕ) (o : Option ℕ) → Kept w (freed_with_r
 kept_freed w first None = refl
 kept_freed w first (Some place) = kept_put w _ _ _ _
 
-kept_free : (w : World) → Kept w (free_block w).world
-unfolding free_block
+kept_free : (w : World) → Kept w (free_dos_block w).world
+unfolding free_dos_block
 kept_free w = kept_freed w (index_of (dx w)) (place_of_selector w (dx w))
 
 kept_resized : (w : World) (n first : ℕ) (o : Option ℕ) → Kept w (resized_with_run n first o w).world
@@ -166,10 +166,10 @@ kept_resized w n first None = refl
 kept_resized w n first (Some place) =
     of_choice (λ (d : Done (Unit {0})). Kept w d.world) (can_have w n first place) _ _ (λ can. kept_put w _ _ _ _) (λ left. refl)
 
-kept_resize : (w : World) → Kept w (resize_block w).world
-unfolding resize_block
+kept_resize : (w : World) → Kept w (resize_dos_block w).world
+unfolding resize_dos_block
 kept_resize w = kept_resized w (bx w) (index_of (dx w)) (place_of_selector w (dx w))
 
 pub kept_service : (ax : ℕ) (w : World) → Kept w (dos_service ax w).world
-kept_service ax w = of_each_service (Kept w) ax w refl (kept_answered w (allocate_block w) (kept_allocate w)) (kept_answered w (free_block w) (kept_free w))
-    (kept_answered w (resize_block w) (kept_resize w))
+kept_service ax w = of_each_service (Kept w) ax w refl (kept_reported w (allocate_dos_block w) (kept_allocate w)) (kept_reported w (free_dos_block w) (kept_free w))
+    (kept_reported w (resize_dos_block w) (kept_resize w))

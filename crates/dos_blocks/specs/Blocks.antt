@@ -12,7 +12,7 @@ use Rattle.client_world.specs.DosMemory.{is_free, is_dpmi, block_segment}
 use Rattle.client_world.specs.World.{World}
 use Rattle.guest_space.specs.Arena.{with_entries}
 
--- what a call answers, and the world after it
+-- what a call returns, and the world after it
 pub record Done (A : Type 0) : Type 0 where
   pub answer : Result A DosRefusal
   pub world : World
@@ -62,7 +62,7 @@ allocated_at w for_dpmi n (Some place) = record {
       (split (block_state for_dpmi) (entry_of_place w.arena place).at n (entry_of_place w.arena place).paras);
 }
 
--- n paragraphs are given: the first entry that fits, and the segment of its block is the answer
+-- n paragraphs are given: the first entry that fits, and the segment of its block is returned
 unfoldable pub allocated : World → Bool → ℕ → Done ℕ
 allocated w for_dpmi n = allocated_at w for_dpmi n (first_fit w.arena n 0)
 

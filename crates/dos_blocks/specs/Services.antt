@@ -19,7 +19,7 @@ use Rattle.client_world.specs.Soundness.{descriptors_for}
 use Rattle.client_world.specs.World.{World}
 use Rattle.guest_space.specs.DosRuns.{with_entries_and_run}
 use Rattle.service_rows.specs.Rows.{with_ax}
-use Rattle.desc_services.specs.FreeRun.{first_free_run, is_free_run}
+use Rattle.service_rows.specs.FreeRun.{first_free_run, is_free_run}
 use Rattle.dos_blocks.specs.Blocks.{Done, entry_of_place, first_fit, free_before, free_behind, joined, largest, place_of_block, possible, split}
 
 abbrev pub with_bx : ℕ → World → World
@@ -46,8 +46,8 @@ given_at n (Some place) (Some first) w = record {
 }
 
 -- 0100h (allocate DOS memory block): a block of BX paragraphs; AX is its segment, and DX the first of its descriptors' selectors
-unfoldable pub allocate_block : World → Done (Unit {0})
-allocate_block w =
+unfoldable pub allocate_dos_block : World → Done (Unit {0})
+allocate_dos_block w =
     if nat_eq (bx w) 0 then record { answer = Err (NoMemory (largest w.arena)); world = w } else
     given_at (bx w) (first_fit w.arena (bx w) 0) (first_free_run w.descriptors (descriptors_for (bx w))) w
 
@@ -103,8 +103,8 @@ freed_with_run first (Some place) w = record {
 }
 
 -- 0101h (free DOS memory block): frees the block of DX and its descriptors
-unfoldable pub free_block : World → Done (Unit {0})
-free_block w = freed_with_run (index_of (dx w)) (place_of_selector w (dx w)) w
+unfoldable pub free_dos_block : World → Done (Unit {0})
+free_dos_block w = freed_with_run (index_of (dx w)) (place_of_selector w (dx w)) w
 
 -- ---- 0102h
 
@@ -130,18 +130,18 @@ resized_with_run n first (Some place) w =
     else record { answer = Err (NoMemory (possible w.arena place)); world = w }
 
 -- 0102h (resize DOS memory block): the block of DX gets BX paragraphs where it is, and the descriptors of as many
-unfoldable pub resize_block : World → Done (Unit {0})
-resize_block w = resized_with_run (bx w) (index_of (dx w)) (place_of_selector w (dx w)) w
+unfoldable pub resize_dos_block : World → Done (Unit {0})
+resize_dos_block w = resized_with_run (bx w) (index_of (dx w)) (place_of_selector w (dx w)) w
 
--- ---- what each function answers
+-- ---- what each function returns
 
 -- a refusal has its number in AX; where memory is short, BX is the most that there could be
 abbrev pub with_refusal : DosRefusal → World → World
 with_refusal (NoMemory most) w = with_ax 8 (with_bx most w)
 with_refusal WrongBlock w = with_ax 9 w
 
-unfoldable pub answered : Done (Unit {0}) → Served
-answered done = elim done.answer [
+unfoldable pub reported : Done (Unit {0}) → Served
+reported done = elim done.answer [
   | Ok v ↦ record { carry = Clear; world = done.world }
   | Err refusal ↦ record { carry = Set; world = with_refusal refusal done.world }
 ]
@@ -149,7 +149,7 @@ answered done = elim done.answer [
 -- the carry, and the world after the function of a number; other functions are refused, and change nothing
 unfoldable pub dos_service : ℕ → World → Served
 dos_service ax w =
-    if nat_eq ax 0x0100 then answered (allocate_block w) else
-    if nat_eq ax 0x0101 then answered (free_block w) else
-    if nat_eq ax 0x0102 then answered (resize_block w) else
+    if nat_eq ax 0x0100 then reported (allocate_dos_block w) else
+    if nat_eq ax 0x0101 then reported (free_dos_block w) else
+    if nat_eq ax 0x0102 then reported (resize_dos_block w) else
     record { carry = Set; world = w }

@@ -1,9 +1,16 @@
 // What holds of every service. Each is a function with nothing to do: its contract is the law.
-ghost use Rattle.std.specs.Prelude.{ℕ, ◌≡◌};
+ghost use Rattle.std.specs.Prelude.{ℕ, ◌≡◌, ◌↔◌, ◌+◌, ◌<◌, ◌≤◌, ◌⊎◌, true, List, length, Some, Ok};
+ghost use Rattle.client_world.specs.declared.dos_memory.DosRun.{DosRun};
 ghost use Rattle.client_world.specs.declared.registers.Mode.TheVariants.{Protected as protected};
+ghost use Rattle.client_world.specs.DosMemory.{block_segment, is_dpmi};
+ghost use Rattle.client_world.specs.Selector.{Row, row_at_index};
+ghost use Rattle.client_world.specs.Services.{bx, dx};
 ghost use Rattle.client_world.specs.Soundness.{IsSound};
 ghost use Rattle.client_world.specs.World.{World};
-ghost use Rattle.dos_blocks.specs.Services.{dos_service};
+ghost use Rattle.guest_space.specs.DosRuns.{dos_row, with_dos_rows};
+ghost use Rattle.dos_blocks.specs.Blocks.{entry_of_place};
+ghost use Rattle.dos_blocks.specs.Named.{HasNewBlock, LosesDescriptors, NamesBlock};
+ghost use Rattle.dos_blocks.specs.Services.{allocate_dos_block, dos_service, free_dos_block, place_of_selector};
 
 /// A service leads from a sound world of protected mode to a sound one: of the descriptors of DOS blocks, each belongs to a block, and a block
 /// has one for each 64 KB, in a row.
@@ -21,4 +28,34 @@ pub fn every_dos_service_keeps_the_rest()
       arena = (dos_service ax w).world.arena;
       descriptors = (dos_service ax w).world.descriptors;
     } }
+{}
+
+/// The descriptors of a block lie in a row, each for its 64 KB, and no other descriptor changes.
+#[tactic(auto, using(guest_space::proofs::DosRows::row_inside, guest_space::proofs::DosRows::row_outside))]
+pub fn the_descriptors_of_a_block_lie_in_a_row()
+    ensures inside { (rows : List Row) (run : DosRun) (n j : ℕ) → run.first + n ≤ length rows → j < n →
+        row_at_index (with_dos_rows rows run n) (run.first + j) ≡ dos_row run.seg run.after j }
+    ensures outside { (rows : List Row) (run : DosRun) (n index : ℕ) → (index < run.first) ⊎ (run.first + n ≤ index) →
+        row_at_index (with_dos_rows rows run n) index ≡ row_at_index rows index }
+{}
+
+/// Functions 0101h and 0102h find the block that a selector names, and no other: each block has one such selector, that of its first descriptor.
+#[tactic(auto, using(crate::proofs::NamedLaws::each_named))]
+pub fn a_selector_finds_the_block_that_it_names()
+    ensures found { (w : World) (sel place : ℕ) → IsSound w → ((place_of_selector w sel ≡ Some place) ↔ NamesBlock w sel place) }
+    ensures each { (w : World) (place : ℕ) → IsSound w → place < length w.arena → is_dpmi (entry_of_place w.arena place).state ≡ true →
+        (sel : ℕ) × NamesBlock w sel place }
+{}
+
+/// After function 0100h has made a block, the selector in DX names it, and AX is its segment.
+pub fn a_block_that_is_made_is_named_by_its_first_selector()
+    ensures { (w : World) → IsSound w → (allocate_dos_block w).answer ≡ Ok tt → HasNewBlock (allocate_dos_block w).world (bx w) }
+{}
+
+/// Function 0101h frees the block that DX names with all its descriptors, and no other descriptor.
+#[tactic(auto, using(crate::proofs::NamedLaws::freed_answer, crate::proofs::NamedLaws::freed_block))]
+pub fn a_block_that_is_freed_loses_its_descriptors()
+    ensures answer { (w : World) (place : ℕ) → IsSound w → NamesBlock w (dx w) place → (free_dos_block w).answer ≡ Ok tt }
+    ensures descriptors { (w : World) (place : ℕ) → IsSound w → NamesBlock w (dx w) place →
+        LosesDescriptors w (free_dos_block w).world (block_segment (entry_of_place w.arena place)) }
 {}

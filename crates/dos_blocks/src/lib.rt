@@ -1,7 +1,7 @@
 //! Blocks of DOS memory: given, resized and freed, by DOS calls and by INT 31h functions 0100h to 0102h.
-//! It promises that each call answers and changes the arena, and a service of INT 31h also the descriptors, as its definition says; a call that is
-//! refused changes nothing, and a service that is refused AX and BX alone.
-//! It uses `guest_space` and the search for free descriptors of `desc_services`; the DOS calls use it.
+//! It promises that each call returns what its definition says and changes the arena as it says, and a service of INT 31h also the descriptors;
+//! a call that is refused changes nothing, and a service that is refused AX and BX alone.
+//! It uses `guest_space` and the search for free descriptors of `service_rows`; the DOS calls use it.
 #![tactic(auto)]
 
 mod allocating;
@@ -17,6 +17,11 @@ mod tests;
 
 pub use allocating::dos_alloc;
 pub use freeing::dos_free;
-pub use laws::{every_dos_service_is_sound, every_dos_service_keeps_the_rest};
+pub use laws::{
+    a_block_that_is_freed_loses_its_descriptors,
+    a_block_that_is_made_is_named_by_its_first_selector, a_selector_finds_the_block_that_it_names,
+    every_dos_service_is_sound, every_dos_service_keeps_the_rest,
+    the_descriptors_of_a_block_lie_in_a_row,
+};
 pub use resizing::dos_resize;
 pub use services::serve;

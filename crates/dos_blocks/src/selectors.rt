@@ -4,7 +4,7 @@ ghost use Rattle.client_world.specs.declared.host_frames.TheConstants.{DESCRIPTO
 ghost use Rattle.client_world.specs.FreeRuns.{IsFirstFreeRunOf};
 ghost use Rattle.client_world.specs.Selector.{row_at_index};
 ghost use Rattle.client_world.specs.Soundness.{IsSound};
-ghost use Rattle.desc_services.specs.FreeRun.{are_free, first_free_run, is_free_run};
+ghost use Rattle.service_rows.specs.FreeRun.{are_free, first_free_run, is_free_run};
 ghost use Rattle.dos_blocks.specs.Services.{segment_of_origin, segment_of_row, segment_of_selector, place_of_selector};
 
 use crate::finding::place_of_block;

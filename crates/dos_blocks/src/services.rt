@@ -1,7 +1,8 @@
 // INT 31h, functions 0100h to 0102h.
-ghost use Rattle.std.specs.Prelude.{◌≡◌, ◌≢◌, ◌+◌, None};
+ghost use Rattle.std.specs.Prelude.{◌≡◌, ◌≢◌, ◌+◌, None, OnErr, OnOk};
 ghost use Rattle.client_world.specs.declared.registers.Mode.TheVariants.{Protected as protected};
-ghost use Rattle.dos_blocks.specs.Services.{allocate_block, answered, dos_service, free_block, has_room_to_grow, resize_block, with_bx, with_dx};
+ghost use Rattle.client_world.specs.declared.services.Carry.TheVariants.{Clear, Set};
+ghost use Rattle.dos_blocks.specs.Services.{allocate_dos_block, reported, dos_service, free_dos_block, has_room_to_grow, resize_dos_block, with_bx, with_dx};
 
 use crate::allocating::split;
 use crate::finding::{first_fit, largest};
@@ -15,7 +16,8 @@ use service_rows::{low_half, set_ax, with_low_half};
 
 // Sets BX.
 fn set_bx(m: &mut Machine, v: u16)
-    ensures { m.new.world ≡ with_bx v m.old.world }
+    ensures world { m.new.world ≡ with_bx v m.old.world }
+    ensures bytes { m.new.bytes ≡ m.old.bytes }
 {
     let mut r = m.regs();
     r.ebx = with_low_half(r.ebx, v);
@@ -32,11 +34,12 @@ fn set_dx(m: &mut Machine, v: u16)
 }
 
 // Function 0100h: a block of BX paragraphs with its descriptors.
-#[tactic(auto, unfolding(crate::specs::Services::allocate_block))]
-fn allocate_block(m: &mut Machine) -> Result<(), DosRefusal>
+#[tactic(auto, unfolding(crate::specs::Services::allocate_dos_block))]
+fn allocate_dos_block(m: &mut Machine) -> Result<(), DosRefusal>
     requires { m.old.world.width ≢ None }
-    ensures answer { result ≡ (allocate_block m.old.world).answer }
-    ensures world { m.new.world ≡ (allocate_block m.old.world).world }
+    ensures answer { result ≡ (allocate_dos_block m.old.world).answer }
+    ensures world { m.new.world ≡ (allocate_dos_block m.old.world).world }
+    ensures refused { OnErr result (m.new ≡ m.old) }
 {
     let n = low_half(m.regs().ebx);
     let refusal = DosRefusal::NoMemory {
@@ -66,11 +69,12 @@ fn allocate_block(m: &mut Machine) -> Result<(), DosRefusal>
 }
 
 // Function 0101h: the block of DX and its descriptors become free.
-#[tactic(auto, unfolding(crate::specs::Services::free_block))]
-fn free_block(m: &mut Machine) -> Result<(), DosRefusal>
+#[tactic(auto, unfolding(crate::specs::Services::free_dos_block))]
+fn free_dos_block(m: &mut Machine) -> Result<(), DosRefusal>
     requires { m.old.world.width ≢ None }
-    ensures answer { result ≡ (free_block m.old.world).answer }
-    ensures world { m.new.world ≡ (free_block m.old.world).world }
+    ensures answer { result ≡ (free_dos_block m.old.world).answer }
+    ensures world { m.new.world ≡ (free_dos_block m.old.world).world }
+    ensures refused { OnErr result (m.new ≡ m.old) }
 {
     let sel = low_half(m.regs().edx);
     let Some(place) = place_of_selector(m, sel) else {
@@ -99,11 +103,12 @@ fn has_room_to_grow(m: &Machine, run: DosRun) -> bool
 }
 
 // Function 0102h: the block of DX gets BX paragraphs, and the descriptors of as many.
-#[tactic(auto, unfolding(crate::specs::Services::resize_block))]
-fn resize_block(m: &mut Machine) -> Result<(), DosRefusal>
+#[tactic(auto, unfolding(crate::specs::Services::resize_dos_block))]
+fn resize_dos_block(m: &mut Machine) -> Result<(), DosRefusal>
     requires { m.old.world.width ≢ None }
-    ensures answer { result ≡ (resize_block m.old.world).answer }
-    ensures world { m.new.world ≡ (resize_block m.old.world).world }
+    ensures answer { result ≡ (resize_dos_block m.old.world).answer }
+    ensures world { m.new.world ≡ (resize_dos_block m.old.world).world }
+    ensures refused { OnErr result (m.new ≡ m.old) }
 {
     let n = low_half(m.regs().ebx);
     let sel = low_half(m.regs().edx);
@@ -126,10 +131,12 @@ fn resize_block(m: &mut Machine) -> Result<(), DosRefusal>
     Ok(())
 }
 
-// Answers what a service did: a refusal by its number in AX, and in BX the most paragraphs that there could be.
-#[tactic(auto, unfolding(crate::specs::Services::answered))]
-fn answer(m: &mut Machine, done: Result<(), DosRefusal>) -> Carry
-    ensures { record { carry = result; world = m.new.world } ≡ answered (record { answer = done; world = m.old.world }) }
+// Reports what a service did: a refusal by its number in AX, and in BX the most paragraphs that there could be.
+#[tactic(auto, unfolding(crate::specs::Services::reported))]
+fn report(m: &mut Machine, done: Result<(), DosRefusal>) -> Carry
+    ensures answer { record { carry = result; world = m.new.world } ≡ reported (record { answer = done; world = m.old.world }) }
+    ensures bytes { m.new.bytes ≡ m.old.bytes }
+    ensures clear { OnOk done (result ≡ Clear) }
 {
     match done {
         Ok(()) => Carry::Clear,
@@ -145,25 +152,27 @@ fn answer(m: &mut Machine, done: Result<(), DosRefusal>) -> Carry
     }
 }
 
-/// Serves a function of INT 31h on DOS memory, for a client in protected mode. Source: DPMI 0.9, INT 31h functions 0100h to 0102h.
-#[tactic(auto, using(desc_services::proofs::PutLaws::protected_width), unfolding(crate::specs::Services::dos_service))]
+/// Serves a function of INT 31h on DOS memory, for a client in protected mode. Where it refuses, no byte of the memory changes.
+/// Source: DPMI 0.9, INT 31h functions 0100h to 0102h.
+#[tactic(auto, using(service_rows::proofs::WidthLaws::protected_width), unfolding(crate::specs::Services::dos_service))]
 pub fn serve(m: &mut Machine, ax: u16) -> Carry
     requires { m.old.world.mode ≡ protected }
-    ensures { record { carry = result; world = m.new.world } ≡ dos_service ax m.old.world }
+    ensures does { record { carry = result; world = m.new.world } ≡ dos_service ax m.old.world }
+    ensures refused { result ≡ Set → m.new.bytes ≡ m.old.bytes }
 {
     m.soundness();
     match ax {
         0x0100 => {
-            let done = allocate_block(m);
-            answer(m, done)
+            let done = allocate_dos_block(m);
+            report(m, done)
         }
         0x0101 => {
-            let done = free_block(m);
-            answer(m, done)
+            let done = free_dos_block(m);
+            report(m, done)
         }
         0x0102 => {
-            let done = resize_block(m);
-            answer(m, done)
+            let done = resize_dos_block(m);
+            report(m, done)
         }
         _ => Carry::Set,
     }

@@ -10,12 +10,14 @@ use Rattle.client_world.specs.Registers.{low_byte, high_byte, low_half}
 use Rattle.client_world.specs.Soundness.{IsSound}
 use Rattle.client_world.specs.World.{World}
 use Rattle.client_world.proofs.SoundWrites.{IsSound-dos}
+use Rattle.service_rows.specs.Rows.{with_ax}
 use Rattle.dos_blocks.specs.Blocks.{allocated, freed, resized}
+use Rattle.dos_blocks.specs.Services.{with_bx}
 use Rattle.dos_blocks.proofs.SoundBlocks.{sound_allocated, sound_freed, sound_resized}
 use Rattle.guest_ram.specs.Bytes.{AreBytes, word_of}
 use Rattle.host_memory.specs.Vectors.{word_bytes}
 use Rattle.dos_calls.specs.Calls as calls
-use Rattle.dos_calls.specs.Calls.{CallResult, CallState, served, ended, printed, with_al, with_ax, with_bx, with_error, without_carry, with_key, poll_key, with_line, line_read, line_of, keys_read, bad_handle, memory_refused, memory_given, memory_changed, no_memory, wrong_block, bad_function, dos_call}
+use Rattle.dos_calls.specs.Calls.{CallResult, CallState, served, ended, printed, with_al, with_error, without_carry, with_key, poll_key, with_line, line_read, line_of, keys_read, bad_handle, memory_refused, memory_given, memory_changed, no_memory, wrong_block, bad_function, dos_call}
 use Rattle.dos_calls.specs.DosBytes.{byte_at, address_at, with_dos_bytes_at}
 use Rattle.dos_calls.specs.Multiplex.{with_entry, multiplex_call}
 use Rattle.dos_calls.proofs.ByteLists.{no_bytes, more_bytes, bytes_behind, bytes_append, bytes_take, bytes_drop, length-taken, bytes_word, bytes_read, bytes_text, LineOfBytes, bytes_line}

@@ -13,9 +13,11 @@ use Rattle.client_world.specs.declared.services.DosDone.{DosDone}
 use Rattle.client_world.specs.declared.services.DosDone.TheVariants.{Served, Ended}
 use Rattle.client_world.specs.Registers.{low_byte, high_byte, low_half, with_low_byte, with_low_half}
 use Rattle.client_world.specs.World.{World}
-use Rattle.dos_blocks.specs.Blocks.{Done, allocated, freed, resized}
 use Rattle.guest_ram.specs.Bytes.{word_of}
 use Rattle.host_memory.specs.Vectors.{word_bytes}
+use Rattle.service_rows.specs.Rows.{with_ax}
+use Rattle.dos_blocks.specs.Blocks.{Done, allocated, freed, resized}
+use Rattle.dos_blocks.specs.Services.{with_bx}
 use Rattle.dos_calls.specs.DosBytes.{byte_at, with_dos_bytes_at, bytes_from, text_from, with_stacked}
 
 -- what a call comes to
@@ -55,15 +57,9 @@ printed s bytes world keys =
       console = s.console ++ take (CONSOLE_ROOM - length s.console) bytes;
     }
 
--- the machine with other registers: AL, AX, BX
+-- the machine with another AL
 abbrev pub with_al : ℕ → World → World
 with_al v w = record w { regs = record w.regs { eax = with_low_byte w.regs.eax v } }
-
-abbrev pub with_ax : ℕ → World → World
-with_ax v w = record w { regs = record w.regs { eax = with_low_half w.regs.eax v } }
-
-abbrev pub with_bx : ℕ → World → World
-with_bx v w = record w { regs = record w.regs { ebx = with_low_half w.regs.ebx v } }
 
 -- carry clear, and carry set with an error in AX
 abbrev pub without_carry : World → World

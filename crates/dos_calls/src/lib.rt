@@ -1,7 +1,7 @@
 //! The DOS calls of INT 21h, and what is served of INT 2Fh, over the machine, the keys that are left, and the console.
 //! It promises that each call does what its definition says, that one that ends the client changes nothing of the machine, that a sound
 //! world leads to a sound one, and that no call moves the stack.
-//! It uses `dos_blocks` and `guest_space`.
+//! It uses `dos_blocks`, the parts of registers of `service_rows`, and `guest_space`.
 #![tactic(auto)]
 
 mod bytes;

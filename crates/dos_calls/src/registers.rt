@@ -1,13 +1,15 @@
-// The parts of registers that DOS calls read and answer in, and the flags that they answer.
+// The parts of registers that DOS calls read and return values in, and the flags that they return.
 ghost use Rattle.std.specs.Prelude.{◌≡◌};
 ghost use Rattle.client_world.specs.declared.registers.TheConstants.{CARRY_BIT, ZERO_BIT};
-ghost use Rattle.client_world.specs.Registers.{low_byte, high_byte, low_half, with_low_byte, with_low_half};
-ghost use Rattle.dos_calls.specs.Calls.{with_al, with_ax, with_bx, with_error};
+ghost use Rattle.client_world.specs.Registers.{low_byte, high_byte, with_low_byte};
+ghost use Rattle.dos_blocks.specs.Services.{with_bx};
+ghost use Rattle.dos_calls.specs.Calls.{with_al, with_error};
 ghost use Rattle.dos_calls.specs.DosBytes.{with_bit, with_stacked};
 
 use crate::bytes::stacked_flags;
-use cpu_values::{part8, put8, put16};
+use cpu_values::{part8, put8};
 use guest_space::Machine;
+pub(crate) use service_rows::{low_half, set_ax, with_low_half};
 
 /// The low byte of a register.
 pub(crate) fn low_byte(x: u32) -> u8
@@ -23,13 +25,6 @@ pub(crate) fn high_byte(x: u32) -> u8
     part8(x, true)
 }
 
-/// Its low half.
-pub(crate) fn low_half(x: u32) -> u16
-    ensures { result ≡ low_half x }
-{
-    (x % 0x1_0000) as u16
-}
-
 /// A register with another low byte.
 pub(crate) fn with_low_byte(x: u32, v: u8) -> u32
     ensures { result ≡ with_low_byte x v }
@@ -37,14 +32,7 @@ pub(crate) fn with_low_byte(x: u32, v: u8) -> u32
     put8(x, false, v)
 }
 
-/// A register with another low half.
-pub(crate) fn with_low_half(x: u32, v: u16) -> u32
-    ensures { result ≡ with_low_half x v }
-{
-    put16(x, v)
-}
-
-/// Answers in AL.
+/// Returns a value in AL.
 pub(crate) fn set_al(m: &mut Machine, v: u8)
     ensures { m.new.world ≡ with_al v m.old.world }
 {
@@ -53,16 +41,7 @@ pub(crate) fn set_al(m: &mut Machine, v: u8)
     m.set_regs(r);
 }
 
-/// Answers in AX.
-pub(crate) fn set_ax(m: &mut Machine, v: u16)
-    ensures { m.new.world ≡ with_ax v m.old.world }
-{
-    let mut r = m.regs();
-    r.eax = with_low_half(r.eax, v);
-    m.set_regs(r);
-}
-
-/// Answers in BX.
+/// Returns a value in BX.
 pub(crate) fn set_bx(m: &mut Machine, v: u16)
     ensures { m.new.world ≡ with_bx v m.old.world }
 {
@@ -85,7 +64,7 @@ fn with_zero(flags: u8, on: bool) -> u8
     flags / 0x80 * 0x80 + 0x40 * u8::from(on) + flags % 0x40
 }
 
-/// Answers in the carry flag, which the return from the interrupt pops.
+/// Returns the carry flag, which the return from the interrupt pops.
 pub(crate) fn set_carry(m: &mut Machine, on: bool)
     ensures { m.new.world ≡ with_stacked CARRY_BIT on m.old.world }
 {
@@ -93,7 +72,7 @@ pub(crate) fn set_carry(m: &mut Machine, on: bool)
     m.set_dos8(at, with_carry(m.dos8(at), on));
 }
 
-/// Answers in the zero flag, which the return from the interrupt pops.
+/// Returns the zero flag, which the return from the interrupt pops.
 pub(crate) fn set_zero(m: &mut Machine, on: bool)
     ensures { m.new.world ≡ with_stacked ZERO_BIT on m.old.world }
 {
@@ -101,7 +80,7 @@ pub(crate) fn set_zero(m: &mut Machine, on: bool)
     m.set_dos8(at, with_zero(m.dos8(at), on));
 }
 
-/// Answers an error.
+/// Returns an error.
 pub(crate) fn refuse(m: &mut Machine, code: u16)
     ensures { m.new.world ≡ with_error code m.old.world }
 {

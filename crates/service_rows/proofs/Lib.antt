@@ -1,3 +1,4 @@
 pub mod AnswerLaws
 pub mod IndexLaws
+pub mod RunLaws
 pub mod WidthLaws

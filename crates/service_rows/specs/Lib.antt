@@ -1,3 +1,4 @@
 pub mod FirstIndex
+pub mod FreeRun
 pub mod Reasons
 pub mod Rows

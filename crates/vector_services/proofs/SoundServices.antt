@@ -11,7 +11,7 @@ use Rattle.guest_space.proofs.SoundLists.{IsSound-vectors}
 use Rattle.service_rows.specs.Reasons.{Service, first_reason}
 use Rattle.service_rows.specs.Rows.{unsupported}
 use Rattle.service_rows.proofs.AnswerLaws.{of_answer}
-use Rattle.vector_services.specs.Rows.{function_of, bl, cx_dx, disable_interrupts, enable_interrupts, get_exception_vector, get_protected_vector, get_real_vector, interrupt_state, real_vector_address, vector_service, set_exception_vector, set_protected_vector, set_real_vector, dpmi_version}
+use Rattle.vector_services.specs.Rows.{vector_function, bl, cx_dx, disable_interrupts, enable_interrupts, get_exception_vector, get_protected_vector, get_real_vector, interrupt_state, real_vector_address, vector_service, set_exception_vector, set_protected_vector, set_real_vector, dpmi_version}
 use Rattle.vector_services.proofs.EachService.{of_each_service}
 
 -- general registers hold anything
@@ -42,7 +42,7 @@ sound_interrupt : (w : World) (n : ℕ) (p : FarPtr) → IsSound w → IsSound (
 sound_interrupt w n p s = IsSound-vectors w (slice_set w.interrupt_vectors n p) w.exception_vectors w.pageable s
     (length-set w.interrupt_vectors n p ∙ s.interrupt_vectors) s.exception_vectors s.pageable
 
-sound_after : (ax : ℕ) (w : World) → IsSound w → IsSound (function_of ax w).after
+sound_after : (ax : ℕ) (w : World) → IsSound w → IsSound (vector_function ax w).after
 unfolding disable_interrupts enable_interrupts get_exception_vector get_protected_vector get_real_vector interrupt_state set_exception_vector set_protected_vector set_real_vector dpmi_version unsupported
 sound_after ax w s = of_each_service (λ (a : Service). IsSound a.after) w (record {
   f200 = sound_general w w.regs.eax w.regs.ebx _ _ s;
@@ -60,4 +60,4 @@ sound_after ax w s = of_each_service (λ (a : Service). IsSound a.after) w (reco
 
 pub sound_service : (ax : ℕ) (w : World) → IsSound w → IsSound (vector_service ax w).world
 unfolding vector_service
-sound_service ax w s = of_answer IsSound (first_reason (function_of ax w).reasons) w (function_of ax w).after s (λ e. sound_after ax w s)
+sound_service ax w s = of_answer IsSound (first_reason (vector_function ax w).reasons) w (vector_function ax w).after s (λ e. sound_after ax w s)

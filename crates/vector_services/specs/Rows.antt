@@ -131,8 +131,8 @@ unfoldable pub interrupt_state : World → Service
 interrupt_state w = record { reasons = []; after = with_vif w.vif w }
 
 -- the service of a function number
-unfoldable pub function_of : ℕ → World → Service
-function_of ax w =
+unfoldable pub vector_function : ℕ → World → Service
+vector_function ax w =
     if nat_eq ax 0x0200 then get_real_vector w else
     if nat_eq ax 0x0201 then set_real_vector w else
     if nat_eq ax 0x0202 then get_exception_vector w else
@@ -146,4 +146,4 @@ function_of ax w =
 
 -- the carry that INT 31h returns, and the world after it
 unfoldable pub vector_service : ℕ → World → Served
-vector_service ax w = outcome (function_of ax w) w
+vector_service ax w = outcome (vector_function ax w) w

@@ -2,7 +2,7 @@
 ghost use Rattle.std.specs.Prelude.{◌≡◌};
 ghost use Rattle.client_world.specs.declared.services.Carry.TheVariants.{Set as refused};
 ghost use Rattle.service_rows.specs.Reasons.{Does};
-ghost use Rattle.vector_services.specs.Rows.{function_of, vector_service};
+ghost use Rattle.vector_services.specs.Rows.{vector_function, vector_service};
 
 use crate::state::{disable_interrupts, enable_interrupts, interrupt_state, version};
 use crate::vectors::{
@@ -14,9 +14,9 @@ use guest_space::Machine;
 use service_rows::Refusal;
 
 // What the function of that number does, or why it refuses.
-#[tactic(auto, unfolding(crate::specs::Rows::function_of, service_rows::specs::Rows::unsupported))]
+#[tactic(auto, unfolding(crate::specs::Rows::vector_function, service_rows::specs::Rows::unsupported))]
 fn ask(m: &mut Machine, ax: u16) -> Result<(), Refusal>
-    ensures { Does (function_of ax m.old.world) result m.old m.new }
+    ensures { Does (vector_function ax m.old.world) result m.old m.new }
 {
     match ax {
         0x0200 => get_real_vector(m),

@@ -80,7 +80,7 @@ fn registers(call: [u32; 4]) -> Regs {
 }
 
 // Makes the calls.
-fn answer_as_rows(rt: &impl Abort, m: &mut Machine, calls: &[([u32; 4], Option<[u32; 4]>)]) {
+fn expect_calls(rt: &impl Abort, m: &mut Machine, calls: &[([u32; 4], Option<[u32; 4]>)]) {
     for (number, &(before, after)) in calls.iter().enumerate() {
         m.set_regs(registers(before));
         let ax = (before[0] % 0x1_0000) as u16;
@@ -101,11 +101,11 @@ fn answer_as_rows(rt: &impl Abort, m: &mut Machine, calls: &[([u32; 4], Option<[
 
 #[test]
 #[tactic(auto, unfolding(host_memory::specs::Blank::blank_world))]
-fn calls_answer_as_their_rows_say(rt: HostRuntime) -> Result<(), Fail> {
+fn calls_return_what_their_rows_say(rt: HostRuntime) -> Result<(), Fail> {
     let mut m = Machine::new(rt.alloc(), 1)?;
     m.set_width(Width::Sixteen);
     m.set_mode(Mode::Protected);
-    answer_as_rows(&rt, &mut m, &CALLS);
+    expect_calls(&rt, &mut m, &CALLS);
     Ok(())
 }
 
@@ -115,6 +115,6 @@ fn calls_of_wide_clients_do_too(rt: HostRuntime) -> Result<(), Fail> {
     let mut m = Machine::new(rt.alloc(), 1)?;
     m.set_width(Width::ThirtyTwo);
     m.set_mode(Mode::Protected);
-    answer_as_rows(&rt, &mut m, &WIDE_CALLS);
+    expect_calls(&rt, &mut m, &WIDE_CALLS);
     Ok(())
 }

@@ -1,4 +1,4 @@
-use Rattle.desc_services.proofs.RunLaws.{is_first_free_run}
+use Rattle.service_rows.proofs.RunLaws.{is_first_free_run}
 use Rattle.dos_blocks.proofs.selectors.first_free.Goals as goal
 
 pub returns-clause-found : goal.returns-clause-found

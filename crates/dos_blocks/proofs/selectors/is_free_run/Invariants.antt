@@ -1,5 +1,5 @@
 use Rattle.std.proofs.Common.{◌≡◌, ◌+◌, ◌-◌}
-use Rattle.desc_services.specs.FreeRun.{are_free}
+use Rattle.service_rows.specs.FreeRun.{are_free}
 use Rattle.dos_blocks.proofs.selectors.is_free_run.Given as goal
 
 abbrev pub invariant-loop-place : goal.invariant-loop-place

@@ -8,7 +8,7 @@ use Rattle.dos_blocks.proofs.Founds.{found_fit}
 use Rattle.dos_blocks.proofs.NeighbourLaws.{entry_within}
 use Rattle.dos_blocks.proofs.RunPuts.{can_give_run, can_put_run}
 use Rattle.guest_space.specs.DosRuns.{CanPutRun}
-use Rattle.dos_blocks.proofs.services.allocate_block.Goals as goal
+use Rattle.dos_blocks.proofs.services.allocate_dos_block.Goals as goal
 
 pub arena-entry-requires : goal.arena-entry-requires
 arena-entry-requires c = (found_fit c.args.m.now.world.arena c.low_half-n.result c.in-Some.place c.in-Some.ensures.found).small

@@ -6,7 +6,7 @@ use Rattle.dos_blocks.specs.Services.{run_of_block}
 use Rattle.dos_blocks.proofs.NeighbourLaws.{entry_within}
 use Rattle.dos_blocks.proofs.RunPuts.{can_free_run, can_put_run}
 use Rattle.dos_blocks.proofs.SelectorLaws.{selector_block}
-use Rattle.dos_blocks.proofs.services.free_block.Goals as goal
+use Rattle.dos_blocks.proofs.services.free_dos_block.Goals as goal
 
 pub arena-entry-requires : goal.arena-entry-requires
 arena-entry-requires c = (selector_block c.args.m.now.world c.low_half-sel.result c.in-Some.place c.in-Some.ensures.sound c.in-Some.ensures.found).small

@@ -2,14 +2,14 @@ use Rattle.std.proofs.Common.{◌≡◌, ◌+◌, ◌∙◌, ap, refl, sym, arit
 use Rattle.client_world.specs.declared.dos_memory.DosEntry.{DosEntry}
 use Rattle.client_world.specs.declared.dos_memory.DosState.TheVariants.{Dpmi}
 use Rattle.client_world.specs.Selector.{index_of}
-use Rattle.desc_services.proofs.RunLaws.{run_of_test}
+use Rattle.service_rows.proofs.RunLaws.{run_of_test}
 use Rattle.dos_blocks.specs.Blocks.{nowhere, entry_of_place, free_behind, possible, room_behind, split}
 use Rattle.dos_blocks.specs.Services.{has_room_to_grow, run_of_block}
 use Rattle.dos_blocks.proofs.CallLaws.{has_room}
 use Rattle.dos_blocks.proofs.NeighbourLaws.{entry_within}
 use Rattle.dos_blocks.proofs.RunPuts.{can_resize_run, can_put_run}
 use Rattle.dos_blocks.proofs.SelectorLaws.{selector_block}
-use Rattle.dos_blocks.proofs.services.resize_block.Goals as goal
+use Rattle.dos_blocks.proofs.services.resize_dos_block.Goals as goal
 
 pub arena-entry-requires : goal.arena-entry-requires
 arena-entry-requires c = (selector_block c.args.m.now.world c.low_half-sel.result c.in-Some.place c.in-Some.ensures.sound c.in-Some.ensures.found).small

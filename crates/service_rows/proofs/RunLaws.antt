@@ -6,7 +6,7 @@ use Rattle.client_world.specs.declared.host_frames.TheConstants.{DESCRIPTORS, FI
 use Rattle.client_world.specs.FreeRuns.{IsFreeRunOf, IsFirstFreeRunOf}
 use Rattle.client_world.specs.Selector.{Row, row_at_index}
 use Rattle.service_rows.specs.FirstIndex.{first_index}
-use Rattle.desc_services.specs.FreeRun.{are_free, is_free_run, first_free_run}
+use Rattle.service_rows.specs.FreeRun.{are_free, is_free_run, first_free_run}
 use Rattle.service_rows.proofs.IndexLaws.{first_is, is_first, is_missing}
 
 none_of : (row : Row) → is_none row ≡ true → row ≡ None
