@@ -54,7 +54,7 @@ unfolding call_service
 runs_by w call r image e =
     let stack = has_stack (call_regs w call r (length (call_words w call image))) (length (call_words w call image)) in
     let none = none_of_five InvalidValue LinearMemoryUnavailable InvalidAddress InvalidAddress InvalidAddress (nat_lt MAX_CALL_WORDS (cx w))
-        (nat_le GREATEST_DEPTH (depth w)) (not (has_structure w (es_di w))) (not (are_readable_words w 0 (cx w))) (not stack) e in
+    (nat_le GREATEST_DEPTH (depth w)) (not (has_structure w (es_di w))) (not (are_readable_words w 0 (cx w))) (not stack) e in
     record {
       few = ltb-false MAX_CALL_WORDS (cx w) none.0;
       room = leb-false GREATEST_DEPTH (depth w) none.1;

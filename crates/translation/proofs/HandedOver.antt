@@ -51,8 +51,12 @@ passed_are_words w call s sound small =
 
 passed_count : (w : World) (call : Call) (s : List ℕ) → cx w ≤ MAX_CALL_WORDS → length (passed_words w call s) < 0x8000
 passed_count w call s few =
-    omega (arith, length-append (return_frame call (structure_flags s)) (client_words w 0 (cx w)), frame_is_short call (structure_flags s),
-    client_count w 0 (cx w))
+    omega (
+      arith,
+      length-append (return_frame call (structure_flags s)) (client_words w 0 (cx w)),
+      frame_is_short call (structure_flags s),
+      client_count w 0 (cx w),
+    )
 
 -- ---- a call
 
@@ -86,8 +90,17 @@ weight_fits false bit = omega arith
 
 image_small : (f : Flags) (on : Bool) → flags_image f on < 0x10000
 image_small f on =
-    omega (arith, weight_fits f.cf 1, weight_fits f.pf 4, weight_fits f.af 16, weight_fits f.zf 64, weight_fits f.sf 128, weight_fits on 512,
-    weight_fits f.df 1024, weight_fits f.of 2048)
+    omega (
+      arith,
+      weight_fits f.cf 1,
+      weight_fits f.pf 4,
+      weight_fits f.af 16,
+      weight_fits f.zf 64,
+      weight_fits f.sf 128,
+      weight_fits on 512,
+      weight_fits f.df 1024,
+      weight_fits f.of 2048,
+    )
 
 host_fits : (w : World) → depth w < GREATEST_DEPTH → are_writable_words REAL_STACK_SEGMENT (words_below (host_real_stack w).off 3) 3 ≡ true
 host_fits w room =

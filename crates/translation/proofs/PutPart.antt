@@ -147,15 +147,15 @@ part_put w p n k m bytes open_run after within size =
     let long = length-far w p n open_run in
     let now = length-far u p n after in
     same_number_lists (far_bytes u p n) (put old k bytes) (omega (arith, length-put old k bytes)) (λ i inside.
-        elim (cases_lt i k) [
-          | inl below ↦ outside w p n k m i bytes open_run within (omega arith) (inr below) ∙ sym (put_away old k bytes i (inr below))
-          | inr from ↦ elim (cases_lt i (k + m)) [
-            | inl less ↦ (
-                let is : k + (i - k) ≡ i = omega arith in
-                ap (λ (x : ℕ). get_or (far_bytes u p n) x 0) (sym is) ∙ within_part w p n k m (i - k) bytes open_run within size (omega arith)
-                ∙ sym (put_within old k bytes (i - k) i (omega (arith, size)) (omega (arith, size)) (sym is)))
-            | inr above ↦ (
-                let past : k + length bytes ≤ i = omega (arith, size) in
-                outside w p n k m i bytes open_run within (omega arith) (inl above) ∙ sym (put_away old k bytes i (inl past)))
-          ]
-        ])
+    elim (cases_lt i k) [
+      | inl below ↦ outside w p n k m i bytes open_run within (omega arith) (inr below) ∙ sym (put_away old k bytes i (inr below))
+      | inr from ↦ elim (cases_lt i (k + m)) [
+        | inl less ↦ (
+            let is : k + (i - k) ≡ i = omega arith in
+            ap (λ (x : ℕ). get_or (far_bytes u p n) x 0) (sym is) ∙ within_part w p n k m (i - k) bytes open_run within size (omega arith)
+            ∙ sym (put_within old k bytes (i - k) i (omega (arith, size)) (omega (arith, size)) (sym is)))
+        | inr above ↦ (
+            let past : k + length bytes ≤ i = omega (arith, size) in
+            outside w p n k m i bytes open_run within (omega arith) (inl above) ∙ sym (put_away old k bytes i (inl past)))
+      ]
+    ])

@@ -76,7 +76,7 @@ results_back w at s there =
     let sound_first = sound_far_put w (further at 0) 0x0C (index_results w.regs) s (index_bytes w.regs) in
     let between = open_after w at (further at 0) 0x0C (index_results w.regs) before sound_first in
     let after = open_after first at (further at 0x10) 0x1A (other_results w.regs w.vif) between
-        (sound_far_put first (further at 0x10) 0x1A (other_results w.regs w.vif) sound_first (other_bytes w.regs w.vif)) in
+    (sound_far_put first (further at 0x10) 0x1A (other_results w.regs w.vif) sound_first (other_bytes w.regs w.vif)) in
     ap (λ (p : FarPtr). structure_bytes (far_put (far_put w p 0x0C (index_results w.regs)) (further at 0x10) 0x1A (other_results w.regs w.vif)) at)
     (sym (no_further at))
     ∙ part_put first at STRUCTURE_SIZE 0x10 0x1A (other_results w.regs w.vif) between after (omega arith) (other_size w.regs w.vif)

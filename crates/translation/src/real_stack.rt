@@ -75,10 +75,7 @@ fn put_word(m: &mut Machine, segment: u16, offset: u32, v: u16)
     ensures bytes { m.new.bytes ≡ with_word_at m.old.bytes segment offset v }
 {
     m.set_dos8(real_address(segment, offset), (v % 0x100) as u8);
-    m.set_dos8(
-        real_address(segment, offset + 1),
-        (v / 0x100 % 0x100) as u8,
-    );
+    m.set_dos8(real_address(segment, offset + 1), (v / 0x100 % 0x100) as u8);
 }
 
 /// Puts words from there on.

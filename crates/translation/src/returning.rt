@@ -4,7 +4,6 @@ ghost use Rattle.client_world.specs.declared.registers.Mode.TheVariants.{Protect
 ghost use Rattle.client_world.specs.World.{depth};
 ghost use Rattle.guest_space.specs.Transfer.{HasOtherMemory};
 ghost use Rattle.translation.specs.SimulatedCall.{after_results, after_return, can_go_on, client_regs, end_call, is_reflection, still_loadable, with_place_of};
-
 ghost use Rattle.translation.specs.Structure.{has_structure};
 
 use crate::structure::{has_structure, write_results};
@@ -12,8 +11,8 @@ use client_world::{Call, Exit, FarPtr, Flags, Mode, Record, Regs, SegReg};
 use guest_space::{Machine, every_write_changes_the_memory_alone};
 use mode_stack::{pop, top};
 
-// Whether a call is a reflection.
-fn is_reflection(call: Call) -> bool
+/// Whether a call is a reflection.
+pub(crate) fn is_reflection(call: Call) -> bool
     ensures { result ≡ is_reflection call }
 {
     match call {
@@ -130,12 +129,14 @@ pub fn end(m: &mut Machine) -> Result<(), Exit>
         (λ exit. (end_call m.old.world ≡ Err exit) × (m.new ≡ m.old)) }
 {
     match top(m) {
-        Some(Record::Sim {
-            call,
-            saved,
-            vif,
-            at,
-        }) => {
+        Some(
+            Record::Sim {
+                call,
+                saved,
+                vif,
+                at,
+            },
+        ) => {
             if !is_reflection(call) && !has_structure(m, at) {
                 return Err(Exit::LostStructure);
             }
