@@ -1,5 +1,5 @@
 -- The records of calls of real mode: a call that starts adds one, and a return takes one away.
-use Rattle.std.proofs.Common.{arith, ◌≡◌, ◌∙◌, ℕ, zero, suc, ◌-◌, ◌+◌, List, [], ◌∷◌, ◌++◌, length, ap, refl, sym, Some, Ok}
+use Rattle.std.proofs.Common.{arith, ◌≡◌, ◌∙◌, ℕ, ◌-◌, Bool, List, [], ◌∷◌, ◌++◌, length, ap, refl, sym, Some, Ok}
 use Rattle.std.proofs.lemmas.List.{length_push}
 use Rattle.std.specs.List.{slice_get}
 use Rattle.client_world.specs.declared.calls.Call.{Call}
@@ -12,13 +12,13 @@ use Rattle.client_world.specs.declared.services.Carry.TheVariants.{Clear}
 use Rattle.client_world.specs.Services.{es_di}
 use Rattle.client_world.specs.World.{World}
 use Rattle.mode_stack.specs.Stack.{top}
-use Rattle.translation.specs.SimulatedCall.{after_reflection, after_return, begin_call, called_world, callee_world, end_call, no_structure, reflect}
+use Rattle.translation.specs.SimulatedCall.{after_reflection, after_return, begin_call, callee_world, end_call, no_structure, reflect}
 use Rattle.translation.proofs.Begun.{begun_world, is_made}
 use Rattle.translation.proofs.Ended.{is_return}
 
 pub begun_record : (w : World) (call : Call) → (begin_call w call).carry ≡ Clear →
     (begin_call w call).world.calls ≡ w.calls ++ Sim call w.regs w.vif (es_di w) ∷ []
-unfolding called_world callee_world
+unfolding callee_world
 begun_record w call e = ap (λ (x : World). x.calls) (begun_world w call e)
 
 pub reflected_record : (w u : World) (n : ℕ) → reflect w n ≡ Ok u → u.calls ≡ w.calls ++ Sim (Reflect n) w.regs w.vif no_structure ∷ []

@@ -261,8 +261,11 @@ started w v Far r plain starts = starts
 started w v Iret r plain starts = starts
 started w v (Reflect n) r plain starts = absurd cc
 
-same_served : (s : Served) → s.carry ≡ Clear → s ≡ record { carry = Clear; world = s.world }
-same_served s e = ap (λ (c : Carry). (record { carry = c; world = s.world } as Served)) e
+served_with : World → Carry → Served
+served_with w c = record { carry = c; world = w }
+
+same_served : (s : Served) → s.carry ≡ Clear → s ≡ served_with s.world Clear
+same_served s e = ap (served_with s.world) e
 
 starts_call : (h : HostWorld) (w : World) (call : Call) → IsAsked h w call → (begin_call w call).carry ≡ Clear →
     Stacked h (record (noted (call_enter_line w call (begin_call w call).world) (noted (lines.Int31 (low_half w.regs.eax) Clear) h))

@@ -7,6 +7,7 @@ use std::alloc::{AllocError, Global};
 use std::process::Abort;
 use std::test::Fail;
 
+mod calls;
 mod exceptions;
 mod memory;
 mod services;
@@ -277,7 +278,7 @@ fn entered_by(
     enter: &[u8],
     code: &[u8],
 ) -> Result<Host, AllocError> {
-    assert!(rt; enter.len() <= 20 && code.len() <= 400);
+    assert!(rt; enter.len() <= 40 && code.len() <= 400);
     let mut whole = enter.to_vec(alloc)?;
     whole.extend_from_slice(code)?;
     let file = file(rt, alloc, &whole)?;
@@ -379,19 +380,15 @@ fn services_answer_in_the_popped_flags(rt: HostRuntime) -> Result<(), Fail> {
     Ok(())
 }
 
-// What isn't served yet ends the run and leaves the machine: a reflected call, a simulated call.
+// What isn't served yet ends the run and leaves the machine: callbacks and raw switches.
 #[test]
-fn other_calls_of_protected_mode_are_unbuilt(rt: HostRuntime) -> Result<(), Fail> {
-    for (code, steps, ip) in [
-        ([0xB4, 0x02, 0xCD, 0x21], 12, 0x221),
-        ([0xB4, 0x03, 0xCD, 0x31], 12, 0x231),
-        ([0xCD, 0x60, 0x90, 0x90], 11, 0x260),
-    ] {
-        let mut host = entered(&rt, rt.alloc(), &code)?;
-        assert_eq!(rt; run_out(&rt, &mut host), Exit::Unbuilt, "exit of {code:?}");
-        assert_eq!(rt; host.steps(), steps, "turns of {code:?}");
-        assert_eq!(rt; host.machine().regs().eip, ip, "EIP of {code:?}");
-        assert_eq!(rt; host.lines(), 2, "lines of {code:?}");
+fn other_services_are_unbuilt(rt: HostRuntime) -> Result<(), Fail> {
+    for function in 3..=6 {
+        let mut host = entered(&rt, rt.alloc(), &[0xB8, function, 0x03, 0xCD, 0x31])?;
+        assert_eq!(rt; run_out(&rt, &mut host), Exit::Unbuilt, "function {function}");
+        assert_eq!(rt; host.steps(), 12, "function {function}");
+        assert_eq!(rt; host.machine().regs().eip, 0x231, "function {function}");
+        assert_eq!(rt; host.lines(), 2, "function {function}");
     }
     Ok(())
 }

@@ -8,7 +8,7 @@ use std::process::Abort;
 use std::test::Fail;
 
 // Of a line on a nested call: whether it was entered, the depth, what it was, CS:EIP and the virtual interrupt flag.
-fn nested(line: Option<TraceLine>) -> Option<(bool, u8, What, u16, u32, bool)> {
+pub(super) fn nested(line: Option<TraceLine>) -> Option<(bool, u8, What, u16, u32, bool)> {
     match line {
         Some(
             TraceLine::Enter {
