@@ -12,5 +12,5 @@ pub serve_protected_vector-requires-clause-mode : goal.serve_protected_vector-re
 serve_protected_vector-requires-clause-mode c =
     vector_is_protected c.args.self.now.world.machine c.args.t c.in-ProtectedVector.n c.requires.trap c.in-ProtectedVector.is
 
-return_from_call-requires-clause-real : goal.return_from_call-requires-clause-real
+pub return_from_call-requires-clause-real : goal.return_from_call-requires-clause-real
 return_from_call-requires-clause-real c = call_return_is_real c.args.self.now.world.machine c.args.t c.requires.trap c.in-CallReturn.is
