@@ -47,12 +47,11 @@ pub ended_record : (w u : World) → end_call w ≡ Ok u → PoppedCall w u.call
 unfolding after_return
 ended_record w u e =
     let r = is_return w u e in
-    let rest : u.calls ≡ _ = ap (λ (x : World). x.calls) r.is in
     record {
       call = r.call;
       saved = r.saved;
       vif = r.on;
       at = r.at;
       innermost = top_of w _ (Sim r.call r.saved r.on r.at) r.popped;
-      is = rw rest r.popped;
+      is = r.popped ∙ ap (λ (calls : List Record). calls ++ Sim r.call r.saved r.on r.at ∷ []) (sym (ap (λ (x : World). x.calls) r.is));
     }

@@ -261,7 +261,7 @@ started w v Far r plain starts = starts
 started w v Iret r plain starts = starts
 started w v (Reflect n) r plain starts = absurd cc
 
-served_with : World → Carry → Served
+abbrev served_with : World → Carry → Served
 served_with w c = record { carry = c; world = w }
 
 same_served : (s : Served) → s.carry ≡ Clear → s ≡ served_with s.world Clear
