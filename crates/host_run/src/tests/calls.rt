@@ -31,10 +31,16 @@ const INT_21: [Nested; 2] = [
     (false, 0, What::Call(Call::Int(0x21))),
 ];
 
-const TWICE_21: [Nested; 4] = [INT_21[0], INT_21[1], INT_21[0], INT_21[1]];
+const TWICE_21: [Nested; 4] = [
+    (true, 0, What::Call(Call::Int(0x21))),
+    (false, 0, What::Call(Call::Int(0x21))),
+    (true, 0, What::Call(Call::Int(0x21))),
+    (false, 0, What::Call(Call::Int(0x21))),
+];
 
 // How a client enters and what it runs then; its exit, its console, and its lines on nested calls. A client ends with AL = FFh where its
 // last call is refused.
+#[derive(Drop)]
 struct Calling {
     enter: &'static [u8],
     code: &'static [u8],
@@ -347,7 +353,7 @@ fn a_handler_of_an_exception_calls_dos(rt: HostRuntime) -> Result<(), Fail> {
     ];
     let mut host = entered(&rt, rt.alloc(), &code)?;
     assert_eq!(rt; run_out(&rt, &mut host), Exit::Exited(0));
-    assert_eq!(rt; host.console(), b"B");
+    assert_eq!(rt; host.console(), b"B".as_slice());
     let what = What::Call(Call::Reflect(0x21));
     let lines = [
         (true, 0, What::Exc(13)),
@@ -367,12 +373,13 @@ const TO_THE_DEPTH: [u8; 28] = [
 
 #[test]
 fn the_greatest_depth_is_16(rt: HostRuntime) -> Result<(), Fail> {
+    let interrupt: &[u8] = &[0xCD, 0x60];
     let call: &[u8] = &[
         0xB8, 0x00, 0x03, 0xBB, 0x21, 0x00, 0x31, 0xC9, 0xCD, 0x31, 0x18, 0xC0, 0xB4, 0x4C, 0xCD,
         0x21,
     ];
     for (tail, exit, ip) in [
-        (&[0xCD, 0x60], Exit::Deep, 0x260),
+        (interrupt, Exit::Deep, 0x260),
         (call, Exit::Exited(0xFF), 0x221),
     ] {
         let mut code = TO_THE_DEPTH.to_vec(rt.alloc())?;
