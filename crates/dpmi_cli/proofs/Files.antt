@@ -1,6 +1,6 @@
 -- A file, read as far as it decides, and its verdict.
-use Rattle.std.proofs.Common.{arith, ◌≡◌, ◌≤◌, ◌<◌, ◌+◌, ◌⊎◌, inl, inr, ℕ, List, [], ◌∷◌, length, take, refl, sym, ◌∙◌, ap, subst}
-use Rattle.std.specs.Prelude.{nat_lt, if◌then◌else◌, None, Some, IfSome, IsSome, IsSomeAnd, Contains}
+use Rattle.std.proofs.Common.{arith, ◌≡◌, ◌≤◌, ◌<◌, ◌+◌, inl, inr, ℕ, List, [], length, take, refl, sym, ◌∙◌, ap, subst}
+use Rattle.std.specs.Prelude.{nat_lt, if◌then◌else◌, None, Some, IfSome, IsSome, IsSomeAnd}
 use Rattle.std.specs.Option.{option_map}
 use Rattle.std.proofs.lemmas.Bool.{lt-ltb, le-ltb}
 use Rattle.std.proofs.lemmas.Bool.Decides.{leb_tells}
@@ -12,14 +12,13 @@ use Rattle.client_world.specs.World.{HostWorld}
 use Rattle.host_memory.specs.Blank.{blank_world}
 use Rattle.mz_loader.specs.Refusal.{refusal}
 use Rattle.host_run.specs.Start.{started_host, blank, IsBlank}
-use Rattle.dpmi_io.specs.Causes.{Rose}
-use Rattle.dpmi_io.specs.Content.{Files, Lacks, Starts as Opens}
+use Rattle.dpmi_io.specs.Content.{Files, Starts as Opens}
 use Rattle.dpmi_cli.specs.declared.prepare.Reason.TheVariants.{Words, FileTooLong, Load}
 use Rattle.dpmi_cli.specs.declared.prepare.TheConstants.{FRONT_SIZE}
-use Rattle.dpmi_cli.specs.Answer.{Verdict, Refuses, Starts, verdict, verdict_of, answer_to}
+use Rattle.dpmi_cli.specs.Answer.{Verdict, Refuses, Starts, verdict, verdict_of}
 use Rattle.dpmi_cli.specs.Load.{IsFront, HasFront, Comes}
-use Rattle.dpmi_cli.specs.Causes.{NamedFailed, IsAbsent, HasVerdict}
-use Rattle.dpmi_cli.specs.Words.{file_to_run, file_names}
+use Rattle.dpmi_cli.specs.Causes.{HasVerdict}
+use Rattle.dpmi_cli.specs.Words.{file_to_run}
 
 -- the verdict by the refusal, and the verdict on a file where the longest has m bytes
 abbrev by_refusal : List ℕ → Option LoadFault → Verdict

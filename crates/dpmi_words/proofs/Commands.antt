@@ -13,7 +13,7 @@ use Rattle.clap.proofs.OnLiterals.{clap_on_literals}
 use Rattle.clap.proofs.TakesLemmas.{leaf_takes}
 use Rattle.clap.specs.declared.parser.matches.Found.{Found}
 use Rattle.clap.proofs.WalkLemmas.{first_value-rows}
-use Rattle.dpmi_words.specs.Reading.{Text, Reading, nothing_read, operand_name, has_given, is_among, reads, finished, finished_by, given_by, value_given, run_options, soak_options}
+use Rattle.dpmi_words.specs.Reading.{Text, Reading, nothing_read, operand_name, has_given, is_option_name, reads, finished, finished_by, given_by, value_given, run_options, soak_options}
 use Rattle.dpmi_words.specs.Command.{run_app, soak_app, Assigns}
 use Rattle.dpmi_words.proofs.Walks.{Rules, Tied, Idle, row, walk_at, all_steps, when_Some}
 
@@ -24,9 +24,9 @@ or_true true b h = inl refl
 or_true false b h = inr h
 
 -- what holds of each listed name
-each_name : (P : Text → Type 0) (names : List Text) → AllByRecursion P names → (n : Text) → is_among names n ≡ true → P n
+each_name : (P : Text → Type 0) (names : List Text) → AllByRecursion P names → (n : Text) → is_option_name names n ≡ true → P n
 each_name P [] all n h = absurd (true≢false (sym h))
-each_name P (x ∷ xs) all n h = elim (or_true (bytes_eq x n) (is_among xs n) h) [
+each_name P (x ∷ xs) all n h = elim (or_true (bytes_eq x n) (is_option_name xs n) h) [
   | inl same ↦ subst P ((bytes_eq-Decides x n).0 same) all.0
   | inr later ↦ each_name P xs all.1 n later
 ]

@@ -3,7 +3,7 @@ use Rattle.std.proofs.Common.{◌≡◌, ◌∙◌, ◌&&◌, not, Bool, cond, t
 use Rattle.std.specs.Prelude.{option_and_then, Some, None}
 use Rattle.std.specs.declared.option.Option.{Option}
 use Rattle.clap.proofs.LexerLemmas.{name_and_value-at, name_and_value-without}
-use Rattle.dpmi_words.specs.Reading.{Text, Reading, reads, step, step_by, option_of, gives, has_given, is_among, is_hyphened, finished, given_by, nothing_read}
+use Rattle.dpmi_words.specs.Reading.{Text, Reading, reads, step, step_by, option_of, gives, has_given, is_option_name, is_hyphened, finished, given_by, nothing_read}
 use Rattle.dpmi_words.specs.OptionWords.{option_word_of, option_with_value, IsName}
 
 one_word : (name value : Text) → IsName name → option_of (option_with_value name value) ≡ Some (name, Some value)
@@ -26,7 +26,7 @@ two_steps names name value r is plain = go r.waiting
 
     go : (w : Option Text) → step_by names w (option_with_value name value) r ≡ option_and_then (step names value) (step_by names w (option_word_of name) r)
     go (Some n) = refl
-    go None = rw (one_word name value is, alone name is) (listed (is_among names name && not (has_given name r.given)))
+    go None = rw (one_word name value is, alone name is) (listed (is_option_name names name && not (has_given name r.given)))
 
 then_twice : (f g : Reading → Option Reading) (o : Option Reading) → option_and_then g (option_and_then f o) ≡ option_and_then (λ r. option_and_then g (f r)) o
 then_twice f g None = refl

@@ -15,7 +15,7 @@ use Rattle.clap.specs.Walk.{Rule, Row, Held, Walk, Text, idle, option, arg_by_lo
 use Rattle.clap.specs.Takes.{settle_passes, turn_passes, walk_passes}
 use Rattle.clap.specs.Simple.{Shape}
 use Rattle.clap.specs.Walk.{Waiting}
-use Rattle.dpmi_words.specs.Reading.{Reading, option_of, operand_name, option_word, with_value, step_by, has_given, is_hyphened, is_among, is_blank, gives, step, reads}
+use Rattle.dpmi_words.specs.Reading.{Reading, option_of, operand_name, option_word, with_value, step_by, has_given, is_hyphened, is_option_name, is_blank, gives, step, reads}
 
 -- ---- the rules
 
@@ -29,11 +29,11 @@ abbrev pub row : Text × Text → Row
 row p = record { id = p.0; values = p.1 ∷ []; count = None; source = Some CommandLine; reading = reading_of vp.String }
 
 pub record Rules (names : List Text) (c : List Rule) : Type 0 where
-  pub long : (n : Text) → is_among names n ≡ true → arg_by_long c n ≡ Some (built_option n)
-  pub by_id : (n : Text) → is_among names n ≡ true → arg_by_id c n ≡ Some (built_option n)
+  pub long : (n : Text) → is_option_name names n ≡ true → arg_by_long c n ≡ Some (built_option n)
+  pub by_id : (n : Text) → is_option_name names n ≡ true → arg_by_id c n ≡ Some (built_option n)
   pub index : arg_by_index c 1 ≡ Some built_operand
   pub operand_by_id : arg_by_id c operand_name ≡ Some built_operand
-  pub other : (n : Text) → is_among names n ≡ true → bytes_eq n operand_name ≡ false
+  pub other : (n : Text) → is_option_name names n ≡ true → bytes_eq n operand_name ≡ false
 
 -- ---- rows
 
@@ -180,7 +180,7 @@ walk_at given waiting h = record { held = h; waiting = waiting; position = place
 
 abbrev pub Tied : List Text → List Rule → Option Text → List (Text × Text) → Walk → Type 0
 Tied names c None given w = (h : Held) × Idle c given h × (w ≡ walk_at given idle h)
-Tied names c (Some n) given w = (is_among names n ≡ true) × (has_given n given ≡ false)
+Tied names c (Some n) given w = (is_option_name names n ≡ true) × (has_given n given ≡ false)
     × (w ≡ walk_at given (option n) (record { rows = map row given; pending = Some (n, []); skip = 0 }))
 
 pub unless_Some : {A : Type 0} (b : Bool) (o : Option A) (x : A) → cond b None o ≡ Some x → (b ≡ false) × (o ≡ Some x)
@@ -245,7 +245,7 @@ value_step names s rules given n word w r2 tied e =
     )
 
 attached_step : (names : List Text) (s : Shape) → Rules names s.rules → s.args_override_self ≡ false → (given : List (Text × Text)) (h : Held) (n v word : Text) (r2 : Reading) →
-    Idle s.rules given h → long_of word ≡ Some (n, Some v) → is_among names n ≡ true →
+    Idle s.rules given h → long_of word ≡ Some (n, Some v) → is_option_name names n ≡ true →
     gives n v (record { waiting = None; given = given }) ≡ Some r2 → StepsWith names s word (walk_at given idle h) r2
 attached_step names s rules again given h n v word r2 idle_now long listed e =
     let is = gives_is n v (record { waiting = None; given = given }) r2 e in
@@ -261,7 +261,7 @@ attached_step names s rules again given h n v word r2 idle_now long listed e =
     )
 
 separate_step : (names : List Text) (s : Shape) → Rules names s.rules → s.args_override_self ≡ false → (given : List (Text × Text)) (h : Held) (n word : Text) →
-    Idle s.rules given h → long_of word ≡ Some (n, None) → is_among names n ≡ true → has_given n given ≡ false →
+    Idle s.rules given h → long_of word ≡ Some (n, None) → is_option_name names n ≡ true → has_given n given ≡ false →
     StepsWith names s word (walk_at given idle h) (record { waiting = Some n; given = given })
 separate_step names s rules again given h n word idle_now long listed new =
     let rule = rules.long n listed in (
@@ -285,7 +285,7 @@ operand_step names s rules again given h word r2 idle_now plain e =
     ))
 
 value_or_name : (names : List Text) (s : Shape) → Rules names s.rules → s.args_override_self ≡ false → (given : List (Text × Text)) (h : Held) (n word : Text) (v : Option Text) (r2 : Reading) →
-    Idle s.rules given h → long_of word ≡ Some (n, v) → is_among names n ≡ true → has_given n given ≡ false →
+    Idle s.rules given h → long_of word ≡ Some (n, v) → is_option_name names n ≡ true → has_given n given ≡ false →
     with_value n v (record { waiting = None; given = given }) ≡ Some r2 → StepsWith names s word (walk_at given idle h) r2
 value_or_name names s rules again given h n word (Some v) r2 idle_now long listed new e = attached_step names s rules again given h n v word r2 idle_now long listed e
 value_or_name names s rules again given h n word None r2 idle_now long listed new e =
@@ -297,8 +297,8 @@ option_step : (names : List Text) (s : Shape) → Rules names s.rules → s.args
     option_word names o (record { waiting = None; given = given }) ≡ Some r2 → StepsWith names s word (walk_at given idle h) r2
 option_step names s rules again given h word None r2 idle_now long e = cc
 option_step names s rules again given h word (Some p) r2 idle_now long e =
-    let first = when_Some (is_among names p.0 && not (has_given p.0 given)) _ r2 e in
-    let both = and_not (is_among names p.0) (has_given p.0 given) first.0 in
+    let first = when_Some (is_option_name names p.0 && not (has_given p.0 given)) _ r2 e in
+    let both = and_not (is_option_name names p.0) (has_given p.0 given) first.0 in
     value_or_name names s rules again given h p.0 word p.1 r2 idle_now long both.0 both.1 first.1
 
 idle_step : (names : List Text) (s : Shape) → Rules names s.rules → s.args_override_self ≡ false → (given : List (Text × Text)) (h : Held) (word : Text) (r2 : Reading) (b : Bool) →

@@ -58,8 +58,8 @@ abbrev pub has_given : Text → List (Text × Text) → Bool
 has_given name = list_any (λ p. bytes_eq p.0 name)
 
 -- the name is one of these
-abbrev pub is_among : List Text → Text → Bool
-is_among names name = list_any (λ n. bytes_eq n name) names
+abbrev pub is_option_name : List Text → Text → Bool
+is_option_name names name = list_any (λ n. bytes_eq n name) names
 
 -- one value more; it isn't empty, and its name has none yet
 abbrev pub gives : Text → Text → Reading → Option Reading
@@ -75,7 +75,7 @@ with_value name (Some value) r = gives name value r
 -- the option is listed, and wasn't given before
 abbrev pub names_option : List Text → Text → Option Text → Reading → Option Reading
 names_option names name value r =
-    if is_among names name && not (has_given name r.given) then with_value name value r else None
+    if is_option_name names name && not (has_given name r.given) then with_value name value r else None
 
 -- a word with a hyphen is an option
 abbrev pub option_word : List Text → Option (Text × Option Text) → Reading → Option Reading

@@ -8,7 +8,7 @@ ghost use Rattle.dpmi_words.specs.Reading.{
   has_given,
   gives,
   is_hyphened,
-  is_among,
+  is_option_name,
   option_word,
   step,
   finished,
@@ -51,8 +51,8 @@ fn has(given: &[Given<'_>], name: &str) -> bool
 }
 
 // Whether the name is one of these.
-fn is_among(names: &[&str], name: &str) -> bool
-    ensures { result ≡ is_among (texts names.now) name.now }
+fn is_option_name(names: &[&str], name: &str) -> bool
+    ensures { result ≡ is_option_name (texts names.now) name.now }
 {
     for n in names {
         if *n == name {
@@ -118,7 +118,7 @@ fn take_option<'a>(seen: &mut Seen<'a>, names: &[&str], word: &'a str) -> Result
     let Some((name, value)) = split_option(word) else {
         return Ok(false);
     };
-    if !is_among(names, name) || has(seen.given.as_slice(), name) {
+    if !is_option_name(names, name) || has(seen.given.as_slice(), name) {
         return Ok(false);
     }
     match value {

@@ -23,7 +23,7 @@ use crate::shift_operations::{
     RotateLeft, RotateLeftThroughCarry, RotateRight, RotateRightThroughCarry, ShiftArithmeticRight,
     ShiftLeft, ShiftRight,
 };
-use crate::shifts::{ShiftLeftDouble, ShiftRightDouble, shift_in, shift};
+use crate::shifts::{ShiftLeftDouble, ShiftRightDouble, shift, shift_in};
 use crate::stacks::{pop, popa, push, pusha};
 use crate::strings::{cmps, lods, movs, scas, stos};
 use client_world::Event;

@@ -1,4 +1,4 @@
-use Rattle.std.proofs.Common.{◌≡◌, refl, ap, sym, subst}
+use Rattle.std.proofs.Common.{◌≡◌, refl, ap, sym}
 use Rattle.client_world.specs.declared.registers.Regs.{Regs}
 use Rattle.exec_core.specs.Stacks.{pusha, register_pushed}
 use Rattle.insn_forms.specs.declared.insn.Insn.{Insn}
