@@ -9,3 +9,4 @@ pub mod AwayWrites
 pub mod ByMode
 pub mod StepMemory
 pub mod WorldLaws
+pub mod WrittenTouches

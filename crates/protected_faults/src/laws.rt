@@ -1,14 +1,17 @@
 // What holds of every delivery and every return. Each function has nothing to do: its contract is the law.
-ghost use Rattle.std.specs.Prelude.{◌≡◌, ◌≢◌, ◌<◌, None, Ok};
+ghost use Rattle.std.specs.Prelude.{◌≡◌, ◌≢◌, ◌<◌, ℕ, All, Contains, None, Ok};
 ghost use Rattle.client_world.specs.declared.faults.Fault.{Fault};
 ghost use Rattle.client_world.specs.declared.registers.Mode.TheVariants.{Protected};
 ghost use Rattle.client_world.specs.declared.limits.TheConstants.{GREATEST_DEPTH};
+ghost use Rattle.client_world.specs.Access.{IsHeld};
 ghost use Rattle.client_world.specs.Soundness.{IsSound};
 ghost use Rattle.client_world.specs.World.{World, depth};
+ghost use Rattle.cpu_step.specs.Step.{client_step};
+ghost use Rattle.cpu_step.specs.Touched.{touched};
 ghost use Rattle.host_memory.specs.View.{MachineView};
 ghost use Rattle.protected_faults.specs.Delivery.{protected_delivery};
 ghost use Rattle.protected_faults.specs.Return.{exception_return};
-ghost use Rattle.protected_faults.specs.StepMemory.{InterruptLaw, RealDeliveryLaw, StepLaw};
+ghost use Rattle.protected_faults.specs.StepMemory.{InterruptLaw, RealDeliveryLaw, StepLaw, interrupt_places, written_places};
 ghost use Rattle.protected_faults.specs.Trip.{FrameLaw, RecordsLaw, TripLaw};
 ghost use Rattle.protected_faults.specs.Worlds.{world_exception_return, world_protected_delivery};
 ghost use Rattle.fault_service.specs.Worlds.{its_world};
@@ -60,7 +63,15 @@ pub fn every_step_changes_only_what_it_writes()
     ensures exception { (v : MachineView) → IsMachineView v → RealDeliveryLaw v }
 {}
 
-/// So it is in every machine.
+/// What a client instruction writes it touches; and every place that it writes, or to which its software interrupt pushes, lies in memory that
+/// the client holds.
+pub fn every_written_place_is_touched_and_held()
+    ensures touched { (v u : MachineView) → client_step v ≡ Ok u → All (Contains (touched v.world)) (written_places v.world) }
+    ensures held { (w : World) → All (IsHeld w) (written_places w) }
+    ensures pushed { (w : World) (len : ℕ) → All (IsHeld w) (interrupt_places w len) }
+{}
+
+/// The laws on bytes, of a machine that a caller has.
 #[inline(always)]
 pub fn a_machine_changes_only_what_is_written(m: &Machine)
     ensures step { StepLaw m.now }

@@ -17,6 +17,6 @@ pub use laws::{
     a_machine_changes_only_what_is_written, a_return_gives_back_what_the_delivery_took,
     every_answer_depends_on_the_world_alone, every_answer_is_sound,
     every_delivery_and_return_changes_only_its_bytes, every_step_changes_only_what_it_writes,
-    the_frame_lies_at_the_handlers_stack_pointer,
+    every_written_place_is_touched_and_held, the_frame_lies_at_the_handlers_stack_pointer,
 };
 pub use returning::{back, default_handler_exit};

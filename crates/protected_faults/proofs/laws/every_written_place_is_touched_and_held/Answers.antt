@@ -1,0 +1,11 @@
+use Rattle.protected_faults.proofs.WrittenTouches.{pushed_held, written_held, written_touched}
+use Rattle.protected_faults.proofs.laws.every_written_place_is_touched_and_held.Goals as goal
+
+pub returns-clause-touched : goal.returns-clause-touched
+returns-clause-touched c = written_touched
+
+pub returns-clause-held : goal.returns-clause-held
+returns-clause-held c = written_held
+
+pub returns-clause-pushed : goal.returns-clause-pushed
+returns-clause-pushed c = pushed_held
