@@ -44,8 +44,10 @@ use Rattle.protected_faults.specs.Worlds.{world_exception_return, world_protecte
 use Rattle.protected_faults.proofs.WorldLaws as faults
 use Rattle.translation.specs.SimulatedCall.{begin_call, end_call, is_reflection, no_structure, reflect}
 use Rattle.translation.proofs.Begun.{refused_world}
+use Rattle.translation.specs.HandOver.{IsPopped}
 use Rattle.translation.proofs.SoundCalls.{sound_begin, sound_reflect}
 use Rattle.translation.proofs.SoundReturns.{sound_end}
+use Rattle.translation.proofs.Stacked.{begin_pushes, end_pops, reflect_pushes}
 use Rattle.host_run.specs.declared.traps.Trap.{Trap}
 use Rattle.host_run.specs.declared.traps.Trap.TheVariants.{RealVector, Entry, CallReturn, ProtectedVector, ExceptionHandler, ExceptionReturn, NoTrap}
 use Rattle.host_run.specs.Keys.{HasKeys}
@@ -57,7 +59,7 @@ use Rattle.host_run.proofs.AskedCalls.{plain_call}
 use Rattle.host_run.proofs.Frames.{still_popped}
 use Rattle.host_run.proofs.Services.{calls_service, sound_service}
 use Rattle.host_run.proofs.KindModes.{Suits, trap_suits}
-use Rattle.host_run.proofs.RealCalls.{PoppedCall, begun_record, ended_record, reflected_record}
+use Rattle.host_run.proofs.RealCalls.{innermost_of}
 
 -- a host whose machine is sound and whose keys are bytes
 pub record IsReached (h : HostWorld) : Type 0 where
@@ -272,7 +274,7 @@ starts_call : (h : HostWorld) (w : World) (call : Call) → IsAsked h w call →
         { machine = (begin_call w call).world })
 starts_call h w call a clear =
     let r : Record = Sim call w.regs w.vif (es_di w) in
-    pushed r (begun_record w call clear ∙ ap (λ (calls : List Record). calls ++ r ∷ []) a.next.calls)
+    pushed r (begin_pushes w call clear ∙ ap (λ (calls : List Record). calls ++ r ∷ []) a.next.calls)
     (started h _ call r (plain_call (low_half w.regs.eax) w call a.asked)
     (record { popped = w; pops = a.pops; asked = a.asked; starts = same_served (begin_call w call) clear; keeps = refl; lines = (refl, refl) }))
 
@@ -319,7 +321,7 @@ reflection_by : (h : HostWorld) (n : ℕ) (w : World) (r : Result World Exit) �
 reflection_by h n w (Ok v) is s next protected pops =
     let r : Record = Sim (Reflect n) w.regs w.vif no_structure in
     goes_changed h (record (noted (call_enter_line w (Reflect n) v) h) { machine = v }) s (sound_reflect w v n next.sound protected is)
-    (pushed r (reflected_record w v n is ∙ ap (λ (calls : List Record). calls ++ r ∷ []) next.calls)
+    (pushed r (reflect_pushes w v n is ∙ ap (λ (calls : List Record). calls ++ r ∷ []) next.calls)
     (record { popped = w; pops = pops; starts = is; keeps = refl; lines = (refl, refl) })) refl (omega arith) refl refl
 reflection_by h n w (Err exit) is s next protected pops = stops_same h exit s
 
@@ -344,15 +346,15 @@ protected_vector_keeps h n s protected =
 -- ---- the return from a call of real mode
 
 returned_line : (h : HostWorld) (w : World) (call : Call) → IsReached h → IsSound w → end_call h.machine ≡ Ok w →
-    (p : PoppedCall h.machine w.calls) → call ≡ p.call → TurnKeeps h (goes_on_with h (call_leave_line h.machine call w) w)
+    (p : IsPopped h.machine w) → call ≡ p.call → TurnKeeps h (goes_on_with h (call_leave_line h.machine call w) w)
 returned_line h w call s sound is p same =
     rw same (goes_changed h (record (noted (call_leave_line h.machine p.call w) h) { machine = w }) s sound
-    (left_one (Sim p.call p.saved p.vif p.at) p.is (record { returns = is; lines = (refl, refl) })) refl (omega arith) refl refl)
+    (left_one (Sim p.call p.saved p.on p.at) p.popped (record { returns = is; lines = (refl, refl) })) refl (omega arith) refl refl)
 
 call_return_by : (h : HostWorld) (r : Result World Exit) → end_call h.machine ≡ r → IsReached h → TurnKeeps h (after_call_return h r)
 call_return_by h (Ok w) is s =
-    let p = ended_record h.machine w is in
-    returned_line h w (call_of_record (top h.machine)) s (sound_end h.machine w s.machine is) is p (ap call_of_record p.innermost)
+    let p = end_pops h.machine w is in
+    returned_line h w (call_of_record (top h.machine)) s (sound_end h.machine w s.machine is) is p (ap call_of_record (innermost_of h.machine w.calls (Sim p.call p.saved p.on p.at) p.popped))
 call_return_by h (Err exit) is s = stops_same h exit s
 
 -- ---- exceptions of protected mode
