@@ -271,7 +271,7 @@ same_served s e = ap (served_with s.world) e
 
 starts_call : (h : HostWorld) (w : World) (call : Call) → IsAsked h w call → (begin_call w call).carry ≡ Clear →
     Stacked h (record (noted (call_enter_line w call (begin_call w call).world) (noted (lines.Int31 (low_half w.regs.eax) Clear) h))
-        { machine = (begin_call w call).world })
+    { machine = (begin_call w call).world })
 starts_call h w call a clear =
     let r : Record = Sim call w.regs w.vif (es_di w) in
     pushed r (begin_pushes w call clear ∙ ap (λ (calls : List Record). calls ++ r ∷ []) a.next.calls)
@@ -280,7 +280,7 @@ starts_call h w call a clear =
 
 begun_by : (h : HostWorld) (w : World) (call : Call) (c : Carry) → (begin_call w call).carry ≡ c → IsReached h → IsAsked h w call →
     TurnKeeps h (if is_set c then after_service h (low_half w.regs.eax) (begin_call w call)
-        else goes_on_with (noted (lines.Int31 (low_half w.regs.eax) Clear) h) (call_enter_line w call (begin_call w call).world) (begin_call w call).world)
+    else goes_on_with (noted (lines.Int31 (low_half w.regs.eax) Clear) h) (call_enter_line w call (begin_call w call).world) (begin_call w call).world)
 begun_by h w call Set e s a =
     let next : IsNext h.machine (begin_call w call).world = record {
       sound = sound_begin w call a.next.sound a.mode;
@@ -289,7 +289,7 @@ begun_by h w call Set e s a =
     service_keeps h (low_half w.regs.eax) (begin_call w call) s next
 begun_by h w call Clear e s a =
     goes_changed h (record (noted (call_enter_line w call (begin_call w call).world) (noted (lines.Int31 (low_half w.regs.eax) Clear) h))
-        { machine = (begin_call w call).world }) s (sound_begin w call a.next.sound a.mode) (starts_call h w call a e) refl (omega arith) refl refl
+    { machine = (begin_call w call).world }) s (sound_begin w call a.next.sound a.mode) (starts_call h w call a e) refl (omega arith) refl refl
 
 int31_by : (h : HostWorld) (w : World) (o : Option Call) → asked_call (low_half w.regs.eax) w ≡ o → IsReached h → IsNext h.machine w →
     w.mode ≡ Protected → world_popped h.machine ≡ Ok w →

@@ -315,14 +315,12 @@ fn a_reflection_shows_its_registers(rt: HostRuntime) -> Result<(), Fail> {
     let what = What::Call(Call::Reflect(0x21));
     assert_eq!(rt;
         host.line(3),
-        Some(
-            TraceLine::Enter {
-                depth: 0,
-                what,
-                regs: AT_HANDLER,
-                vif: false,
-            }
-        )
+        Some(TraceLine::Enter {
+            depth: 0,
+            what,
+            regs: AT_HANDLER,
+            vif: false,
+        })
     );
     assert_eq!(rt; host.line(4), Some(TraceLine::Int21(2)));
     let regs = Regs {
@@ -332,14 +330,12 @@ fn a_reflection_shows_its_registers(rt: HostRuntime) -> Result<(), Fail> {
     };
     assert_eq!(rt;
         host.line(5),
-        Some(
-            TraceLine::Leave {
-                depth: 0,
-                what,
-                regs,
-                vif: true,
-            }
-        )
+        Some(TraceLine::Leave {
+            depth: 0,
+            what,
+            regs,
+            vif: true,
+        })
     );
     Ok(())
 }
