@@ -15,6 +15,8 @@ abbrev pub Suits : Mode → Trap → Type 0
 Suits mode (RealVector n) = mode ≡ Real
 Suits mode Entry = mode ≡ Real
 Suits mode CallReturn = mode ≡ Real
+Suits mode ToProtected = mode ≡ Real
+Suits mode ToReal = mode ≡ Protected
 Suits mode (ProtectedVector n) = mode ≡ Protected
 Suits mode _ = Unit {0}
 
@@ -27,7 +29,7 @@ unfolding real_trap_at
 real_suits at =
     either Real (is_among REAL_VECTOR_TRAPS INTERRUPT_VECTORS at) (RealVector (at - REAL_VECTOR_TRAPS)) _ refl
     (either Real (nat_eq at ENTRY_TRAP) Entry _ refl
-    (either Real (nat_eq at SWITCH_TO_PROTECTED_TRAP) ToProtected _ tt
+    (either Real (nat_eq at SWITCH_TO_PROTECTED_TRAP) ToProtected _ refl
     (either Real (nat_eq at REAL_STATE_TRAP) RealState _ tt
     (either Real (nat_eq at CALL_RETURN_TRAP) CallReturn _ refl
     (either Real (is_among CALLBACK_TRAPS CALLBACKS at) (Callback (at - CALLBACK_TRAPS)) NoTrap tt tt)))))
@@ -37,7 +39,7 @@ unfolding protected_trap_at
 protected_suits at =
     either Protected (is_among PROTECTED_VECTOR_TRAPS INTERRUPT_VECTORS at) (ProtectedVector (at - PROTECTED_VECTOR_TRAPS)) _ refl
     (either Protected (is_among EXCEPTION_TRAPS EXCEPTION_VECTORS at) (ExceptionHandler (at - EXCEPTION_TRAPS)) _ tt
-    (either Protected (nat_eq at SWITCH_TO_REAL_TRAP) ToReal _ tt
+    (either Protected (nat_eq at SWITCH_TO_REAL_TRAP) ToReal _ refl
     (either Protected (nat_eq at PROTECTED_STATE_TRAP) ProtectedState _ tt
     (either Protected (nat_eq at EXCEPTION_RETURN_TRAP) ExceptionReturn _ tt
     (either Protected (nat_eq at CALLBACK_RETURN_TRAP) CallbackReturn NoTrap tt tt)))))
@@ -59,6 +61,12 @@ entry_is_real w t here is = subst (Suits w.mode) is (trap_suits w t here)
 
 pub call_return_is_real : (w : World) (t : Trap) → t ≡ current_trap w → t ≡ CallReturn → w.mode ≡ Real
 call_return_is_real w t here is = subst (Suits w.mode) is (trap_suits w t here)
+
+pub switch_is_real : (w : World) (t : Trap) → t ≡ current_trap w → t ≡ ToProtected → w.mode ≡ Real
+switch_is_real w t here is = subst (Suits w.mode) is (trap_suits w t here)
+
+pub switch_is_protected : (w : World) (t : Trap) → t ≡ current_trap w → t ≡ ToReal → w.mode ≡ Protected
+switch_is_protected w t here is = subst (Suits w.mode) is (trap_suits w t here)
 
 pub vector_is_protected : (w : World) (t : Trap) (n : ℕ) → t ≡ current_trap w → t ≡ ProtectedVector n → w.mode ≡ Protected
 vector_is_protected w t n here is = subst (Suits w.mode) is (trap_suits w t here)

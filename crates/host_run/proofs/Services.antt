@@ -14,6 +14,8 @@ use Rattle.dos_blocks.specs.Services.{dos_service}
 use Rattle.dos_blocks.proofs.ServiceLaws as dos_laws
 use Rattle.desc_services.proofs.KeptServices as descriptor_kept
 use Rattle.desc_services.proofs.SoundServices as descriptor_sound
+use Rattle.mode_gates.specs.Switches.{gate_service}
+use Rattle.mode_gates.proofs.SwitchLaws as gate_laws
 use Rattle.vector_services.specs.Rows.{vector_service}
 use Rattle.vector_services.proofs.KeptServices as vector_kept
 use Rattle.vector_services.proofs.SoundServices as vector_sound
@@ -25,16 +27,19 @@ either P true x y p q = p
 either P false x y p q = q
 
 of_each_family : (P : Served → Type 0) (ax : ℕ) (w : World) →
-    P (descriptor_service ax w) → P (dos_service ax w) → P (block_service ax w) → P (vector_service ax w) → P (service ax w)
+    P (descriptor_service ax w) → P (dos_service ax w) → P (gate_service ax w) → P (block_service ax w) → P (vector_service ax w) → P (service ax w)
 unfolding service
-of_each_family P ax w descriptors dos blocks vectors =
+of_each_family P ax w descriptors dos gates blocks vectors =
     either P (nat_eq (high_byte ax) 0) _ _ descriptors
-    (either P (nat_eq (high_byte ax) 1) _ _ dos (either P (is_of_blocks (high_byte ax)) _ _ blocks vectors))
+    (either P (nat_eq (high_byte ax) 1) _ _ dos
+    (either P (nat_eq (high_byte ax) 3) _ _ gates
+    (either P (is_of_blocks (high_byte ax)) _ _ blocks vectors)))
 
 pub sound_service : (ax : ℕ) (w : World) → IsSound w → w.mode ≡ Protected → IsSound (service ax w).world
 sound_service ax w sound protected = of_each_family (λ (s : Served). IsSound s.world) ax w
     (descriptor_sound.sound_service ax w sound protected)
     (dos_laws.sound_service ax w sound protected)
+    (gate_laws.sound_service ax w sound)
     (block_sound.sound_service ax w sound protected)
     (vector_sound.sound_service ax w sound)
 
@@ -42,5 +47,6 @@ pub calls_service : (ax : ℕ) (w : World) → (service ax w).world.calls ≡ w.
 calls_service ax w = of_each_family (λ (s : Served). s.world.calls ≡ w.calls) ax w
     (ap (λ (x : World). x.calls) (descriptor_kept.kept_service ax w))
     (ap (λ (x : World). x.calls) (dos_laws.kept_service ax w))
+    (ap (λ (x : World). x.calls) (gate_laws.kept_service ax w))
     (ap (λ (x : World). x.calls) (block_kept.kept_service ax w))
     (ap (λ (x : World). x.calls) (vector_kept.kept_service ax w))

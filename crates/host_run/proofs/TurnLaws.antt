@@ -36,8 +36,11 @@ use Rattle.fault_service.proofs.RealFrameLaws.{popped_where_it_fits}
 use Rattle.fault_service.proofs.SoundAnswers.{sound_world_delivery, sound_world_interrupt, sound_world_popped, sound_world_step}
 use Rattle.guest_ram.specs.Bytes.{AreBytes}
 use Rattle.mode_gates.specs.Entry.{entry, with_carry}
-use Rattle.mode_gates.proofs.FarStates.{kept_entry}
-use Rattle.mode_gates.proofs.SoundGates.{sound_entry}
+use Rattle.mode_gates.proofs.FarStates.{kept_entry, kept_far}
+use Rattle.mode_gates.specs.FarFrames.{world_after_far_return}
+use Rattle.mode_gates.specs.Switches.{switched_to_protected, switched_to_real}
+use Rattle.mode_gates.proofs.SoundGates.{sound_entry, sound_world_far}
+use Rattle.mode_gates.proofs.SwitchLaws.{sound_to_protected, sound_to_real, to_protected_switches, to_real_switches}
 use Rattle.mode_stack.specs.Stack.{top}
 use Rattle.protected_faults.specs.Return.{exit_of_record}
 use Rattle.protected_faults.specs.Worlds.{world_exception_return, world_protected_delivery}
@@ -49,12 +52,12 @@ use Rattle.translation.proofs.SoundCalls.{sound_begin, sound_reflect}
 use Rattle.translation.proofs.SoundReturns.{sound_end}
 use Rattle.translation.proofs.Stacked.{begin_pushes, end_pops, reflect_pushes}
 use Rattle.host_run.specs.declared.traps.Trap.{Trap}
-use Rattle.host_run.specs.declared.traps.Trap.TheVariants.{RealVector, Entry, CallReturn, ProtectedVector, ExceptionHandler, ExceptionReturn, NoTrap}
+use Rattle.host_run.specs.declared.traps.Trap.TheVariants.{RealVector, Entry, ToProtected, RealState, CallReturn, ProtectedVector, ExceptionHandler, ToReal, ProtectedState, ExceptionReturn, NoTrap}
 use Rattle.host_run.specs.Keys.{HasKeys}
 use Rattle.host_run.specs.Nested.{PushesRecord, PopsRecord, Stacked, kept, popped as left_one, pushed}
 use Rattle.host_run.specs.RealCalls.{StartsCall, StartsRealCall}
 use Rattle.host_run.specs.Traps.{current_trap}
-use Rattle.host_run.specs.Turn.{Outcome, goes_on, ends, with_machine, noted, popped, seen, dos_served, multiplex_served, ends_client, vector_served, entry_line, after_entry, after_entry_trap, is_exit_call, is_presence_call, is_unbuilt, asked_call, call_enter_line, call_leave_line, call_of_record, after_begin, after_call_return, after_reflection, after_service, goes_on_with, after_presence_call, service, after_int31, after_protected_call, after_protected_pop, after_protected_vector, enter_line, after_protected_delivery, exception_number, leave_line, after_exception_return, delivered_in, after_interrupt, after_step, stepped, trapped, work, with_turn_counted, settled, turn}
+use Rattle.host_run.specs.Turn.{Outcome, goes_on, ends, with_machine, noted, popped, seen, dos_served, multiplex_served, ends_client, vector_served, entry_line, after_entry, after_entry_trap, after_switch_to_protected, is_exit_call, is_presence_call, is_unbuilt, asked_call, call_enter_line, call_leave_line, call_of_record, after_begin, after_call_return, after_reflection, after_service, goes_on_with, after_presence_call, service, after_int31, after_protected_call, after_protected_pop, after_protected_vector, enter_line, after_protected_delivery, exception_number, leave_line, after_exception_return, delivered_in, after_interrupt, after_step, stepped, trapped, work, with_turn_counted, settled, turn}
 use Rattle.host_run.proofs.AskedCalls.{plain_call}
 use Rattle.host_run.proofs.Frames.{still_popped}
 use Rattle.host_run.proofs.Services.{calls_service, sound_service}
@@ -223,6 +226,33 @@ entry_keeps : (h : HostWorld) → IsReached h → TurnKeeps h (after_entry_trap 
 unfolding after_entry_trap
 entry_keeps h s = entry_by h (entry h.machine) s (λ t e.
     record { sound = sound_entry h.machine t s.machine e; calls = ap (λ (x : World). x.calls) (kept_entry h.machine t e) })
+
+-- ---- the raw switches, and the calls that save and restore the state
+
+switch_by : (h : HostWorld) (r : Result World Exit) → IsReached h → ((w : World) → r ≡ Ok w → IsNext h.machine w) →
+    TurnKeeps h (after_switch_to_protected h r)
+switch_by h (Ok w) s next = told_keeps h lines.ToProtected w s (next w refl)
+switch_by h (Err exit) s next = stops_same h exit s
+
+to_protected_keeps : (h : HostWorld) → IsReached h → TurnKeeps h (after_switch_to_protected h (switched_to_protected h.machine))
+to_protected_keeps h s = switch_by h (switched_to_protected h.machine) s (λ w e. record {
+  sound = sound_to_protected h.machine w s.machine e;
+  calls = ap (λ (x : World). x.calls) (to_protected_switches h.machine w e);
+})
+
+to_real_keeps : (h : HostWorld) → IsReached h → h.machine.mode ≡ Protected → TurnKeeps h (goes_on_with h lines.ToReal (switched_to_real h.machine))
+to_real_keeps h s mode = told_keeps h lines.ToReal (switched_to_real h.machine) s (record {
+  sound = sound_to_real h.machine s.machine mode;
+  calls = ap (λ (x : World). x.calls) (to_real_switches h.machine);
+})
+
+state_call_keeps : (h : HostWorld) → IsReached h → TurnKeeps h (with_machine h (world_after_far_return h.machine))
+state_call_keeps h s =
+    let r = world_after_far_return h.machine in
+    machine_keeps h r s (answer_next Exit h.machine r (λ w e. record {
+      sound = sound_world_far h.machine w s.machine e;
+      calls = ap (λ (x : World). x.calls) (kept_far h.machine w e);
+    }))
 
 -- ---- the default vectors of protected mode
 
@@ -419,6 +449,10 @@ stepped_keeps h s =
 trapped_keeps : (h : HostWorld) (t : Trap) → IsReached h → Suits h.machine.mode t → TurnKeeps h (trapped h t)
 trapped_keeps h (RealVector n) s suits = reached_keeps h n (world_popped h.machine) refl s suits
 trapped_keeps h Entry s suits = entry_keeps h s
+trapped_keeps h ToProtected s suits = to_protected_keeps h s
+trapped_keeps h RealState s suits = state_call_keeps h s
+trapped_keeps h ToReal s suits = to_real_keeps h s suits
+trapped_keeps h ProtectedState s suits = state_call_keeps h s
 trapped_keeps h CallReturn s suits = call_return_by h (end_call h.machine) refl s
 trapped_keeps h (ProtectedVector n) s suits = protected_vector_keeps h n s suits
 trapped_keeps h (ExceptionHandler n) s suits = stops_same h (exit_of_record (top h.machine)) s

@@ -29,6 +29,8 @@ use Rattle.dos_calls.specs.Calls.{CallState, CallResult, dos_call}
 use Rattle.dos_calls.specs.Multiplex.{multiplex_call}
 use Rattle.fault_service.specs.Worlds.{world_step, world_interrupt, world_delivery, world_popped}
 use Rattle.mode_gates.specs.Entry.{asked_width, entry, with_carry}
+use Rattle.mode_gates.specs.FarFrames.{world_after_far_return}
+use Rattle.mode_gates.specs.Switches.{gate_service, switched_to_protected, switched_to_real}
 use Rattle.mode_stack.specs.Stack.{top}
 use Rattle.protected_faults.specs.Return.{exit_of_record}
 use Rattle.protected_faults.specs.Worlds.{world_exception_return, world_protected_delivery}
@@ -36,7 +38,7 @@ use Rattle.translation.specs.SimulatedCall.{begin_call, end_call, reflect}
 use Rattle.vector_services.specs.Rows.{vector_service}
 use Rattle.dos_blocks.specs.Services.{dos_service}
 use Rattle.host_run.specs.declared.traps.Trap.{Trap}
-use Rattle.host_run.specs.declared.traps.Trap.TheVariants.{RealVector, Entry, CallReturn, ProtectedVector, ExceptionHandler, ExceptionReturn, NoTrap}
+use Rattle.host_run.specs.declared.traps.Trap.TheVariants.{RealVector, Entry, ToProtected, RealState, CallReturn, ProtectedVector, ExceptionHandler, ToReal, ProtectedState, ExceptionReturn, NoTrap}
 use Rattle.host_run.specs.Traps.{current_trap}
 
 -- what a turn does: the host after it, and the exit that ends the run, if there is one
@@ -121,6 +123,12 @@ after_entry h (Err exit) = ends h exit
 unfoldable pub after_entry_trap : HostWorld → Outcome
 after_entry_trap h = after_entry h (entry h.machine)
 
+-- ---- the raw switches
+
+abbrev pub after_switch_to_protected : HostWorld → Result World Exit → Outcome
+after_switch_to_protected h (Ok w) = goes_on_with h lines.ToProtected w
+after_switch_to_protected h (Err exit) = ends h exit
+
 -- ---- calls of real mode
 
 -- the line of the trace of a call that starts: the depth before it, and the registers with which its procedure starts
@@ -144,9 +152,9 @@ after_call_return h (Err exit) = ends h exit
 
 -- ---- the default vectors of protected mode
 
--- the functions of INT 31h that aren't served yet: callbacks and raw switches
+-- the functions of INT 31h that aren't served yet: callbacks
 abbrev pub is_unbuilt : ℕ → Bool
-is_unbuilt ax = nat_le 0x0303 ax && nat_le ax 0x0306
+is_unbuilt ax = nat_eq ax 0x0303 || nat_eq ax 0x0304
 
 -- the high byte of a function of INT 31h on memory blocks and their pages
 abbrev pub is_of_blocks : ℕ → Bool
@@ -157,6 +165,7 @@ unfoldable pub service : ℕ → World → Served
 service ax w =
     if nat_eq (high_byte ax) 0 then descriptor_service ax w else
     if nat_eq (high_byte ax) 1 then dos_service ax w else
+    if nat_eq (high_byte ax) 3 then gate_service ax w else
     if is_of_blocks (high_byte ax) then block_service ax w else
     vector_service ax w
 
@@ -280,9 +289,13 @@ stepped h = after_step h (world_step h.machine)
 abbrev pub trapped : HostWorld → Trap → Outcome
 trapped h (RealVector n) = vector_reached h n
 trapped h Entry = after_entry_trap h
+trapped h ToProtected = after_switch_to_protected h (switched_to_protected h.machine)
+trapped h RealState = with_machine h (world_after_far_return h.machine)
 trapped h CallReturn = after_call_return h (end_call h.machine)
 trapped h (ProtectedVector n) = after_protected_vector h n
 trapped h (ExceptionHandler n) = ends h (exit_of_record (top h.machine))
+trapped h ToReal = goes_on_with h lines.ToReal (switched_to_real h.machine)
+trapped h ProtectedState = with_machine h (world_after_far_return h.machine)
 trapped h ExceptionReturn = after_exception_return h (world_exception_return h.machine)
 trapped h NoTrap = stepped h
 trapped h _ = ends h exits.Unbuilt

@@ -248,9 +248,12 @@ impl Host {
         match t {
             Trap::RealVector(n) => self.reach_vector(n),
             Trap::Entry => self.serve_entry(),
+            Trap::ToProtected => self.switch_to_protected(),
+            Trap::RealState | Trap::ProtectedState => self.serve_state_call(),
             Trap::CallReturn => self.return_from_call(),
             Trap::ProtectedVector(n) => self.serve_protected_vector(n),
             Trap::ExceptionHandler(_) => Err(default_handler_exit(&self.machine)),
+            Trap::ToReal => self.switch_to_real(),
             Trap::ExceptionReturn => self.return_from_exception(),
             Trap::NoTrap => self.run_client(),
             _ => Err(Exit::Unbuilt),

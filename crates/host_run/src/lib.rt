@@ -13,6 +13,7 @@ mod host;
 mod laws;
 mod protected;
 mod serving;
+mod switches;
 #[cfg(test)]
 mod tests;
 mod trace;

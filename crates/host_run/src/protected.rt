@@ -40,7 +40,7 @@ fn ax(m: &Machine) -> u16
 fn is_unbuilt(ax: u16) -> bool
     ensures { result ≡ is_unbuilt ax }
 {
-    0x0303 <= ax && ax <= 0x0306
+    ax == 0x0303 || ax == 0x0304
 }
 
 // INT 21h function 4Ch, which ends the client.

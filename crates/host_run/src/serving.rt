@@ -105,6 +105,9 @@ pub(crate) fn serve_function(m: &mut Machine, ax: u16) -> Carry
     if high == 1 {
         return dos_blocks::serve(m, ax);
     }
+    if high == 3 {
+        return mode_gates::serve(m, ax);
+    }
     if is_of_blocks(high) {
         return block_services::serve(m, ax);
     }

@@ -39,9 +39,9 @@ pub far_state : (v u : MachineView) → after_far_return v ≡ Ok u → HasOther
 unfolding after_far_return
 far_state v u e = quiet_state v u _ (quiet_far v.world (frame_bits v.world) 0) (return_was _ u e)
 
-far_registers : (w u : World) → world_after_far_return w ≡ Ok u → HasOtherRegisters w u
+pub kept_far : (w u : World) → world_after_far_return w ≡ Ok u → HasOtherRegisters w u
 unfolding world_after_far_return
-far_registers w u e =
+kept_far w u e =
     holds_of_world (HasOtherRegisters w) (after_far_return (bare w)) u (λ v popped. state_of_world w v (far_state (bare w) v popped)) e
 
 -- ---- the entry
@@ -67,4 +67,4 @@ kept_after w (Err exit) s other e = absurd cc
 
 pub kept_entry : (w : World) (s : Served) → entry w ≡ Ok s → KeptByEntry w s.world
 unfolding entry
-kept_entry w s e = kept_after w (world_after_far_return w) s (far_registers w) e
+kept_entry w s e = kept_after w (world_after_far_return w) s (kept_far w) e

@@ -2,3 +2,4 @@ pub mod EntryRows
 pub mod FarAlone
 pub mod FarStates
 pub mod SoundGates
+pub mod SwitchLaws

@@ -1,3 +1,4 @@
 pub mod Entry
 pub mod FarFrames
 pub mod Rows
+pub mod Switches

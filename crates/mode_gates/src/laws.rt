@@ -1,5 +1,6 @@
 // What holds of every gate. Each is a function with nothing to do: its contract is the law.
-ghost use Rattle.std.specs.Prelude.{◌≡◌, Ok};
+ghost use Rattle.std.specs.Prelude.{◌≡◌, ℕ, Ok};
+ghost use Rattle.client_world.specs.declared.registers.Mode.TheVariants.{Protected as protected};
 ghost use Rattle.client_world.specs.Services.{Served};
 ghost use Rattle.client_world.specs.Soundness.{IsSound};
 ghost use Rattle.client_world.specs.World.{World};
@@ -7,6 +8,7 @@ ghost use Rattle.fault_service.specs.Worlds.{HasOtherState, its_world};
 ghost use Rattle.host_memory.specs.View.{MachineView};
 ghost use Rattle.mode_gates.specs.Entry.{entry};
 ghost use Rattle.mode_gates.specs.FarFrames.{after_far_return, world_after_far_return};
+ghost use Rattle.mode_gates.specs.Switches.{gate_service, switched_to_protected, switched_to_real};
 
 /// What a far return at a trap makes of the world depends on the world alone.
 #[tactic(auto, using(crate::proofs::FarAlone::far_alone))]
@@ -31,8 +33,19 @@ pub fn the_entry_keeps_the_rest()
     } }
 {}
 
-/// A far return at a trap and the entry lead from a sound world to a sound one.
+/// A switch changes the mode and registers alone, and a function that gives addresses registers alone.
+#[tactic(auto, using(crate::proofs::SwitchLaws::to_protected_switches, crate::proofs::SwitchLaws::to_real_switches, crate::proofs::SwitchLaws::kept_service))]
+pub fn every_switch_keeps_the_rest()
+    ensures to_protected { (w u : World) → switched_to_protected w ≡ Ok u → u ≡ record w { mode = u.mode; regs = u.regs } }
+    ensures to_real { (w : World) → switched_to_real w ≡ record w { mode = (switched_to_real w).mode; regs = (switched_to_real w).regs } }
+    ensures service { (ax : ℕ) (w : World) → (gate_service ax w).world ≡ record w { regs = (gate_service ax w).world.regs } }
+{}
+
+/// A far return at a trap, the entry, the switches and the functions that give their addresses lead from a sound world to a sound one.
 pub fn every_gate_is_sound()
     ensures far { (w u : World) → IsSound w → world_after_far_return w ≡ Ok u → IsSound u }
     ensures entry { (w : World) (s : Served) → IsSound w → entry w ≡ Ok s → IsSound s.world }
+    ensures to_protected { (w u : World) → IsSound w → switched_to_protected w ≡ Ok u → IsSound u }
+    ensures to_real { (w : World) → IsSound w → w.mode ≡ protected → IsSound (switched_to_real w) }
+    ensures service { (ax : ℕ) (w : World) → IsSound w → IsSound (gate_service ax w).world }
 {}

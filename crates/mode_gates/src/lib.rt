@@ -1,4 +1,4 @@
-//! The gates between the modes: the entry to protected mode, and the frame of a far call at a trap.
+//! The gates between the modes: the entry to protected mode, the raw switches, and the frame of a far call at a trap.
 //! It promises that each leaves the machine that its definition names, or gives its exit and changes nothing; and that a sound world leads to
 //! a sound one. It is built on the plans of instructions and on `fault_service`.
 #![tactic(auto)]
@@ -6,6 +6,7 @@
 mod entering;
 mod far_frames;
 mod laws;
+mod switches;
 #[cfg(test)]
 mod tests;
 
@@ -13,5 +14,6 @@ pub use entering::{asked_width, entry, with_carry};
 pub use far_frames::pop_far;
 pub use laws::{
     a_far_return_changes_registers_alone, a_far_return_depends_on_the_world_alone,
-    every_gate_is_sound, the_entry_keeps_the_rest,
+    every_gate_is_sound, every_switch_keeps_the_rest, the_entry_keeps_the_rest,
 };
+pub use switches::{serve, to_protected, to_real};

@@ -1,4 +1,4 @@
-use Rattle.host_run.proofs.KindModes.{call_return_is_real, entry_is_real, vector_is_protected, vector_is_real}
+use Rattle.host_run.proofs.KindModes.{call_return_is_real, entry_is_real, switch_is_protected, switch_is_real, vector_is_protected, vector_is_real}
 use Rattle.host_run.proofs.host.Host.serve_trap.Goals as goal
 
 pub reach_vector-requires-clause-real : goal.reach_vector-requires-clause-real
@@ -14,3 +14,9 @@ serve_protected_vector-requires-clause-mode c =
 
 pub return_from_call-requires-clause-real : goal.return_from_call-requires-clause-real
 return_from_call-requires-clause-real c = call_return_is_real c.args.self.now.world.machine c.args.t c.requires.trap c.in-CallReturn.is
+
+pub switch_to_protected-requires-clause-real : goal.switch_to_protected-requires-clause-real
+switch_to_protected-requires-clause-real c = switch_is_real c.args.self.now.world.machine c.args.t c.requires.trap c.in-ToProtected.is
+
+pub switch_to_real-requires-clause-mode : goal.switch_to_real-requires-clause-mode
+switch_to_real-requires-clause-mode c = switch_is_protected c.args.self.now.world.machine c.args.t c.requires.trap c.in-ToReal.is
