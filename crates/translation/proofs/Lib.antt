@@ -14,4 +14,5 @@ pub mod SoundCallee
 pub mod SoundCalls
 pub mod SoundReturns
 pub mod StackWords
+pub mod Stacked
 pub mod Words

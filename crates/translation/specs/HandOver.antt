@@ -11,7 +11,7 @@ use Rattle.client_world.specs.Services.{cx, es_di}
 use Rattle.client_world.specs.World.{World}
 use Rattle.guest_ram.specs.Bytes.{put}
 use Rattle.translation.specs.RealStack.{host_real_stack, stack_words}
-use Rattle.translation.specs.SimulatedCall.{callee_interrupts, callee_regs, callee_stack, callee_start, client_regs, client_words, is_reflection, no_structure, return_frame}
+use Rattle.translation.specs.SimulatedCall.{after_return, callee_interrupts, callee_regs, callee_stack, callee_start, client_regs, client_words, is_reflection, no_structure, return_frame}
 use Rattle.translation.specs.Structure.{index_results, other_results, structure_bytes, structure_flags, structure_regs}
 
 -- the words on a callee's stack, from its stack pointer up
@@ -53,6 +53,15 @@ pub record HasEnded (w v : World) : Type 0 where
   pub vif : v.vif ≡ on
   pub results : is_reflection call ≡ false →
       structure_bytes v at ≡ put (put (structure_bytes w at) 0x00 (index_results w.regs)) 0x10 (other_results w.regs w.vif)
+
+-- from w a return led to v, the client of the innermost record, which is popped
+pub record IsPopped (w v : World) : Type 0 where
+  pub call : Call
+  pub saved : Regs
+  pub on : Bool
+  pub at : FarPtr
+  pub popped : w.calls ≡ v.calls ++ Sim call saved on at ∷ []
+  pub is : v ≡ after_return w call saved on at
 
 -- of the world nothing has changed but the mode, the registers, the virtual interrupt flag, the megabyte and the records
 abbrev pub LeftForCallee : World → World → Type 0

@@ -1,6 +1,8 @@
 // What holds of every call, reflection and return. Each function has nothing to do: its contract is the law.
-ghost use Rattle.std.specs.Prelude.{◌≡◌, ◌≢◌, ℕ, ◌%◌, ◌<◌, true, is_none, Ok};
+ghost use Rattle.std.specs.Prelude.{◌≡◌, ◌≢◌, ℕ, ◌%◌, ◌<◌, true, [], ◌∷◌, ◌++◌, is_none, Ok};
 ghost use Rattle.client_world.specs.declared.calls.Call.{Call};
+ghost use Rattle.client_world.specs.declared.calls.Call.TheVariants.{Reflect};
+ghost use Rattle.client_world.specs.declared.calls.Record.TheVariants.{Sim};
 ghost use Rattle.client_world.specs.declared.memory_map.TheConstants.{SEGMENT_SIZE};
 ghost use Rattle.client_world.specs.declared.registers.Mode.TheVariants.{Protected as protected, Real as real};
 ghost use Rattle.client_world.specs.declared.segments.SegReg.TheVariants.{Ss};
@@ -9,9 +11,9 @@ ghost use Rattle.client_world.specs.Services.{es_di};
 ghost use Rattle.client_world.specs.Soundness.{IsSound};
 ghost use Rattle.client_world.specs.World.{World};
 ghost use Rattle.guest_space.specs.Transfer.{access_fault};
-ghost use Rattle.translation.specs.HandOver.{HasBegun, HasEnded, HasReflected, LeftForCallee, LeftForClient};
+ghost use Rattle.translation.specs.HandOver.{HasBegun, HasEnded, HasReflected, IsPopped, LeftForCallee, LeftForClient};
 ghost use Rattle.translation.specs.RealStack.{is_writable_word, real_address};
-ghost use Rattle.translation.specs.SimulatedCall.{begin_call, end_call, reflect};
+ghost use Rattle.translation.specs.SimulatedCall.{begin_call, end_call, no_structure, reflect};
 ghost use Rattle.translation.specs.Structure.{structure_bytes};
 
 /// A call, a reflection and a return lead from a sound world to a sound one.
@@ -28,6 +30,14 @@ pub fn every_call_keeps_the_rest()
     ensures refused { (w : World) (call : Call) → (begin_call w call).carry ≡ set → (begin_call w call).world ≡ w }
     ensures reflect { (w u : World) (n : ℕ) → reflect w n ≡ Ok u → LeftForCallee w u }
     ensures end { (w u : World) → end_call w ≡ Ok u → LeftForClient w u }
+{}
+
+/// From any world, a call that runs and a reflection push one record, and a return pops one.
+pub fn every_call_is_stacked()
+    ensures begin { (w : World) (call : Call) → (begin_call w call).carry ≡ clear →
+        (begin_call w call).world.calls ≡ w.calls ++ Sim call w.regs w.vif (es_di w) ∷ [] }
+    ensures reflect { (w u : World) (n : ℕ) → reflect w n ≡ Ok u → u.calls ≡ w.calls ++ Sim (Reflect n) w.regs w.vif no_structure ∷ [] }
+    ensures end { (w u : World) → end_call w ≡ Ok u → IsPopped w u }
 {}
 
 /// A call that runs pushes one record, and hands to the callee the registers of its structure and the client's words.

@@ -167,6 +167,34 @@ fn calls_start_with_their_structure(rt: HostRuntime) -> Result<(), Fail> {
     Ok(())
 }
 
+// The low words of the structure's doublewords, and its words.
+fn doublewords_of(m: &Machine) -> [u16; 8] {
+    [
+        m.dos16(0xE_4100),
+        m.dos16(0xE_4104),
+        m.dos16(0xE_4108),
+        m.dos16(0xE_410C),
+        m.dos16(0xE_4110),
+        m.dos16(0xE_4114),
+        m.dos16(0xE_4118),
+        m.dos16(0xE_411C),
+    ]
+}
+
+fn words_of(m: &Machine) -> [u16; 9] {
+    [
+        m.dos16(0xE_4120),
+        m.dos16(0xE_4122),
+        m.dos16(0xE_4124),
+        m.dos16(0xE_4126),
+        m.dos16(0xE_4128),
+        m.dos16(0xE_412A),
+        m.dos16(0xE_412C),
+        m.dos16(0xE_412E),
+        m.dos16(0xE_4130),
+    ]
+}
+
 // What a procedure leaves at the trap of its return: its frame is popped.
 const LEFT: Regs = Regs {
     eax: 0xA1A2_A3A4,
@@ -211,40 +239,14 @@ fn a_return_fills_the_structure(rt: HostRuntime) -> Result<(), Fail> {
     );
     assert_eq!(rt; (m.mode(), m.vif(), depth(&m)), (Mode::Protected, true, 0));
     assert_eq!(rt;
-        [
-            m.dos16(0xE_4100),
-            m.dos16(0xE_4104),
-            m.dos16(0xE_4108),
-            m.dos16(0xE_410C)
-        ],
-        [0x6364, 0x5354, 0xE3E4, 0x77]
+        doublewords_of(&m),
+        [0x6364, 0x5354, 0xE3E4, 0x77, 0xB3B4, 0xD3D4, 0xC3C4, 0xA3A4]
     );
     assert_eq!(rt;
+        words_of(&m),
         [
-            m.dos16(0xE_4110),
-            m.dos16(0xE_4114),
-            m.dos16(0xE_4118),
-            m.dos16(0xE_411E)
-        ],
-        [0xB3B4, 0xD3D4, 0xC3C4, 0xA1A2]
-    );
-    assert_eq!(rt;
-        [
-            m.dos16(0xE_4120),
-            m.dos16(0xE_4122),
-            m.dos16(0xE_4124),
-            m.dos16(0xE_4126)
-        ],
-        [0x242, 0x3E3E, 0x3D3D, 0x3F3F]
-    );
-    assert_eq!(rt;
-        [
-            m.dos16(0xE_4128),
-            m.dos16(0xE_412A),
-            m.dos16(0xE_412E),
-            m.dos16(0xE_4130)
-        ],
-        [0x4040, 0x5678, 0x100, 0xD000]
+            0x242, 0x3E3E, 0x3D3D, 0x3F3F, 0x4040, 0x5678, 0x1234, 0x100, 0xD000
+        ]
     );
     Ok(())
 }
