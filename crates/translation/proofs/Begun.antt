@@ -1,14 +1,13 @@
 -- A call that isn't refused, a reflection that is made: what was asked holds, and the world after it.
-use Rattle.std.proofs.Common.{◌≡◌, ◌≢◌, ℕ, ◌<◌, ◌≤◌, Bool, true, false, not, List, [], ◌∷◌, length, refl, ap, ◌∙◌, sym, arith, Option, None, Some, Result, Ok, Err}
+use Rattle.std.proofs.Common.{◌≡◌, ℕ, ◌<◌, ◌≤◌, Bool, true, false, not, [], ◌∷◌, length, refl, Option, None, Some, Ok, Err}
 use Rattle.std.specs.Prelude.{nat_le, nat_lt, if◌then◌else◌}
 use Rattle.std.proofs.lemmas.Bool.{leb-false, ltb-false}
 use Rattle.client_world.specs.declared.calls.Call.{Call}
 use Rattle.client_world.specs.declared.limits.TheConstants.{GREATEST_DEPTH, MAX_CALL_WORDS}
-use Rattle.client_world.specs.declared.outcome.Exit.{Exit}
 use Rattle.client_world.specs.declared.outcome.Exit.TheVariants as exits
 use Rattle.client_world.specs.declared.registers.Regs.{Regs}
 use Rattle.client_world.specs.declared.services.Carry.TheVariants.{Clear, Set}
-use Rattle.client_world.specs.Services.{Served, cx, es_di}
+use Rattle.client_world.specs.Services.{cx, es_di}
 use Rattle.client_world.specs.World.{World, depth}
 use Rattle.service_rows.specs.declared.refusal.Refusal.{Refusal}
 use Rattle.service_rows.specs.declared.refusal.Refusal.TheVariants.{InvalidAddress, InvalidValue, LinearMemoryUnavailable}

@@ -1,22 +1,20 @@
 -- What a call and a reflection hand over.
-use Rattle.std.proofs.Common.{◌≡◌, ℕ, zero, suc, ◌+◌, ◌-◌, ◌*◌, ◌%◌, ◌<◌, ◌≤◌, Bool, true, false, ◌&&◌, List, [], ◌∷◌, ◌++◌, length, refl, ap, ◌∙◌, sym, subst, arith, Ok}
+use Rattle.std.proofs.Common.{◌≡◌, ℕ, zero, suc, ◌+◌, ◌<◌, ◌≤◌, Bool, true, false, List, length, refl, ap, sym, subst, arith, Ok}
 use Rattle.std.specs.Prelude.{cond}
 use Rattle.std.proofs.lemmas.List.{length-append}
 use Rattle.client_world.specs.declared.calls.Call.{Call}
 use Rattle.client_world.specs.declared.calls.Call.TheVariants.{Int, Far, Iret, Reflect}
 use Rattle.client_world.specs.declared.limits.TheConstants.{GREATEST_DEPTH, MAX_CALL_WORDS}
-use Rattle.client_world.specs.declared.memory_map.TheConstants.{REAL_STACK_SEGMENT, ROM_SEGMENT, ROM_START}
+use Rattle.client_world.specs.declared.memory_map.TheConstants.{REAL_STACK_SEGMENT}
 use Rattle.client_world.specs.declared.registers.Flags.{Flags}
-use Rattle.client_world.specs.declared.registers.Regs.{Regs}
 use Rattle.client_world.specs.declared.services.Carry.TheVariants.{Clear}
-use Rattle.client_world.specs.declared.traps.TheConstants.{CALL_RETURN_TRAP}
 use Rattle.client_world.specs.Registers.{flags_image}
 use Rattle.client_world.specs.Services.{cx, es_di}
 use Rattle.client_world.specs.Soundness.{IsSound}
 use Rattle.client_world.specs.World.{World, depth}
 use Rattle.translation.specs.HandOver.{HasBegun, HasReflected, passed_words}
-use Rattle.translation.specs.RealStack.{are_writable_words, host_real_stack, is_writable_word, next_word, stack_words, with_words_at, words_below}
-use Rattle.translation.specs.SimulatedCall.{after_reflection, begin_call, call_regs, call_words, callee_interrupts, callee_regs, callee_stack, callee_start, callee_world, called_world, client_word, client_words, has_stack, no_structure, reflect, reflection_regs, reflection_words, return_frame, word_read}
+use Rattle.translation.specs.RealStack.{are_writable_words, host_real_stack, next_word, words_below}
+use Rattle.translation.specs.SimulatedCall.{after_reflection, begin_call, call_regs, call_words, callee_regs, callee_stack, callee_start, callee_world, called_world, client_words, reflect, reflection_regs, reflection_words, return_frame}
 use Rattle.translation.specs.Structure.{structure_bytes, structure_flags, structure_regs}
 use Rattle.translation.proofs.Begun.{Runs, begun_world, is_made, runs}
 use Rattle.translation.proofs.ReadBytes.{client_word_small, far_are_bytes, word_small}

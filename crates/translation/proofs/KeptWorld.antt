@@ -8,7 +8,7 @@ use Rattle.client_world.specs.declared.services.Carry.{Carry}
 use Rattle.client_world.specs.declared.services.Carry.TheVariants.{Clear, Set}
 use Rattle.client_world.specs.World.{World, depth}
 use Rattle.translation.specs.HandOver.{LeftForCallee, LeftForClient}
-use Rattle.translation.specs.SimulatedCall.{after_reflection, after_results, after_return, begin_call, callee_world, client_regs, end_call, reflect}
+use Rattle.translation.specs.SimulatedCall.{after_reflection, after_return, begin_call, callee_world, client_regs, end_call, reflect}
 use Rattle.translation.proofs.Begun.{begun_world, is_made, refused_world}
 use Rattle.translation.proofs.Ended.{is_return}
 use Rattle.translation.proofs.SoundReturns.{results_alone}

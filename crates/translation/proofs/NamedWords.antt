@@ -1,7 +1,7 @@
 -- A selector that can be loaded is a word.
 use Rattle.std.proofs.Common.{◌≡◌, ℕ, ◌<◌, ◌≤◌, inl, inr, Bool, true, false, List, length, arith, Option, None, Some}
-use Rattle.std.specs.Prelude.{if◌then◌else◌, nat_lt, is_none}
-use Rattle.std.proofs.lemmas.Bool.{cases_lt, cases_Bool, ltb-true}
+use Rattle.std.specs.Prelude.{if◌then◌else◌, is_none}
+use Rattle.std.proofs.lemmas.Bool.{cases_lt, ltb-true}
 use Rattle.std.proofs.lemmas.List.{get_or_past}
 use Rattle.client_world.specs.declared.faults.Fault.{Fault}
 use Rattle.client_world.specs.declared.faults.TheConstants.{GENERAL_PROTECTION}

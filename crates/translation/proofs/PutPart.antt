@@ -1,5 +1,5 @@
 -- What is read at a run after a part of it was written.
-use Rattle.std.proofs.Common.{◌≡◌, ◌≢◌, ℕ, ◌+◌, ◌-◌, ◌%◌, ◌<◌, ◌≤◌, ◌^◌, ◌⊎◌, inl, inr, Bool, true, false, List, [], length, get_or, refl, ap, ◌∙◌, sym, arith, slice_index_or, Result}
+use Rattle.std.proofs.Common.{◌≡◌, ℕ, ◌+◌, ◌-◌, ◌%◌, ◌<◌, ◌≤◌, ◌^◌, ◌⊎◌, inl, inr, Bool, true, false, List, [], length, get_or, refl, ap, ◌∙◌, sym, arith, slice_index_or, Result}
 use Rattle.std.proofs.lemmas.Bool.{cases_lt}
 use Rattle.std.proofs.lemmas.Grind.{same_number_lists}
 use Rattle.client_world.specs.declared.place.Place.{Place}
@@ -16,12 +16,12 @@ use Rattle.client_world.proofs.SoundWrites.{at_bytes_of, length-bytes_of}
 use Rattle.guest_ram.specs.Bytes.{put, region}
 use Rattle.guest_ram.proofs.PutLaws.{at_region, length-put, put_away, put_within}
 use Rattle.host_memory.specs.View.{MachineView}
-use Rattle.guest_space.specs.Far.{far_bytes, far_put, far_written, further}
+use Rattle.guest_space.specs.Far.{far_bytes, far_put, further}
 use Rattle.guest_space.specs.Transfer.{places_of_access, with_places}
 use Rattle.guest_space.proofs.DistinctPlaces.{addresses_apart}
 use Rattle.guest_space.proofs.FarLaws.{part_is_read, written_is_read}
 use Rattle.guest_space.proofs.FarPuts.{world_far_written}
-use Rattle.guest_space.proofs.Fars.{Reached, far_bytes_linear, far_places, parts_reachable, reachable_linear, reached}
+use Rattle.guest_space.proofs.Fars.{Reached, far_places, parts_reachable, reachable_linear, reached}
 use Rattle.guest_space.proofs.KeptAccess.{far_access_same, reachable_kept, same_places}
 use Rattle.guest_space.proofs.Parts.{protected_part, protected_read}
 use Rattle.translation.proofs.KeptBytes.{bytes_kept}

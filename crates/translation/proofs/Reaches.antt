@@ -1,5 +1,5 @@
 -- A run that is reachable ends at 100000000h at the latest; and the parts of a structure.
-use Rattle.std.proofs.Common.{◌≡◌, ℕ, ◌+◌, ◌≤◌, ◌^◌, Bool, true, false, ◌&&◌, not, refl, inl, inr, ap, ◌∙◌, sym, arith, List, length, Option, None, Some, Result, Ok, Err}
+use Rattle.std.proofs.Common.{◌≡◌, ℕ, ◌+◌, ◌≤◌, ◌^◌, Bool, true, false, ◌&&◌, not, refl, inl, inr, ap, ◌∙◌, sym, arith, List, length, None, Some, Result, Ok, Err}
 use Rattle.std.specs.Prelude.{IsTrue, nat_lt, nat_le, if◌then◌else◌}
 use Rattle.std.proofs.lemmas.Bool.{cases_Bool}
 use Rattle.std.proofs.lemmas.Bool.Decides.{nat_tests}
@@ -8,7 +8,7 @@ use Rattle.client_world.specs.declared.faults.Fault.{Fault}
 use Rattle.client_world.specs.declared.segments.FarPtr.{FarPtr}
 use Rattle.client_world.specs.declared.segments.SegReg.TheVariants.{Es}
 use Rattle.client_world.specs.declared.faults.TheConstants.{SEGMENT_NOT_PRESENT, GENERAL_PROTECTION}
-use Rattle.client_world.specs.Access.{base_in_row, fault_with, is_reachable, protected_base, stack_or, suits_register}
+use Rattle.client_world.specs.Access.{base_in_row, fault_with, is_reachable, stack_or, suits_register}
 use Rattle.client_world.specs.Descriptor.{byte_limit, expands_down, greatest_offset, is_inside, is_writable}
 use Rattle.client_world.specs.Selector.{Row, is_null, row_of_selector, selector_code}
 use Rattle.client_world.specs.World.{World}

@@ -1,11 +1,10 @@
 -- What is read of a sound world are bytes, and two of them a word.
-use Rattle.std.proofs.Common.{◌≡◌, ℕ, zero, suc, ◌+◌, ◌*◌, ◌<◌, false, List, [], ◌∷◌, slice_index, refl, arith, Option, None, Some, Result, Ok, Err}
+use Rattle.std.proofs.Common.{◌≡◌, ℕ, zero, suc, ◌+◌, ◌<◌, false, List, [], ◌∷◌, slice_index, refl, arith, Option, None, Some, Result, Ok, Err}
 use Rattle.client_world.specs.declared.faults.Fault.{Fault}
 use Rattle.client_world.specs.declared.place.Place.{Place}
 use Rattle.client_world.specs.declared.place.Place.TheVariants.{Dos, Block, Host, Nothing}
 use Rattle.client_world.specs.declared.segments.FarPtr.{FarPtr}
-use Rattle.client_world.specs.declared.segments.SegReg.{SegReg}
-use Rattle.client_world.specs.Access.{access, byte_of, bytes_of, bytes_of_block, far_access}
+use Rattle.client_world.specs.Access.{byte_of, bytes_of, bytes_of_block, far_access}
 use Rattle.client_world.specs.Soundness.{IsSound}
 use Rattle.client_world.specs.World.{World, MemoryBlock, block_at}
 use Rattle.guest_ram.specs.Bytes.{AreBytes, word_of}

@@ -1,17 +1,16 @@
 -- A word of a real stack can be written exactly where a push of real mode could write it.
-use Rattle.std.proofs.Common.{◌≡◌, ℕ, zero, suc, ◌+◌, ◌*◌, ◌%◌, ◌<◌, ◌≤◌, ◌^◌, inl, inr, Bool, true, false, ◌&&◌, not, List, [], ◌∷◌, refl, ap, ◌∙◌, sym, arith, Option, None, Some, Result, Ok, Err}
-use Rattle.std.specs.Prelude.{is_none, nat_eq, nat_le, nat_lt, if◌then◌else◌}
+use Rattle.std.proofs.Common.{◌≡◌, ℕ, ◌+◌, ◌*◌, ◌%◌, ◌<◌, ◌≤◌, inl, inr, Bool, true, false, ◌&&◌, not, List, [], ◌∷◌, refl, ap, ◌∙◌, sym, arith, Option, None, Some, Ok, Err}
+use Rattle.std.specs.Prelude.{is_none, nat_eq, nat_le, if◌then◌else◌}
 use Rattle.std.proofs.lemmas.Bool.{cases_lt, le-leb}
 use Rattle.std.proofs.lemmas.Bool.Decides.{nat_tests}
-use Rattle.client_world.specs.declared.faults.Fault.{Fault}
 use Rattle.client_world.specs.declared.faults.TheConstants.{GENERAL_PROTECTION}
-use Rattle.client_world.specs.declared.memory_map.TheConstants.{PARAGRAPH_SIZE, ROM_START, SEGMENT_SIZE}
+use Rattle.client_world.specs.declared.memory_map.TheConstants.{PARAGRAPH_SIZE, SEGMENT_SIZE}
 use Rattle.client_world.specs.declared.place.Place.{Place}
 use Rattle.client_world.specs.declared.place.Place.TheVariants.{Dos}
 use Rattle.client_world.specs.declared.registers.Mode.{Mode}
 use Rattle.client_world.specs.declared.registers.Mode.TheVariants.{Real}
 use Rattle.client_world.specs.declared.segments.SegReg.TheVariants.{Ss}
-use Rattle.client_world.specs.Access.{access, dos_address, fault_with, first_forbidden, linear, linear_address, may_touch, place_in, places_at, places_from, real_base, segment_base, stack_or, touched_places, unless_forbidden}
+use Rattle.client_world.specs.Access.{access, dos_address, fault_with, linear, linear_address, may_touch, place_in, places_at, places_from, segment_base, stack_or, touched_places, unless_forbidden}
 use Rattle.client_world.specs.World.{World, MemoryBlock}
 use Rattle.client_world.proofs.PlaceLaws.{place-dos}
 use Rattle.guest_space.specs.Transfer.{access_fault, fault_of}

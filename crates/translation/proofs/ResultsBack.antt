@@ -1,5 +1,5 @@
 -- The structure after a return: the results, and the other bytes as they were.
-use Rattle.std.proofs.Common.{◌≡◌, ℕ, ◌+◌, ◌≤◌, Bool, true, false, ◌&&◌, ◌||◌, List, [], ◌∷◌, ◌++◌, length, slice_index, refl, ap, ◌∙◌, sym, subst, arith, Option, Result, Ok, Err}
+use Rattle.std.proofs.Common.{◌≡◌, ℕ, Bool, true, false, ◌||◌, List, [], ◌∷◌, ◌++◌, length, slice_index, refl, ap, ◌∙◌, sym, arith, Option, Result, Ok}
 use Rattle.std.specs.Prelude.{if◌then◌else◌}
 use Rattle.client_world.specs.declared.calls.Call.{Call}
 use Rattle.client_world.specs.declared.calls.Record.{Record}
@@ -9,8 +9,7 @@ use Rattle.client_world.specs.declared.place.Place.{Place}
 use Rattle.client_world.specs.declared.place.Place.TheVariants.{Dos, Block, Host, Nothing}
 use Rattle.client_world.specs.declared.registers.Regs.{Regs}
 use Rattle.client_world.specs.declared.segments.FarPtr.{FarPtr}
-use Rattle.client_world.specs.Access.{byte_of, bytes_of, bytes_of_block, far_access, is_reachable}
-use Rattle.client_world.specs.Registers.{flags_image}
+use Rattle.client_world.specs.Access.{byte_of, bytes_of, bytes_of_block, far_access}
 use Rattle.client_world.specs.Soundness.{IsSound}
 use Rattle.client_world.specs.World.{World, MemoryBlock, block_at}
 use Rattle.guest_ram.specs.Bytes.{put}
@@ -21,7 +20,7 @@ use Rattle.translation.specs.HandOver.{HasEnded}
 use Rattle.translation.specs.SimulatedCall.{after_results, after_return, end_call, is_reflection}
 use Rattle.translation.specs.Structure.{has_structure, index_results, other_results, structure_bytes, with_results}
 use Rattle.translation.specs.declared.structure.TheConstants.{STRUCTURE_SIZE}
-use Rattle.translation.proofs.Ended.{IsReturn, but_last, is_return}
+use Rattle.translation.proofs.Ended.{but_last, is_return}
 use Rattle.translation.proofs.PutPart.{IsOpen, part_put, reachable_after}
 use Rattle.translation.proofs.Reaches.{no_further, structure_read, structure_written}
 use Rattle.translation.proofs.SoundReturns.{index_bytes, other_bytes}

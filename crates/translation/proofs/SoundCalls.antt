@@ -1,21 +1,16 @@
 -- A call, a reflection and a return lead from a sound world to a sound one, and leave the rest as it was.
-use Rattle.std.proofs.Common.{◌≡◌, ◌≢◌, ℕ, zero, suc, ◌+◌, ◌-◌, ◌<◌, ◌≤◌, inl, inr, Bool, true, false, ◌||◌, not, List, [], ◌∷◌, ◌++◌, length, take, refl, ap, ◌∙◌, sym, subst, arith, Option, None, Some, Result, Ok, Err}
-use Rattle.std.specs.Prelude.{if◌then◌else◌, slice_index}
-use Rattle.std.proofs.lemmas.Bool.{cases_Bool}
+use Rattle.std.proofs.Common.{◌≡◌, ◌≢◌, ℕ, ◌<◌, false, length, refl, sym, subst, arith, Option, None, Some, Ok}
 use Rattle.client_world.specs.declared.calls.Call.{Call}
 use Rattle.client_world.specs.declared.calls.Call.TheVariants.{Reflect}
-use Rattle.client_world.specs.declared.outcome.Exit.{Exit}
-use Rattle.client_world.specs.declared.registers.Mode.{Mode}
-use Rattle.client_world.specs.declared.registers.Mode.TheVariants.{Real, Protected}
+use Rattle.client_world.specs.declared.registers.Mode.TheVariants.{Protected}
 use Rattle.client_world.specs.declared.registers.Regs.{Regs}
 use Rattle.client_world.specs.declared.registers.Width.{Width}
-use Rattle.client_world.specs.declared.segments.FarPtr.{FarPtr}
 use Rattle.client_world.specs.declared.services.Carry.{Carry}
 use Rattle.client_world.specs.declared.services.Carry.TheVariants.{Clear, Set}
-use Rattle.client_world.specs.Services.{cx, es_di}
+use Rattle.client_world.specs.Services.{es_di}
 use Rattle.client_world.specs.Soundness.{IsSound, HasSegments, SoundWidth}
 use Rattle.client_world.specs.World.{World, depth}
-use Rattle.translation.specs.SimulatedCall.{after_reflection, begin_call, call_regs, call_words, callee_interrupts, callee_regs, callee_stack, callee_start, callee_world, called_world, no_structure, reflect, reflection_regs, reflection_words}
+use Rattle.translation.specs.SimulatedCall.{after_reflection, begin_call, call_regs, call_words, callee_interrupts, callee_stack, callee_start, no_structure, reflect, reflection_regs, reflection_words}
 use Rattle.translation.specs.RealStack.{host_real_stack}
 use Rattle.translation.specs.Structure.{structure_bytes, structure_flags, structure_regs}
 use Rattle.translation.proofs.Begun.{begun_world, is_made, refused_world, runs}

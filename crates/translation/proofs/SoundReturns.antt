@@ -1,9 +1,8 @@
 -- A return leads from a sound world to a sound one.
-use Rattle.std.proofs.Common.{◌≡◌, ◌≢◌, ℕ, zero, suc, ◌-◌, ◌/◌, ◌%◌, ◌<◌, ◌≤◌, ◌^◌, Bool, true, false, List, [], ◌∷◌, ◌++◌, length, take, refl, ap, sym, ◌∙◌, subst, arith, Option, None, Some, Ok}
+use Rattle.std.proofs.Common.{◌≡◌, ◌≢◌, ℕ, suc, ◌-◌, ◌/◌, ◌%◌, ◌<◌, ◌≤◌, ◌^◌, Bool, true, false, List, [], ◌∷◌, ◌++◌, length, take, refl, ap, sym, ◌∙◌, subst, arith, Option, None, Some, Ok}
 use Rattle.std.specs.Prelude.{if◌then◌else◌}
 use Rattle.std.proofs.lemmas.List.{length-take-le}
 use Rattle.client_world.specs.declared.calls.Call.{Call}
-use Rattle.client_world.specs.declared.calls.Call.TheVariants.{Int, Far, Iret, Reflect}
 use Rattle.client_world.specs.declared.limits.TheConstants.{GREATEST_DEPTH}
 use Rattle.client_world.specs.declared.registers.Mode.TheVariants.{Protected}
 use Rattle.client_world.specs.declared.registers.Regs.{Regs}
@@ -24,7 +23,7 @@ use Rattle.guest_space.proofs.RecordWrites.{has_width}
 use Rattle.guest_space.proofs.SoundLists.{IsSound-calls}
 use Rattle.translation.specs.SimulatedCall.{after_results, after_return, client_regs, end_call, is_reflection, with_place_of}
 use Rattle.translation.specs.Structure.{index_results, other_results, with_results}
-use Rattle.translation.proofs.Ended.{IsReturn, is_return}
+use Rattle.translation.proofs.Ended.{is_return}
 use Rattle.translation.proofs.NamedWords.{loadable_is_word, still_word}
 use Rattle.translation.proofs.ReadBytes.{no_bytes, one_byte}
 

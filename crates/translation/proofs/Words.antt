@@ -1,7 +1,6 @@
 -- One word more of a stack.
-use Rattle.std.proofs.Common.{◌≡◌, ℕ, zero, suc, ◌+◌, ◌-◌, ◌*◌, ◌%◌, ◌<◌, ◌≤◌, Bool, true, false, ◌&&◌, List, [], ◌∷◌, ◌++◌, length, refl, ap, subst, sym, ◌∙◌, arith, drop, take, get_or, append_assoc, drop-cons, add-one}
-use Rattle.std.proofs.lemmas.List.{append-nil}
-use Rattle.std.specs.Prelude.{is_ok, slice_index}
+use Rattle.std.proofs.Common.{◌≡◌, ℕ, zero, suc, ◌+◌, ◌-◌, ◌<◌, ◌≤◌, Bool, true, ◌&&◌, List, [], ◌∷◌, ◌++◌, length, ap, sym, ◌∙◌, arith, drop, get_or, append_assoc, drop-cons, add-one}
+use Rattle.std.specs.Prelude.{is_ok}
 use Rattle.std.specs.Int.{w16, from_le_bytes}
 use Rattle.client_world.specs.World.{World}
 use Rattle.guest_ram.specs.Bytes.{word_of}

@@ -18,7 +18,8 @@ pub use calling::begin;
 pub use laws::{
     a_call_hands_over_its_structure_and_its_words, a_reflection_hands_over_the_general_registers,
     a_return_hands_over_the_results, a_stack_word_can_be_written_by_the_rules_of_real_mode,
-    every_call_is_sound, every_call_is_stacked, every_call_keeps_the_rest, the_bytes_of_a_real_segment_are_apart,
+    every_call_is_sound, every_call_is_stacked, every_call_keeps_the_rest,
+    the_bytes_of_a_real_segment_are_apart,
 };
 pub use reflecting::reflect;
 pub use returning::end;

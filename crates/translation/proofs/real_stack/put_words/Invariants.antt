@@ -1,6 +1,5 @@
 use Rattle.std.proofs.Common.{◌≡◌, ◌<◌, drop}
 use Rattle.client_world.specs.declared.memory_map.TheConstants.{SEGMENT_SIZE}
-use Rattle.client_world.specs.World.{World}
 use Rattle.translation.specs.RealStack.{with_words_at}
 use Rattle.translation.proofs.real_stack.put_words.Given as goal
 
