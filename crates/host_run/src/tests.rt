@@ -11,6 +11,7 @@ mod calls;
 mod exceptions;
 mod memory;
 mod services;
+mod switches;
 
 // A client's code, its keystrokes and the bound of its run; the exit, the turns and the console; the registers and the flags image.
 struct Case {
@@ -96,7 +97,7 @@ const CASES: [Case; 13] = [
     case!(&[0xB1, 0x00, 0xF6, 0xF1], [esp: 0xFA, cs: 0xF000], exit: Exit::Fault(0, 0), steps: 3),
     case!(&[0xCD, 0x07], [esp: 0xFA, eip: 7, cs: 0xF000], exit: Exit::Fault(7, 0), steps: 2),
     // The raw switch to protected mode isn't served yet. Its far call has pushed CS and IP, 4 bytes.
-    case!(&[0x9A, 0x01, 0x01, 0x00, 0xF0], [esp: 0xFC, eip: 0x101, cs: 0xF000], exit: Exit::Unbuilt, steps: 2, flags: 0x0202),
+    case!(&[0x9A, 0x01, 0x01, 0x00, 0xF0], [esp: 0xFC, eip: 0x101, cs: 0xF000], exit: Exit::Stray, steps: 2, flags: 0x0202),
     // A client that goes in a circle.
     case!(&[0xEB, 0xFE], [], bound: 1000, exit: Exit::Bound, steps: 1000, flags: 0x0202),
 ];
@@ -380,10 +381,10 @@ fn services_answer_in_the_popped_flags(rt: HostRuntime) -> Result<(), Fail> {
     Ok(())
 }
 
-// What isn't served yet ends the run and leaves the machine: callbacks and raw switches.
+// What isn't served yet ends the run and leaves the machine: callbacks.
 #[test]
 fn other_services_are_unbuilt(rt: HostRuntime) -> Result<(), Fail> {
-    for function in 3..=6 {
+    for function in 3..=4 {
         let mut host = entered(&rt, rt.alloc(), &[0xB8, function, 0x03, 0xCD, 0x31])?;
         assert_eq!(rt;
             run_out(&rt, &mut host),

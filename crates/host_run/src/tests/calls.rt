@@ -14,7 +14,7 @@ const SHRINK_AND_ENTER_32: [u8; 22] = [
 ];
 
 // A line on a nested call: whether it was entered, the depth, and what it was.
-type Nested = (bool, u8, What);
+pub(super) type Nested = (bool, u8, What);
 
 const REFLECTED: [Nested; 2] = [
     (true, 0, What::Call(Call::Reflect(0x21))),
@@ -262,7 +262,7 @@ fn next_nested(host: &Host, from: u32) -> Option<(u32, Nested)> {
 }
 
 // The lines on nested calls are these, and no others.
-fn expect_nested(rt: &impl Abort, host: &Host, lines: &[Nested], client: usize) {
+pub(super) fn expect_nested(rt: &impl Abort, host: &Host, lines: &[Nested], client: usize) {
     let mut from = 0;
     for line in lines {
         let found = next_nested(host, from);
