@@ -1,5 +1,5 @@
 -- The raw switches and their addresses: a sound world leads to a sound one, and nothing changes but the mode and registers.
-use Rattle.std.proofs.Common.{◌≡◌, ◌≢◌, ℕ, nat_eq, Bool, true, false, arith, refl, subst, sym, Option, None, Some, Ok, Err}
+use Rattle.std.proofs.Common.{◌≡◌, ◌≢◌, ◌<◌, ◌+◌, ℕ, nat_eq, Bool, true, false, arith, refl, subst, sym, Option, None, Some, Ok, Err}
 use Rattle.std.specs.Prelude.{if◌then◌else◌}
 use Rattle.std.specs.declared.result.Result.{Result}
 use Rattle.client_world.specs.declared.outcome.Exit.{Exit}

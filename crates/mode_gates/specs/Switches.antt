@@ -1,6 +1,6 @@
 -- The raw mode switches, and the functions that give their addresses. Source: DPMI 0.9, INT 31h functions 0305h and 0306h; the addresses and
 -- the exits are own.
-use Rattle.std.specs.Prelude.{ℕ, ◌+◌, ◌-◌, Bool, ◌&&◌, nat_eq, not, if◌then◌else◌, [], None, Some, Ok, Err}
+use Rattle.std.specs.Prelude.{ℕ, ◌+◌, ◌-◌, Bool, false, ◌&&◌, nat_eq, if◌then◌else◌, [], None, Some, Ok, Err}
 use Rattle.std.specs.declared.option.Option.{Option}
 use Rattle.std.specs.declared.result.Result.{Result}
 use Rattle.client_world.specs.declared.memory_map.TheConstants.{ROM_SEGMENT, ROM_START}

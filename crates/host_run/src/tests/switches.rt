@@ -91,7 +91,11 @@ fn hostile_switches_end_as_written(rt: HostRuntime) -> Result<(), Fail> {
         assert_eq!(rt; run_out(&rt, &mut host), Exit::BadSwitch, "switch {number}");
         assert_eq!(rt; host.lines(), 3, "switch {number}");
         let r = host.machine().regs();
-        assert_eq!(rt; (r.cs, r.eip, r.ss), (0xF000, 0x101, 0x8000), "switch {number}");
+        assert_eq!(rt;
+            (r.cs, r.eip, r.ss),
+            (0xF000, 0x101, 0x8000),
+            "switch {number}"
+        );
     }
     let file = file(&rt, rt.alloc(), &[0xEA, 0x01, 0x01, 0x00, 0xF0])?;
     let (mut host, answer) = loaded(&rt, rt.alloc(), &file, &[])?;
