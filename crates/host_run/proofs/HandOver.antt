@@ -1,4 +1,5 @@
--- Two matched turns of a call hand over what the call's start and its return do, since the record of the first is that of the second.
+-- Two matched turns hand over what the start and the return of a call or of an exception do, since the record of the first is that of the
+-- second.
 use Rattle.std.proofs.Common.{◌≡◌, ◌∙◌, ℕ, ◌+◌, List, [], ◌∷◌, ◌++◌, ap, refl, sym, subst, Ok}
 use Rattle.std.proofs.lemmas.List.{same_from_push}
 use Rattle.client_world.specs.declared.calls.Call.{Call}
@@ -16,6 +17,7 @@ use Rattle.host_run.specs.Keys.{HasKeys}
 use Rattle.host_run.specs.Nested.{IsHandedOver, PopsRecord, PushesRecord}
 use Rattle.host_run.specs.RealCalls.{ReturnsFromCall, StartsCall, StartsRealCall}
 use Rattle.host_run.specs.Run.{turns}
+use Rattle.host_run.proofs.HandedExceptions.{has_delivered, has_resumed}
 use Rattle.host_run.proofs.Sound.{turns_sound}
 use Rattle.translation.specs.HandOver.{HasBegun, HasEnded}
 use Rattle.translation.specs.SimulatedCall.{begin_call}
@@ -76,7 +78,12 @@ real_call_by w v x y (Reflect n) r starts ends pushes pops innermost =
 by_record : (w v x y : HostWorld) (r : Record) → Matches w v x y r → HandsOver w v x y r
 by_record w v x y (Sim call saved vif at) m = real_call_by w v x y call (Sim call saved vif at) m.starts m.ends m.pushes m.pops m.innermost
 by_record w v x y (Back slot at) m = tt
-by_record w v x y (Exc number code) m = tt
+by_record w v x y (Exc number code) m = record {
+  delivered = has_delivered w.machine v.machine (record { number = number; code = code }) m.starts m.pushes.0 m.pushes.1;
+  resumed = has_resumed x.machine y.machine m.pops.0;
+  enter = m.pushes.2;
+  leave = m.pops.1;
+}
 
 pub hands_over : (w : ℕ → HostWorld) (i j : ℕ) → IsSound (w i).machine → IsSound (w j).machine → (h : IsHandedOver w i j) →
     HandsOver (w i) (w (i + 1)) (w j) (w (j + 1)) h.innermost

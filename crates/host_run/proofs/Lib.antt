@@ -1,5 +1,6 @@
 mod AskedCalls
 mod ClientChanges
+mod HandedExceptions
 mod Frames
 mod HandOver
 mod KindModes

@@ -393,7 +393,7 @@ delivery_by : (h : HostWorld) (f : Fault) (r : Result World Exit) → world_prot
     h.machine.mode ≡ Protected → TurnKeeps h (after_protected_delivery h f.number r)
 delivery_by h f (Ok w) is s mode =
     goes_changed h (record (noted (enter_line h.machine f.number) h) { machine = w }) s (faults.sound_world_delivery h.machine w f s.machine mode is)
-    (pushed (Exc f.number f.code) (faults.pushed_record h.machine w f is) (is, (refl, refl))) refl (omega arith) refl refl
+    (pushed (Exc f.number f.code) (faults.pushed_record h.machine w f is) (mode, is, (refl, refl))) refl (omega arith) refl refl
 delivery_by h f (Err exit) is s mode = stops_same h exit s
 
 popped_line : (h : HostWorld) (w : World) (n : ℕ) → IsReached h → IsSound w → world_exception_return h.machine ≡ Ok w →

@@ -1,5 +1,7 @@
--- What a call of real mode hands over in a run: the turn that starts it gives its procedure the client's registers, structure and words, and
--- the turn that ends it gives the client those of the procedure. Source: DPMI 0.9, INT 31h functions 0300h to 0302h, and "Interrupts".
+-- What is handed over in a run by two turns of which the second takes away the record that the first added. A call of real mode: the turn that
+-- starts it gives its procedure the client's registers, structure and words, and the turn that ends it gives the client those of the
+-- procedure. An exception: the handler finds its frame, and the client goes on as the frame then says. Source: DPMI 0.9, INT 31h
+-- functions 0300h to 0302h, "Interrupts" and "Exceptions".
 use Rattle.std.specs.Prelude.{◌≡◌, ℕ, [], ◌∷◌, Ok}
 use Rattle.client_world.specs.declared.calls.Call.{Call}
 use Rattle.client_world.specs.declared.calls.Call.TheVariants.{Int, Far, Iret, Reflect}
@@ -11,8 +13,9 @@ use Rattle.client_world.specs.Registers.{low_half}
 use Rattle.client_world.specs.Services.{es_di}
 use Rattle.client_world.specs.World.{World, HostWorld}
 use Rattle.fault_service.specs.Worlds.{world_popped}
+use Rattle.host_run.specs.Exceptions.{HasDelivered, HasResumed}
 use Rattle.host_run.specs.RealCalls.{HasMoreLines}
-use Rattle.host_run.specs.Turn.{call_enter_line, call_leave_line}
+use Rattle.host_run.specs.Turn.{call_enter_line, call_leave_line, enter_line, leave_line}
 use Rattle.translation.specs.HandOver.{HasBegun, HasEnded, HasReflected}
 use Rattle.translation.specs.SimulatedCall.{no_structure}
 use Rattle.translation.specs.Structure.{structure_bytes}
@@ -45,8 +48,15 @@ HandsOverRealCall w v x y Far = HandsOverCall w v x y Far
 HandsOverRealCall w v x y Iret = HandsOverCall w v x y Iret
 HandsOverRealCall w v x y (Reflect n) = HandsOverReflection w v x y n
 
--- by the record that the first of two turns adds and the second takes away; of exceptions and callbacks nothing is said here yet
+-- an exception of protected mode: at the handler's SS:ESP the frame is read, and the return takes what the frame at SS:(E)SP then holds
+pub record HandsOverException (w v x y : HostWorld) (number code : ℕ) : Type 0 where
+  pub delivered : HasDelivered w.machine (record { number = number; code = code }) v.machine
+  pub resumed : HasResumed x.machine y.machine
+  pub enter : HasMoreLines w (enter_line w.machine number ∷ []) v
+  pub leave : HasMoreLines x (leave_line y.machine number ∷ []) y
+
+-- by the record that the first of two turns adds and the second takes away; callbacks have none yet
 abbrev pub HandsOver : HostWorld → HostWorld → HostWorld → HostWorld → Record → Type 0
 HandsOver w v x y (Sim call saved vif at) = HandsOverRealCall w v x y call
 HandsOver w v x y (Back slot at) = Unit {0}
-HandsOver w v x y (Exc number code) = Unit {0}
+HandsOver w v x y (Exc number code) = HandsOverException w v x y number code

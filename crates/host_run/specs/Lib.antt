@@ -1,3 +1,4 @@
+pub mod Exceptions
 pub mod Footprint
 pub mod HandOver
 pub mod Keys

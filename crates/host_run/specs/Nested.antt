@@ -2,7 +2,7 @@
 use Rattle.std.specs.Prelude.{◌≡◌, ◌≢◌, ◌<◌, ◌≤◌, ◌+◌, ℕ, [], ◌∷◌, ◌++◌, take, Ok}
 use Rattle.client_world.specs.declared.calls.Record.{Record}
 use Rattle.client_world.specs.declared.calls.Record.TheVariants.{Sim, Back, Exc}
-use Rattle.client_world.specs.declared.trace.TraceLine.{TraceLine}
+use Rattle.client_world.specs.declared.registers.Mode.TheVariants.{Protected}
 use Rattle.client_world.specs.World.{HostWorld, depth}
 use Rattle.protected_faults.specs.Worlds.{world_exception_return, world_protected_delivery}
 use Rattle.host_run.specs.RealCalls.{HasMoreLines, ReturnsFromCall, StartsRealCall}
@@ -13,7 +13,8 @@ abbrev pub PushesRecord : HostWorld → Record → HostWorld → Type 0
 PushesRecord w (Sim call saved vif at) v = StartsRealCall w call (Sim call saved vif at) v
 PushesRecord w (Back slot at) v = ⊥
 PushesRecord w (Exc number code) v =
-    (world_protected_delivery w.machine (record { number = number; code = code }) ≡ Ok v.machine)
+    (w.machine.mode ≡ Protected)
+    × (world_protected_delivery w.machine (record { number = number; code = code }) ≡ Ok v.machine)
     × HasMoreLines w (enter_line w.machine number ∷ []) v
 
 -- a turn that takes a record away: its call or its exception returns. No turn takes another record away yet

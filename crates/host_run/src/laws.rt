@@ -66,11 +66,12 @@ pub fn nested_calls_return_in_order()
     ensures record_stays { (w : ℕ → HostWorld) (n i j : ℕ) → HasTurns w n → j < n → Matched w i j → IsHandedOver w i j }
 {}
 
-/// A call of real mode hands over what it should, whatever is nested in it: the procedure starts with the registers of the client's structure
-/// and with the client's words, or a reflected interrupt with the client's general registers and flags; and the turn that takes its record
-/// away gives the client those of the procedure, and the structure its results. So it is of each two turns of which the second takes away
-/// the record that the first added, in a row of hosts whose machines are sound, and in each run.
-pub fn every_call_of_real_mode_hands_over()
+/// A call of real mode and an exception hand over what they should, whatever is nested in them. The procedure of a call starts with the registers
+/// of the client's structure and with the client's words, or a reflected interrupt with the client's general registers and flags; and the
+/// turn that takes its record away gives the client those of the procedure, and the structure its results. The handler of an exception
+/// finds its frame at SS:ESP, and the turn that takes its record away takes what the frame then holds. So it is of each two turns of which
+/// the second takes away the record that the first added, in a row of hosts whose machines are sound, and in each run.
+pub fn every_nested_call_hands_over()
     ensures matched { (w : ℕ → HostWorld) (i j : ℕ) → IsSound (w i).machine → IsSound (w j).machine → (h : IsHandedOver w i j) →
         HandsOver (w i) (w (i + 1)) (w j) (w (j + 1)) h.innermost }
     ensures run { (w : HostWorld) (i j : ℕ) → IsSound w.machine → HasKeys w → (h : IsHandedOver (turns w) i j) →

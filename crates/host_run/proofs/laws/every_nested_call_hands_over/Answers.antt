@@ -1,5 +1,5 @@
 use Rattle.host_run.proofs.HandOver.{hands_over, run_hands_over}
-use Rattle.host_run.proofs.laws.every_call_of_real_mode_hands_over.Goals as goal
+use Rattle.host_run.proofs.laws.every_nested_call_hands_over.Goals as goal
 
 pub returns-clause-matched : goal.returns-clause-matched
 returns-clause-matched c = hands_over
