@@ -1,8 +1,8 @@
 //! Software interrupts, exceptions of real mode, and the return from an interrupt at a trap.
-//! It promises that each leaves the machine that its definition names, or gives its fault or exit and changes nothing; that its answer
-//! depends on the world alone; that a sound world leads to a sound one; that nothing but registers, the virtual interrupt flag and memory
-//! changes; and that in real mode a frame is popped exactly where its words lie inside the stack segment. It uses plans of instructions
-//! and the executing crates.
+//! It promises that each leaves the machine that its definition names, or gives its fault or exit and changes nothing; that what it makes
+//! of the world depends on the world alone; that a sound world leads to a sound one; that nothing but registers, the virtual interrupt
+//! flag and memory changes; and that in real mode a frame is popped exactly where its words lie inside the stack segment. It uses plans of
+//! instructions and the executing crates.
 #![tactic(auto)]
 
 mod exceptions;
