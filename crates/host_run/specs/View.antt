@@ -15,7 +15,7 @@ pub record HostView : Type 0 where
 abbrev pub machine_view : HostView → MachineView
 machine_view h = record { world = h.world.machine; bytes = h.bytes }
 
--- the answer of some work in a turn, and the host after it, are what was expected: the run goes on; or it ends, and the memory is as it was.
+-- the result of some work in a turn, and the host after it, are what was expected: the run goes on; or it ends, and the memory is as it was.
 -- It counts no turn
 abbrev pub ComesTo : HostView → HostView → Result (Unit {0}) Exit → Outcome → Type 0
 ComesTo old new result expected =

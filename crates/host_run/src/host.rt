@@ -163,7 +163,7 @@ impl Host {
         }
     }
 
-    /// Turns up to an exit, or as many as the bound, with the exit `Bound` then. After an exit it answers that exit
+    /// Turns up to an exit, or as many as the bound, with the exit `Bound` then. After an exit it returns that exit
     /// again and changes nothing.
     pub fn run(&mut self, bound: u32) -> Exit
         requires { self.old.world.exit ≡ None → self.old.world.steps + bound ≤ MAX_STEPS }

@@ -113,9 +113,9 @@ impl Host {
     }
 
     // INT 2Fh AX = 1686h, with its frame popped: AX becomes 0, since the client runs in protected mode.
-    fn answer_presence(&mut self)
+    fn report_presence(&mut self)
         requires room { self.old.world.lines + 2 ≤ 2 * self.old.world.steps }
-        ensures answer { after_presence_call self.old.world self.old.world.machine ≡ goes_on self.new.world }
+        ensures outcome { after_presence_call self.old.world self.old.world.machine ≡ goes_on self.new.world }
         ensures steps { self.new.world.steps ≡ self.old.world.steps }
     {
         let r = self.machine.regs();
@@ -142,7 +142,7 @@ impl Host {
     fn serve_int31(&mut self)
         requires mode { self.old.world.machine.mode ≡ protected }
         requires room { self.old.world.lines + 2 ≤ 2 * self.old.world.steps }
-        ensures answer { after_int31 self.old.world self.old.world.machine ≡ goes_on self.new.world }
+        ensures outcome { after_int31 self.old.world self.old.world.machine ≡ goes_on self.new.world }
         ensures steps { self.new.world.steps ≡ self.old.world.steps }
     {
         let number = ax(&self.machine);
@@ -171,7 +171,7 @@ impl Host {
             Err(exit) => return Err(exit),
         }
         if presence {
-            self.answer_presence();
+            self.report_presence();
         } else {
             self.serve_int31();
         }

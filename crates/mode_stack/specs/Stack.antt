@@ -23,7 +23,7 @@ after_push v r = with_record v r (record_bytes r)
 abbrev pub after_pop : MachineView → MachineView
 after_pop v = without_record v
 
--- the answer of a push, and the machine after it: the record is pushed where there is room; at the greatest depth nothing has changed
+-- the result of a push, and the machine after it: the record is pushed where there is room; at the greatest depth nothing has changed
 abbrev pub Pushes : Record → Result (Unit {0}) Deep → MachineView → MachineView → Type 0
 Pushes r result old new = MatchResult result
     (λ _. (depth old.world < GREATEST_DEPTH) × (new ≡ after_push old r))

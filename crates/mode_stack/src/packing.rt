@@ -1,11 +1,15 @@
-// The 128 bytes of a record.
+// The bytes of a record.
 ghost use Rattle.std.specs.Prelude.{◌≡◌, ◌≤◌, ◌+◌, length};
 ghost use Rattle.guest_ram.specs.Bytes.{put, dword, dword_bytes, word_of};
-ghost use Rattle.host_memory.specs.Records.{call_kind, call_number, call_of, no_pointer, record_at, record_bytes, record_head, regs_at, regs_bytes};
+ghost use Rattle.host_memory.specs.Records.{call_kind, call_number, call_of, no_pointer, record_at, record_bytes, record_head, record_size, regs_at, regs_bytes};
 ghost use Rattle.host_memory.specs.Vectors.{pointer_at, word_bytes};
 
 use byteorder::{ByteOrder, LittleEndian};
+use client_world::host_frames::RECORD_SIZE;
 use client_world::{Call, FarPtr, Flags, Record, Regs};
+
+// The bytes of a record.
+const ROW_SIZE: usize = RECORD_SIZE as usize;
 
 /// Puts bytes in place of those of a slice from an offset on.
 pub fn put_at(into: &mut [u8], at: usize, bytes: &[u8])
@@ -92,10 +96,10 @@ const NO_POINTER: FarPtr = FarPtr { sel: 0, off: 0 };
 
 /// The bytes of a record.
 #[tactic(auto, unfolding(host_memory::specs::Records::record_bytes))]
-pub(crate) fn packed(r: &Record) -> [u8; 128]
+pub(crate) fn pack(r: &Record) -> [u8; ROW_SIZE]
     ensures { result ≡ record_bytes r.now }
 {
-    let mut bytes = [0; 128];
+    let mut bytes = [0; ROW_SIZE];
     match r {
         Record::Sim {
             call,
@@ -120,23 +124,23 @@ pub(crate) fn packed(r: &Record) -> [u8; 128]
 
 // The word, the doubleword and the far pointer at an offset of a row.
 #[tactic(auto, using(crate::proofs::RowNumbers::little_word))]
-fn word_at(bytes: &[u8; 128], at: usize) -> u16
-    requires { at + 2 ≤ 128 }
+fn word_at(bytes: &[u8; ROW_SIZE], at: usize) -> u16
+    requires { at + 2 ≤ record_size }
     ensures { result ≡ word_of bytes.now at }
 {
     LittleEndian::read_u16(&bytes[at..])
 }
 
 #[tactic(auto, using(crate::proofs::RowNumbers::little_dword), unfolding(guest_ram::specs::Bytes::dword))]
-fn dword_at(bytes: &[u8; 128], at: usize) -> u32
-    requires { at + 4 ≤ 128 }
+fn dword_at(bytes: &[u8; ROW_SIZE], at: usize) -> u32
+    requires { at + 4 ≤ record_size }
     ensures { result ≡ dword bytes.now at }
 {
     LittleEndian::read_u32(&bytes[at..])
 }
 
-fn pointer_at(bytes: &[u8; 128], at: usize) -> FarPtr
-    requires { at + 6 ≤ 128 }
+fn pointer_at(bytes: &[u8; ROW_SIZE], at: usize) -> FarPtr
+    requires { at + 6 ≤ record_size }
     ensures { result ≡ pointer_at bytes.now at }
 {
     FarPtr {
@@ -147,7 +151,7 @@ fn pointer_at(bytes: &[u8; 128], at: usize) -> FarPtr
 
 // The registers in a row.
 #[tactic(auto, unfolding(host_memory::specs::Records::regs_at))]
-fn regs_at(bytes: &[u8; 128]) -> Regs
+fn regs_at(bytes: &[u8; ROW_SIZE]) -> Regs
     ensures { result ≡ regs_at bytes.now 16 }
 {
     Regs {
@@ -184,7 +188,7 @@ fn call_of(kind: u8, number: u8) -> Call
 
 /// The record of a row.
 #[tactic(auto, unfolding(host_memory::specs::Records::record_at))]
-pub(crate) fn unpacked(bytes: &[u8; 128]) -> Record
+pub(crate) fn unpack(bytes: &[u8; ROW_SIZE]) -> Record
     ensures { result ≡ record_at bytes.now 0 }
 {
     let number = bytes[1];

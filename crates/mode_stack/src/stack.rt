@@ -6,7 +6,7 @@ ghost use Rattle.client_world.specs.declared.calls.Record.{Record};
 ghost use Rattle.host_memory.specs.Records.{record_at, record_bytes};
 ghost use Rattle.mode_stack.specs.Stack.{Pushes, after_pop, top};
 
-use crate::packing::{packed, unpacked};
+use crate::packing::{pack, unpack};
 use client_world::limits::GREATEST_DEPTH;
 use client_world::{Deep, Record, a_flags_image_gives_its_flags_back};
 use guest_space::Machine;
@@ -38,7 +38,7 @@ pub fn top(m: &Machine) -> Option<Record>
         return None;
     }
 
-    Some(unpacked(&m.record_bytes(n - 1)))
+    Some(unpack(&m.record_bytes(n - 1)))
 }
 
 /// Makes a record the innermost one. `Deep` at the greatest depth, which leaves the machine as it was. Source: own.
@@ -51,7 +51,7 @@ pub fn push(m: &mut Machine, r: &Record) -> Result<(), Deep>
         return Err(Deep);
     }
 
-    m.put_record(&packed(r));
+    m.put_record(&pack(r));
     Ok(())
 }
 

@@ -176,9 +176,12 @@ fn a_string_stops_at_the_limit(rt: HostRuntime) -> Result<(), Fail> {
     let r = machine.regs();
     assert_eq!(rt; (r.ecx, r.esi, r.edi), (4, 4, 4));
     assert_eq!(rt; machine.dos16(0xE_47F6), 0x34);
-    for (i, byte) in [(0, 0xCD), (1, 0x20), (2, 0x00), (3, 0xA0), (4, 0x00)] {
-        assert_eq!(rt; machine.dos8(0x8000 + i), byte, "byte {i}");
-    }
+    let moved = (
+        machine.dos16(0x8000),
+        machine.dos16(0x8002),
+        machine.dos16(0x8004),
+    );
+    assert_eq!(rt; moved, (0x20CD, 0xA000, 0x0000));
     Ok(())
 }
 

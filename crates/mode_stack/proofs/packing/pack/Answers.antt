@@ -1,5 +1,5 @@
 use Rattle.mode_stack.proofs.PutRuns.{sim_packed, back_packed, exc_packed}
-use Rattle.mode_stack.proofs.packing.packed.Goals as goal
+use Rattle.mode_stack.proofs.packing.pack.Goals as goal
 
 pub returns-in-Sim : goal.returns-in-Sim
 returns-in-Sim c =
