@@ -23,8 +23,6 @@ pub enum Exit {
     BadFrame,
     /// A mode switch names what can't be loaded.
     BadSwitch,
-    /// The turn needs what isn't served yet.
-    Unbuilt,
 }
 
 /// Why a file isn't loaded. Source: own.

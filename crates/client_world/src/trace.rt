@@ -7,7 +7,7 @@ use crate::services::Carry;
 /// A line of the trace. Source: own.
 #[derive(Clone, Copy, Debug, PartialEq, Eq)]
 pub enum TraceLine {
-    /// A service of INT 31h: its AX, and the carry that it answered.
+    /// A service of INT 31h: its AX, and the carry that it returned.
     Int31 {
         ax: u16,
         carry: Carry,

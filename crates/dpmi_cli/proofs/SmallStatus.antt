@@ -2,7 +2,7 @@
 use Rattle.std.proofs.Common.{arith, ◌<◌}
 use Rattle.std.specs.Prelude.{None, Some}
 use Rattle.client_world.specs.declared.outcome.Exit.{Exit}
-use Rattle.client_world.specs.declared.outcome.Exit.TheVariants.{Exited, Fault, Bound, NoKeys, ConsoleFull, Deep, Stray, LostStructure, BadFrame, BadSwitch, Unbuilt}
+use Rattle.client_world.specs.declared.outcome.Exit.TheVariants.{Exited, Fault, Bound, NoKeys, ConsoleFull, Deep, Stray, LostStructure, BadFrame, BadSwitch}
 use Rattle.client_world.specs.World.{HostWorld}
 use Rattle.dpmi_cli.specs.Answer.{run_status, exit_status}
 
@@ -18,7 +18,6 @@ exit_status-small Stray = omega arith
 exit_status-small LostStructure = omega arith
 exit_status-small BadFrame = omega arith
 exit_status-small BadSwitch = omega arith
-exit_status-small Unbuilt = omega arith
 
 -- the status of a run is 0 or 1
 pub run_status-small : (w : HostWorld) → run_status w < 2

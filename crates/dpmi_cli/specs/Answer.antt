@@ -4,7 +4,7 @@ use Rattle.std.specs.Option.{option_map}
 use Rattle.std.specs.declared.option.Option.{Option}
 use Rattle.client_world.specs.declared.limits.TheConstants.{DEFAULT_BOUND, DEFAULT_PAGES, DEFAULT_TRACE, MAX_FILE}
 use Rattle.client_world.specs.declared.outcome.Exit.{Exit}
-use Rattle.client_world.specs.declared.outcome.Exit.TheVariants.{Exited, Fault, Bound, NoKeys, ConsoleFull, Deep, Stray, LostStructure, BadFrame, BadSwitch, Unbuilt}
+use Rattle.client_world.specs.declared.outcome.Exit.TheVariants.{Exited, Fault, Bound, NoKeys, ConsoleFull, Deep, Stray, LostStructure, BadFrame, BadSwitch}
 use Rattle.client_world.specs.World.{HostWorld}
 use Rattle.client_world.specs.Access.{IsHeld}
 use Rattle.host_run.specs.Start.{started_host}
@@ -58,7 +58,6 @@ exit_status Stray = ENDED_OTHERWISE
 exit_status LostStructure = ENDED_OTHERWISE
 exit_status BadFrame = ENDED_OTHERWISE
 exit_status BadSwitch = ENDED_OTHERWISE
-exit_status Unbuilt = ENDED_OTHERWISE
 
 -- the status of a run that has ended
 abbrev pub run_status : HostWorld → ℕ

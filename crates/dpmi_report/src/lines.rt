@@ -46,7 +46,6 @@ fn add_exit(line: &mut Line, exit: Exit)
         Exit::LostStructure => add(line, b"loststructure"),
         Exit::BadFrame => add(line, b"badframe"),
         Exit::BadSwitch => add(line, b"badswitch"),
-        Exit::Unbuilt => add(line, b"unbuilt"),
     }
 }
 
