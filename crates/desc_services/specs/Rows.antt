@@ -18,23 +18,11 @@ use Rattle.service_rows.specs.declared.refusal.Refusal.TheVariants.{InvalidSelec
 use Rattle.service_rows.specs.FirstIndex.{first_index}
 use Rattle.service_rows.specs.FreeRun.{first_free_run}
 use Rattle.service_rows.specs.Reasons.{Service, outcome}
-use Rattle.service_rows.specs.Rows.{unsupported, with_ax}
+use Rattle.service_rows.specs.Rows.{data_at, unsupported, with_ax}
 
 -- the world with another row at an index
 abbrev pub with_row : ℕ → Row → World → World
 with_row index row w = record w { descriptors = slice_set w.descriptors index row }
-
--- present, writable data at an address, with a limit in bytes below 100000h
-abbrev pub data_at : ℕ → ℕ → Desc
-data_at base limit = record {
-  base = base;
-  limit = limit;
-  gran = false;
-  size = false;
-  avl = false;
-  present = true;
-  kind = Data true false;
-}
 
 abbrev pub fresh : Desc
 fresh = data_at 0 0

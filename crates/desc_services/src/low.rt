@@ -1,34 +1,16 @@
 // Descriptors of chosen indices, and the step between selectors.
 ghost use Rattle.std.specs.Prelude.{◌≡◌, ◌≢◌, None};
 ghost use Rattle.service_rows.specs.Reasons.{Does};
-ghost use Rattle.desc_services.specs.Rows.{data_at, fresh, allocate_specific, selector_increment};
+ghost use Rattle.desc_services.specs.Rows.{fresh, allocate_specific, selector_increment};
 
 use crate::selector::put;
 use client_world::selectors::{SELECTOR_STEP, index_of, is_local};
-use client_world::{Desc, Kind, Origin};
+use client_world::Origin;
 use guest_space::Machine;
-use service_rows::{Refusal, low_half, set_ax};
+use service_rows::{Refusal, data_at, low_half, set_ax};
 
 // The greatest index that a client may choose.
 const LAST_LOW: u16 = 15;
-
-/// Writable data that is present.
-pub(crate) fn data_at(base: u32, limit: u32) -> Desc
-    ensures { result ≡ data_at base limit }
-{
-    Desc {
-        base,
-        limit,
-        gran: false,
-        size: false,
-        avl: false,
-        present: true,
-        kind: Kind::Data {
-            writable: true,
-            down: false,
-        },
-    }
-}
 
 /// Function 0003h: the difference between the selectors of a run.
 #[tactic(auto, unfolding(crate::specs::Rows::selector_increment))]

@@ -8,12 +8,11 @@ ghost use Rattle.service_rows.specs.FreeRun.{first_free_run};
 ghost use Rattle.service_rows.specs.Reasons.{Does};
 ghost use Rattle.desc_services.specs.Rows.{allocate_descriptors, create_alias, with_run};
 
-use crate::low::data_at;
 use crate::selector::put;
 use client_world::selectors::selector_of;
 use client_world::{Desc, Origin};
 use guest_space::Machine;
-use service_rows::{Refusal, low_half, set_ax};
+use service_rows::{Refusal, data_at, low_half, set_ax};
 
 /// The first of n free indices, from 64 on.
 pub(crate) fn first_free(m: &Machine, n: u16) -> Result<u16, Refusal>

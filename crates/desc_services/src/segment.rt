@@ -4,14 +4,13 @@ ghost use Rattle.client_world.specs.declared.host_frames.TheConstants.{DESCRIPTO
 ghost use Rattle.service_rows.specs.Reasons.{Does};
 ghost use Rattle.desc_services.specs.Rows.{is_segment_origin, is_segment_row, segment_to_descriptor, segment_index};
 
-use crate::low::data_at;
 use crate::runs::first_free;
 use crate::selector::put;
 use client_world::host_frames::DESCRIPTORS;
 use client_world::selectors::selector_of;
 use client_world::{Desc, Origin};
 use guest_space::Machine;
-use service_rows::{Refusal, low_half, set_ax};
+use service_rows::{Refusal, data_at, low_half, set_ax};
 
 // Whether a descriptor of this origin is a real segment's.
 fn is_segment_origin(origin: Origin, segment: u16) -> bool

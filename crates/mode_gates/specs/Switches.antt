@@ -9,7 +9,6 @@ use Rattle.client_world.specs.declared.outcome.Exit.TheVariants.{Stray, BadSwitc
 use Rattle.client_world.specs.declared.registers.Mode.TheVariants.{Real, Protected}
 use Rattle.client_world.specs.declared.registers.Regs.{Regs}
 use Rattle.client_world.specs.declared.registers.Width.{Width}
-use Rattle.client_world.specs.declared.registers.Width.TheVariants.{Sixteen, ThirtyTwo}
 use Rattle.client_world.specs.declared.segments.SegReg.TheVariants.{Es, Cs, Ss, Ds}
 use Rattle.client_world.specs.declared.selectors.TheConstants.{CLIENT_PRIVILEGE, HOST_CODE}
 use Rattle.client_world.specs.declared.traps.TheConstants.{PROTECTED_STATE_TRAP, REAL_STATE_TRAP, SWITCH_TO_PROTECTED_TRAP, SWITCH_TO_REAL_TRAP}
@@ -19,7 +18,7 @@ use Rattle.client_world.specs.Selector.{selector_code, selector_of}
 use Rattle.client_world.specs.Services.{Served, by_width}
 use Rattle.client_world.specs.World.{World}
 use Rattle.service_rows.specs.Reasons.{Service, outcome}
-use Rattle.service_rows.specs.Rows.{unsupported}
+use Rattle.service_rows.specs.Rows.{unsupported, with_by_width}
 
 -- ---- the switches
 
@@ -65,12 +64,6 @@ unfoldable pub switched_to_protected : World → Result World Exit
 switched_to_protected w = switched_by_width w w.width
 
 -- ---- their addresses
-
--- a register named (E)X with another value: a client of 16 bits keeps its high half
-abbrev pub with_by_width : Option Width → ℕ → ℕ → ℕ
-with_by_width None register v = with_low_half register v
-with_by_width (Some Sixteen) register v = with_low_half register v
-with_by_width (Some ThirtyTwo) register v = v
 
 -- BX:CX is the address of a trap of real mode, and SI:(E)DI that of a trap of protected mode
 abbrev pub address_regs : Option Width → Regs → ℕ → ℕ → Regs

@@ -15,7 +15,6 @@ ghost use Rattle.mode_gates.specs.Switches.{
   switched_regs,
   switched_to_protected,
   switched_to_real,
-  with_by_width,
 };
 
 use client_world::memory_map::{ROM_SEGMENT, ROM_START};
@@ -25,7 +24,7 @@ use client_world::traps::{
 };
 use client_world::{Carry, Exit, Mode, Regs, SegReg, Width};
 use guest_space::Machine;
-use service_rows::{Refusal, by_width, low_half, with_low_half};
+use service_rows::{Refusal, by_width, low_half, with_by_width, with_low_half};
 
 // The registers after a switch.
 fn switched_regs(r: &Regs, code: u16, stack_pointer: u32, instruction_pointer: u32) -> Regs
@@ -112,16 +111,6 @@ pub fn to_protected(m: &mut Machine) -> Result<(), Exit>
     Ok(())
 }
 
-// A register named (E)X with another value.
-fn with_by_width(width: Option<Width>, register: u32, v: u16) -> u32
-    ensures { result ≡ with_by_width width register v }
-{
-    match width {
-        Some(Width::ThirtyTwo) => u32::from(v),
-        Some(Width::Sixteen) | None => with_low_half(register, v),
-    }
-}
-
 // Gives the addresses of a trap of real mode and of one of protected mode.
 fn address_regs(m: &Machine, r: &Regs, real_at: u32, protected_at: u32) -> Regs
     requires real { rom_start ≤ real_at }
@@ -134,7 +123,7 @@ fn address_regs(m: &Machine, r: &Regs, real_at: u32, protected_at: u32) -> Regs
         ebx: with_low_half(r.ebx, ROM_SEGMENT),
         ecx: with_low_half(r.ecx, (real_at - ROM_START) as u16),
         esi: with_low_half(r.esi, selector_of(HOST_CODE)),
-        edi: with_by_width(m.width(), r.edi, (protected_at - ROM_START) as u16),
+        edi: with_by_width(m.width(), r.edi, protected_at - ROM_START),
         ..*r
     }
 }

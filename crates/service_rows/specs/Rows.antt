@@ -1,6 +1,15 @@
 -- Words that the services share. Source: own.
-use Rattle.std.specs.Prelude.{ℕ, true, [], ◌∷◌}
-use Rattle.client_world.specs.Registers.{with_low_half}
+use Rattle.std.specs.Prelude.{ℕ, Bool, true, false, ◌&&◌, nat_eq, [], ◌∷◌, None, Some}
+use Rattle.std.specs.declared.option.Option.{Option}
+use Rattle.client_world.specs.declared.descriptors.Desc.{Desc}
+use Rattle.client_world.specs.declared.descriptors.Kind.TheVariants.{Data}
+use Rattle.client_world.specs.declared.registers.Width.{Width}
+use Rattle.client_world.specs.declared.registers.Width.TheVariants.{Sixteen, ThirtyTwo}
+use Rattle.client_world.specs.declared.selectors.TheConstants.{CLIENT_PRIVILEGE}
+use Rattle.client_world.specs.Descriptor.{is_code}
+use Rattle.client_world.specs.Registers.{low_half, with_low_half}
+use Rattle.client_world.specs.Selector.{Row, privilege_of}
+use Rattle.client_world.specs.Services.{desc_of}
 use Rattle.client_world.specs.World.{World}
 use Rattle.service_rows.specs.declared.refusal.Refusal.TheVariants.{Unsupported}
 use Rattle.service_rows.specs.Reasons.{Service}
@@ -8,6 +17,33 @@ use Rattle.service_rows.specs.Reasons.{Service}
 -- the world with another AX
 abbrev pub with_ax : ℕ → World → World
 with_ax v w = record w { regs = record w.regs { eax = with_low_half w.regs.eax v } }
+
+-- a register named (E)X with a new value: in its low half for a 16-bit client, in all of it for a 32-bit one
+abbrev pub with_by_width : Option Width → ℕ → ℕ → ℕ
+with_by_width None register v = with_low_half register (low_half v)
+with_by_width (Some Sixteen) register v = with_low_half register (low_half v)
+with_by_width (Some ThirtyTwo) register v = v
+
+-- present, writable data at an address, with a limit in bytes below 100000h
+abbrev pub data_at : ℕ → ℕ → Desc
+data_at base limit = record {
+  base = base;
+  limit = limit;
+  gran = false;
+  size = false;
+  avl = false;
+  present = true;
+  kind = Data true false;
+}
+
+-- a descriptor row holds present code
+abbrev pub is_present_code : Row → Bool
+is_present_code None = false
+is_present_code (Some row) = is_code row.0.kind && row.0.present
+
+-- a code selector: its requested privilege level is 3, and its descriptor is present code
+abbrev pub is_code_selector : World → ℕ → Bool
+is_code_selector w sel = nat_eq (privilege_of sel) CLIENT_PRIVILEGE && is_present_code (desc_of w sel)
 
 -- a function that no service has: it is refused
 unfoldable pub unsupported : World → Service

@@ -2,7 +2,7 @@
 ghost use Rattle.std.specs.Prelude.{◌≡◌, ◌/◌};
 ghost use Rattle.client_world.specs.Registers.{high_byte, low_byte, low_half, with_low_byte, with_low_half};
 ghost use Rattle.client_world.specs.Services.{by_width, es_di, two_words};
-ghost use Rattle.service_rows.specs.Rows.{with_ax};
+ghost use Rattle.service_rows.specs.Rows.{with_ax, with_by_width};
 
 use client_world::{FarPtr, Width};
 use guest_space::Machine;
@@ -63,6 +63,16 @@ pub fn by_width(width: Option<Width>, x: u32) -> u32
     match width {
         None | Some(Width::Sixteen) => u32::from(low_half(x)),
         Some(Width::ThirtyTwo) => x,
+    }
+}
+
+/// A register with a new value in the part that a client of that width names.
+pub fn with_by_width(width: Option<Width>, x: u32, v: u32) -> u32
+    ensures { result ≡ with_by_width width x v }
+{
+    match width {
+        None | Some(Width::Sixteen) => with_low_half(x, low_half(v)),
+        Some(Width::ThirtyTwo) => v,
     }
 }
 

@@ -2,19 +2,15 @@
 -- 0900h to 0902h; the reasons of refusal are own.
 use Rattle.std.specs.Prelude.{ℕ, ◌+◌, ◌*◌, Bool, true, false, ◌&&◌, [], ◌∷◌, None, Some, nat_eq, nat_lt, not, cond, if◌then◌else◌, slice_set}
 use Rattle.std.specs.declared.option.Option.{Option}
-use Rattle.client_world.specs.declared.registers.Width.{Width}
-use Rattle.client_world.specs.declared.registers.Width.TheVariants.{Sixteen, ThirtyTwo}
 use Rattle.client_world.specs.declared.segments.FarPtr.{FarPtr}
-use Rattle.client_world.specs.Descriptor.{is_code}
 use Rattle.client_world.specs.Registers.{low_byte, low_half, with_low_byte, with_low_half}
-use Rattle.client_world.specs.Selector.{Row, privilege_of}
 use Rattle.client_world.specs.Services.{Served, by_width, cx, dx, desc_of}
 use Rattle.client_world.specs.World.{World}
 use Rattle.guest_ram.specs.Bytes.{with_word, word_of}
 use Rattle.guest_space.specs.VectorLists.{vector_at}
 use Rattle.service_rows.specs.declared.refusal.Refusal.TheVariants.{InvalidValue, InvalidSelector}
 use Rattle.service_rows.specs.Reasons.{Service, outcome}
-use Rattle.service_rows.specs.Rows.{unsupported}
+use Rattle.service_rows.specs.Rows.{is_code_selector, unsupported, with_by_width}
 
 -- BL holds the number of a vector
 abbrev pub bl : World → ℕ
@@ -43,12 +39,6 @@ set_real_vector w = record {
   after = record w { dos = with_word (with_word w.dos (real_vector_address w) (dx w)) (real_vector_address w + 2) (cx w) };
 }
 
--- a register with a new value: in its low half for a 16-bit client, in all of it for a 32-bit one
-abbrev pub with_width : Option Width → ℕ → ℕ → ℕ
-with_width None register v = with_low_half register (low_half v)
-with_width (Some Sixteen) register v = with_low_half register (low_half v)
-with_width (Some ThirtyTwo) register v = v
-
 -- the pointer in CX:(E)DX, and the world with a pointer there
 abbrev pub cx_dx : World → FarPtr
 cx_dx w = record { sel = cx w; off = by_width w.width w.regs.edx }
@@ -57,18 +47,9 @@ abbrev pub with_cx_dx : FarPtr → World → World
 with_cx_dx p w = record w {
   regs = record w.regs {
     ecx = with_low_half w.regs.ecx p.sel;
-    edx = with_width w.width w.regs.edx p.off;
+    edx = with_by_width w.width w.regs.edx p.off;
   };
 }
-
--- a descriptor row holds present code
-abbrev pub is_present_code : Row → Bool
-is_present_code None = false
-is_present_code (Some row) = is_code row.0.kind && row.0.present
-
--- a code selector: its requested privilege level is 3, and its descriptor is present code
-abbrev pub is_code_selector : World → ℕ → Bool
-is_code_selector w sel = nat_eq (privilege_of sel) 3 && is_present_code (desc_of w sel)
 
 -- there is no exception of that number
 abbrev pub is_no_exception : ℕ → Bool

@@ -4,12 +4,13 @@ ghost use Rattle.client_world.specs.declared.memory_map.TheConstants.{ROM_START}
 ghost use Rattle.client_world.specs.Registers.{low_byte};
 ghost use Rattle.guest_ram.specs.Bytes.{with_word};
 ghost use Rattle.service_rows.specs.Reasons.{Does};
-ghost use Rattle.vector_services.specs.Rows.{bl, cx_dx, get_exception_vector, get_protected_vector, get_real_vector, is_code_selector, is_present_code, set_exception_vector, set_protected_vector, set_real_vector, with_cx_dx, with_width};
+ghost use Rattle.vector_services.specs.Rows.{bl, cx_dx, get_exception_vector, get_protected_vector, get_real_vector, set_exception_vector, set_protected_vector, set_real_vector, with_cx_dx};
 
-use client_world::selectors::privilege_of;
-use client_world::{Desc, FarPtr, Origin, Width};
+use client_world::FarPtr;
 use guest_space::Machine;
-use service_rows::{Refusal, by_width, low_byte, low_half, with_low_half};
+use service_rows::{
+    Refusal, by_width, is_code_selector, low_byte, low_half, with_by_width, with_low_half,
+};
 
 // The greatest number of an exception.
 const LAST_EXCEPTION: u8 = 0x1F;
@@ -55,16 +56,6 @@ pub(crate) fn set_real_vector(m: &mut Machine) -> Result<(), Refusal>
     Ok(())
 }
 
-// A register with a new value: in its low half for a 16-bit client, in all of it for a 32-bit one.
-fn with_width(width: Option<Width>, x: u32, v: u32) -> u32
-    ensures { result ≡ with_width width x v }
-{
-    match width {
-        None | Some(Width::Sixteen) => with_low_half(x, low_half(v)),
-        Some(Width::ThirtyTwo) => v,
-    }
-}
-
 // The pointer in CX:DX, or CX:EDX for a 32-bit client.
 fn cx_dx(m: &Machine) -> FarPtr
     ensures { result ≡ cx_dx m.now.world }
@@ -82,25 +73,8 @@ fn set_cx_dx(m: &mut Machine, p: FarPtr)
 {
     let mut r = m.regs();
     r.ecx = with_low_half(r.ecx, p.sel);
-    r.edx = with_width(m.width(), r.edx, p.off);
+    r.edx = with_by_width(m.width(), r.edx, p.off);
     m.set_regs(r);
-}
-
-// Whether a descriptor row holds present code.
-fn is_present_code(row: Option<(Desc, Origin)>) -> bool
-    ensures { result ≡ is_present_code row }
-{
-    match row {
-        Some((d, _)) => d.kind.is_code() && d.present,
-        None => false,
-    }
-}
-
-// Whether a selector is a code selector.
-fn is_code_selector(m: &Machine, sel: u16) -> bool
-    ensures { result ≡ is_code_selector m.now.world sel }
-{
-    privilege_of(sel) == 3 && is_present_code(m.desc_of(sel))
 }
 
 /// Function 0202h: CX:(E)DX is exception vector BL.
