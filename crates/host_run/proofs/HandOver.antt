@@ -12,6 +12,7 @@ use Rattle.client_world.specs.Soundness.{IsSound}
 use Rattle.client_world.specs.World.{World, HostWorld}
 use Rattle.fault_service.specs.Worlds.{world_popped}
 use Rattle.fault_service.proofs.SoundAnswers.{sound_world_popped}
+use Rattle.callbacks.proofs.HandedOver.{has_entered, has_left}
 use Rattle.host_run.specs.HandOver.{HandsOver, HandsOverCall, HandsOverRealCall}
 use Rattle.host_run.specs.Keys.{HasKeys}
 use Rattle.host_run.specs.Nested.{IsHandedOver, PopsRecord, PushesRecord}
@@ -31,6 +32,7 @@ record Matches (w v x y : HostWorld) (r : Record) : Type 0 where
   ends : IsSound x.machine
   pushes : PushesRecord w r v
   pops : PopsRecord x r y
+  pushed : v.machine.calls ≡ w.machine.calls ++ r ∷ []
   innermost : x.machine.calls ≡ y.machine.calls ++ r ∷ []
 
 same_record : (x y : HostWorld) (r : Record) → x.machine.calls ≡ y.machine.calls ++ r ∷ [] → (e : HasEnded x.machine y.machine) →
@@ -77,7 +79,12 @@ real_call_by w v x y (Reflect n) r starts ends pushes pops innermost =
 
 by_record : (w v x y : HostWorld) (r : Record) → Matches w v x y r → HandsOver w v x y r
 by_record w v x y (Sim call saved vif at) m = real_call_by w v x y call (Sim call saved vif at) m.starts m.ends m.pushes m.pops m.innermost
-by_record w v x y (Back slot at) m = tt
+by_record w v x y (Back slot at) m = record {
+  entered = has_entered w.machine v.machine slot at m.starts m.pushes.0 m.pushed;
+  left = has_left x.machine y.machine slot at m.pops.0 m.innermost;
+  enter = m.pushes.1;
+  leave = m.pops.1;
+}
 by_record w v x y (Exc number code) m = record {
   delivered = has_delivered w.machine v.machine (record { number = number; code = code }) m.starts m.pushes.0 m.pushes.1;
   resumed = has_resumed x.machine y.machine m.pops.0;
@@ -92,6 +99,7 @@ hands_over w i j first last h = by_record (w i) (w (i + 1)) (w j) (w (j + 1)) h.
   ends = last;
   pushes = h.pushes;
   pops = h.pops;
+  pushed = h.push;
   innermost = h.pop ∙ ap (λ (calls : List Record). calls ++ h.innermost ∷ []) (sym h.rest);
 })
 

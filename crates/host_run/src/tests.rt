@@ -380,20 +380,3 @@ fn services_answer_in_the_popped_flags(rt: HostRuntime) -> Result<(), Fail> {
     assert_eq!(rt; host.line(3), Some(TraceLine::Int31 { ax, carry }));
     Ok(())
 }
-
-// What isn't served yet ends the run and leaves the machine: callbacks.
-#[test]
-fn other_services_are_unbuilt(rt: HostRuntime) -> Result<(), Fail> {
-    for function in 3..=4 {
-        let mut host = entered(&rt, rt.alloc(), &[0xB8, function, 0x03, 0xCD, 0x31])?;
-        assert_eq!(rt;
-            run_out(&rt, &mut host),
-            Exit::Unbuilt,
-            "function {function}"
-        );
-        assert_eq!(rt; host.steps(), 12, "function {function}");
-        assert_eq!(rt; host.machine().regs().eip, 0x231, "function {function}");
-        assert_eq!(rt; host.lines(), 2, "function {function}");
-    }
-    Ok(())
-}
