@@ -97,7 +97,7 @@ const CASES: [Case; 13] = [
     // A division by 0, whose vector ends the client; so does that of the coprocessor.
     case!(&[0xB1, 0x00, 0xF6, 0xF1], [esp: 0xFA, cs: 0xF000], exit: Exit::Fault(0, 0), steps: 3),
     case!(&[0xCD, 0x07], [esp: 0xFA, eip: 7, cs: 0xF000], exit: Exit::Fault(7, 0), steps: 2),
-    // The raw switch to protected mode isn't served yet. Its far call has pushed CS and IP, 4 bytes.
+    // The raw switch to protected mode before the entry. Its far call has pushed CS and IP, 4 bytes.
     case!(&[0x9A, 0x01, 0x01, 0x00, 0xF0], [esp: 0xFC, eip: 0x101, cs: 0xF000], exit: Exit::Stray, steps: 2, flags: 0x0202),
     // A client that goes in a circle.
     case!(&[0xEB, 0xFE], [], bound: 1000, exit: Exit::Bound, steps: 1000, flags: 0x0202),
