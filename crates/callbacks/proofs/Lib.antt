@@ -1,0 +1,2 @@
+pub mod HostRow
+pub mod SoundStackRow
