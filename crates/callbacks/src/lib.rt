@@ -3,3 +3,10 @@
 //! It promises that each leaves the world that its definition names, or is refused or gives its exit and changes nothing.
 //! It uses the call structure of translation, the stack of records and the machine of guest_space.
 #![tactic(auto)]
+
+mod laws;
+
+pub use laws::{
+    a_callback_hands_over_the_registers, a_return_hands_back_the_registers,
+    every_callback_is_sound, every_callback_is_stacked, every_callback_keeps_the_rest,
+};

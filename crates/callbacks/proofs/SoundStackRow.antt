@@ -1,0 +1,30 @@
+-- The world with the descriptor of a real caller's stack is sound.
+use Rattle.std.proofs.Common.{◌≡◌, ◌≢◌, ℕ, ◌*◌, ◌<◌, arith, Option, None, Some}
+use Rattle.client_world.specs.declared.limits.TheConstants.{GREATEST_DEPTH}
+use Rattle.client_world.specs.declared.memory_map.TheConstants.{PARAGRAPH_SIZE}
+use Rattle.client_world.specs.declared.registers.Width.{Width}
+use Rattle.client_world.specs.Descriptor.{FitsDescriptor}
+use Rattle.client_world.specs.Soundness.{IsSound, SoundWidth}
+use Rattle.client_world.specs.World.{Callback, World, depth}
+use Rattle.guest_space.specs.VectorLists.{callback_of_slot}
+use Rattle.service_rows.specs.Rows.{data_at}
+use Rattle.callbacks.specs.Callbacks.{stack_index, with_stack_row}
+use Rattle.callbacks.proofs.HostRow.{sound_with_host_row}
+
+-- where a callback is held there is a width
+none_before : (width : Option Width) (w : World) (slot : ℕ) (callback : Callback) → SoundWidth width w →
+    callback_of_slot w.callbacks slot ≡ Some callback → width ≢ None
+none_before None w slot callback s held = λ e. (let none = s.callbacks slot in cc)
+none_before (Some width) w slot callback s held = λ e. cc
+
+pub held_width : (w : World) (slot : ℕ) (callback : Callback) → IsSound w → callback_of_slot w.callbacks slot ≡ Some callback → w.width ≢ None
+held_width w slot callback s held = none_before w.width w slot callback s.width held
+
+stack_fits : (segment : ℕ) → segment < 0x10000 → FitsDescriptor (data_at (segment * PARAGRAPH_SIZE) 0xFFFF)
+stack_fits segment small = record { base = omega arith; limit = omega arith }
+
+pub sound_with_stack_row : (w : World) → IsSound w → w.width ≢ None → depth w < GREATEST_DEPTH → IsSound (with_stack_row w)
+unfolding with_stack_row
+sound_with_stack_row w s some room =
+    sound_with_host_row w (stack_index w) (data_at (w.regs.ss * PARAGRAPH_SIZE) 0xFFFF) s some (omega arith, omega arith)
+    (stack_fits w.regs.ss s.segments.ss)
