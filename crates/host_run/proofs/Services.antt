@@ -5,8 +5,7 @@ use Rattle.block_services.specs.Rows.{block_service}
 use Rattle.block_services.proofs.KeptServices as block_kept
 use Rattle.block_services.proofs.SoundServices as block_sound
 use Rattle.callbacks.specs.Services.{callback_service}
-use Rattle.callbacks.proofs.KeptCallbacks as callback_kept
-use Rattle.callbacks.proofs.SoundCallbacks as callback_sound
+use Rattle.callbacks.proofs.Served as callback_laws
 use Rattle.client_world.specs.declared.registers.Mode.TheVariants.{Protected}
 use Rattle.client_world.specs.Registers.{high_byte}
 use Rattle.client_world.specs.Services.{Served}
@@ -44,7 +43,7 @@ pub sound_service : (ax : ℕ) (w : World) → IsSound w → w.mode ≡ Protecte
 sound_service ax w sound protected = of_each_family (λ (s : Served). IsSound s.world) ax w
     (descriptor_sound.sound_service ax w sound protected)
     (dos_laws.sound_service ax w sound protected)
-    (callback_sound.sound_service ax w sound protected)
+    (callback_laws.sound_serve w ax sound protected)
     (gate_laws.sound_service ax w sound)
     (block_sound.sound_service ax w sound protected)
     (vector_sound.sound_service ax w sound)
@@ -53,7 +52,7 @@ pub calls_service : (ax : ℕ) (w : World) → (service ax w).world.calls ≡ w.
 calls_service ax w = of_each_family (λ (s : Served). s.world.calls ≡ w.calls) ax w
     (ap (λ (x : World). x.calls) (descriptor_kept.kept_service ax w))
     (ap (λ (x : World). x.calls) (dos_laws.kept_service ax w))
-    (ap (λ (x : World). x.calls) (callback_kept.kept_service ax w))
+    (ap (λ (x : World). x.calls) (callback_laws.serve_left w ax))
     (ap (λ (x : World). x.calls) (gate_laws.kept_service ax w))
     (ap (λ (x : World). x.calls) (block_kept.kept_service ax w))
     (ap (λ (x : World). x.calls) (vector_kept.kept_service ax w))

@@ -27,9 +27,9 @@ use Rattle.client_world.specs.Soundness.{IsSound}
 use Rattle.client_world.specs.World.{World, HostWorld}
 use Rattle.client_world.proofs.SoundWrites.{IsSound-regs}
 use Rattle.callbacks.specs.Callbacks.{enter_callback, leave_callback}
-use Rattle.callbacks.specs.HandOver.{IsLeft}
-use Rattle.callbacks.proofs.SoundCallbacks.{sound_enter, sound_leave}
-use Rattle.callbacks.proofs.Stacked.{enter_pushes, leave_pops}
+use Rattle.callbacks.specs.HandOver.{IsCallbackPopped}
+use Rattle.callbacks.proofs.KeptWorld.{enter_pushes, leave_pops}
+use Rattle.callbacks.proofs.SoundEntries.{sound_enter, sound_leave}
 use Rattle.dos_calls.specs.Calls.{CallResult, dos_call}
 use Rattle.dos_calls.specs.Multiplex.{multiplex_call}
 use Rattle.dos_calls.specs.Kept.{Extends}
@@ -416,15 +416,15 @@ return_by h (Err exit) is s = stops_same h exit s
 -- ---- callbacks
 
 callback_by : (h : HostWorld) (slot : ℕ) (r : Result World Exit) → enter_callback h.machine slot ≡ r → IsReached h →
-    h.machine.mode ≡ Real → TurnKeeps h (after_callback h slot r)
-callback_by h slot (Ok w) is s mode =
+    TurnKeeps h (after_callback h slot r)
+callback_by h slot (Ok w) is s =
     let p = enter_pushes h.machine w slot is in
-    goes_changed h (record (noted (enter_line h.machine (whats.Back slot)) h) { machine = w }) s (sound_enter h.machine w slot s.machine mode is)
+    goes_changed h (record (noted (enter_line h.machine (whats.Back slot)) h) { machine = w }) s (sound_enter h.machine w slot s.machine is)
     (pushed (Back slot p.at) p.pushed (is, (refl, refl))) refl (omega arith) refl refl
-callback_by h slot (Err exit) is s mode = stops_same h exit s
+callback_by h slot (Err exit) is s = stops_same h exit s
 
 callback_line : (h : HostWorld) (w : World) (slot : ℕ) → IsReached h → IsSound w → leave_callback h.machine ≡ Ok w →
-    (p : IsLeft h.machine w) → slot ≡ p.slot → TurnKeeps h (goes_on_with h (leave_line w (whats.Back slot)) w)
+    (p : IsCallbackPopped h.machine w) → slot ≡ p.slot → TurnKeeps h (goes_on_with h (leave_line w (whats.Back slot)) w)
 callback_line h w slot s sound is p same =
     rw same (goes_changed h (record (noted (leave_line w (whats.Back p.slot)) h) { machine = w }) s sound
     (left_one (Back p.slot p.at) p.popped (is, (refl, refl))) refl (omega arith) refl refl)
@@ -481,7 +481,7 @@ trapped_keeps h RealState s suits = state_call_keeps h s
 trapped_keeps h ToReal s suits = to_real_keeps h s suits
 trapped_keeps h ProtectedState s suits = state_call_keeps h s
 trapped_keeps h CallReturn s suits = call_return_by h (end_call h.machine) refl s
-trapped_keeps h (Callback slot) s suits = callback_by h slot (enter_callback h.machine slot) refl s suits
+trapped_keeps h (Callback slot) s suits = callback_by h slot (enter_callback h.machine slot) refl s
 trapped_keeps h (ProtectedVector n) s suits = protected_vector_keeps h n s suits
 trapped_keeps h (ExceptionHandler n) s suits = stops_same h (exit_of_record (top h.machine)) s
 trapped_keeps h ExceptionReturn s suits = return_by h (world_exception_return h.machine) refl s

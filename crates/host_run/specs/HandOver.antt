@@ -59,10 +59,13 @@ pub record HandsOverException (w v x y : HostWorld) (number code : ℕ) : Type 0
   pub enter : HasMoreLines w (enter_line w.machine (whats.Exc number) ∷ []) v
   pub leave : HasMoreLines x (leave_line y.machine (whats.Exc number) ∷ []) y
 
--- the turn from w to v starts the callback of a slot, whose structure is at a pointer, and the turn from x to y ends it
+-- the turn from w to v starts the callback of a slot, whose structure is at a pointer, and the turn from x to y ends it: the procedure finds
+-- the real caller's registers in its structure, and real mode has at the end those of the structure at the ES:(E)DI of x
 pub record HandsOverCallback (w v x y : HostWorld) (slot : ℕ) (at : FarPtr) : Type 0 where
-  pub entered : HasEntered w.machine v.machine slot at
-  pub left : HasLeft x.machine y.machine slot at
+  pub entered : HasEntered w.machine v.machine slot
+  pub place : entered.at ≡ at
+  pub left : HasLeft x.machine y.machine
+  pub same : Back left.slot left.at ≡ Back slot at
   pub enter : HasMoreLines w (enter_line w.machine (whats.Back slot) ∷ []) v
   pub leave : HasMoreLines x (leave_line y.machine (whats.Back slot) ∷ []) y
 
