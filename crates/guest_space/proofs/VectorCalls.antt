@@ -1,25 +1,26 @@
--- The vectors and the pageable pages of a machine, read and written.
-use Rattle.std.proofs.Common.{◌≡◌, ℕ, ◌+◌, ◌*◌, ◌<◌, ◌≤◌, Bool, false, List, length, slice_index, slice_set, length-set, ap, ◌∙◌, sym, subst, arith, nat_eq}
-use Rattle.client_world.specs.declared.host_frames.TheConstants.{PAGE_SIZE, VECTORS, VECTOR_FRAMES, VECTOR_SIZE}
-use Rattle.client_world.specs.declared.limits.TheConstants.{INTERRUPT_VECTORS, EXCEPTION_VECTORS}
+-- The vectors, the callbacks and the pageable pages of a machine, read and written.
+use Rattle.std.proofs.Common.{◌≡◌, ◌≢◌, ℕ, ◌+◌, ◌*◌, ◌<◌, ◌≤◌, Bool, false, List, slice_index, slice_set, length-set, refl, ap, ◌∙◌, sym, subst, arith, nat_eq, Option, None}
+use Rattle.client_world.specs.declared.host_frames.TheConstants.{PAGE_SIZE, CALLBACK_SIZE, VECTORS, VECTOR_FRAMES, VECTOR_SIZE}
+use Rattle.client_world.specs.declared.limits.TheConstants.{CALLBACKS, INTERRUPT_VECTORS, EXCEPTION_VECTORS}
 use Rattle.client_world.specs.declared.memory_map.TheConstants.{DOS_VIEW_PAGES}
 use Rattle.client_world.specs.declared.place.Place.{Place}
 use Rattle.client_world.specs.declared.segments.FarPtr.{FarPtr}
 use Rattle.client_world.specs.Soundness.{IsSound}
+use Rattle.client_world.specs.World.{Callback}
 use Rattle.guest_ram.specs.Bytes.{word_of}
-use Rattle.guest_ram.proofs.ListedLaws.{at_listed, length-listed}
+use Rattle.guest_ram.proofs.ListedLaws.{at_listed}
 use Rattle.host_memory.specs.Holds.{Holds}
 use Rattle.host_memory.specs.Layout.{address_of, vectors_part}
-use Rattle.host_memory.specs.Vectors.{exception_vectors_in, exceptions_start, interrupt_vectors_in, pageable_in, pageable_start, pointer_at}
+use Rattle.host_memory.specs.Vectors.{callback_at, callbacks_in, callbacks_start, exception_vectors_in, exceptions_start, interrupt_vectors_in, pageable_in, pageable_start, pointer_at}
 use Rattle.host_memory.specs.View.{MachineView}
 use Rattle.host_memory.proofs.PartBytes.{part_byte, part_dword, part_word}
 use Rattle.host_memory.proofs.VectorParts.{same_parts}
-use Rattle.host_memory.proofs.VectorWrites.{ChangesVectors, exception_changes, interrupt_changes, pageable_changes, with_pageable, with_pointer, with_vectors}
-use Rattle.host_memory.proofs.WorldParts.{exception_vectors_is, interrupt_vectors_is, pageable_is}
+use Rattle.host_memory.proofs.VectorWrites.{ChangesVectors, callback_changes, exception_changes, interrupt_changes, pageable_changes, with_callback, with_pageable, with_pointer, with_vectors}
+use Rattle.host_memory.proofs.WorldParts.{callbacks_is, exception_vectors_is, interrupt_vectors_is, pageable_is}
 use Rattle.guest_space.specs.Machines.{Processor, held_world}
-use Rattle.guest_space.specs.VectorLists.{is_pageable, vector_at}
+use Rattle.guest_space.specs.VectorLists.{callback_of_slot, is_pageable, vector_at}
 use Rattle.guest_space.proofs.BlockViews.{IsView}
-use Rattle.guest_space.proofs.SoundLists.{IsSound-vectors}
+use Rattle.guest_space.proofs.SoundLists.{IsSound-callbacks, IsSound-vectors}
 
 -- ---- reading
 
@@ -37,6 +38,9 @@ exceptions_of k b = exception_vectors_is b k.budget k.mode k.regs k.vif k.width
 pageable_of : (k : Processor) (b : List ℕ) → (held_world k b).pageable ≡ pageable_in (vectors_part b)
 pageable_of k b = pageable_is b k.budget k.mode k.regs k.vif k.width
 
+callbacks_of : (k : Processor) (b : List ℕ) → (held_world k b).callbacks ≡ callbacks_in (vectors_part b)
+callbacks_of k b = callbacks_is b k.budget k.mode k.regs k.vif k.width
+
 pub interrupt_read : (k : Processor) (b : List ℕ) (v : MachineView) → IsView k b v → (n : ℕ) → n < INTERRUPT_VECTORS →
     pointer_at b (PAGE_SIZE * VECTORS + VECTOR_SIZE * n) ≡ vector_at v.world.interrupt_vectors n
 interrupt_read k b v is n within =
@@ -53,6 +57,31 @@ exception_read k b v is n within =
     ∙ ap (λ (xs : List FarPtr). vector_at xs n) (sym (exceptions_of k b))
     ∙ ap (λ (x : MachineView). vector_at x.world.exception_vectors n) is
 
+-- the place of a callback's second pointer
+pub second_pointer : (b : List ℕ) (at : ℕ) → pointer_at b (PAGE_SIZE * VECTORS + (at + 6)) ≡ pointer_at b (PAGE_SIZE * VECTORS + at + 6)
+second_pointer b at =
+    let place : PAGE_SIZE * VECTORS + (at + 6) ≡ PAGE_SIZE * VECTORS + at + 6 = omega arith in
+    ap (pointer_at b) place
+
+-- a callback in the memory is one of the frame
+part_callback : (b : List ℕ) (at : ℕ) → at + CALLBACK_SIZE ≤ PAGE_SIZE * VECTOR_FRAMES → callback_at b (PAGE_SIZE * VECTORS + at) ≡ callback_at (vectors_part b) at
+unfolding callback_at
+part_callback b at room =
+    let last : PAGE_SIZE * VECTORS + at + 12 ≡ PAGE_SIZE * VECTORS + (at + 12) = omega arith in
+    let held : slice_index b (PAGE_SIZE * VECTORS + at + 12) ≡ slice_index (vectors_part b) (at + 12) =
+    ap (slice_index b) last ∙ part_byte b VECTORS VECTOR_FRAMES (at + 12) (omega arith) in
+    let procedure = part_pointer b at (omega arith) in
+    let structure = sym (second_pointer b at) ∙ part_pointer b (at + 6) (omega arith) in
+    rw (held, procedure, structure) refl
+
+pub callback_read : (k : Processor) (b : List ℕ) (v : MachineView) → IsView k b v → (slot : ℕ) → slot < CALLBACKS →
+    callback_at b (PAGE_SIZE * VECTORS + (callbacks_start + CALLBACK_SIZE * slot)) ≡ callback_of_slot v.world.callbacks slot
+callback_read k b v is slot within =
+    part_callback b (callbacks_start + CALLBACK_SIZE * slot) (omega arith)
+    ∙ sym (at_listed CALLBACKS (λ i. callback_at (vectors_part b) (callbacks_start + CALLBACK_SIZE * i)) slot None within)
+    ∙ ap (λ (xs : List (Option Callback)). callback_of_slot xs slot) (sym (callbacks_of k b))
+    ∙ ap (λ (x : MachineView). callback_of_slot x.world.callbacks slot) is
+
 pub pageable_read : (k : Processor) (b : List ℕ) (v : MachineView) → IsView k b v → (page : ℕ) → page < DOS_VIEW_PAGES →
     nat_eq (slice_index b (PAGE_SIZE * VECTORS + pageable_start + page)) 1 ≡ is_pageable v.world.pageable page
 pageable_read k b v is page within =
@@ -65,83 +94,105 @@ pageable_read k b v is page within =
 -- ---- writing
 
 -- the machine with other lists
-pub record VectorsMachine (k : Processor) (b c : List ℕ) (interrupts exceptions : List FarPtr) (pageable : List Bool) : Type 0 where
+pub record VectorsMachine (k : Processor) (b c : List ℕ) (interrupts exceptions : List FarPtr) (callbacks : List (Option Callback)) (pageable : List Bool) : Type 0 where
   pub holds : Holds c k.budget
-  pub world : held_world k c ≡ with_vectors (held_world k b) interrupts exceptions pageable
+  pub world : held_world k c ≡ with_vectors (held_world k b) interrupts exceptions callbacks pageable
   pub sound : IsSound (held_world k c)
   pub addresses : (p : Place) → address_of c p ≡ address_of b p
 
-vectors_machine : (k : Processor) (b c : List ℕ) (interrupts exceptions : List FarPtr) (pageable : List Bool) → IsSound (held_world k b) →
-    ChangesVectors b c k.budget interrupts exceptions pageable → length interrupts ≡ INTERRUPT_VECTORS →
-    length exceptions ≡ EXCEPTION_VECTORS → length pageable ≡ DOS_VIEW_PAGES → VectorsMachine k b c interrupts exceptions pageable
-vectors_machine k b c interrupts exceptions pageable sound ch int exc page =
+vectors_machine : (k : Processor) (b c : List ℕ) (interrupts exceptions : List FarPtr) (callbacks : List (Option Callback)) (pageable : List Bool) →
+    ChangesVectors b c k.budget interrupts exceptions callbacks pageable → IsSound (with_vectors (held_world k b) interrupts exceptions callbacks pageable) →
+    VectorsMachine k b c interrupts exceptions callbacks pageable
+vectors_machine k b c interrupts exceptions callbacks pageable ch sound =
     let world = ch.world k.mode k.regs k.vif k.width in
     record {
       holds = ch.holds;
       world = world;
-      sound = subst IsSound (sym world) (IsSound-vectors (held_world k b) interrupts exceptions pageable sound int exc page);
+      sound = subst IsSound (sym world) sound;
       addresses = ch.addresses;
     }
 
--- by the lists of the world before
-own_lists : (k : Processor) (b c : List ℕ) (interrupts exceptions own_int own_exc : List FarPtr) (pageable own_page : List Bool) →
-    VectorsMachine k b c interrupts exceptions pageable → interrupts ≡ own_int → exceptions ≡ own_exc → pageable ≡ own_page →
-    VectorsMachine k b c own_int own_exc own_page
-own_lists k b c interrupts exceptions own_int own_exc pageable own_page m e f g =
-    subst (λ (xs : List Bool). VectorsMachine k b c own_int own_exc xs) g
-    (subst (λ (xs : List FarPtr). VectorsMachine k b c own_int xs pageable) f
-    (subst (λ (xs : List FarPtr). VectorsMachine k b c xs exceptions pageable) e m))
+-- the lists of the world before are those of the frame
+own_changes : (k : Processor) (b c : List ℕ) (interrupts exceptions own_int own_exc : List FarPtr) (callbacks own_back : List (Option Callback)) (pageable own_page : List Bool) →
+    ChangesVectors b c k.budget interrupts exceptions callbacks pageable → interrupts ≡ own_int → exceptions ≡ own_exc → callbacks ≡ own_back → pageable ≡ own_page →
+    ChangesVectors b c k.budget own_int own_exc own_back own_page
+own_changes k b c interrupts exceptions own_int own_exc callbacks own_back pageable own_page m e f g h =
+    subst (λ (xs : List Bool). ChangesVectors b c k.budget own_int own_exc own_back xs) h
+    (subst (λ (xs : List (Option Callback)). ChangesVectors b c k.budget own_int own_exc xs pageable) g
+    (subst (λ (xs : List FarPtr). ChangesVectors b c k.budget own_int xs callbacks pageable) f
+    (subst (λ (xs : List FarPtr). ChangesVectors b c k.budget xs exceptions callbacks pageable) e m)))
 
 abbrev pub SetInterrupt : Processor → List ℕ → List ℕ → ℕ → FarPtr → Type 0
 SetInterrupt k b c n p =
-    VectorsMachine k b c (slice_set (held_world k b).interrupt_vectors n p) (held_world k b).exception_vectors (held_world k b).pageable
+    let w = held_world k b in
+    VectorsMachine k b c (slice_set w.interrupt_vectors n p) w.exception_vectors w.callbacks w.pageable
 
 pub set_interrupt : (k : Processor) (b : List ℕ) → Holds b k.budget → IsSound (held_world k b) → (n : ℕ) (p : FarPtr) → n < INTERRUPT_VECTORS →
     (c : List ℕ) → c ≡ with_pointer b (VECTOR_SIZE * n) p → SetInterrupt k b c n p
 set_interrupt k b holds sound n p within c e =
     let part = vectors_part b in
-    subst (λ (x : List ℕ). SetInterrupt k b x n p) (sym e)
-    (own_lists k b (with_pointer b (VECTOR_SIZE * n) p) (slice_set (interrupt_vectors_in part) n p) (exception_vectors_in part)
-    (slice_set (held_world k b).interrupt_vectors n p) (held_world k b).exception_vectors (pageable_in part) (held_world k b).pageable
-    (vectors_machine k b (with_pointer b (VECTOR_SIZE * n) p) (slice_set (interrupt_vectors_in part) n p) (exception_vectors_in part) (pageable_in part) sound
+    let w = held_world k b in
+    let ch = own_changes k b (with_pointer b (VECTOR_SIZE * n) p) (slice_set (interrupt_vectors_in part) n p) (exception_vectors_in part)
+    (slice_set w.interrupt_vectors n p) w.exception_vectors (callbacks_in part) w.callbacks (pageable_in part) w.pageable
     (interrupt_changes b k.budget n p holds within)
-    (length-set (interrupt_vectors_in part) n p ∙ length-listed INTERRUPT_VECTORS (λ i. pointer_at part (VECTOR_SIZE * i)))
-    (length-listed EXCEPTION_VECTORS (λ i. pointer_at part (exceptions_start + VECTOR_SIZE * i)))
-    (length-listed DOS_VIEW_PAGES (λ i. nat_eq (slice_index part (pageable_start + i)) 1)))
-    (ap (λ (xs : List FarPtr). slice_set xs n p) (sym (interrupts_of k b))) (sym (exceptions_of k b)) (sym (pageable_of k b)))
+    (ap (λ (xs : List FarPtr). slice_set xs n p) (sym (interrupts_of k b))) (sym (exceptions_of k b)) (sym (callbacks_of k b)) (sym (pageable_of k b)) in
+    subst (λ (x : List ℕ). SetInterrupt k b x n p) (sym e)
+    (vectors_machine k b (with_pointer b (VECTOR_SIZE * n) p) (slice_set w.interrupt_vectors n p) w.exception_vectors w.callbacks w.pageable ch
+    (IsSound-vectors w (slice_set w.interrupt_vectors n p) w.exception_vectors w.pageable sound
+    (length-set w.interrupt_vectors n p ∙ sound.interrupt_vectors) sound.exception_vectors sound.pageable))
 
 abbrev pub SetException : Processor → List ℕ → List ℕ → ℕ → FarPtr → Type 0
 SetException k b c n p =
-    VectorsMachine k b c (held_world k b).interrupt_vectors (slice_set (held_world k b).exception_vectors n p) (held_world k b).pageable
+    let w = held_world k b in
+    VectorsMachine k b c w.interrupt_vectors (slice_set w.exception_vectors n p) w.callbacks w.pageable
 
 pub set_exception : (k : Processor) (b : List ℕ) → Holds b k.budget → IsSound (held_world k b) → (n : ℕ) (p : FarPtr) → n < EXCEPTION_VECTORS →
     (c : List ℕ) → c ≡ with_pointer b (exceptions_start + VECTOR_SIZE * n) p → SetException k b c n p
 set_exception k b holds sound n p within c e =
     let part = vectors_part b in
-    subst (λ (x : List ℕ). SetException k b x n p) (sym e)
-    (own_lists k b (with_pointer b (exceptions_start + VECTOR_SIZE * n) p) (interrupt_vectors_in part) (slice_set (exception_vectors_in part) n p)
-    (held_world k b).interrupt_vectors (slice_set (held_world k b).exception_vectors n p) (pageable_in part) (held_world k b).pageable
-    (vectors_machine k b (with_pointer b (exceptions_start + VECTOR_SIZE * n) p) (interrupt_vectors_in part) (slice_set (exception_vectors_in part) n p) (pageable_in part) sound
+    let w = held_world k b in
+    let ch = own_changes k b (with_pointer b (exceptions_start + VECTOR_SIZE * n) p) (interrupt_vectors_in part) (slice_set (exception_vectors_in part) n p)
+    w.interrupt_vectors (slice_set w.exception_vectors n p) (callbacks_in part) w.callbacks (pageable_in part) w.pageable
     (exception_changes b k.budget n p holds within)
-    (length-listed INTERRUPT_VECTORS (λ i. pointer_at part (VECTOR_SIZE * i)))
-    (length-set (exception_vectors_in part) n p ∙ length-listed EXCEPTION_VECTORS (λ i. pointer_at part (exceptions_start + VECTOR_SIZE * i)))
-    (length-listed DOS_VIEW_PAGES (λ i. nat_eq (slice_index part (pageable_start + i)) 1)))
-    (sym (interrupts_of k b)) (ap (λ (xs : List FarPtr). slice_set xs n p) (sym (exceptions_of k b))) (sym (pageable_of k b)))
+    (sym (interrupts_of k b)) (ap (λ (xs : List FarPtr). slice_set xs n p) (sym (exceptions_of k b))) (sym (callbacks_of k b)) (sym (pageable_of k b)) in
+    subst (λ (x : List ℕ). SetException k b x n p) (sym e)
+    (vectors_machine k b (with_pointer b (exceptions_start + VECTOR_SIZE * n) p) w.interrupt_vectors (slice_set w.exception_vectors n p) w.callbacks w.pageable ch
+    (IsSound-vectors w w.interrupt_vectors (slice_set w.exception_vectors n p) w.pageable sound
+    sound.interrupt_vectors (length-set w.exception_vectors n p ∙ sound.exception_vectors) sound.pageable))
+
+abbrev pub SetCallback : Processor → List ℕ → List ℕ → ℕ → Option Callback → Type 0
+SetCallback k b c slot row =
+    let w = held_world k b in
+    VectorsMachine k b c w.interrupt_vectors w.exception_vectors (slice_set w.callbacks slot row) w.pageable
+
+pub set_callback : (k : Processor) (b : List ℕ) → Holds b k.budget → IsSound (held_world k b) → (held_world k b).width ≢ None → (slot : ℕ) (row : Option Callback) → slot < CALLBACKS →
+    (c : List ℕ) → c ≡ with_callback b slot row → SetCallback k b c slot row
+set_callback k b holds sound some slot row within c e =
+    let part = vectors_part b in
+    let w = held_world k b in
+    let ch = own_changes k b (with_callback b slot row) (interrupt_vectors_in part) (exception_vectors_in part)
+    w.interrupt_vectors w.exception_vectors (slice_set (callbacks_in part) slot row) (slice_set w.callbacks slot row) (pageable_in part) w.pageable
+    (callback_changes b k.budget slot row holds within)
+    (sym (interrupts_of k b)) (sym (exceptions_of k b)) (ap (λ (xs : List (Option Callback)). slice_set xs slot row) (sym (callbacks_of k b))) (sym (pageable_of k b)) in
+    subst (λ (x : List ℕ). SetCallback k b x slot row) (sym e)
+    (vectors_machine k b (with_callback b slot row) w.interrupt_vectors w.exception_vectors (slice_set w.callbacks slot row) w.pageable ch
+    (IsSound-callbacks w (slice_set w.callbacks slot row) sound some (length-set w.callbacks slot row ∙ sound.callbacks)))
 
 abbrev pub SetPageable : Processor → List ℕ → List ℕ → ℕ → Bool → Type 0
 SetPageable k b c page on =
-    VectorsMachine k b c (held_world k b).interrupt_vectors (held_world k b).exception_vectors (slice_set (held_world k b).pageable page on)
+    let w = held_world k b in
+    VectorsMachine k b c w.interrupt_vectors w.exception_vectors w.callbacks (slice_set w.pageable page on)
 
 pub set_pageable : (k : Processor) (b : List ℕ) → Holds b k.budget → IsSound (held_world k b) → (page : ℕ) (on : Bool) → page < DOS_VIEW_PAGES →
     (c : List ℕ) → c ≡ with_pageable b page on → SetPageable k b c page on
 set_pageable k b holds sound page on within c e =
     let part = vectors_part b in
-    subst (λ (x : List ℕ). SetPageable k b x page on) (sym e)
-    (own_lists k b (with_pageable b page on) (interrupt_vectors_in part) (exception_vectors_in part)
-    (held_world k b).interrupt_vectors (held_world k b).exception_vectors (slice_set (pageable_in part) page on) (slice_set (held_world k b).pageable page on)
-    (vectors_machine k b (with_pageable b page on) (interrupt_vectors_in part) (exception_vectors_in part) (slice_set (pageable_in part) page on) sound
+    let w = held_world k b in
+    let ch = own_changes k b (with_pageable b page on) (interrupt_vectors_in part) (exception_vectors_in part)
+    w.interrupt_vectors w.exception_vectors (callbacks_in part) w.callbacks (slice_set (pageable_in part) page on) (slice_set w.pageable page on)
     (pageable_changes b k.budget page on holds within)
-    (length-listed INTERRUPT_VECTORS (λ i. pointer_at part (VECTOR_SIZE * i)))
-    (length-listed EXCEPTION_VECTORS (λ i. pointer_at part (exceptions_start + VECTOR_SIZE * i)))
-    (length-set (pageable_in part) page on ∙ length-listed DOS_VIEW_PAGES (λ i. nat_eq (slice_index part (pageable_start + i)) 1)))
-    (sym (interrupts_of k b)) (sym (exceptions_of k b)) (ap (λ (xs : List Bool). slice_set xs page on) (sym (pageable_of k b))))
+    (sym (interrupts_of k b)) (sym (exceptions_of k b)) (sym (callbacks_of k b)) (ap (λ (xs : List Bool). slice_set xs page on) (sym (pageable_of k b))) in
+    subst (λ (x : List ℕ). SetPageable k b x page on) (sym e)
+    (vectors_machine k b (with_pageable b page on) w.interrupt_vectors w.exception_vectors w.callbacks (slice_set w.pageable page on) ch
+    (IsSound-vectors w w.interrupt_vectors w.exception_vectors (slice_set w.pageable page on) sound
+    sound.interrupt_vectors sound.exception_vectors (length-set w.pageable page on ∙ sound.pageable)))

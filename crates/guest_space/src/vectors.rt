@@ -1,13 +1,13 @@
-// The protected-mode vectors, and which pages of the DOS megabyte's view are pageable.
-ghost use Rattle.std.specs.Prelude.{◌≡◌, ◌≤◌, ◌<◌, ◌+◌, ◌*◌, ℕ, cond, length, slice_set};
-ghost use Rattle.client_world.specs.declared.host_frames.TheConstants.{PAGE_SIZE, BUDGET_FRAMES, VECTORS, VECTOR_FRAMES};
-ghost use Rattle.client_world.specs.declared.limits.TheConstants.{EXCEPTION_VECTORS};
+// The protected-mode vectors, the real-mode callbacks, and which pages of the DOS megabyte's view are pageable.
+ghost use Rattle.std.specs.Prelude.{◌≡◌, ◌≢◌, ◌≤◌, ◌<◌, ◌+◌, ◌*◌, ◌++◌, ℕ, None, cond, length, slice_set};
+ghost use Rattle.client_world.specs.declared.host_frames.TheConstants.{PAGE_SIZE, BUDGET_FRAMES, CALLBACK_SIZE, VECTORS, VECTOR_FRAMES};
+ghost use Rattle.client_world.specs.declared.limits.TheConstants.{CALLBACKS, EXCEPTION_VECTORS};
 ghost use Rattle.client_world.specs.declared.memory_map.TheConstants.{DOS_VIEW_PAGES};
 ghost use Rattle.client_world.specs.declared.place.Place.{Place};
 ghost use Rattle.guest_ram.specs.Bytes.{dword_bytes, put};
-ghost use Rattle.guest_space.specs.VectorLists.{is_pageable, vector_at};
+ghost use Rattle.guest_space.specs.VectorLists.{callback_of_slot, is_pageable, vector_at};
 ghost use Rattle.host_memory.specs.Layout.{address_of};
-ghost use Rattle.host_memory.specs.Vectors.{exceptions_start, pageable_start, pointer_at, word_bytes};
+ghost use Rattle.host_memory.specs.Vectors.{callback_at, callback_bytes, callbacks_start, exceptions_start, pageable_start, pointer_at, pointer_bytes, word_bytes};
 
 use crate::machine::Machine;
 use client_world::FarPtr;
@@ -20,6 +20,14 @@ const EXCEPTIONS_START: u32 = VECTOR_SIZE * INTERRUPT_VECTORS;
 
 // Where the callbacks lie in that frame.
 const CALLBACKS_START: u32 = EXCEPTIONS_START + VECTOR_SIZE * EXCEPTION_VECTORS;
+
+// Where a callback has the far pointer to its structure, and where it has whether it is held.
+const STRUCTURE: u32 = 6;
+
+const HELD: u32 = 12;
+
+// What a free slot has in place of far pointers.
+const NOWHERE: FarPtr = FarPtr { sel: 0, off: 0 };
 
 // Where the byte of each pageable page lies in that frame.
 const PAGEABLE_START: u32 = CALLBACKS_START + CALLBACK_SIZE * CALLBACKS;
@@ -46,6 +54,42 @@ fn set_pointer(ram: &mut Ram, at: u32, p: FarPtr)
     let address = PAGE_SIZE * VECTORS + at;
     ram.set32(address, p.off);
     ram.set16(address + 4, p.sel);
+}
+
+// The callback at a place of that frame; none where the slot is free.
+fn callback(ram: &Ram, at: u32) -> Option<(FarPtr, FarPtr)>
+    requires size { PAGE_SIZE * BUDGET_FRAMES ≤ length ram.now }
+    requires room { at + CALLBACK_SIZE ≤ PAGE_SIZE * VECTOR_FRAMES }
+    ensures { result ≡ callback_at ram.now (PAGE_SIZE * VECTORS + at) }
+{
+    if ram.get8(PAGE_SIZE * VECTORS + at + HELD) == 0 {
+        None
+    } else {
+        Some((pointer(ram, at), pointer(ram, at + STRUCTURE)))
+    }
+}
+
+// Writes two far pointers, and after them a doubleword.
+fn set_slot(ram: &mut Ram, at: u32, procedure: FarPtr, structure: FarPtr, held: u32)
+    requires size { PAGE_SIZE * BUDGET_FRAMES ≤ length ram.old }
+    requires room { at + CALLBACK_SIZE ≤ PAGE_SIZE * VECTOR_FRAMES }
+    ensures { ram.new ≡ put ram.old (PAGE_SIZE * VECTORS + at) (pointer_bytes procedure ++ pointer_bytes structure ++ dword_bytes held) }
+{
+    set_pointer(ram, at, procedure);
+    set_pointer(ram, at + STRUCTURE, structure);
+    ram.set32(PAGE_SIZE * VECTORS + at + HELD, held);
+}
+
+// Writes a callback at a place of that frame, or zeros for a free slot.
+fn set_callback(ram: &mut Ram, at: u32, row: Option<(FarPtr, FarPtr)>)
+    requires size { PAGE_SIZE * BUDGET_FRAMES ≤ length ram.old }
+    requires room { at + CALLBACK_SIZE ≤ PAGE_SIZE * VECTOR_FRAMES }
+    ensures { ram.new ≡ put ram.old (PAGE_SIZE * VECTORS + at) (callback_bytes row) }
+{
+    match row {
+        Some((procedure, structure)) => set_slot(ram, at, procedure, structure, 1),
+        None => set_slot(ram, at, NOWHERE, NOWHERE, 0),
+    }
 }
 
 // The byte of a page: 1 where it is pageable, else 0.
@@ -90,6 +134,25 @@ impl Machine {
         ensures addresses { (place : Place) → address_of self.new.bytes place ≡ address_of self.old.bytes place }
     {
         set_pointer(&mut self.ram, EXCEPTIONS_START + VECTOR_SIZE * n as u32, p);
+    }
+
+    /// The callback of a slot below 16: its procedure and its call structure; none where the slot is free.
+    pub fn back(&self, slot: u8) -> Option<(FarPtr, FarPtr)>
+        requires { slot < CALLBACKS }
+        ensures { result ≡ callback_of_slot self.now.world.callbacks slot }
+    {
+        callback(&self.ram, CALLBACKS_START + CALLBACK_SIZE * slot as u32)
+    }
+
+    /// Sets the callback of a slot below 16, or frees the slot. Source: own.
+    pub fn set_back(&mut self, slot: u8, row: Option<(FarPtr, FarPtr)>)
+        requires slot { slot < CALLBACKS }
+        requires width { self.old.world.width ≢ None }
+        ensures world { self.new.world ≡ record self.old.world { callbacks = slice_set self.old.world.callbacks slot row } }
+        ensures addresses { (place : Place) → address_of self.new.bytes place ≡ address_of self.old.bytes place }
+    {
+        let at = CALLBACKS_START + CALLBACK_SIZE * slot as u32;
+        set_callback(&mut self.ram, at, row);
     }
 
     /// Whether a page of the DOS megabyte's view is pageable.

@@ -1,5 +1,5 @@
--- A far pointer, or a byte of a pageable page, put into the frame of the vectors: its lists, and what it must keep.
-use Rattle.std.proofs.Common.{◌≡◌, ◌≢◌, ℕ, zero, suc, ◌+◌, ◌*◌, ◌/◌, ◌%◌, ◌<◌, ◌≤◌, ◌⊎◌, inl, inr, Bool, true, false, List, [], ◌∷◌, length, slice_index, slice_set, refl, ap, ◌∙◌, sym, subst, arith, Option, nat_eq, cond}
+-- A far pointer, a callback, or a byte of a pageable page, put into the frame of the vectors: its lists, and what it must keep.
+use Rattle.std.proofs.Common.{◌≡◌, ◌≢◌, ℕ, zero, suc, ◌+◌, ◌*◌, ◌/◌, ◌%◌, ◌<◌, ◌≤◌, ◌⊎◌, inl, inr, Bool, true, false, List, [], ◌∷◌, length, slice_index, slice_set, refl, ap, ◌∙◌, sym, subst, arith, Option, Some, None, nat_eq, cond}
 use Rattle.std.proofs.lemmas.Bool.{cases_eq, cases_lt}
 use Rattle.client_world.specs.declared.host_frames.TheConstants.{PAGE_SIZE, CALLBACK_SIZE, VECTOR_FRAMES, VECTOR_SIZE}
 use Rattle.client_world.specs.declared.limits.TheConstants.{CALLBACKS, INTERRUPT_VECTORS, EXCEPTION_VECTORS}
@@ -170,6 +170,100 @@ exceptions_set part n p long within =
   where
     beside : (k i : ℕ) → k ≢ n → i < 6 → (exceptions_start + VECTOR_SIZE * n + 6 ≤ exceptions_start + VECTOR_SIZE * k + i) ⊎ (exceptions_start + VECTOR_SIZE * k + i < exceptions_start + VECTOR_SIZE * n)
     beside k i ne small = elim (cases_lt k n) [ inl below ↦ inr (omega arith) | inr above ↦ inl (omega arith) ]
+
+-- ---- a callback
+
+abbrev pub put_callback : List ℕ → ℕ → Option Callback → List ℕ
+put_callback part slot row = put part (callbacks_start + CALLBACK_SIZE * slot) (callback_bytes row)
+
+pub length-callback_bytes : (row : Option Callback) → length (callback_bytes row) ≡ CALLBACK_SIZE
+unfolding callback_bytes
+length-callback_bytes None = refl
+length-callback_bytes (Some callback) = refl
+
+-- its sixteen bytes alone change
+pub callback_away : (part : List ℕ) (slot : ℕ) (row : Option Callback) (k : ℕ) →
+    (callbacks_start + CALLBACK_SIZE * slot + CALLBACK_SIZE ≤ k) ⊎ (k < callbacks_start + CALLBACK_SIZE * slot) → slice_index (put_callback part slot row) k ≡ slice_index part k
+callback_away part slot row k away = put_away part (callbacks_start + CALLBACK_SIZE * slot) (callback_bytes row) k (elim away [
+  | inl above ↦ inl (omega (arith, length-callback_bytes row))
+  | inr below ↦ inr below
+])
+
+callback_within : (part : List ℕ) (slot : ℕ) (row : Option Callback) (i k : ℕ) → length part ≡ PAGE_SIZE * VECTOR_FRAMES → slot < CALLBACKS →
+    i < CALLBACK_SIZE → k ≡ callbacks_start + CALLBACK_SIZE * slot + i → slice_index (put_callback part slot row) k ≡ slice_index (callback_bytes row) i
+callback_within part slot row i k long within less e =
+    put_within part (callbacks_start + CALLBACK_SIZE * slot) (callback_bytes row) i k (omega (arith, length-callback_bytes row)) (omega (arith, length-callback_bytes row)) e
+
+-- a far pointer and a callback by their bytes
+pointer_from : (part : List ℕ) (at : ℕ) (p : FarPtr) → slice_index part at ≡ p.off % 0x100 → slice_index part (at + 1) ≡ p.off / 0x100 % 0x100 →
+    slice_index part (at + 2) ≡ p.off / 0x10000 % 0x100 → slice_index part (at + 3) ≡ p.off / 0x1000000 →
+    slice_index part (at + 4) ≡ p.sel % 0x100 → slice_index part (at + 4 + 1) ≡ p.sel / 0x100 → pointer_at part at ≡ p
+unfolding dword
+pointer_from part at p zeroth first second third low high = same_parts p _ _ (rw (low, high) (omega arith)) (rw (zeroth, first, second, third) (omega arith))
+
+callback_from : (part : List ℕ) (at : ℕ) (row : Option Callback) →
+    ((i k : ℕ) → i < CALLBACK_SIZE → k ≡ at + i → slice_index part k ≡ slice_index (callback_bytes row) i) → callback_at part at ≡ row
+unfolding callback_at callback_bytes
+callback_from part at None same = rw (same 12 (at + 12) (omega arith) refl) refl
+callback_from part at (Some callback) same =
+    let procedure = pointer_from part at callback.0
+    (same 0 at (omega arith) (omega arith)) (same 1 (at + 1) (omega arith) refl) (same 2 (at + 2) (omega arith) refl) (same 3 (at + 3) (omega arith) refl)
+    (same 4 (at + 4) (omega arith) refl) (same 5 (at + 4 + 1) (omega arith) (omega arith)) in
+    let structure = pointer_from part (at + 6) callback.1
+    (same 6 (at + 6) (omega arith) refl) (same 7 (at + 6 + 1) (omega arith) (omega arith)) (same 8 (at + 6 + 2) (omega arith) (omega arith)) (same 9 (at + 6 + 3) (omega arith) (omega arith))
+    (same 10 (at + 6 + 4) (omega arith) (omega arith)) (same 11 (at + 6 + 4 + 1) (omega arith) (omega arith)) in
+    rw (same 12 (at + 12) (omega arith) refl, procedure, structure) refl
+
+callback_there : (part : List ℕ) (slot : ℕ) (row : Option Callback) → length part ≡ PAGE_SIZE * VECTOR_FRAMES → slot < CALLBACKS →
+    callback_at (put_callback part slot row) (callbacks_start + CALLBACK_SIZE * slot) ≡ row
+callback_there part slot row long within =
+    callback_from (put_callback part slot row) (callbacks_start + CALLBACK_SIZE * slot) row (λ i k less e. callback_within part slot row i k long within less e)
+
+-- two slots don't meet
+slots_apart : (other slot i : ℕ) → other ≢ slot → i < CALLBACK_SIZE →
+    (callbacks_start + CALLBACK_SIZE * slot + CALLBACK_SIZE ≤ callbacks_start + CALLBACK_SIZE * other + i)
+    ⊎ (callbacks_start + CALLBACK_SIZE * other + i < callbacks_start + CALLBACK_SIZE * slot)
+slots_apart other slot i ne less = elim (cases_lt other slot) [ inl below ↦ inr (omega arith) | inr above ↦ inl (omega arith) ]
+
+other_callback : (part : List ℕ) (slot : ℕ) (row : Option Callback) (other : ℕ) → other ≢ slot →
+    callback_at (put_callback part slot row) (callbacks_start + CALLBACK_SIZE * other) ≡ callback_at part (callbacks_start + CALLBACK_SIZE * other)
+other_callback part slot row other ne =
+    same_callback (put_callback part slot row) part (callbacks_start + CALLBACK_SIZE * other)
+    (λ i less. callback_away part slot row (callbacks_start + CALLBACK_SIZE * other + i) (slots_apart other slot i ne less))
+
+pub keeps_callback : (part : List ℕ) (slot : ℕ) (row : Option Callback) → length part ≡ PAGE_SIZE * VECTOR_FRAMES → slot < CALLBACKS → KeepsVectors part →
+    KeepsVectors (put_callback part slot row)
+keeps_callback part slot row long within keeps = record {
+  vectors = λ n at small less. callback_away part slot row (VECTOR_SIZE * n + at) (inr (omega arith))
+      ∙ keeps.vectors n at small less
+      ∙ sym (ap (λ (q : FarPtr). slice_index (vector_bytes q) at) (same_pointer (put_callback part slot row) part (VECTOR_SIZE * n)
+      (λ i s. callback_away part slot row (VECTOR_SIZE * n + i) (inr (omega arith)))));
+  callbacks = callbacks;
+  pageable = λ page less. subst (λ (x : ℕ). x < 2) (sym (callback_away part slot row (pageable_start + page) (inl (omega arith)))) (keeps.pageable page less);
+  rest = λ at from to. callback_away part slot row at (inl (omega arith)) ∙ keeps.rest at from to;
+}
+  where
+    callbacks : (other at : ℕ) → other < CALLBACKS → at < CALLBACK_SIZE →
+        slice_index (put_callback part slot row) (callbacks_start + (CALLBACK_SIZE * other + at))
+        ≡ slice_index (callback_bytes (callback_at (put_callback part slot row) (callbacks_start + CALLBACK_SIZE * other))) at
+    callbacks other at small less = elim (cases_eq other slot) [
+      | inl same ↦ (callback_within part slot row at (callbacks_start + (CALLBACK_SIZE * other + at)) long within less (omega arith)
+          ∙ sym (ap (λ (o : Option Callback). slice_index (callback_bytes o) at)
+          (ap (λ (s : ℕ). callback_at (put_callback part slot row) (callbacks_start + CALLBACK_SIZE * s)) same ∙ callback_there part slot row long within)))
+      | inr ne ↦ (let k : callbacks_start + (CALLBACK_SIZE * other + at) ≡ callbacks_start + CALLBACK_SIZE * other + at = omega arith in
+          ap (slice_index (put_callback part slot row)) k
+          ∙ callback_away part slot row (callbacks_start + CALLBACK_SIZE * other + at) (slots_apart other slot at ne less)
+          ∙ ap (slice_index part) (sym k)
+          ∙ keeps.callbacks other at small less
+          ∙ sym (ap (λ (o : Option Callback). slice_index (callback_bytes o) at) (other_callback part slot row other ne)))
+    ]
+
+pub callbacks_set : (part : List ℕ) (slot : ℕ) (row : Option Callback) → length part ≡ PAGE_SIZE * VECTOR_FRAMES → slot < CALLBACKS →
+    callbacks_in (put_callback part slot row) ≡ slice_set (callbacks_in part) slot row
+callbacks_set part slot row long within =
+    listed-set CALLBACKS (λ k. callback_at part (callbacks_start + CALLBACK_SIZE * k)) (λ k. callback_at (put_callback part slot row) (callbacks_start + CALLBACK_SIZE * k)) slot row within
+    (callback_there part slot row long within)
+    (λ k less ne. other_callback part slot row k ne)
 
 -- ---- the byte of a pageable page
 

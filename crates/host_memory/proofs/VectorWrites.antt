@@ -1,7 +1,7 @@
--- The memory after a write of a vector or of a pageable page.
+-- The memory after a write of a vector, of a callback or of a pageable page.
 use Rattle.std.proofs.Common.{◌≡◌, ℕ, ◌+◌, ◌*◌, ◌<◌, ◌≤◌, inl, inr, Bool, List, [], ◌∷◌, length, slice_set, refl, ap, ◌∙◌, subst, arith, Option, cond}
-use Rattle.client_world.specs.declared.host_frames.TheConstants.{PAGE_SIZE, VECTORS, VECTOR_FRAMES, VECTOR_SIZE}
-use Rattle.client_world.specs.declared.limits.TheConstants.{INTERRUPT_VECTORS, EXCEPTION_VECTORS}
+use Rattle.client_world.specs.declared.host_frames.TheConstants.{PAGE_SIZE, CALLBACK_SIZE, VECTORS, VECTOR_FRAMES, VECTOR_SIZE}
+use Rattle.client_world.specs.declared.limits.TheConstants.{CALLBACKS, INTERRUPT_VECTORS, EXCEPTION_VECTORS}
 use Rattle.client_world.specs.declared.memory_map.TheConstants.{DOS_VIEW_PAGES}
 use Rattle.client_world.specs.declared.place.Place.{Place}
 use Rattle.client_world.specs.declared.registers.Mode.{Mode}
@@ -13,24 +13,25 @@ use Rattle.guest_ram.specs.Bytes.{put, dword_bytes}
 use Rattle.guest_ram.proofs.PutLaws.{length-region}
 use Rattle.host_memory.specs.Holds.{Holds}
 use Rattle.host_memory.specs.Layout.{address_of, rows_part, vectors_part, world_of}
-use Rattle.host_memory.specs.Vectors.{KeepsVectors, callbacks_in, exception_vectors_in, exceptions_start, interrupt_vectors_in, pageable_in, pageable_start, word_bytes}
+use Rattle.host_memory.specs.Vectors.{KeepsVectors, callback_bytes, callbacks_in, callbacks_start, exception_vectors_in, exceptions_start, interrupt_vectors_in, pageable_in, pageable_start, word_bytes}
 use Rattle.host_memory.proofs.Parts.{HasSize, MemoryParts, addresses_by, holds_by, holds_parts, holds_with_vectors, parts_of, world_by}
 use Rattle.host_memory.proofs.PutParts.{put_vectors, size_put}
-use Rattle.host_memory.proofs.VectorParts.{exceptions_set, interrupts_set, keeps_pageable, keeps_pointer, pageable_away, pageable_set, pointer_away, put_pageable, put_pointer, same_callbacks, same_exceptions, same_interrupts, same_pageable}
+use Rattle.host_memory.proofs.VectorParts.{callback_away, callbacks_set, exceptions_set, interrupts_set, keeps_callback, keeps_pageable, keeps_pointer, length-callback_bytes, pageable_away, pageable_set, pointer_away, put_callback, put_pageable, put_pointer, same_callbacks, same_exceptions, same_interrupts, same_pageable}
 
--- a world with other vectors and other pageable pages
-abbrev pub with_vectors : World → List FarPtr → List FarPtr → List Bool → World
-with_vectors w interrupts exceptions pageable = record w {
+-- a world with other vectors, other callbacks and other pageable pages
+abbrev pub with_vectors : World → List FarPtr → List FarPtr → List (Option Callback) → List Bool → World
+with_vectors w interrupts exceptions callbacks pageable = record w {
   interrupt_vectors = interrupts;
   exception_vectors = exceptions;
+  callbacks = callbacks;
   pageable = pageable;
 }
 
 -- the memory still holds a world, of which those lists alone have changed
-pub record ChangesVectors (b c : List ℕ) (budget : ℕ) (interrupts exceptions : List FarPtr) (pageable : List Bool) : Type 0 where
+pub record ChangesVectors (b c : List ℕ) (budget : ℕ) (interrupts exceptions : List FarPtr) (callbacks : List (Option Callback)) (pageable : List Bool) : Type 0 where
   pub holds : Holds c budget
   pub world : (mode : Mode) (regs : Regs) (vif : Bool) (width : Option Width) →
-      world_of c budget mode regs vif width ≡ with_vectors (world_of b budget mode regs vif width) interrupts exceptions pageable
+      world_of c budget mode regs vif width ≡ with_vectors (world_of b budget mode regs vif width) interrupts exceptions callbacks pageable
   pub rows : rows_part c ≡ rows_part b
   pub addresses : (p : Place) → address_of c p ≡ address_of b p
 
@@ -41,33 +42,25 @@ record Lists (part : List ℕ) (interrupts exceptions : List FarPtr) (callbacks 
   back : callbacks_in part ≡ callbacks
   page : pageable_in part ≡ pageable
 
-with_lists : World → List FarPtr → List FarPtr → List (Option Callback) → List Bool → World
-with_lists w interrupts exceptions callbacks pageable = record w {
-  interrupt_vectors = interrupts;
-  exception_vectors = exceptions;
-  callbacks = callbacks;
-  pageable = pageable;
-}
-
 same_lists : (w : World) (part : List ℕ) (interrupts exceptions : List FarPtr) (callbacks : List (Option Callback)) (pageable : List Bool) →
     Lists part interrupts exceptions callbacks pageable →
-    with_lists w (interrupt_vectors_in part) (exception_vectors_in part) (callbacks_in part) (pageable_in part)
-    ≡ with_lists w interrupts exceptions callbacks pageable
+    with_vectors w (interrupt_vectors_in part) (exception_vectors_in part) (callbacks_in part) (pageable_in part)
+    ≡ with_vectors w interrupts exceptions callbacks pageable
 same_lists w part interrupts exceptions callbacks pageable l =
-    ap (λ (xs : List FarPtr). with_lists w xs (exception_vectors_in part) (callbacks_in part) (pageable_in part)) l.int
-    ∙ ap (λ (xs : List FarPtr). with_lists w interrupts xs (callbacks_in part) (pageable_in part)) l.exc
-    ∙ ap (λ (xs : List (Option Callback)). with_lists w interrupts exceptions xs (pageable_in part)) l.back
-    ∙ ap (λ (xs : List Bool). with_lists w interrupts exceptions callbacks xs) l.page
+    ap (λ (xs : List FarPtr). with_vectors w xs (exception_vectors_in part) (callbacks_in part) (pageable_in part)) l.int
+    ∙ ap (λ (xs : List FarPtr). with_vectors w interrupts xs (callbacks_in part) (pageable_in part)) l.exc
+    ∙ ap (λ (xs : List (Option Callback)). with_vectors w interrupts exceptions xs (pageable_in part)) l.back
+    ∙ ap (λ (xs : List Bool). with_vectors w interrupts exceptions callbacks xs) l.page
 
-changes : (b c : List ℕ) (budget : ℕ) (part : List ℕ) (interrupts exceptions : List FarPtr) (pageable : List Bool) → Holds b budget →
+changes : (b c : List ℕ) (budget : ℕ) (part : List ℕ) (interrupts exceptions : List FarPtr) (callbacks : List (Option Callback)) (pageable : List Bool) → Holds b budget →
     parts_of c budget ≡ record (parts_of b budget) { vectors = part } → HasSize c budget → KeepsVectors part →
-    Lists part interrupts exceptions (callbacks_in (vectors_part b)) pageable → ChangesVectors b c budget interrupts exceptions pageable
-unfolding world_of with_lists
-changes b c budget part interrupts exceptions pageable holds e size keeps lists = record {
+    Lists part interrupts exceptions callbacks pageable → ChangesVectors b c budget interrupts exceptions callbacks pageable
+unfolding world_of
+changes b c budget part interrupts exceptions callbacks pageable holds e size keeps lists = record {
   holds = holds_by c budget (record (parts_of b budget) { vectors = part }) e size holds.most
       (holds_with_vectors (parts_of b budget) budget part keeps (holds_parts b budget holds));
   world = λ mode regs vif width. world_by c budget (record (parts_of b budget) { vectors = part }) e mode regs vif width
-      ∙ same_lists (world_of b budget mode regs vif width) part interrupts exceptions (callbacks_in (vectors_part b)) pageable lists;
+      ∙ same_lists (world_of b budget mode regs vif width) part interrupts exceptions callbacks pageable lists;
   rows = ap (λ (x : MemoryParts). x.rows) e;
   addresses = addresses_by b c (ap (λ (x : MemoryParts). x.handles) e) (ap (λ (x : MemoryParts). x.tables) e);
 }
@@ -95,11 +88,11 @@ pointer_parts b budget at p size room =
 
 pub interrupt_changes : (b : List ℕ) (budget n : ℕ) (p : FarPtr) → Holds b budget → n < INTERRUPT_VECTORS →
     ChangesVectors b (with_pointer b (VECTOR_SIZE * n) p) budget (slice_set (interrupt_vectors_in (vectors_part b)) n p)
-    (exception_vectors_in (vectors_part b)) (pageable_in (vectors_part b))
+    (exception_vectors_in (vectors_part b)) (callbacks_in (vectors_part b)) (pageable_in (vectors_part b))
 interrupt_changes b budget n p holds within =
     let part = vectors_part b in
     let long = vectors_size b budget holds.size in
-    changes b (with_pointer b (VECTOR_SIZE * n) p) budget (put_pointer part (VECTOR_SIZE * n) p) (slice_set (interrupt_vectors_in part) n p) (exception_vectors_in part) (pageable_in part) holds
+    changes b (with_pointer b (VECTOR_SIZE * n) p) budget (put_pointer part (VECTOR_SIZE * n) p) (slice_set (interrupt_vectors_in part) n p) (exception_vectors_in part) (callbacks_in part) (pageable_in part) holds
     (pointer_parts b budget (VECTOR_SIZE * n) p holds.size (omega arith)) (pointer_size b budget (VECTOR_SIZE * n) p holds.size)
     (keeps_pointer part n p long (omega arith) holds.vectors)
     (record {
@@ -117,12 +110,12 @@ keeps_exception part n p long within keeps =
 
 pub exception_changes : (b : List ℕ) (budget n : ℕ) (p : FarPtr) → Holds b budget → n < EXCEPTION_VECTORS →
     ChangesVectors b (with_pointer b (exceptions_start + VECTOR_SIZE * n) p) budget (interrupt_vectors_in (vectors_part b))
-    (slice_set (exception_vectors_in (vectors_part b)) n p) (pageable_in (vectors_part b))
+    (slice_set (exception_vectors_in (vectors_part b)) n p) (callbacks_in (vectors_part b)) (pageable_in (vectors_part b))
 exception_changes b budget n p holds within =
     let part = vectors_part b in
     let long = vectors_size b budget holds.size in
     let at = exceptions_start + VECTOR_SIZE * n in
-    changes b (with_pointer b at p) budget (put_pointer part at p) (interrupt_vectors_in part) (slice_set (exception_vectors_in part) n p) (pageable_in part) holds
+    changes b (with_pointer b at p) budget (put_pointer part at p) (interrupt_vectors_in part) (slice_set (exception_vectors_in part) n p) (callbacks_in part) (pageable_in part) holds
     (pointer_parts b budget at p holds.size (omega arith)) (pointer_size b budget at p holds.size)
     (keeps_exception part n p long within holds.vectors)
     (record {
@@ -132,6 +125,29 @@ exception_changes b budget n p holds within =
       page = same_pageable (put_pointer part at p) part (λ k from to. pointer_away part at p k (inl (omega arith)));
     })
 
+-- ---- a callback
+
+abbrev pub with_callback : List ℕ → ℕ → Option Callback → List ℕ
+with_callback b slot row = put b (PAGE_SIZE * VECTORS + (callbacks_start + CALLBACK_SIZE * slot)) (callback_bytes row)
+
+pub callback_changes : (b : List ℕ) (budget slot : ℕ) (row : Option Callback) → Holds b budget → slot < CALLBACKS →
+    ChangesVectors b (with_callback b slot row) budget (interrupt_vectors_in (vectors_part b)) (exception_vectors_in (vectors_part b))
+    (slice_set (callbacks_in (vectors_part b)) slot row) (pageable_in (vectors_part b))
+callback_changes b budget slot row holds within =
+    let part = vectors_part b in
+    let long = vectors_size b budget holds.size in
+    let at = callbacks_start + CALLBACK_SIZE * slot in
+    changes b (with_callback b slot row) budget (put_callback part slot row) (interrupt_vectors_in part) (exception_vectors_in part) (slice_set (callbacks_in part) slot row) (pageable_in part) holds
+    (put_vectors b budget (PAGE_SIZE * VECTORS + at) at (callback_bytes row) holds.size refl (omega (arith, length-callback_bytes row)))
+    (size_put b budget (PAGE_SIZE * VECTORS + at) (callback_bytes row) holds.size)
+    (keeps_callback part slot row long within holds.vectors)
+    (record {
+      int = same_interrupts (put_callback part slot row) part (λ k to. callback_away part slot row k (inr (omega arith)));
+      exc = same_exceptions (put_callback part slot row) part (λ k from to. callback_away part slot row k (inr (omega arith)));
+      back = callbacks_set part slot row long within;
+      page = same_pageable (put_callback part slot row) part (λ k from to. callback_away part slot row k (inl (omega arith)));
+    })
+
 -- ---- a pageable page
 
 abbrev pub with_pageable : List ℕ → ℕ → Bool → List ℕ
@@ -139,11 +155,11 @@ with_pageable b page on = slice_set b (PAGE_SIZE * VECTORS + pageable_start + pa
 
 pub pageable_changes : (b : List ℕ) (budget page : ℕ) (on : Bool) → Holds b budget → page < DOS_VIEW_PAGES →
     ChangesVectors b (with_pageable b page on) budget (interrupt_vectors_in (vectors_part b)) (exception_vectors_in (vectors_part b))
-    (slice_set (pageable_in (vectors_part b)) page on)
+    (callbacks_in (vectors_part b)) (slice_set (pageable_in (vectors_part b)) page on)
 pageable_changes b budget page on holds within =
     let part = vectors_part b in
     let long = vectors_size b budget holds.size in
-    changes b (with_pageable b page on) budget (put_pageable part page on) (interrupt_vectors_in part) (exception_vectors_in part) (slice_set (pageable_in part) page on) holds
+    changes b (with_pageable b page on) budget (put_pageable part page on) (interrupt_vectors_in part) (exception_vectors_in part) (callbacks_in part) (slice_set (pageable_in part) page on) holds
     (put_vectors b budget (PAGE_SIZE * VECTORS + pageable_start + page) (pageable_start + page) (cond on 1 0 ∷ []) holds.size (omega arith) (omega arith))
     (size_put b budget (PAGE_SIZE * VECTORS + pageable_start + page) (cond on 1 0 ∷ []) holds.size)
     (keeps_pageable part page on long within holds.vectors)

@@ -1,0 +1,31 @@
+use Rattle.std.proofs.Common.{◌≡◌, ◌≢◌, sym, subst, None}
+use Rattle.client_world.specs.declared.place.Place.{Place}
+use Rattle.host_memory.specs.Layout.{address_of}
+use Rattle.host_memory.specs.View.{MachineView}
+use Rattle.guest_space.specs.Machines.{Processor}
+use Rattle.guest_space.proofs.VectorCalls.{set_callback}
+use Rattle.guest_space.proofs.machine.Machine.set_back.Goals as goal
+
+pub invariant_of-self : goal.invariant_of-self
+invariant_of-self c =
+    let m = c.self.inside in
+    let k : Processor = record { budget = m.pages; mode = m.mode; regs = m.regs; vif = m.vif; width = m.width } in
+    let some = subst (λ (v : MachineView). v.world.width ≢ None) (sym c.self.view_is) c.requires.width in
+    let after = set_callback k m.ram c.self.invariant.0 c.self.invariant.1 some c.args.slot c.args.row c.requires.slot c.set_callback.new.ram c.set_callback.ensures in
+    (after.holds, after.sound)
+
+pub returns-clause-world : goal.returns-clause-world
+returns-clause-world c =
+    let m = c.self.inside in
+    let k : Processor = record { budget = m.pages; mode = m.mode; regs = m.regs; vif = m.vif; width = m.width } in
+    let some = subst (λ (v : MachineView). v.world.width ≢ None) (sym c.self.view_is) c.requires.width in
+    let after = set_callback k m.ram c.self.invariant.0 c.self.invariant.1 some c.args.slot c.args.row c.requires.slot c.set_callback.new.ram c.set_callback.ensures in
+    rw (← c.self.view_is) after.world
+
+pub returns-clause-addresses : goal.returns-clause-addresses
+returns-clause-addresses c =
+    let m = c.self.inside in
+    let k : Processor = record { budget = m.pages; mode = m.mode; regs = m.regs; vif = m.vif; width = m.width } in
+    let some = subst (λ (v : MachineView). v.world.width ≢ None) (sym c.self.view_is) c.requires.width in
+    let after = set_callback k m.ram c.self.invariant.0 c.self.invariant.1 some c.args.slot c.args.row c.requires.slot c.set_callback.new.ram c.set_callback.ensures in
+    subst (λ (v : MachineView). (p : Place) → address_of c.set_callback.new.ram p ≡ address_of v.bytes p) c.self.view_is after.addresses
