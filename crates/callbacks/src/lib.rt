@@ -3,3 +3,13 @@
 //! It promises that each leaves the world that its definition names, or is refused or gives its exit and changes nothing.
 //! It uses the call structure of translation, the stack of records and the machine of guest_space.
 #![tactic(auto)]
+
+mod dispatch;
+mod entering;
+mod leaving;
+mod real_stack;
+mod services;
+
+pub use dispatch::serve;
+pub use entering::enter;
+pub use leaving::leave;
