@@ -33,7 +33,7 @@ ghost use Rattle.translation.specs.Structure.{structure_bytes, structure_flags, 
 
 use crate::client_words::{MOST_WORDS, add_client_words};
 use crate::real_stack::{check_stack, host_real_stack, put_words, words_below};
-use crate::structure::{Structure, has_structure, read_structure};
+use crate::structure::{CallStructure, has_structure, read_structure};
 use arrayvec::ArrayVec;
 use client_world::limits::{GREATEST_DEPTH, MAX_CALL_WORDS};
 use client_world::memory_map::{ROM_SEGMENT, ROM_START};
@@ -192,7 +192,7 @@ fn call_by(m: &mut Machine, call: Call) -> Result<(), Refusal>
     if !has_structure(m, at) {
         return Err(Refusal::InvalidAddress);
     }
-    let Structure { regs, image } = read_structure(m, at);
+    let CallStructure { regs, image } = read_structure(m, at);
     let words = call_words(m, call, image)?;
     let r = call_regs(m, call, &regs, words.len());
     check_stack(r.ss, r.esp, words.len())?;

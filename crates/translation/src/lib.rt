@@ -23,4 +23,7 @@ pub use laws::{
 };
 pub use reflecting::reflect;
 pub use returning::end;
-pub use structure::STRUCTURE_SIZE;
+pub use structure::{
+    CallStructure, STRUCTURE_SIZE, dword_bytes, index_results, other_results, read_structure,
+    word_bytes,
+};

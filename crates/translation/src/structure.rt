@@ -1,9 +1,10 @@
 // The call structure.
-ghost use Rattle.std.specs.Prelude.{◌≡◌, ◌+◌, ◌≤◌, IsTrue, length};
+ghost use Rattle.std.specs.Prelude.{◌≡◌, ◌+◌, ◌≤◌, IsTrue, false, length};
 ghost use Rattle.client_world.specs.Access.{is_reachable};
 ghost use Rattle.guest_ram.specs.Bytes.{dword, word_of};
 ghost use Rattle.guest_space.specs.Pending.{number_bytes};
 ghost use Rattle.guest_space.specs.Transfer.{HasOtherMemory};
+ghost use Rattle.translation.specs.declared.structure.TheConstants.{STRUCTURE_SIZE};
 ghost use Rattle.translation.specs.Structure.{has_structure, index_results, other_results, structure_bytes, structure_flags, structure_regs, with_results};
 
 use byteorder::{ByteOrder, LittleEndian};
@@ -19,9 +20,9 @@ pub const STRUCTURE_SIZE: u32 = 0x32;
 
 /// What a call structure holds: the registers, and the word of the flags.
 #[derive(Clone, Copy)]
-pub(crate) struct Structure {
-    pub(crate) regs: Regs,
-    pub(crate) image: u16,
+pub struct CallStructure {
+    pub regs: Regs,
+    pub image: u16,
 }
 
 /// Whether there is a structure at a pointer: its bytes can be read and written.
@@ -74,35 +75,36 @@ fn regs_of(bytes: &[u8; 0x32]) -> Regs
 }
 
 /// Reads the structure at a pointer.
-pub(crate) fn read_structure(m: &Machine, at: FarPtr) -> Structure
-    requires { IsTrue (has_structure m.now.world at) }
+pub fn read_structure(m: &Machine, at: FarPtr) -> CallStructure
+    requires { IsTrue (is_reachable m.now.world at STRUCTURE_SIZE false) }
     ensures regs { result.regs ≡ structure_regs (structure_bytes m.now.world at) }
     ensures image { result.image ≡ structure_flags (structure_bytes m.now.world at) }
 {
     let mut bytes = [0; 0x32];
     m.read_bytes(at, &mut bytes);
-    Structure {
+    CallStructure {
         regs: regs_of(&bytes),
         image: word_at(&bytes, 0x20),
     }
 }
 
-// The bytes of a word and of a doubleword.
-fn word_bytes(v: u16) -> [u8; 2]
+/// The bytes of a word, least byte first.
+pub fn word_bytes(v: u16) -> [u8; 2]
     ensures { result ≡ number_bytes 16 v }
 {
     v.to_le_bytes()
 }
 
-fn dword_bytes(v: u32) -> [u8; 4]
+/// The bytes of a doubleword, least byte first.
+pub fn dword_bytes(v: u32) -> [u8; 4]
     ensures { result ≡ number_bytes 32 v }
 {
     v.to_le_bytes()
 }
 
-// The results from the structure's beginning on.
+/// EDI, ESI and EBP, as a structure begins with them.
 #[tactic(auto, unfolding(crate::specs::Structure::index_results))]
-fn index_results(r: &Regs) -> [u8; 0x0C]
+pub fn index_results(r: &Regs) -> [u8; 0x0C]
     ensures { result ≡ index_results r.now }
 {
     let mut bytes = [0; 0x0C];
@@ -112,9 +114,9 @@ fn index_results(r: &Regs) -> [u8; 0x0C]
     bytes
 }
 
-// The results from EBX on.
+/// EBX, EDX, ECX, EAX, the flags with a virtual interrupt flag, ES, DS, FS and GS, as a structure has them from 10h on.
 #[tactic(auto, unfolding(crate::specs::Structure::other_results))]
-fn other_results(r: &Regs, vif: bool) -> [u8; 0x1A]
+pub fn other_results(r: &Regs, vif: bool) -> [u8; 0x1A]
     ensures { result ≡ other_results r.now vif }
 {
     let mut bytes = [0; 0x1A];
