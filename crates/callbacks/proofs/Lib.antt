@@ -7,5 +7,4 @@ pub mod Slots
 pub mod SoundEntries
 pub mod SoundStackRow
 pub mod StackAsked
-pub mod StackRows
 pub mod Started
