@@ -97,6 +97,7 @@ by_record w v x y (Back slot at) m = record {
   where
     entered : HasEntered w.machine v.machine slot
     entered = has_entered w.machine v.machine slot m.starts m.pushes.0
+
     left : HasLeft x.machine y.machine
     left = has_left x.machine y.machine m.pops.0
 by_record w v x y (Exc number code) m = record {

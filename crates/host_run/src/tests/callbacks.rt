@@ -29,6 +29,10 @@ const ONE_BACK: [Nested; 4] = [
     (false, 0, INT_60),
 ];
 
+const LOST_BACK: [Nested; 3] = [(true, 0, INT_60), (true, 1, BACK), (false, 1, BACK)];
+
+const CALL_ALONE: [Nested; 1] = [(true, 0, INT_60)];
+
 // The handler of INT 60h far-calls the callback, whose structure is at 0217h:1100h, and whose procedure resumes after the call: it takes the
 // return address from the real stack into the structure. A client ends with AL = FFh where its last call is refused.
 const CALLED: [Calling; 9] = [
@@ -65,7 +69,7 @@ const CALLED: [Calling; 9] = [
         ],
         exit: Exit::LostStructure,
         console: b"",
-        nested: &ONE_BACK[..3],
+        nested: &LOST_BACK,
     },
     // A callback that is freed while its procedure runs still returns.
     Calling {
@@ -97,7 +101,7 @@ const CALLED: [Calling; 9] = [
         ],
         exit: Exit::Stray,
         console: b"",
-        nested: &ONE_BACK[..1],
+        nested: &CALL_ALONE,
     },
     Calling {
         enter: &ENTER_16,
@@ -114,7 +118,7 @@ const CALLED: [Calling; 9] = [
         ],
         exit: Exit::BadFrame,
         console: b"",
-        nested: &ONE_BACK[..1],
+        nested: &CALL_ALONE,
     },
     Calling {
         enter: &ENTER_16,
@@ -131,7 +135,7 @@ const CALLED: [Calling; 9] = [
         ],
         exit: Exit::LostStructure,
         console: b"",
-        nested: &ONE_BACK[..1],
+        nested: &CALL_ALONE,
     },
     // Sixteen callbacks, and a seventeenth, which is refused: one is left of seventeen.
     Calling {
