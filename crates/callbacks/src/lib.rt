@@ -9,6 +9,8 @@ mod entering;
 mod leaving;
 mod real_stack;
 mod services;
+#[cfg(test)]
+mod tests;
 
 pub use dispatch::serve;
 pub use entering::enter;
