@@ -2,7 +2,6 @@
 use Rattle.std.specs.Prelude.{ℕ, zero, suc, ◌+◌, ◌*◌, ◌/◌, ◌%◌, Bool, true, false, ◌&&◌, ◌||◌, List, [], ◌∷◌, None, Some, is_none, nat_eq, nat_lt, not, if◌then◌else◌, slice_set}
 use Rattle.std.specs.declared.option.Option.{Option}
 use Rattle.client_world.specs.declared.descriptors.Desc.{Desc}
-use Rattle.client_world.specs.declared.descriptors.Kind.TheVariants.{Data}
 use Rattle.client_world.specs.declared.descriptors.Origin.{Origin}
 use Rattle.client_world.specs.declared.descriptors.Origin.TheVariants.{Own, Low, Entry, Psp, Segment, Dos, Host}
 use Rattle.client_world.specs.declared.host_frames.TheConstants.{DESCRIPTORS}

@@ -1,17 +1,14 @@
 -- The raw switches and their addresses: a sound world leads to a sound one, and nothing changes but the mode and registers.
 use Rattle.std.proofs.Common.{◌≡◌, ◌≢◌, ◌<◌, ◌+◌, ℕ, nat_eq, Bool, true, false, arith, refl, subst, sym, Option, None, Some, Ok, Err}
 use Rattle.std.specs.Prelude.{if◌then◌else◌}
-use Rattle.std.specs.declared.result.Result.{Result}
-use Rattle.client_world.specs.declared.outcome.Exit.{Exit}
 use Rattle.client_world.specs.declared.outcome.Exit.TheVariants.{BadSwitch}
-use Rattle.client_world.specs.declared.registers.Mode.{Mode}
 use Rattle.client_world.specs.declared.registers.Mode.TheVariants.{Real, Protected}
 use Rattle.client_world.specs.declared.registers.Regs.{Regs}
 use Rattle.client_world.specs.declared.registers.Width.{Width}
 use Rattle.client_world.specs.declared.selectors.TheConstants.{CLIENT_PRIVILEGE}
 use Rattle.client_world.specs.Registers.{low_half}
 use Rattle.client_world.specs.Selector.{selector_code}
-use Rattle.client_world.specs.Services.{Served, by_width}
+use Rattle.client_world.specs.Services.{by_width}
 use Rattle.client_world.specs.Soundness.{HasSegments, IsSound}
 use Rattle.client_world.specs.World.{World}
 use Rattle.client_world.proofs.SoundWrites.{IsSound-mode, IsSound-regs}

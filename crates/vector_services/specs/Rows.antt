@@ -1,10 +1,9 @@
 -- The services of INT 31h on vectors, on the version and on virtual interrupts. Source: DPMI 0.9, INT 31h functions 0200h to 0205h, 0400h and
 -- 0900h to 0902h; the reasons of refusal are own.
-use Rattle.std.specs.Prelude.{ℕ, ◌+◌, ◌*◌, Bool, true, false, ◌&&◌, [], ◌∷◌, None, Some, nat_eq, nat_lt, not, cond, if◌then◌else◌, slice_set}
-use Rattle.std.specs.declared.option.Option.{Option}
+use Rattle.std.specs.Prelude.{ℕ, ◌+◌, ◌*◌, Bool, true, false, [], ◌∷◌, nat_eq, nat_lt, not, cond, if◌then◌else◌, slice_set}
 use Rattle.client_world.specs.declared.segments.FarPtr.{FarPtr}
-use Rattle.client_world.specs.Registers.{low_byte, low_half, with_low_byte, with_low_half}
-use Rattle.client_world.specs.Services.{Served, by_width, cx, dx, desc_of}
+use Rattle.client_world.specs.Registers.{low_byte, with_low_byte, with_low_half}
+use Rattle.client_world.specs.Services.{Served, by_width, cx, dx}
 use Rattle.client_world.specs.World.{World}
 use Rattle.guest_ram.specs.Bytes.{with_word, word_of}
 use Rattle.guest_space.specs.VectorLists.{vector_at}
