@@ -1,3 +1,10 @@
+pub mod FrameBytes
+pub mod HandedOver
+pub mod HostRow
+pub mod KeptWorld
+pub mod Served
 pub mod Slots
+pub mod SoundEntries
+pub mod SoundStackRow
 pub mod StackAsked
-pub mod StackRows
+pub mod Started

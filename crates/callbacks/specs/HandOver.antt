@@ -10,12 +10,29 @@ use Rattle.client_world.specs.Services.{es_di}
 use Rattle.client_world.specs.World.{World}
 use Rattle.guest_space.specs.VectorLists.{callback_of_slot}
 use Rattle.translation.specs.Structure.{structure_bytes, structure_flags, structure_regs}
-use Rattle.callbacks.specs.Callbacks.{caller_structure, procedure_regs, stack_index, stack_row}
+use Rattle.callbacks.specs.Callbacks.{after_leaving, caller_structure, procedure_regs, stack_index, stack_row}
 
--- from w the callback of a slot led to v: one record is pushed; its procedure has the registers that it starts with, the real caller's stack
--- has its descriptor, and the structure holds the real caller's registers
-pub record HasEntered (w v : World) (slot : ℕ) (at : FarPtr) : Type 0 where
+-- from w the callback of a slot led to v: one record is pushed, of the slot and of the callback's call structure
+pub record IsCallbackPushed (w v : World) (slot : ℕ) : Type 0 where
+  -- the callback that is held there
   pub procedure : FarPtr
+  pub at : FarPtr
+  pub held : callback_of_slot w.callbacks slot ≡ Some (procedure, at)
+  pub pushed : v.calls ≡ w.calls ++ Back slot at ∷ []
+
+-- from w a callback returned, which led to v: one record is popped, whose slot and structure have no part in what follows
+pub record IsCallbackPopped (w v : World) : Type 0 where
+  pub slot : ℕ
+  pub at : FarPtr
+  pub popped : w.calls ≡ v.calls ++ Back slot at ∷ []
+  pub is : v ≡ after_leaving w (structure_bytes w (es_di w))
+
+-- from w the callback of a slot led to v: one record is pushed; the procedure has the registers that it starts with; the real caller's stack
+-- has its descriptor; and the structure holds the real caller's registers
+pub record HasEntered (w v : World) (slot : ℕ) : Type 0 where
+  -- the callback that is held there
+  pub procedure : FarPtr
+  pub at : FarPtr
   pub held : callback_of_slot w.callbacks slot ≡ Some (procedure, at)
   pub pushed : v.calls ≡ w.calls ++ Back slot at ∷ []
   pub mode : v.mode ≡ Protected
@@ -26,7 +43,10 @@ pub record HasEntered (w v : World) (slot : ℕ) (at : FarPtr) : Type 0 where
 
 -- from w a callback returned, which led to v: one record is popped; real mode goes on with the registers and the virtual interrupt flag of the
 -- structure at the present ES:(E)DI, whichever the callback's was
-pub record HasLeft (w v : World) (slot : ℕ) (at : FarPtr) : Type 0 where
+pub record HasLeft (w v : World) : Type 0 where
+  -- of the record
+  pub slot : ℕ
+  pub at : FarPtr
   pub popped : w.calls ≡ v.calls ++ Back slot at ∷ []
   pub mode : v.mode ≡ Real
   pub regs : v.regs ≡ structure_regs (structure_bytes w (es_di w))
@@ -41,3 +61,7 @@ LeftForProcedure w v =
 -- nothing but the mode, the registers, the virtual interrupt flag and the records
 abbrev pub LeftForReal : World → World → Type 0
 LeftForReal w v = v ≡ record w { mode = v.mode; regs = v.regs; vif = v.vif; calls = v.calls }
+
+-- nothing but the registers and the callbacks
+abbrev pub LeftByService : World → World → Type 0
+LeftByService w v = v ≡ record w { regs = v.regs; callbacks = v.callbacks }

@@ -1,6 +1,6 @@
 // The call of a callback.
 ghost use Rattle.std.specs.Prelude.{◌≡◌, ◌≢◌, ◌<◌, ◌*◌, IsTrue, true, None, Ok, Err, MatchResult, if◌then◌else◌};
-ghost use Rattle.client_world.specs.declared.limits.TheConstants.{CALLBACKS, GREATEST_DEPTH};
+ghost use Rattle.client_world.specs.declared.limits.TheConstants.{GREATEST_DEPTH};
 ghost use Rattle.client_world.specs.declared.registers.Mode.TheVariants.{Real as real};
 ghost use Rattle.client_world.specs.Access.{is_reachable};
 ghost use Rattle.client_world.specs.World.{depth};
@@ -25,7 +25,7 @@ ghost use Rattle.callbacks.specs.Callbacks.{
 
 use crate::real_stack::{is_loadable, is_writable, set_stack_row, stack_index};
 use crate::services::callback_offset;
-use client_world::limits::GREATEST_DEPTH;
+use client_world::limits::{CALLBACKS, GREATEST_DEPTH};
 use client_world::memory_map::{PROTECTED_STACK_SIZE, ROM_SEGMENT, ROM_START};
 use client_world::selectors::{
     CLIENT_PRIVILEGE, HOST_CODE, HOST_STACKS, privilege_of, selector_of,
@@ -202,20 +202,32 @@ fn start(m: &mut Machine, slot: u8, procedure: FarPtr, at: FarPtr)
     go_to_procedure(m, slot, procedure, at);
 }
 
+// The callback of a slot; none from slot 16 on.
+#[tactic(auto, using(crate::proofs::Slots::past_none))]
+fn held_callback(m: &Machine, slot: u8) -> Option<(FarPtr, FarPtr)>
+    ensures { result ≡ callback_of_slot m.now.world.callbacks slot }
+{
+    m.soundness();
+    if u32::from(slot) < CALLBACKS {
+        m.back(slot)
+    } else {
+        None
+    }
+}
+
 /// Calls the callback of a slot, at whose trap byte a real-mode program arrived: the program's registers are written to the callback's
 /// structure, and its procedure starts in protected mode with virtual interrupts off, on the host's stack of the depth, with DS:(E)SI as the
 /// program's SS:SP and ES:(E)DI as the structure. `Stray` where the slot is free, else `Deep` at the greatest depth, else `BadFrame` where the
 /// procedure can't be loaded as by a far jump, else `LostStructure` where the structure can't be written; an exit leaves the machine as it was.
 /// Source: DPMI 0.9, INT 31h function 0303h; the host's stacks, the depth and the exits are own.
-#[tactic(auto, using(crate::proofs::StackRows::has_width), unfolding(crate::specs::Callbacks::enter_callback))]
+#[tactic(auto, using(crate::proofs::SoundStackRow::held_width), unfolding(crate::specs::Callbacks::enter_callback))]
 pub fn enter(m: &mut Machine, slot: u8) -> Result<(), Exit>
-    requires mode { m.old.world.mode ≡ real }
-    requires slot { slot < CALLBACKS }
+    requires { m.old.world.mode ≡ real }
     ensures { MatchResult result (λ _. enter_callback m.old.world slot ≡ Ok m.new.world)
         (λ exit. (enter_callback m.old.world slot ≡ Err exit) × (m.new ≡ m.old)) }
 {
     m.soundness();
-    let Some((procedure, at)) = m.back(slot) else {
+    let Some((procedure, at)) = held_callback(m, slot) else {
         return Err(Exit::Stray);
     };
     if depth(m) == DEEPEST {

@@ -6,6 +6,7 @@
 
 mod dispatch;
 mod entering;
+mod laws;
 mod leaving;
 mod real_stack;
 mod services;
@@ -14,4 +15,8 @@ mod tests;
 
 pub use dispatch::serve;
 pub use entering::enter;
+pub use laws::{
+    a_callback_hands_over_the_registers, a_return_hands_back_the_registers,
+    every_callback_is_sound, every_callback_is_stacked, every_callback_keeps_the_rest,
+};
 pub use leaving::leave;

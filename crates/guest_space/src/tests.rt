@@ -2,7 +2,7 @@
 use crate::machine::Machine;
 use crate::segments::fault_with;
 use client_world::{
-    Desc, Kind, Mode, Origin, Regs, SegReg, Width, a_plain_descriptor_keeps_a_world_sound,
+    Desc, FarPtr, Kind, Mode, Origin, Regs, SegReg, Width, a_plain_descriptor_keeps_a_world_sound,
 };
 use guest_ram::Ram;
 use std::alloc::{AllocError, Global};
@@ -125,5 +125,32 @@ fn accesses_in_real_mode(rt: HostRuntime) -> Result<(), Fail> {
     regs.eip = 0xFFF8;
     machine.set_regs(regs);
     assert_eq!(rt; machine.code().as_slice(), [0xF4; 8].as_slice());
+    Ok(())
+}
+
+#[test]
+#[tactic(auto, unfolding(host_memory::specs::Blank::blank_world))]
+fn callbacks_are_set_and_freed(rt: HostRuntime) -> Result<(), Fail> {
+    let mut machine = Machine::new(rt.alloc(), 1)?;
+    machine.set_width(Width::Sixteen);
+    let row = Some((
+        FarPtr {
+            sel: 0x1027,
+            off: 0x1234_5678,
+        },
+        FarPtr {
+            sel: 0xFFFF,
+            off: 0xFFFF_FFFE,
+        },
+    ));
+
+    machine.set_back(0, row);
+    machine.set_back(15, row);
+    assert_eq!(rt; machine.back(0), row);
+    machine.set_back(0, None);
+    for slot in 0..15 {
+        assert_eq!(rt; machine.back(slot), None);
+    }
+    assert_eq!(rt; machine.back(15), row);
     Ok(())
 }

@@ -21,16 +21,17 @@ const EXCEPTIONS_START: u32 = VECTOR_SIZE * INTERRUPT_VECTORS;
 // Where the callbacks lie in that frame.
 const CALLBACKS_START: u32 = EXCEPTIONS_START + VECTOR_SIZE * EXCEPTION_VECTORS;
 
-// Where a callback has the far pointer to its structure, and where it has whether it is held.
+// Where the byte of each pageable page lies in that frame.
+const PAGEABLE_START: u32 = CALLBACKS_START + CALLBACK_SIZE * CALLBACKS;
+
+// Where a callback has the far pointer to its structure.
 const STRUCTURE: u32 = 6;
 
+// Where it has whether it is held.
 const HELD: u32 = 12;
 
 // What a free slot has in place of far pointers.
 const NOWHERE: FarPtr = FarPtr { sel: 0, off: 0 };
-
-// Where the byte of each pageable page lies in that frame.
-const PAGEABLE_START: u32 = CALLBACKS_START + CALLBACK_SIZE * CALLBACKS;
 
 // The far pointer at a place of the frame of the vectors: an offset, and then a selector.
 fn pointer(ram: &Ram, at: u32) -> FarPtr

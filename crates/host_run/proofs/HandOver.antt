@@ -6,12 +6,15 @@ use Rattle.client_world.specs.declared.calls.Call.{Call}
 use Rattle.client_world.specs.declared.calls.Call.TheVariants.{Int, Far, Iret, Reflect}
 use Rattle.client_world.specs.declared.calls.Record.{Record}
 use Rattle.client_world.specs.declared.calls.Record.TheVariants.{Sim, Back, Exc}
+use Rattle.client_world.specs.declared.segments.FarPtr.{FarPtr}
 use Rattle.client_world.specs.declared.services.Carry.TheVariants.{Clear}
 use Rattle.client_world.specs.Services.{Served, es_di}
 use Rattle.client_world.specs.Soundness.{IsSound}
 use Rattle.client_world.specs.World.{World, HostWorld}
 use Rattle.fault_service.specs.Worlds.{world_popped}
 use Rattle.fault_service.proofs.SoundAnswers.{sound_world_popped}
+use Rattle.callbacks.specs.HandOver.{HasEntered, HasLeft}
+use Rattle.callbacks.proofs.HandedOver.{has_entered, has_left}
 use Rattle.host_run.specs.HandOver.{HandsOver, HandsOverCall, HandsOverRealCall}
 use Rattle.host_run.specs.Keys.{HasKeys}
 use Rattle.host_run.specs.Nested.{IsHandedOver, PopsRecord, PushesRecord}
@@ -31,12 +34,18 @@ record Matches (w v x y : HostWorld) (r : Record) : Type 0 where
   ends : IsSound x.machine
   pushes : PushesRecord w r v
   pops : PopsRecord x r y
+  pushed : v.machine.calls ≡ w.machine.calls ++ r ∷ []
   innermost : x.machine.calls ≡ y.machine.calls ++ r ∷ []
 
 same_record : (x y : HostWorld) (r : Record) → x.machine.calls ≡ y.machine.calls ++ r ∷ [] → (e : HasEnded x.machine y.machine) →
     Sim e.call e.saved e.on e.at ≡ r
 same_record x y r innermost e =
     (same_from_push y.machine.calls y.machine.calls (Sim e.call e.saved e.on e.at) r (sym e.popped ∙ innermost)).1
+
+same_place : (w v : HostWorld) (slot : ℕ) (at : FarPtr) → (e : HasEntered w.machine v.machine slot) →
+    v.machine.calls ≡ w.machine.calls ++ Back slot at ∷ [] → e.at ≡ at
+same_place w v slot at e pushed =
+    let same = (same_from_push w.machine.calls w.machine.calls (Back slot e.at) (Back slot at) (sym e.pushed ∙ pushed)).1 in cc
 
 begun_call : (w u : World) (call : Call) → IsSound w → begin_call w call ≡ record { carry = Clear; world = u } →
     HasBegun w u call (structure_bytes w (es_di w))
@@ -77,7 +86,20 @@ real_call_by w v x y (Reflect n) r starts ends pushes pops innermost =
 
 by_record : (w v x y : HostWorld) (r : Record) → Matches w v x y r → HandsOver w v x y r
 by_record w v x y (Sim call saved vif at) m = real_call_by w v x y call (Sim call saved vif at) m.starts m.ends m.pushes m.pops m.innermost
-by_record w v x y (Back slot at) m = tt
+by_record w v x y (Back slot at) m = record {
+  entered = entered;
+  place = same_place w v slot at entered m.pushed;
+  left = left;
+  same = (same_from_push y.machine.calls y.machine.calls (Back left.slot left.at) (Back slot at) (sym left.popped ∙ m.innermost)).1;
+  enter = m.pushes.1;
+  leave = m.pops.1;
+}
+  where
+    entered : HasEntered w.machine v.machine slot
+    entered = has_entered w.machine v.machine slot m.starts m.pushes.0
+
+    left : HasLeft x.machine y.machine
+    left = has_left x.machine y.machine m.pops.0
 by_record w v x y (Exc number code) m = record {
   delivered = has_delivered w.machine v.machine (record { number = number; code = code }) m.starts m.pushes.0 m.pushes.1;
   resumed = has_resumed x.machine y.machine m.pops.0;
@@ -92,6 +114,7 @@ hands_over w i j first last h = by_record (w i) (w (i + 1)) (w j) (w (j + 1)) h.
   ends = last;
   pushes = h.pushes;
   pops = h.pops;
+  pushed = h.push;
   innermost = h.pop ∙ ap (λ (calls : List Record). calls ++ h.innermost ∷ []) (sym h.rest);
 })
 

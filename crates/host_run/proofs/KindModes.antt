@@ -15,9 +15,11 @@ abbrev pub Suits : Mode → Trap → Type 0
 Suits mode (RealVector n) = mode ≡ Real
 Suits mode Entry = mode ≡ Real
 Suits mode CallReturn = mode ≡ Real
+Suits mode (Callback slot) = mode ≡ Real
 Suits mode ToProtected = mode ≡ Real
 Suits mode ToReal = mode ≡ Protected
 Suits mode (ProtectedVector n) = mode ≡ Protected
+Suits mode CallbackReturn = mode ≡ Protected
 Suits mode _ = Unit {0}
 
 either : (mode : Mode) (b : Bool) (x y : Trap) → Suits mode x → Suits mode y → Suits mode (if b then x else y)
@@ -32,7 +34,7 @@ real_suits at =
     (either Real (nat_eq at SWITCH_TO_PROTECTED_TRAP) ToProtected _ refl
     (either Real (nat_eq at REAL_STATE_TRAP) RealState _ tt
     (either Real (nat_eq at CALL_RETURN_TRAP) CallReturn _ refl
-    (either Real (is_among CALLBACK_TRAPS CALLBACKS at) (Callback (at - CALLBACK_TRAPS)) NoTrap tt tt)))))
+    (either Real (is_among CALLBACK_TRAPS CALLBACKS at) (Callback (at - CALLBACK_TRAPS)) NoTrap refl tt)))))
 
 protected_suits : (at : ℕ) → Suits Protected (protected_trap_at at)
 unfolding protected_trap_at
@@ -42,7 +44,7 @@ protected_suits at =
     (either Protected (nat_eq at SWITCH_TO_REAL_TRAP) ToReal _ refl
     (either Protected (nat_eq at PROTECTED_STATE_TRAP) ProtectedState _ tt
     (either Protected (nat_eq at EXCEPTION_RETURN_TRAP) ExceptionReturn _ tt
-    (either Protected (nat_eq at CALLBACK_RETURN_TRAP) CallbackReturn NoTrap tt tt)))))
+    (either Protected (nat_eq at CALLBACK_RETURN_TRAP) CallbackReturn NoTrap refl tt)))))
 
 suits_at : (mode : Mode) (o : Option ℕ) → Suits mode (trap_where mode o)
 suits_at mode None = tt
@@ -70,3 +72,9 @@ switch_is_protected w t here is = subst (Suits w.mode) is (trap_suits w t here)
 
 pub vector_is_protected : (w : World) (t : Trap) (n : ℕ) → t ≡ current_trap w → t ≡ ProtectedVector n → w.mode ≡ Protected
 vector_is_protected w t n here is = subst (Suits w.mode) is (trap_suits w t here)
+
+pub callback_is_real : (w : World) (t : Trap) (slot : ℕ) → t ≡ current_trap w → t ≡ Callback slot → w.mode ≡ Real
+callback_is_real w t slot here is = subst (Suits w.mode) is (trap_suits w t here)
+
+pub callback_return_is_protected : (w : World) (t : Trap) → t ≡ current_trap w → t ≡ CallbackReturn → w.mode ≡ Protected
+callback_return_is_protected w t here is = subst (Suits w.mode) is (trap_suits w t here)

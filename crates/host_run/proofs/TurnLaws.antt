@@ -6,6 +6,7 @@ use Rattle.client_world.specs.declared.calls.Call.{Call}
 use Rattle.client_world.specs.declared.calls.Call.TheVariants.{Int, Far, Iret, Reflect}
 use Rattle.client_world.specs.declared.calls.Record.{Record}
 use Rattle.client_world.specs.declared.calls.Record.TheVariants.{Sim, Back, Exc}
+use Rattle.client_world.specs.declared.calls.What.TheVariants as whats
 use Rattle.client_world.specs.declared.faults.Event.{Event}
 use Rattle.client_world.specs.declared.faults.Event.TheVariants as events
 use Rattle.client_world.specs.declared.faults.Fault.{Fault}
@@ -25,6 +26,10 @@ use Rattle.client_world.specs.Services.{Served, es_di, is_set}
 use Rattle.client_world.specs.Soundness.{IsSound}
 use Rattle.client_world.specs.World.{World, HostWorld}
 use Rattle.client_world.proofs.SoundWrites.{IsSound-regs}
+use Rattle.callbacks.specs.Callbacks.{enter_callback, leave_callback}
+use Rattle.callbacks.specs.HandOver.{IsCallbackPopped}
+use Rattle.callbacks.proofs.KeptWorld.{enter_pushes, leave_pops}
+use Rattle.callbacks.proofs.SoundEntries.{sound_enter, sound_leave}
 use Rattle.dos_calls.specs.Calls.{CallResult, dos_call}
 use Rattle.dos_calls.specs.Multiplex.{multiplex_call}
 use Rattle.dos_calls.specs.Kept.{Extends}
@@ -52,12 +57,12 @@ use Rattle.translation.proofs.SoundCalls.{sound_begin, sound_reflect}
 use Rattle.translation.proofs.SoundReturns.{sound_end}
 use Rattle.translation.proofs.Stacked.{begin_pushes, end_pops, reflect_pushes}
 use Rattle.host_run.specs.declared.traps.Trap.{Trap}
-use Rattle.host_run.specs.declared.traps.Trap.TheVariants.{RealVector, Entry, ToProtected, RealState, CallReturn, ProtectedVector, ExceptionHandler, ToReal, ProtectedState, ExceptionReturn, NoTrap}
+use Rattle.host_run.specs.declared.traps.Trap.TheVariants.{RealVector, Entry, ToProtected, RealState, CallReturn, Callback, ProtectedVector, ExceptionHandler, ToReal, ProtectedState, ExceptionReturn, CallbackReturn, NoTrap}
 use Rattle.host_run.specs.Keys.{HasKeys}
 use Rattle.host_run.specs.Nested.{PushesRecord, PopsRecord, Stacked, kept, popped as left_one, pushed}
 use Rattle.host_run.specs.RealCalls.{StartsCall, StartsRealCall}
 use Rattle.host_run.specs.Traps.{current_trap}
-use Rattle.host_run.specs.Turn.{Outcome, goes_on, ends, with_machine, noted, popped, seen, dos_served, multiplex_served, ends_client, vector_served, entry_line, after_entry, after_entry_trap, after_switch_to_protected, is_exit_call, is_presence_call, is_unbuilt, asked_call, call_enter_line, call_leave_line, call_of_record, after_begin, after_call_return, after_reflection, after_service, goes_on_with, after_presence_call, service, after_int31, after_protected_call, after_protected_pop, after_protected_vector, enter_line, after_protected_delivery, exception_number, leave_line, after_exception_return, delivered_in, after_interrupt, after_step, stepped, trapped, work, with_turn_counted, settled, turn}
+use Rattle.host_run.specs.Turn.{Outcome, goes_on, ends, with_machine, noted, popped, seen, dos_served, multiplex_served, ends_client, vector_served, entry_line, after_entry, after_entry_trap, after_switch_to_protected, is_exit_call, is_presence_call, asked_call, call_enter_line, call_leave_line, call_of_record, after_begin, after_call_return, after_reflection, after_service, goes_on_with, after_presence_call, service, after_int31, after_protected_call, after_protected_pop, after_protected_vector, enter_line, after_protected_delivery, exception_number, leave_line, after_exception_return, after_callback, callback_slot, after_callback_return, delivered_in, after_interrupt, after_step, stepped, trapped, work, with_turn_counted, settled, turn}
 use Rattle.host_run.proofs.AskedCalls.{plain_call}
 use Rattle.host_run.proofs.Frames.{still_popped}
 use Rattle.host_run.proofs.Services.{calls_service, sound_service}
@@ -369,9 +374,8 @@ protected_keeps h n (Err exit) is s next mode = stops_same h exit s
 protected_vector_keeps : (h : HostWorld) (n : ℕ) → IsReached h → h.machine.mode ≡ Protected → TurnKeeps h (after_protected_vector h n)
 unfolding after_protected_vector
 protected_vector_keeps h n s protected =
-    if_keeps h (nat_eq n 0x31 && is_unbuilt (low_half h.machine.regs.eax)) _ _ (stops_same h exits.Unbuilt s)
-    (protected_keeps h n (world_popped h.machine) refl s (next_popped h.machine h.machine (same_machine h.machine s.machine))
-    (λ w e. ap (λ (x : World). x.mode) (kept_world_popped h.machine w e) ∙ protected))
+    protected_keeps h n (world_popped h.machine) refl s (next_popped h.machine h.machine (same_machine h.machine s.machine))
+    (λ w e. ap (λ (x : World). x.mode) (kept_world_popped h.machine w e) ∙ protected)
 
 -- ---- the return from a call of real mode
 
@@ -392,14 +396,14 @@ call_return_by h (Err exit) is s = stops_same h exit s
 delivery_by : (h : HostWorld) (f : Fault) (r : Result World Exit) → world_protected_delivery h.machine f ≡ r → IsReached h →
     h.machine.mode ≡ Protected → TurnKeeps h (after_protected_delivery h f.number r)
 delivery_by h f (Ok w) is s mode =
-    goes_changed h (record (noted (enter_line h.machine f.number) h) { machine = w }) s (faults.sound_world_delivery h.machine w f s.machine mode is)
+    goes_changed h (record (noted (enter_line h.machine (whats.Exc f.number)) h) { machine = w }) s (faults.sound_world_delivery h.machine w f s.machine mode is)
     (pushed (Exc f.number f.code) (faults.pushed_record h.machine w f is) (mode, is, (refl, refl))) refl (omega arith) refl refl
 delivery_by h f (Err exit) is s mode = stops_same h exit s
 
 popped_line : (h : HostWorld) (w : World) (n : ℕ) → IsReached h → IsSound w → world_exception_return h.machine ≡ Ok w →
-    (p : faults.Popped h.machine.calls w.calls) → n ≡ p.number → TurnKeeps h (goes_on_with h (leave_line w n) w)
+    (p : faults.Popped h.machine.calls w.calls) → n ≡ p.number → TurnKeeps h (goes_on_with h (leave_line w (whats.Exc n)) w)
 popped_line h w n s sound is p same =
-    rw same (goes_changed h (record (noted (leave_line w p.number) h) { machine = w }) s sound
+    rw same (goes_changed h (record (noted (leave_line w (whats.Exc p.number)) h) { machine = w }) s sound
     (left_one (Exc p.number p.code) p.is (is, (refl, refl))) refl (omega arith) refl refl)
 
 return_by : (h : HostWorld) (r : Result World Exit) → world_exception_return h.machine ≡ r → IsReached h →
@@ -408,6 +412,29 @@ return_by h (Ok w) is s =
     let p = faults.popped_record h.machine w is in
     popped_line h w (exception_number (top h.machine)) s (faults.sound_world_return h.machine w s.machine is) is p (ap exception_number p.top_is)
 return_by h (Err exit) is s = stops_same h exit s
+
+-- ---- callbacks
+
+callback_by : (h : HostWorld) (slot : ℕ) (r : Result World Exit) → enter_callback h.machine slot ≡ r → IsReached h →
+    TurnKeeps h (after_callback h slot r)
+callback_by h slot (Ok w) is s =
+    let p = enter_pushes h.machine w slot is in
+    goes_changed h (record (noted (enter_line h.machine (whats.Back slot)) h) { machine = w }) s (sound_enter h.machine w slot s.machine is)
+    (pushed (Back slot p.at) p.pushed (is, (refl, refl))) refl (omega arith) refl refl
+callback_by h slot (Err exit) is s = stops_same h exit s
+
+callback_line : (h : HostWorld) (w : World) (slot : ℕ) → IsReached h → IsSound w → leave_callback h.machine ≡ Ok w →
+    (p : IsCallbackPopped h.machine w) → slot ≡ p.slot → TurnKeeps h (goes_on_with h (leave_line w (whats.Back slot)) w)
+callback_line h w slot s sound is p same =
+    rw same (goes_changed h (record (noted (leave_line w (whats.Back p.slot)) h) { machine = w }) s sound
+    (left_one (Back p.slot p.at) p.popped (is, (refl, refl))) refl (omega arith) refl refl)
+
+callback_return_by : (h : HostWorld) (r : Result World Exit) → leave_callback h.machine ≡ r → IsReached h → TurnKeeps h (after_callback_return h r)
+callback_return_by h (Ok w) is s =
+    let p = leave_pops h.machine w is in
+    callback_line h w (callback_slot (top h.machine)) s (sound_leave h.machine w s.machine is) is p
+    (ap callback_slot (innermost_of h.machine w.calls (Back p.slot p.at) p.popped))
+callback_return_by h (Err exit) is s = stops_same h exit s
 
 -- ---- client instructions
 
@@ -454,11 +481,12 @@ trapped_keeps h RealState s suits = state_call_keeps h s
 trapped_keeps h ToReal s suits = to_real_keeps h s suits
 trapped_keeps h ProtectedState s suits = state_call_keeps h s
 trapped_keeps h CallReturn s suits = call_return_by h (end_call h.machine) refl s
+trapped_keeps h (Callback slot) s suits = callback_by h slot (enter_callback h.machine slot) refl s
 trapped_keeps h (ProtectedVector n) s suits = protected_vector_keeps h n s suits
 trapped_keeps h (ExceptionHandler n) s suits = stops_same h (exit_of_record (top h.machine)) s
 trapped_keeps h ExceptionReturn s suits = return_by h (world_exception_return h.machine) refl s
+trapped_keeps h CallbackReturn s suits = callback_return_by h (leave_callback h.machine) refl s
 trapped_keeps h NoTrap s suits = stepped_keeps h s
-trapped_keeps h _ s suits = stops_same h exits.Unbuilt s
 
 work_keeps : (h : HostWorld) → IsReached h → TurnKeeps h (work h)
 unfolding work

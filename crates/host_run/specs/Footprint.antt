@@ -18,7 +18,7 @@ use Rattle.protected_faults.specs.ByMode.{delivery}
 use Rattle.protected_faults.specs.Memory.{frame_places}
 use Rattle.protected_faults.specs.StepMemory.{interrupt_places, written_places}
 use Rattle.host_run.specs.declared.traps.Trap.{Trap}
-use Rattle.host_run.specs.declared.traps.Trap.TheVariants.{RealVector, Entry, CallReturn, ProtectedVector, ExceptionReturn, NoTrap}
+use Rattle.host_run.specs.declared.traps.Trap.TheVariants.{RealVector, Entry, CallReturn, Callback, ProtectedVector, ExceptionReturn, CallbackReturn, NoTrap}
 use Rattle.host_run.specs.Traps.{current_trap}
 
 -- the bytes of some places, and the host's frames keep theirs; or besides the bytes of the row of a record; or nothing is said
@@ -53,14 +53,16 @@ unfoldable pub client_footprint : World → Footprint
 client_footprint w = event_footprint w (world_step w)
 
 -- by the kind of the turn. At the trap of an exception's return the row of the innermost record changes. Of the host's work at a default
--- vector, at the entry and at the return from a call nothing is said. All other traps end the run and change nothing
+-- vector, at the entry, at the return from a call, and at a callback and its return nothing is said. At all other traps no byte changes
 abbrev pub trap_footprint : World → Trap → Footprint
 trap_footprint w NoTrap = client_footprint w
 trap_footprint w ExceptionReturn = at_places_and_row [] (depth w - 1)
 trap_footprint w (RealVector n) = unsaid
 trap_footprint w Entry = unsaid
 trap_footprint w CallReturn = unsaid
+trap_footprint w (Callback slot) = unsaid
 trap_footprint w (ProtectedVector n) = unsaid
+trap_footprint w CallbackReturn = unsaid
 trap_footprint w _ = at_places []
 
 unfoldable pub work_footprint : World → Footprint

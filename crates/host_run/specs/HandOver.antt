@@ -1,17 +1,21 @@
 -- What is handed over in a run by two turns of which the second takes away the record that the first added. A call of real mode: the turn that
 -- starts it gives its procedure the client's registers, structure and words, and the turn that ends it gives the client those of the
--- procedure. An exception: the handler finds its frame, and the client goes on as the frame then says. Source: DPMI 0.9, INT 31h
--- functions 0300h to 0302h, "Interrupts" and "Exceptions".
+-- procedure. A callback: its procedure finds the real caller's registers in its structure, and real mode goes on with those of the structure
+-- that the procedure names at its return. An exception: the handler finds its frame, and the client goes on as the frame then says.
+-- Source: DPMI 0.9, INT 31h functions 0300h to 0303h, "Interrupts" and "Exceptions".
 use Rattle.std.specs.Prelude.{◌≡◌, ℕ, [], ◌∷◌, Ok}
 use Rattle.client_world.specs.declared.calls.Call.{Call}
 use Rattle.client_world.specs.declared.calls.Call.TheVariants.{Int, Far, Iret, Reflect}
 use Rattle.client_world.specs.declared.calls.Record.{Record}
 use Rattle.client_world.specs.declared.calls.Record.TheVariants.{Sim, Back, Exc}
+use Rattle.client_world.specs.declared.calls.What.TheVariants as whats
+use Rattle.client_world.specs.declared.segments.FarPtr.{FarPtr}
 use Rattle.client_world.specs.declared.services.Carry.TheVariants.{Clear}
 use Rattle.client_world.specs.declared.trace.TraceLine.TheVariants.{Int31}
 use Rattle.client_world.specs.Registers.{low_half}
 use Rattle.client_world.specs.Services.{es_di}
 use Rattle.client_world.specs.World.{World, HostWorld}
+use Rattle.callbacks.specs.HandOver.{HasEntered, HasLeft}
 use Rattle.fault_service.specs.Worlds.{world_popped}
 use Rattle.host_run.specs.Exceptions.{HasDelivered, HasResumed}
 use Rattle.host_run.specs.RealCalls.{HasMoreLines}
@@ -52,11 +56,21 @@ HandsOverRealCall w v x y (Reflect n) = HandsOverReflection w v x y n
 pub record HandsOverException (w v x y : HostWorld) (number code : ℕ) : Type 0 where
   pub delivered : HasDelivered w.machine (record { number = number; code = code }) v.machine
   pub resumed : HasResumed x.machine y.machine
-  pub enter : HasMoreLines w (enter_line w.machine number ∷ []) v
-  pub leave : HasMoreLines x (leave_line y.machine number ∷ []) y
+  pub enter : HasMoreLines w (enter_line w.machine (whats.Exc number) ∷ []) v
+  pub leave : HasMoreLines x (leave_line y.machine (whats.Exc number) ∷ []) y
 
--- by the record that the first of two turns adds and the second takes away; callbacks have none yet
+-- the turn from w to v starts the callback of a slot, whose structure is at a pointer, and the turn from x to y ends it: the procedure finds
+-- the real caller's registers in its structure, and real mode has at the end those of the structure at the ES:(E)DI of x
+pub record HandsOverCallback (w v x y : HostWorld) (slot : ℕ) (at : FarPtr) : Type 0 where
+  pub entered : HasEntered w.machine v.machine slot
+  pub place : entered.at ≡ at
+  pub left : HasLeft x.machine y.machine
+  pub same : Back left.slot left.at ≡ Back slot at
+  pub enter : HasMoreLines w (enter_line w.machine (whats.Back slot) ∷ []) v
+  pub leave : HasMoreLines x (leave_line y.machine (whats.Back slot) ∷ []) y
+
+-- by the record that the first of two turns adds and the second takes away
 abbrev pub HandsOver : HostWorld → HostWorld → HostWorld → HostWorld → Record → Type 0
 HandsOver w v x y (Sim call saved vif at) = HandsOverRealCall w v x y call
-HandsOver w v x y (Back slot at) = Unit {0}
+HandsOver w v x y (Back slot at) = HandsOverCallback w v x y slot at
 HandsOver w v x y (Exc number code) = HandsOverException w v x y number code

@@ -2,27 +2,31 @@
 use Rattle.std.specs.Prelude.{◌≡◌, ◌≢◌, ◌<◌, ◌≤◌, ◌+◌, ℕ, [], ◌∷◌, ◌++◌, take, Ok}
 use Rattle.client_world.specs.declared.calls.Record.{Record}
 use Rattle.client_world.specs.declared.calls.Record.TheVariants.{Sim, Back, Exc}
+use Rattle.client_world.specs.declared.calls.What.TheVariants as whats
 use Rattle.client_world.specs.declared.registers.Mode.TheVariants.{Protected}
 use Rattle.client_world.specs.World.{HostWorld, depth}
+use Rattle.callbacks.specs.Callbacks.{enter_callback, leave_callback}
 use Rattle.protected_faults.specs.Worlds.{world_exception_return, world_protected_delivery}
 use Rattle.host_run.specs.RealCalls.{HasMoreLines, ReturnsFromCall, StartsRealCall}
 use Rattle.host_run.specs.Turn.{enter_line, leave_line}
 
--- a turn that adds a record: it starts a call of real mode, or delivers an exception of protected mode. No turn adds another record yet
+-- a turn that adds a record: it starts a call of real mode or a callback, or delivers an exception of protected mode
 abbrev pub PushesRecord : HostWorld → Record → HostWorld → Type 0
 PushesRecord w (Sim call saved vif at) v = StartsRealCall w call (Sim call saved vif at) v
-PushesRecord w (Back slot at) v = ⊥
+PushesRecord w (Back slot at) v =
+    (enter_callback w.machine slot ≡ Ok v.machine) × HasMoreLines w (enter_line w.machine (whats.Back slot) ∷ []) v
 PushesRecord w (Exc number code) v =
     (w.machine.mode ≡ Protected)
     × (world_protected_delivery w.machine (record { number = number; code = code }) ≡ Ok v.machine)
-    × HasMoreLines w (enter_line w.machine number ∷ []) v
+    × HasMoreLines w (enter_line w.machine (whats.Exc number) ∷ []) v
 
--- a turn that takes a record away: its call or its exception returns. No turn takes another record away yet
+-- a turn that takes a record away: its call, its callback or its exception returns
 abbrev pub PopsRecord : HostWorld → Record → HostWorld → Type 0
 PopsRecord w (Sim call saved vif at) v = ReturnsFromCall w call v
-PopsRecord w (Back slot at) v = ⊥
+PopsRecord w (Back slot at) v =
+    (leave_callback w.machine ≡ Ok v.machine) × HasMoreLines w (leave_line v.machine (whats.Back slot) ∷ []) v
 PopsRecord w (Exc number code) v =
-    (world_exception_return w.machine ≡ Ok v.machine) × HasMoreLines w (leave_line v.machine number ∷ []) v
+    (world_exception_return w.machine ≡ Ok v.machine) × HasMoreLines w (leave_line v.machine (whats.Exc number) ∷ []) v
 
 -- what a turn from one host to the next does to the records
 pub data Stacked (w v : HostWorld) : Type 0 where

@@ -6,6 +6,7 @@ use Rattle.client_world.specs.declared.calls.Call.{Call}
 use Rattle.client_world.specs.declared.calls.Call.TheVariants.{Int, Far, Iret, Reflect}
 use Rattle.client_world.specs.declared.calls.Record.{Record}
 use Rattle.client_world.specs.declared.calls.Record.TheVariants.{Sim, Back, Exc}
+use Rattle.client_world.specs.declared.calls.What.{What}
 use Rattle.client_world.specs.declared.calls.What.TheVariants as whats
 use Rattle.client_world.specs.declared.faults.Event.{Event}
 use Rattle.client_world.specs.declared.faults.Event.TheVariants as events
@@ -24,6 +25,8 @@ use Rattle.client_world.specs.Registers.{high_byte, low_byte, low_half, with_low
 use Rattle.client_world.specs.Services.{Served, is_set}
 use Rattle.client_world.specs.World.{World, HostWorld, depth}
 use Rattle.block_services.specs.Rows.{block_service}
+use Rattle.callbacks.specs.Callbacks.{enter_callback, leave_callback}
+use Rattle.callbacks.specs.Services.{callback_service}
 use Rattle.desc_services.specs.Rows.{descriptor_service}
 use Rattle.dos_calls.specs.Calls.{CallState, CallResult, dos_call}
 use Rattle.dos_calls.specs.Multiplex.{multiplex_call}
@@ -38,7 +41,7 @@ use Rattle.translation.specs.SimulatedCall.{begin_call, end_call, reflect}
 use Rattle.vector_services.specs.Rows.{vector_service}
 use Rattle.dos_blocks.specs.Services.{dos_service}
 use Rattle.host_run.specs.declared.traps.Trap.{Trap}
-use Rattle.host_run.specs.declared.traps.Trap.TheVariants.{RealVector, Entry, ToProtected, RealState, CallReturn, ProtectedVector, ExceptionHandler, ToReal, ProtectedState, ExceptionReturn, NoTrap}
+use Rattle.host_run.specs.declared.traps.Trap.TheVariants.{RealVector, Entry, ToProtected, RealState, CallReturn, Callback, ProtectedVector, ExceptionHandler, ToReal, ProtectedState, ExceptionReturn, CallbackReturn, NoTrap}
 use Rattle.host_run.specs.Traps.{current_trap}
 
 -- what a turn does: the host after it, and the exit that ends the run, if there is one
@@ -152,9 +155,9 @@ after_call_return h (Err exit) = ends h exit
 
 -- ---- the default vectors of protected mode
 
--- the functions of INT 31h that aren't served yet: callbacks
-abbrev pub is_unbuilt : ℕ → Bool
-is_unbuilt ax = nat_eq ax 0x0303 || nat_eq ax 0x0304
+-- the functions of INT 31h on callbacks
+abbrev pub is_of_callbacks : ℕ → Bool
+is_of_callbacks ax = nat_eq ax 0x0303 || nat_eq ax 0x0304
 
 -- the high byte of a function of INT 31h on memory blocks and their pages
 abbrev pub is_of_blocks : ℕ → Bool
@@ -165,6 +168,7 @@ unfoldable pub service : ℕ → World → Served
 service ax w =
     if nat_eq (high_byte ax) 0 then descriptor_service ax w else
     if nat_eq (high_byte ax) 1 then dos_service ax w else
+    if is_of_callbacks ax then callback_service ax w else
     if nat_eq (high_byte ax) 3 then gate_service ax w else
     if is_of_blocks (high_byte ax) then block_service ax w else
     vector_service ax w
@@ -229,18 +233,20 @@ after_protected_pop h n (Ok w) = after_protected_call h n w
 after_protected_pop h n (Err exit) = ends h exit
 
 unfoldable pub after_protected_vector : HostWorld → ℕ → Outcome
-after_protected_vector h n =
-    if nat_eq n 0x31 && is_unbuilt (low_half h.machine.regs.eax) then ends h exits.Unbuilt
-    else after_protected_pop h n (world_popped h.machine)
+after_protected_vector h n = after_protected_pop h n (world_popped h.machine)
 
--- ---- exceptions of protected mode
+-- ---- exceptions of protected mode, and callbacks
 
--- the line of the trace of a delivery: the depth, and the registers at the exception
-abbrev pub enter_line : World → ℕ → TraceLine
-enter_line w number = lines.Enter (depth w) (whats.Exc number) w.regs w.vif
+-- the line of the trace of an exception or a callback that starts: the depth, and the registers at the exception or of the real caller
+abbrev pub enter_line : World → What → TraceLine
+enter_line w what = lines.Enter (depth w) what w.regs w.vif
+
+-- the line of one that has returned: the depth and the registers after it
+abbrev pub leave_line : World → What → TraceLine
+leave_line w what = lines.Leave (depth w) what w.regs w.vif
 
 abbrev pub after_protected_delivery : HostWorld → ℕ → Result World Exit → Outcome
-after_protected_delivery h number (Ok w) = goes_on_with h (enter_line h.machine number) w
+after_protected_delivery h number (Ok w) = goes_on_with h (enter_line h.machine (whats.Exc number)) w
 after_protected_delivery h number (Err exit) = ends h exit
 
 -- the number of a record's exception
@@ -250,13 +256,24 @@ exception_number (Some (Sim call saved vif at)) = 0
 exception_number (Some (Back slot at)) = 0
 exception_number (Some (Exc number code)) = number
 
--- the line of the trace of a return from an exception: the depth and the registers after it
-abbrev pub leave_line : World → ℕ → TraceLine
-leave_line w number = lines.Leave (depth w) (whats.Exc number) w.regs w.vif
-
 abbrev pub after_exception_return : HostWorld → Result World Exit → Outcome
-after_exception_return h (Ok w) = goes_on_with h (leave_line w (exception_number (top h.machine))) w
+after_exception_return h (Ok w) = goes_on_with h (leave_line w (whats.Exc (exception_number (top h.machine)))) w
 after_exception_return h (Err exit) = ends h exit
+
+abbrev pub after_callback : HostWorld → ℕ → Result World Exit → Outcome
+after_callback h slot (Ok w) = goes_on_with h (enter_line h.machine (whats.Back slot)) w
+after_callback h slot (Err exit) = ends h exit
+
+-- the slot of a record's callback
+abbrev pub callback_slot : Option Record → ℕ
+callback_slot None = 0
+callback_slot (Some (Sim call saved vif at)) = 0
+callback_slot (Some (Back slot at)) = slot
+callback_slot (Some (Exc number code)) = 0
+
+abbrev pub after_callback_return : HostWorld → Result World Exit → Outcome
+after_callback_return h (Ok w) = goes_on_with h (leave_line w (whats.Back (callback_slot (top h.machine)))) w
+after_callback_return h (Err exit) = ends h exit
 
 -- ---- client instructions
 
@@ -285,20 +302,21 @@ stepped h = after_step h (world_step h.machine)
 
 -- ---- turns
 
--- what a turn does at a trap, or where there is none; a trap that isn't served yet ends the run
+-- what a turn does at a trap, or where there is none
 abbrev pub trapped : HostWorld → Trap → Outcome
 trapped h (RealVector n) = vector_reached h n
 trapped h Entry = after_entry_trap h
 trapped h ToProtected = after_switch_to_protected h (switched_to_protected h.machine)
 trapped h RealState = with_machine h (world_after_far_return h.machine)
 trapped h CallReturn = after_call_return h (end_call h.machine)
+trapped h (Callback slot) = after_callback h slot (enter_callback h.machine slot)
 trapped h (ProtectedVector n) = after_protected_vector h n
 trapped h (ExceptionHandler n) = ends h (exit_of_record (top h.machine))
 trapped h ToReal = goes_on_with h lines.ToReal (switched_to_real h.machine)
 trapped h ProtectedState = with_machine h (world_after_far_return h.machine)
 trapped h ExceptionReturn = after_exception_return h (world_exception_return h.machine)
+trapped h CallbackReturn = after_callback_return h (leave_callback h.machine)
 trapped h NoTrap = stepped h
-trapped h _ = ends h exits.Unbuilt
 
 unfoldable pub work : HostWorld → Outcome
 work h = trapped h (current_trap h.machine)

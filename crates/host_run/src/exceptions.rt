@@ -9,43 +9,18 @@ ghost use Rattle.protected_faults.specs.Worlds.{world_exception_return, world_pr
 ghost use Rattle.host_run.specs.Turn.{
   after_exception_return,
   after_protected_delivery,
-  enter_line,
   exception_number,
-  leave_line,
 };
 ghost use Rattle.host_run.specs.View.{ComesTo, machine_view};
 
 use crate::host::Host;
-use client_world::{Exit, Fault, Record, TraceLine, What};
+use crate::trace::{enter_line, leave_line};
+use client_world::{Exit, Fault, Record, What};
 use guest_space::Machine;
-use mode_stack::{depth, top};
+use mode_stack::top;
 use protected_faults::{
     a_machine_changes_only_what_is_written, back, deliver, every_answer_depends_on_the_world_alone,
 };
-
-// The line of the trace of a delivery.
-fn enter_line(m: &Machine, number: u8) -> TraceLine
-    ensures { result ≡ enter_line m.now.world number }
-{
-    TraceLine::Enter {
-        depth: depth(m),
-        what: What::Exc(number),
-        regs: m.regs(),
-        vif: m.vif(),
-    }
-}
-
-// The line of the trace of a return from an exception.
-fn leave_line(m: &Machine, number: u8) -> TraceLine
-    ensures { result ≡ leave_line m.now.world number }
-{
-    TraceLine::Leave {
-        depth: depth(m),
-        what: What::Exc(number),
-        regs: m.regs(),
-        vif: m.vif(),
-    }
-}
 
 // The number of the innermost record's exception.
 fn exception_number(m: &Machine) -> u8
@@ -89,7 +64,7 @@ impl Host {
             (after_protected_delivery self.old.world f.number (world_protected_delivery self.old.world.machine f)) }
         ensures machine { OnOk result (protected_delivery (machine_view self.old) f ≡ Ok (machine_view self.new)) }
     {
-        let line = enter_line(&self.machine, f.number);
+        let line = enter_line(&self.machine, What::Exc(f.number));
         match deliver_to_machine(&mut self.machine, f) {
             Ok(()) => {
                 self.note(line);
@@ -110,7 +85,7 @@ impl Host {
         let number = exception_number(&self.machine);
         match return_to_client(&mut self.machine) {
             Ok(()) => {
-                let line = leave_line(&self.machine, number);
+                let line = leave_line(&self.machine, What::Exc(number));
                 self.note(line);
                 Ok(())
             }

@@ -251,12 +251,13 @@ impl Host {
             Trap::ToProtected => self.switch_to_protected(),
             Trap::RealState | Trap::ProtectedState => self.serve_state_call(),
             Trap::CallReturn => self.return_from_call(),
+            Trap::Callback(slot) => self.enter_callback(slot),
             Trap::ProtectedVector(n) => self.serve_protected_vector(n),
             Trap::ExceptionHandler(_) => Err(default_handler_exit(&self.machine)),
             Trap::ToReal => self.switch_to_real(),
             Trap::ExceptionReturn => self.return_from_exception(),
+            Trap::CallbackReturn => self.return_from_callback(),
             Trap::NoTrap => self.run_client(),
-            _ => Err(Exit::Unbuilt),
         }
     }
 

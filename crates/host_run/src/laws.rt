@@ -49,8 +49,8 @@ pub fn every_run_is_sound()
     ensures host_end { (w : HostWorld) → IsSoundHost w → HasKeys w → (n : ℕ) → IsSoundHost (run w n) }
 {}
 
-/// A turn leaves the records of the nested calls as they are, or adds one as it starts a call of real mode or delivers an exception of
-/// protected mode, or takes the innermost one away as its call or exception returns; and so does each turn of a run.
+/// A turn leaves the records of the nested calls as they are, or adds one as it starts a call of real mode or a callback or delivers an exception
+/// of protected mode, or takes the innermost one away as its call, callback or exception returns; and so does each turn of a run.
 pub fn every_turn_changes_the_innermost_record_at_most()
     ensures turn { (w : HostWorld) → IsSound w.machine → HasKeys w → Stacked w (turn w) }
     ensures turns { (w : HostWorld) → IsSound w.machine → HasKeys w → (n : ℕ) → Stacked (turns w n) (turns w (n + 1)) }
@@ -66,10 +66,11 @@ pub fn nested_calls_return_in_order()
     ensures record_stays { (w : ℕ → HostWorld) (n i j : ℕ) → HasTurns w n → j < n → Matched w i j → IsHandedOver w i j }
 {}
 
-/// A call of real mode and an exception hand over what they should, whatever is nested in them. The procedure of a call starts with the registers
+/// A call of real mode, a callback and an exception hand over what they should, whatever is nested in them. The procedure of a call starts with the registers
 /// of the client's structure and with the client's words, or a reflected interrupt with the client's general registers and flags; and the
-/// turn that takes its record away gives the client those of the procedure, and the structure its results. The handler of an exception
-/// finds its frame at SS:ESP, and the turn that takes its record away takes what the frame then holds. So it is of each two turns of which
+/// turn that takes its record away gives the client those of the procedure, and the structure its results. The procedure of a callback finds the
+/// real caller's registers in its structure, and the turn that takes its record away gives real mode those of the structure at the then
+/// present ES:(E)DI. The handler of an exception finds its frame at SS:ESP, and the turn that takes its record away takes what the frame then holds. So it is of each two turns of which
 /// the second takes away the record that the first added, in a row of hosts whose machines are sound, and in each run.
 pub fn every_nested_call_hands_over()
     ensures matched { (w : ℕ → HostWorld) (i j : ℕ) → IsSound (w i).machine → IsSound (w j).machine → (h : IsHandedOver w i j) →

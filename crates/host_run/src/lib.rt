@@ -3,10 +3,11 @@
 //! for the first reason, that each turn is the model's turn, and that a run is the model's run; that every world so reached
 //! is sound, that its turns touch what the client holds, change no bytes of the memory but those of their footprint, change the innermost
 //! record of a call at most and add to the console at its end alone, and that an exit leaves the machine.
-//! It is built on `mz_loader`, `dos_calls`, `dos_blocks`, `fault_service`, `protected_faults`, `mode_gates`, `desc_services`, `block_services`
-//! and `vector_services`, all of which are built on the machine.
+//! It is built on `mz_loader`, on the services of DOS and of INT 31h, and on what delivers exceptions, calls and callbacks, all of which are
+//! built on the machine.
 #![tactic(auto)]
 
+mod callbacks;
 mod calls;
 mod exceptions;
 mod host;

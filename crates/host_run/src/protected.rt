@@ -13,7 +13,6 @@ ghost use Rattle.host_run.specs.Turn.{
   after_service,
   is_exit_call,
   is_presence_call,
-  is_unbuilt,
   after_presence_call,
   after_protected_pop,
   after_protected_vector,
@@ -34,13 +33,6 @@ fn ax(m: &Machine) -> u16
     ensures { result ≡ low_half m.now.world.regs.eax }
 {
     (m.regs().eax % 0x1_0000) as u16
-}
-
-// The functions of INT 31h that aren't served yet.
-fn is_unbuilt(ax: u16) -> bool
-    ensures { result ≡ is_unbuilt ax }
-{
-    ax == 0x0303 || ax == 0x0304
 }
 
 // INT 21h function 4Ch, which ends the client.
@@ -212,9 +204,6 @@ impl Host {
         requires room { self.old.world.lines + 2 ≤ 2 * self.old.world.steps }
         ensures { ComesTo self.old self.new result (after_protected_vector self.old.world n) }
     {
-        if n == 0x31 && is_unbuilt(ax(&self.machine)) {
-            return Err(Exit::Unbuilt);
-        }
         if is_exit_call(&self.machine, n) {
             return self.end_client(n);
         }

@@ -6,7 +6,7 @@ ghost use Rattle.dos_calls.specs.Answering.{IfEnded};
 ghost use Rattle.dos_calls.specs.Calls.{dos_call};
 ghost use Rattle.dos_calls.specs.Multiplex.{multiplex_call};
 ghost use Rattle.fault_service.specs.Worlds.{world_step, world_popped};
-ghost use Rattle.host_run.specs.Turn.{is_of_blocks, service};
+ghost use Rattle.host_run.specs.Turn.{is_of_blocks, is_of_callbacks, service};
 
 use client_world::{Carry, DosDone, Event, Exit};
 use cpu_step::step_with_memo;
@@ -85,6 +85,13 @@ pub(crate) fn serve_multiplex(m: &mut Machine)
     m.soundness();
 }
 
+// Whether a function is one on callbacks.
+fn is_of_callbacks(ax: u16) -> bool
+    ensures { result ≡ is_of_callbacks ax }
+{
+    ax == 0x0303 || ax == 0x0304
+}
+
 // Whether a high byte is that of the services on memory blocks.
 fn is_of_blocks(high: u8) -> bool
     ensures { result ≡ is_of_blocks high }
@@ -104,6 +111,9 @@ pub(crate) fn serve_function(m: &mut Machine, ax: u16) -> Carry
     }
     if high == 1 {
         return dos_blocks::serve(m, ax);
+    }
+    if is_of_callbacks(ax) {
+        return callbacks::serve(m, ax);
     }
     if high == 3 {
         return mode_gates::serve(m, ax);

@@ -1,5 +1,5 @@
 // The raw mode switches, and the calls that save and restore the state.
-ghost use Rattle.std.specs.Prelude.{◌≡◌, ◌≤◌, ◌+◌, ◌*◌, Ok, Err, MatchResult};
+ghost use Rattle.std.specs.Prelude.{◌≡◌, ◌≤◌, ◌+◌, ◌*◌};
 ghost use Rattle.client_world.specs.declared.registers.Mode.TheVariants.{Protected as protected, Real as real};
 ghost use Rattle.client_world.specs.declared.trace.TraceLine.TheVariants.{ToReal};
 ghost use Rattle.mode_gates.specs.FarFrames.{world_after_far_return};
@@ -9,21 +9,7 @@ ghost use Rattle.host_run.specs.View.{ComesTo};
 
 use crate::host::Host;
 use client_world::{Exit, TraceLine};
-use guest_space::Machine;
-use mode_gates::{a_far_return_changes_registers_alone, pop_far, to_protected, to_real};
-
-// Pops the frame of a far call; an exit leaves the machine.
-fn return_from_state_call(m: &mut Machine) -> Result<(), Exit>
-    ensures world { MatchResult result (λ _. world_after_far_return m.old.world ≡ Ok m.new.world)
-        (λ e. (world_after_far_return m.old.world ≡ Err e) × (m.new ≡ m.old)) }
-    ensures bytes { m.new.bytes ≡ m.old.bytes }
-{
-    a_far_return_changes_registers_alone();
-    match pop_far(m) {
-        Ok(()) => Ok(()),
-        Err(exit) => Err(exit),
-    }
-}
+use mode_gates::{state_call, to_protected, to_real};
 
 impl Host {
     // The raw switch to protected mode.
@@ -63,6 +49,9 @@ impl Host {
         ensures host { ComesTo self.old self.new result (with_machine self.old.world (world_after_far_return self.old.world.machine)) }
         ensures bytes { self.new.bytes ≡ self.old.bytes }
     {
-        return_from_state_call(&mut self.machine)
+        match state_call(&mut self.machine) {
+            Ok(()) => Ok(()),
+            Err(exit) => Err(exit),
+        }
     }
 }

@@ -7,6 +7,7 @@ use std::alloc::{AllocError, Global};
 use std::process::Abort;
 use std::test::Fail;
 
+mod callbacks;
 mod calls;
 mod exceptions;
 mod memory;
@@ -96,7 +97,7 @@ const CASES: [Case; 13] = [
     // A division by 0, whose vector ends the client; so does that of the coprocessor.
     case!(&[0xB1, 0x00, 0xF6, 0xF1], [esp: 0xFA, cs: 0xF000], exit: Exit::Fault(0, 0), steps: 3),
     case!(&[0xCD, 0x07], [esp: 0xFA, eip: 7, cs: 0xF000], exit: Exit::Fault(7, 0), steps: 2),
-    // The raw switch to protected mode isn't served yet. Its far call has pushed CS and IP, 4 bytes.
+    // The raw switch to protected mode before the entry. Its far call has pushed CS and IP, 4 bytes.
     case!(&[0x9A, 0x01, 0x01, 0x00, 0xF0], [esp: 0xFC, eip: 0x101, cs: 0xF000], exit: Exit::Stray, steps: 2, flags: 0x0202),
     // A client that goes in a circle.
     case!(&[0xEB, 0xFE], [], bound: 1000, exit: Exit::Bound, steps: 1000, flags: 0x0202),
@@ -378,22 +379,5 @@ fn services_answer_in_the_popped_flags(rt: HostRuntime) -> Result<(), Fail> {
     let ax = 0;
     let carry = Carry::Set;
     assert_eq!(rt; host.line(3), Some(TraceLine::Int31 { ax, carry }));
-    Ok(())
-}
-
-// What isn't served yet ends the run and leaves the machine: callbacks.
-#[test]
-fn other_services_are_unbuilt(rt: HostRuntime) -> Result<(), Fail> {
-    for function in 3..=4 {
-        let mut host = entered(&rt, rt.alloc(), &[0xB8, function, 0x03, 0xCD, 0x31])?;
-        assert_eq!(rt;
-            run_out(&rt, &mut host),
-            Exit::Unbuilt,
-            "function {function}"
-        );
-        assert_eq!(rt; host.steps(), 12, "function {function}");
-        assert_eq!(rt; host.machine().regs().eip, 0x231, "function {function}");
-        assert_eq!(rt; host.lines(), 2, "function {function}");
-    }
     Ok(())
 }

@@ -1,9 +1,35 @@
 // The trace.
 ghost use Rattle.std.specs.Prelude.{◌≡◌, ◌≤◌, ◌<◌, ◌*◌, length, slice_get};
-ghost use Rattle.host_run.specs.Turn.{noted};
+ghost use Rattle.host_run.specs.Turn.{enter_line, leave_line, noted};
 
 use crate::host::Host;
-use client_world::TraceLine;
+use client_world::{TraceLine, What};
+use guest_space::Machine;
+use mode_stack::depth;
+
+// The line of an exception or a callback that starts.
+pub(crate) fn enter_line(m: &Machine, what: What) -> TraceLine
+    ensures { result ≡ enter_line m.now.world what }
+{
+    TraceLine::Enter {
+        depth: depth(m),
+        what,
+        regs: m.regs(),
+        vif: m.vif(),
+    }
+}
+
+// The line of one that has returned.
+pub(crate) fn leave_line(m: &Machine, what: What) -> TraceLine
+    ensures { result ≡ leave_line m.now.world what }
+{
+    TraceLine::Leave {
+        depth: depth(m),
+        what,
+        regs: m.regs(),
+        vif: m.vif(),
+    }
+}
 
 impl Host {
     /// The line of the trace of that number, counted from 0; `None` where none of that number is kept.

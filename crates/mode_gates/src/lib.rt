@@ -16,4 +16,4 @@ pub use laws::{
     a_far_return_changes_registers_alone, a_far_return_depends_on_the_world_alone,
     every_gate_is_sound, every_switch_keeps_the_rest, the_entry_keeps_the_rest,
 };
-pub use switches::{serve, to_protected, to_real};
+pub use switches::{serve, state_call, to_protected, to_real};

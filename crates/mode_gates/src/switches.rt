@@ -5,6 +5,7 @@ ghost use Rattle.client_world.specs.Loading.{is_loadable};
 ghost use Rattle.client_world.specs.declared.registers.Mode.TheVariants.{Protected as protected, Real as real};
 ghost use Rattle.client_world.specs.declared.services.Carry.TheVariants.{Set as refused};
 ghost use Rattle.service_rows.specs.Reasons.{Does};
+ghost use Rattle.mode_gates.specs.FarFrames.{world_after_far_return};
 ghost use Rattle.mode_gates.specs.Switches.{
   address_regs,
   can_switch,
@@ -17,6 +18,8 @@ ghost use Rattle.mode_gates.specs.Switches.{
   switched_to_real,
 };
 
+use crate::far_frames::pop_far;
+use crate::laws::a_far_return_changes_registers_alone;
 use client_world::memory_map::{ROM_SEGMENT, ROM_START};
 use client_world::selectors::{CLIENT_PRIVILEGE, HOST_CODE, privilege_of, selector_of};
 use client_world::traps::{
@@ -109,6 +112,21 @@ pub fn to_protected(m: &mut Machine) -> Result<(), Exit>
     ));
     m.set_mode(Mode::Protected);
     Ok(())
+}
+
+/// Saves or restores the state of the other mode, at the trap of that call in either mode: there is nothing to save, so it returns to its caller
+/// and does nothing else. `BadFrame` where its return address can't be popped, which leaves the machine as it was.
+/// Source: DPMI 0.9, INT 31h function 0305h; the exit is own.
+pub fn state_call(m: &mut Machine) -> Result<(), Exit>
+    ensures machine { MatchResult result (λ _. world_after_far_return m.old.world ≡ Ok m.new.world)
+        (λ exit. (world_after_far_return m.old.world ≡ Err exit) × (m.new ≡ m.old)) }
+    ensures bytes { m.new.bytes ≡ m.old.bytes }
+{
+    a_far_return_changes_registers_alone();
+    match pop_far(m) {
+        Ok(()) => Ok(()),
+        Err(exit) => Err(exit),
+    }
 }
 
 // Gives the addresses of a trap of real mode and of one of protected mode.

@@ -23,7 +23,7 @@ after_answer : (o : Option Refusal) (w u : World) → o ≡ None → (service_an
 after_answer None w u e = refl
 after_answer (Some refusal) w u e = absurd cc
 
-refused_answer : (o : Option Refusal) (w u : World) → (service_answer o w u).carry ≡ Set → (service_answer o w u).world ≡ w
+pub refused_answer : (o : Option Refusal) (w u : World) → (service_answer o w u).carry ≡ Set → (service_answer o w u).world ≡ w
 refused_answer None w u e = absurd cc
 refused_answer (Some refusal) w u e = refl
 

@@ -25,13 +25,13 @@ last_is : (x : Record) (xs : List Record) (r : Record) → slice_get (x ∷ xs) 
 last_is x [] r e = let same : x ≡ r = cc in rw same refl
 last_is x (y ∷ xs) r e = ap (λ (ys : List Record). x ∷ ys) (last_is y xs r e)
 
-split_last : (calls : List Record) (r : Record) → slice_get calls (length calls - 1) ≡ Some r → calls ≡ but_last calls ++ r ∷ []
+pub split_last : (calls : List Record) (r : Record) → slice_get calls (length calls - 1) ≡ Some r → calls ≡ but_last calls ++ r ∷ []
 split_last [] r e = absurd cc
 split_last (x ∷ xs) r e =
     let less : length (x ∷ xs) - 1 ≡ length xs = omega arith in
     last_is x xs r (ap (slice_get (x ∷ xs)) (sym less) ∙ e) ∙ ap (λ (n : ℕ). take n (x ∷ xs) ++ r ∷ []) (sym less)
 
-some_record : (calls : List Record) (r : Record) → slice_get calls (length calls - 1) ≡ Some r → 0 < length calls
+pub some_record : (calls : List Record) (r : Record) → slice_get calls (length calls - 1) ≡ Some r → 0 < length calls
 some_record [] r e = absurd cc
 some_record (x ∷ calls) r e = omega arith
 

@@ -38,7 +38,7 @@ same_bytes w u [] dos blocks = refl
 same_bytes w u (p ∷ places) dos blocks =
     ap (λ (x : ℕ). x ∷ bytes_of u places) (same_byte w u p dos blocks) ∙ ap (λ (xs : List ℕ). byte_of w p ∷ xs) (same_bytes w u places dos blocks)
 
-same_far : (w u : World) (p : FarPtr) (n : ℕ) → far_access u p n false ≡ far_access w p n false → u.dos ≡ w.dos → u.blocks ≡ w.blocks →
+pub same_far : (w u : World) (p : FarPtr) (n : ℕ) → far_access u p n false ≡ far_access w p n false → u.dos ≡ w.dos → u.blocks ≡ w.blocks →
     far_bytes u p n ≡ far_bytes w p n
 unfolding far_bytes
 same_far w u p n access dos blocks =

@@ -29,15 +29,15 @@ use Rattle.translation.proofs.ReadBytes.{no_bytes, one_byte}
 
 -- ---- the results are bytes
 
-record HasBytes (xs : List ℕ) : Type 0 where
+pub record HasBytes (xs : List ℕ) : Type 0 where
   pub each : AreBytes xs
 
-word_bytes : (v : ℕ) → HasBytes (number_bytes 16 v)
+pub word_bytes : (v : ℕ) → HasBytes (number_bytes 16 v)
 word_bytes v = record {
   each = one_byte (v % 0x10000 % 0x100) (v % 0x10000 / 0x100 ∷ []) (omega arith) (one_byte (v % 0x10000 / 0x100) [] (omega arith) no_bytes);
 }
 
-dword_bytes : (v : ℕ) → HasBytes (number_bytes 32 v)
+pub dword_bytes : (v : ℕ) → HasBytes (number_bytes 32 v)
 dword_bytes v =
     let x = v % 2 ^ 32 in
     record {
@@ -50,7 +50,7 @@ join_bytes : (xs ys : List ℕ) → AreBytes xs → AreBytes ys → AreBytes (xs
 join_bytes [] ys one other = other
 join_bytes (x ∷ xs) ys one other = one_byte x (xs ++ ys) (one 0) (join_bytes xs ys (λ at. one (suc at)) other)
 
-join : {xs ys : List ℕ} → HasBytes xs → HasBytes ys → HasBytes (xs ++ ys)
+pub join : {xs ys : List ℕ} → HasBytes xs → HasBytes ys → HasBytes (xs ++ ys)
 join {xs} {ys} one other = record { each = join_bytes xs ys one.each other.each }
 
 pub index_bytes : (r : Regs) → AreBytes (index_results r)
@@ -109,7 +109,7 @@ client_segments w call saved s stack code = by_kind (is_reflection call) w saved
 
 -- ---- the world after it
 
-some_width : (width : Option Width) (w : World) → width ≢ None → w.width ≡ width → IsSound w → IsSound (record w { mode = Protected })
+pub some_width : (width : Option Width) (w : World) → width ≢ None → w.width ≡ width → IsSound w → IsSound (record w { mode = Protected })
 some_width None w some is s = absurd (some refl)
 some_width (Some width) w some is s = IsSound-mode w Protected width s is
 

@@ -4,6 +4,7 @@ use super::{ENTER_16, entered, entered_by, file, loaded, run_out};
 use crate::Host;
 use client_world::{Call, Exit, Flags, Regs, TraceLine, What};
 use mode_stack::depth;
+use std::alloc::{AllocError, Global};
 use std::process::Abort;
 use std::test::Fail;
 
@@ -41,12 +42,12 @@ const TWICE_21: [Nested; 4] = [
 // How a client enters and what it runs then; its exit, its console, and its lines on nested calls. A client ends with AL = FFh where its
 // last call is refused.
 #[derive(Drop)]
-struct Calling {
-    enter: &'static [u8],
-    code: &'static [u8],
-    exit: Exit,
-    console: &'static [u8],
-    nested: &'static [Nested],
+pub(super) struct Calling {
+    pub(super) enter: &'static [u8],
+    pub(super) code: &'static [u8],
+    pub(super) exit: Exit,
+    pub(super) console: &'static [u8],
+    pub(super) nested: &'static [Nested],
 }
 
 const CALLING: [Calling; 17] = [
@@ -275,15 +276,25 @@ pub(super) fn expect_nested(rt: &impl Abort, host: &Host, lines: &[Nested], clie
     assert_eq!(rt; next_nested(host, from), None, "client {client}");
 }
 
-#[test]
-fn clients_call_real_mode(rt: HostRuntime) -> Result<(), Fail> {
-    for (number, case) in CALLING.iter().enumerate() {
-        let mut host = entered_by(&rt, rt.alloc(), case.enter, case.code)?;
+// Runs some clients, and compares how each ends.
+pub(super) fn run_clients(
+    rt: &impl Abort,
+    alloc: Global,
+    clients: &[Calling],
+) -> Result<(), AllocError> {
+    for (number, case) in clients.iter().enumerate() {
+        let mut host = entered_by(rt, alloc, case.enter, case.code)?;
         assert_eq!(rt; host.steps(), 0);
         assert_eq!(rt; host.run(100_000), case.exit, "client {number}");
         assert_eq!(rt; host.console(), case.console, "client {number}");
-        expect_nested(&rt, &host, case.nested, number);
+        expect_nested(rt, &host, case.nested, number);
     }
+    Ok(())
+}
+
+#[test]
+fn clients_call_real_mode(rt: HostRuntime) -> Result<(), Fail> {
+    run_clients(&rt, rt.alloc(), &CALLING)?;
     Ok(())
 }
 

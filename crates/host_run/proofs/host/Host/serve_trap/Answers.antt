@@ -1,4 +1,4 @@
-use Rattle.host_run.proofs.KindModes.{call_return_is_real, entry_is_real, switch_is_protected, switch_is_real, vector_is_protected, vector_is_real}
+use Rattle.host_run.proofs.KindModes.{call_return_is_real, callback_is_real, callback_return_is_protected, entry_is_real, switch_is_protected, switch_is_real, vector_is_protected, vector_is_real}
 use Rattle.host_run.proofs.host.Host.serve_trap.Goals as goal
 
 pub reach_vector-requires-clause-real : goal.reach_vector-requires-clause-real
@@ -20,3 +20,11 @@ switch_to_protected-requires-clause-real c = switch_is_real c.args.self.now.worl
 
 pub switch_to_real-requires-clause-mode : goal.switch_to_real-requires-clause-mode
 switch_to_real-requires-clause-mode c = switch_is_protected c.args.self.now.world.machine c.args.t c.requires.trap c.in-ToReal.is
+
+pub enter_callback-requires-clause-real : goal.enter_callback-requires-clause-real
+enter_callback-requires-clause-real c =
+    callback_is_real c.args.self.now.world.machine c.args.t c.in-Callback.slot c.requires.trap c.in-Callback.is
+
+pub return_from_callback-requires-clause-mode : goal.return_from_callback-requires-clause-mode
+return_from_callback-requires-clause-mode c =
+    callback_return_is_protected c.args.self.now.world.machine c.args.t c.requires.trap c.in-CallbackReturn.is

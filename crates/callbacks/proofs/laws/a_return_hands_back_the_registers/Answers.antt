@@ -1,0 +1,5 @@
+use Rattle.callbacks.proofs.HandedOver.{has_left}
+use Rattle.callbacks.proofs.laws.a_return_hands_back_the_registers.Goals as goal
+
+pub returns : goal.returns
+returns c = has_left
