@@ -1,24 +1,20 @@
 -- What is asked in the world that has the descriptor of the real caller's stack, by what is asked in the world before it was set.
-use Rattle.std.proofs.Common.{◌≡◌, ◌≢◌, ℕ, ◌+◌, ◌*◌, ◌/◌, ◌%◌, ◌^◌, ◌<◌, inl, inr, Bool, true, false, ◌&&◌, not, List, slice_set, length, refl, ap, ◌∙◌, sym, arith, Option, None, Some, Result, Ok, Err, get_or-set_same, get_or-set_other}
+use Rattle.std.proofs.Common.{◌≡◌, ◌≢◌, ℕ, ◌+◌, ◌*◌, ◌/◌, ◌%◌, ◌^◌, ◌<◌, Bool, true, false, ◌&&◌, not, List, slice_set, length, refl, ap, ◌∙◌, sym, arith, Option, None, Some, Result, Ok, Err, get_or-set_same, get_or-set_other}
 use Rattle.std.specs.Prelude.{is_none, is_ok, nat_eq, nat_le, if◌then◌else◌}
-use Rattle.std.proofs.lemmas.Bool.{cases_Bool, cases_eq}
 use Rattle.std.proofs.lemmas.Bool.Decides.{nat_tests}
 use Rattle.client_world.specs.declared.faults.Fault.{Fault}
 use Rattle.client_world.specs.declared.faults.TheConstants.{GENERAL_PROTECTION, STACK_EXCEPTION}
-use Rattle.client_world.specs.declared.host_frames.TheConstants.{DESCRIPTORS}
-use Rattle.client_world.specs.declared.limits.TheConstants.{GREATEST_DEPTH}
-use Rattle.client_world.specs.declared.memory_map.TheConstants.{PARAGRAPH_SIZE, SEGMENT_SIZE}
+use Rattle.client_world.specs.declared.memory_map.TheConstants.{PARAGRAPH_SIZE}
 use Rattle.client_world.specs.declared.place.Place.{Place}
 use Rattle.client_world.specs.declared.registers.Mode.{Mode}
 use Rattle.client_world.specs.declared.registers.Mode.TheVariants.{Real, Protected}
-use Rattle.client_world.specs.declared.registers.Regs.{Regs}
 use Rattle.client_world.specs.declared.segments.FarPtr.{FarPtr}
 use Rattle.client_world.specs.declared.segments.SegReg.TheVariants.{Cs, Es, Ss}
 use Rattle.client_world.specs.Access.{access, base_in_row, far_access, fault_with, is_reachable, places_at, real_base, segment_base}
-use Rattle.client_world.specs.Loading.{code_fault, code_row_fault, is_loadable, load_fault}
+use Rattle.client_world.specs.Loading.{code_row_fault, is_loadable, load_fault}
 use Rattle.client_world.specs.Selector.{Row, index_of, is_local, is_null, row_at_index, row_of_selector}
 use Rattle.client_world.specs.Soundness.{IsSound}
-use Rattle.client_world.specs.World.{World, MemoryBlock, depth}
+use Rattle.client_world.specs.World.{World, MemoryBlock}
 use Rattle.guest_space.specs.Transfer.{access_fault, fault_of}
 use Rattle.callbacks.specs.Callbacks.{stack_index, stack_row, with_stack_row}
 

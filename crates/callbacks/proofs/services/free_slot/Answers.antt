@@ -1,4 +1,4 @@
-use Rattle.std.proofs.Common.{◌≡◌, ◌∙◌, sym, refl, ap, arith, rules, true, false}
+use Rattle.std.proofs.Common.{◌≡◌, ◌∙◌, sym, ap, rules, true, false}
 use Rattle.std.specs.Option.{is_none}
 use Rattle.client_world.specs.declared.limits.TheConstants.{CALLBACKS}
 use Rattle.callbacks.specs.Services.{free_slot}
