@@ -2,7 +2,7 @@
 use Rattle.std.proofs.Common.{◌≡◌, ℕ, Bool, true, false, nat_eq, refl, subst, Option, None, Some}
 use Rattle.std.specs.Prelude.{if◌then◌else◌}
 use Rattle.client_world.specs.declared.calls.Call.{Call}
-use Rattle.client_world.specs.declared.calls.Call.TheVariants.{Int, Far, Iret, Reflect}
+use Rattle.client_world.specs.declared.calls.Call.TheVariants.{Int, Far, Iret}
 use Rattle.client_world.specs.Registers.{low_byte}
 use Rattle.client_world.specs.World.{World}
 use Rattle.host_run.specs.Turn.{asked_call}

@@ -11,7 +11,6 @@ use Rattle.cpu_step.specs.Step.{client_step}
 use Rattle.fault_service.specs.Delivery.{real_delivery, software_interrupt}
 use Rattle.fault_service.specs.Worlds.{its_world}
 use Rattle.fault_service.proofs.Alone.{interrupt_alone, step_alone}
-use Rattle.guest_space.specs.Records.{OnlyAtAndRow}
 use Rattle.host_memory.specs.View.{MachineView}
 use Rattle.host_memory.proofs.OnlyAtLaws.{only_start}
 use Rattle.protected_faults.specs.ByMode.{delivery}

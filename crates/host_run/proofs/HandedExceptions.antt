@@ -1,9 +1,8 @@
 -- A delivery leaves its frame at the handler's stack pointer, and a return takes what the frame then holds.
-use Rattle.std.proofs.Common.{◌≡◌, ◌∙◌, ℕ, Bool, true, false, [], ap, refl, sym, subst, Option, None, Some, Result, Ok, Err}
+use Rattle.std.proofs.Common.{◌≡◌, ◌∙◌, ℕ, Bool, true, false, [], ap, refl, sym, Option, None, Some, Result, Ok, Err}
 use Rattle.std.specs.Prelude.{if◌then◌else◌}
 use Rattle.client_world.specs.declared.faults.Event.{Event}
 use Rattle.client_world.specs.declared.faults.Fault.{Fault}
-use Rattle.client_world.specs.declared.outcome.Exit.{Exit}
 use Rattle.client_world.specs.declared.outcome.Exit.TheVariants as exits
 use Rattle.client_world.specs.declared.registers.Mode.TheVariants.{Protected}
 use Rattle.client_world.specs.declared.segments.SegReg.TheVariants.{Cs, Ss}
@@ -19,7 +18,7 @@ use Rattle.insn_plan.specs.Act.{Act, Input, Pending, Read, unless_fault, value_o
 use Rattle.insn_plan.specs.Plan.{after_commit, carried_out, planned, with_state}
 use Rattle.insn_plan.specs.Stack.{stack_item}
 use Rattle.mode_stack.specs.Stack.{after_pop, top}
-use Rattle.protected_faults.specs.Delivery.{exception_frame, frame_size, protected_delivery}
+use Rattle.protected_faults.specs.Delivery.{protected_delivery}
 use Rattle.protected_faults.specs.Return.{exception_left, exception_popped, exception_return, is_exception, returned_or_bad}
 use Rattle.protected_faults.specs.Worlds.{world_exception_return, world_protected_delivery}
 use Rattle.protected_faults.proofs.Plans.{settled_is}

@@ -1,5 +1,5 @@
 -- The innermost record, where the records are some with one more.
-use Rattle.std.proofs.Common.{arith, ◌≡◌, ◌∙◌, ℕ, ◌-◌, List, [], ◌∷◌, ◌++◌, length, ap, refl, Some}
+use Rattle.std.proofs.Common.{arith, ◌≡◌, ◌∙◌, ◌-◌, List, [], ◌∷◌, ◌++◌, length, ap, refl, Some}
 use Rattle.std.proofs.lemmas.List.{length_push}
 use Rattle.std.specs.List.{slice_get}
 use Rattle.client_world.specs.declared.calls.Record.{Record}

@@ -1,5 +1,5 @@
 -- What a delivery of an exception of protected mode and the return from it hand over. Source: DPMI 0.9, "Exceptions"; the frame is own.
-use Rattle.std.specs.Prelude.{◌≡◌, ℕ, Bool, Ok}
+use Rattle.std.specs.Prelude.{◌≡◌, ℕ, Ok}
 use Rattle.std.specs.declared.result.Result.{Result}
 use Rattle.client_world.specs.declared.faults.Event.{Event}
 use Rattle.client_world.specs.declared.faults.Fault.{Fault}
