@@ -102,6 +102,19 @@ fn hostile_switches_end_as_written(rt: HostRuntime) -> Result<(), Fail> {
     let (mut host, answer) = loaded(&rt, rt.alloc(), &file, &[])?;
     assert_eq!(rt; answer, Ok(()));
     assert_eq!(rt; run_out(&rt, &mut host), Exit::Stray);
+    // To the last byte of the megabyte, HLT, and to the one after it, which shows the first: ADD [BX+SI],AL, of two bytes, is turn 18.
+    for (ip, exit, after) in [
+        (0x0F, Exit::Fault(0x0D, 0), 0x0F),
+        (0x10, Exit::Bound, 0x12),
+    ] {
+        let mut code = TO_REAL;
+        code[13..18].copy_from_slice(&[0xFF, 0xFF, 0xBF, ip, 0]);
+        let mut host = entered(&rt, rt.alloc(), &code)?;
+        assert_eq!(rt; host.steps(), 0);
+        assert_eq!(rt; host.run(18), exit);
+        let r = host.machine().regs();
+        assert_eq!(rt; (host.steps(), r.cs, r.eip), (18, 0xFFFF, after));
+    }
     Ok(())
 }
 
