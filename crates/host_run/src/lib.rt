@@ -7,7 +7,7 @@
 //! built on the machine.
 #![tactic(auto)]
 
-mod callbacks;
+mod callback_turns;
 mod calls;
 mod exceptions;
 mod host;

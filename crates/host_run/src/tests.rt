@@ -7,7 +7,7 @@ use std::alloc::{AllocError, Global};
 use std::process::Abort;
 use std::test::Fail;
 
-mod callbacks;
+mod callback_clients;
 mod calls;
 mod exceptions;
 mod memory;
