@@ -1,6 +1,6 @@
 -- The files that are read, and the verdict on them.
 use Rattle.std.proofs.Common.{arith, ◌≡◌, ◌≤◌, ◌<◌, ◌+◌, ◌⊎◌, inl, inr, ℕ, List, [], ◌∷◌, length, take, refl, sym, ◌∙◌, ap, subst, add-one}
-use Rattle.std.specs.Prelude.{nat_lt, if◌then◌else◌, None, Some, Contains, IfSome, IsSome, IsSomeAnd, option_map, option_and_then}
+use Rattle.std.specs.Prelude.{None, Some, Contains, IfSome, IsSome, IsSomeAnd, option_map, option_and_then}
 use Rattle.std.proofs.lemmas.Bool.{lt-ltb, le-ltb}
 use Rattle.std.proofs.lemmas.Bool.Decides.{leb_tells}
 use Rattle.std.proofs.lemmas.List.{take_all, length-take-le}
@@ -12,11 +12,10 @@ use Rattle.client_maker.specs.Made.{made}
 use Rattle.host_memory.specs.Blank.{blank_world}
 use Rattle.mz_loader.specs.Refusal.{refusal}
 use Rattle.host_run.specs.Start.{started_host, blank, IsBlank}
-use Rattle.dpmi_words.specs.Meaning.{Keys, Pressed, Stored, RunMeaning, Meaning, Runs, Soaks, meaning}
-use Rattle.dpmi_io.specs.Causes.{Rose}
+use Rattle.dpmi_words.specs.Meaning.{Pressed, Stored, RunMeaning, Meaning, Runs, meaning}
 use Rattle.dpmi_io.specs.Content.{Files, Lacks, Starts as Opens}
-use Rattle.dpmi_cli.specs.declared.prepare.Reason.TheVariants.{Words, FileTooLong, KeysTooLong, Load}
-use Rattle.dpmi_cli.specs.Answer.{Verdict, Refuses, Starts, StartsMade, answer, answer_to, file_verdict, keys_from, keys_verdict, limited, load_verdict, made_verdict, run_verdict, verdict, verdict_of}
+use Rattle.dpmi_cli.specs.declared.prepare.Reason.TheVariants.{Words, FileTooLong, Load}
+use Rattle.dpmi_cli.specs.Answer.{Verdict, Refuses, StartsMade, answer_to, file_verdict, keys_from, keys_verdict, limited, made_verdict, run_verdict, verdict_of}
 use Rattle.dpmi_cli.specs.Causes.{HasVerdict, IsAbsent, NamedFailed, OfFiles}
 use Rattle.dpmi_cli.specs.Load.{FailsAt, HasFile, HasFront, HasKeysVerdict, HasPressed, HasRunVerdict, KeysFail, LacksFile, LacksKeys, RunFails}
 use Rattle.dpmi_cli.specs.Words.{key_file_names, names_in}

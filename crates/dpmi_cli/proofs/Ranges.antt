@@ -1,11 +1,11 @@
 -- The numbers of a run that words mean lie in their ranges.
-use Rattle.std.proofs.Common.{arith, ◌≡◌, ◌≤◌, ◌<◌, ◌⊎◌, inl, inr, ℕ, Bool, true, false, List, [], ◌∷◌, ap, Option, None, Some, nat_le}
-use Rattle.std.specs.Prelude.{◌&&◌, codes, if◌then◌else◌, option_map, option_and_then}
+use Rattle.std.proofs.Common.{arith, ◌≡◌, ◌≤◌, inl, inr, ℕ, List, [], ◌∷◌, ap, Option, None, Some, nat_le}
+use Rattle.std.specs.Prelude.{◌&&◌, codes, option_map, option_and_then}
 use Rattle.std.specs.Str.{bytes_eq}
 use Rattle.std.specs.Str.Parse.{digits_value}
 use Rattle.std.proofs.lemmas.Bool.{and_parts, cases_Bool, leb-true}
 use Rattle.client_world.specs.declared.limits.TheConstants.{MAX_STEPS, DEFAULT_BOUND, MAX_PAGES, DEFAULT_PAGES, MAX_TRACE, DEFAULT_TRACE}
-use Rattle.dpmi_words.specs.Meaning.{Keys, RunMeaning, Meaning, Runs, Soaks, run_with, run_of_values, run_meaning, soak_meaning, meaning}
+use Rattle.dpmi_words.specs.Meaning.{Keys, RunMeaning, Runs, Soaks, run_with, run_of_values, run_meaning, soak_meaning, meaning}
 use Rattle.dpmi_words.specs.Numbers.{is_between, is_decimal, number_in_text, number_or}
 use Rattle.dpmi_words.specs.Reading.{Text, given_by, run_options, value_given}
 use Rattle.dpmi_cli.specs.Load.{HasRanges}

@@ -66,16 +66,11 @@ fn expect(
 }
 
 #[test]
-fn each_file_has_its_answer(rt: HostRuntime) -> Result<(), Fail> {
-    let run = ["run", "A.EXE"];
-    expect(&rt, &run, &[], 2, "refused ShortHeader\n")?;
-    expect(&rt, &run, &ONE_LETTER[..27], 2, "refused ShortHeader\n")?;
-    expect(&rt, &run, &[0; 28], 2, "refused Signature\n")
-}
-
-#[test]
-fn a_file_of_too_many_bytes_is_refused(rt: HostRuntime) -> Result<(), Fail> {
+fn a_file_of_zeros_is_refused_by_its_length(rt: HostRuntime) -> Result<(), Fail> {
     for (count, text) in [
+        (0, "refused ShortHeader\n"),
+        (27, "refused ShortHeader\n"),
+        (28, "refused Signature\n"),
         (4_194_304, "refused Signature\n"),
         (4_194_305, "refused FileTooLong\n"),
     ] {
@@ -328,17 +323,6 @@ fn words_that_mean_nothing_are_refused(rt: HostRuntime) -> Result<(), Fail> {
     Ok(())
 }
 
-#[test]
-fn the_letter_has_its_text(rt: HostRuntime) -> Result<(), Fail> {
-    let run = words(&rt, &["run", "A.EXE"])?;
-    let mut shelf = MemShelf::new(rt.alloc());
-    shelf.add("A.EXE", &ONE_LETTER)?;
-    let mut out = MemSink::new(rt.alloc(), 1000, 7)?;
-    assert_eq!(rt; dpmi(rt.alloc(), run.as_slice(), &mut shelf, &mut out), 0);
-    assert_eq!(rt; out.bytes(), LETTER_TEXT.as_bytes());
-    Ok(())
-}
-
 // The client that reads a key and prints it: MOV AH,01h; INT 21h; MOV AX,4C00h; INT 21h. The file of keystrokes is the letter `Y` and 65,535 more.
 const ONE_KEY: [u8; 9] = [0xB4, 0x01, 0xCD, 0x21, 0xB8, 0x00, 0x4C, 0xCD, 0x21];
 
@@ -482,17 +466,31 @@ fn a_file_fails(rt: HostRuntime) -> Result<(), Fail> {
     Ok(())
 }
 
-// In pieces of one byte each put writes one: where one fails, those before it are written. The puts of this text are as many as its bytes.
+// In pieces of one byte each put writes one: where one fails, those before it are written. The text has 361 bytes, so there is no put after as many.
 #[test]
 fn each_put_fails_in_turn(rt: HostRuntime) -> Result<(), Fail> {
     let run = words(&rt, &["run", "A.EXE"])?;
-    for put in [1, 2, 10, 11, 12, 13, 25, 26, 34, 77, 200, 276, 361] {
+    for (count, status) in [
+        (0_u64, 4),
+        (1, 4),
+        (10, 4),
+        (11, 4),
+        (12, 4),
+        (25, 4),
+        (76, 4),
+        (275, 4),
+        (360, 4),
+        (361, 0),
+    ] {
         let mut shelf = MemShelf::new(rt.alloc());
         shelf.add("A.EXE", &ONE_LETTER)?;
         let mut out = MemSink::new(rt.alloc(), 1000, 1)?;
-        out.fail_at(put as u64)?;
-        assert_eq!(rt; dpmi(rt.alloc(), run.as_slice(), &mut shelf, &mut out), 4);
-        assert_eq!(rt; out.bytes().len(), put - 1);
+        out.fail_at(count.saturating_add(1))?;
+        assert_eq!(rt;
+            dpmi(rt.alloc(), run.as_slice(), &mut shelf, &mut out),
+            status
+        );
+        assert_eq!(rt; out.bytes().len() as u64, count);
         assert!(rt; LETTER_TEXT.as_bytes().starts_with(out.bytes()));
     }
     Ok(())

@@ -1,5 +1,5 @@
 use Rattle.std.proofs.Common.{◌∙◌}
-use Rattle.dpmi_cli.proofs.Files.{made_taken, made_refused}
+use Rattle.dpmi_cli.proofs.Files.{made_taken}
 use Rattle.dpmi_cli.proofs.prepare.prepare_soak.Goals as goal
 
 pub returns-in-Ok-clause-verdict : goal.returns-in-Ok-clause-verdict
