@@ -1,17 +1,18 @@
 -- What is answered where nothing fails, and what words that mean nothing get.
-use Rattle.std.proofs.Common.{arith, ◌≡◌, ◌≢◌, ◌<◌, ◌⊎◌, inl, inr, ℕ, List, [], sym, subst, refl, ap}
+use Rattle.std.proofs.Common.{arith, ◌≡◌, ◌≢◌, ◌<◌, ◌⊎◌, inl, inr, ℕ, List, [], sym, subst, ap}
 use Rattle.std.specs.Prelude.{None, Some, IfSome, IsSomeAnd, Contains}
 use Rattle.std.specs.Option.{option_map}
 use Rattle.std.specs.declared.option.Option.{Option}
 use Rattle.std.proofs.lemmas.Bool.Decides.{eqb_tells}
 use Rattle.client_world.specs.declared.limits.TheConstants.{DEFAULT_BOUND}
+use Rattle.dpmi_words.specs.Meaning.{meaning}
 use Rattle.host_run.specs.Run.{run}
 use Rattle.dpmi_io.specs.Causes.{Rose}
 use Rattle.dpmi_io.specs.Content.{Files, Shown, Gains}
 use Rattle.dpmi_cli.specs.declared.prepare.Reason.TheVariants.{Words}
-use Rattle.dpmi_cli.specs.Answer.{Verdict, Refuses, Starts, verdict, answer, answer_to}
+use Rattle.dpmi_cli.specs.Answer.{Verdict, Refuses, Starts, StartsMade, verdict, verdict_of, answer, answer_to}
 use Rattle.dpmi_cli.specs.Causes.{NamedFailed, IsAbsent, HasVerdict, Answers}
-use Rattle.dpmi_cli.specs.Words.{file_to_run, file_names}
+use Rattle.dpmi_cli.specs.Words.{file_names, names_in}
 use Rattle.dpmi_cli.proofs.Files.{no_verdict}
 use Rattle.dpmi_cli.proofs.SmallStatus.{run_status-small}
 
@@ -23,7 +24,13 @@ gives_whole (Refuses reason) before now m n result gave calm = elim gave.status_
   | inl is ↦ (is, elim (gave.whole_line is) [ inl whole ↦ whole | inr rose ↦ absurd (calm rose) ])
   | inr failed ↦ absurd (calm (gave.output_failure_has_cause failed.0))
 ]
-gives_whole (Starts w) before now m n result gave calm = elim gave.status_of_the_answer [
+gives_whole (Starts w bound) before now m n result gave calm = elim gave.status_of_the_answer [
+  | inl is ↦
+      let small = run_status-small (run w bound) in
+      (is, gave.whole_text (subst (λ s. s < 2) (sym is) small))
+  | inr failed ↦ absurd (calm (gave.output_failure_has_cause failed.0))
+]
+gives_whole (StartsMade number w) before now m n result gave calm = elim gave.status_of_the_answer [
   | inl is ↦
       let small = run_status-small (run w DEFAULT_BOUND) in
       (is, gave.whole_text (subst (λ s. s < 2) (sym is) small))
@@ -39,7 +46,8 @@ some_map (Some u) v P holds has = subst P (sym has) holds
 pub verdict_map : (words : List (List ℕ)) (files : Option Files) (v : Verdict) (P : Verdict → Type 0) →
     P v →
     HasVerdict words files (λ u. u ≡ v) → HasVerdict words files P
-verdict_map words None v P holds (fs, has) = (fs, some_map (verdict words fs) v P holds has)
+verdict_map words None v P holds (first, (second, has)) =
+    (first, (second, some_map (verdict_of (meaning words) first second) v P holds has))
 verdict_map words (Some fs) v P holds has = some_map (verdict words fs) v P holds has
 
 verdict_sure : (found : Option Verdict) (N : Type 0) (before now : Shown) (m n result : ℕ) →
@@ -62,8 +70,8 @@ pub answers_of : (words : List (List ℕ)) (files : Option Files) (N : Type 0) (
 answers_of words None N before now m n result cause gave named calm = tt
 answers_of words (Some fs) N before now m n result cause gave named calm = verdict_sure (verdict words fs) N before now m n result cause gave named calm
 
-no_files : (words : List (List ℕ)) → file_to_run words ≡ None → file_names words ≡ []
-no_files words none = rw (none, file_names) refl
+no_files : (words : List (List ℕ)) → meaning words ≡ None → file_names words ≡ []
+no_files words none = ap names_in none
 
 blames_nothing : (blamed : Option (List ℕ)) → IsSomeAnd blamed (λ name. Contains [] name) → ⊥
 blames_nothing None h = h
@@ -71,27 +79,28 @@ blames_nothing (Some name) h = omega (arith, h.1)
 
 -- words that mean nothing name no file that could fail
 no_file_fails : (words : List (List ℕ)) (files : Option Files) (m n : ℕ) (blamed : Option (List ℕ)) →
-    file_to_run words ≡ None →
+    meaning words ≡ None →
     NamedFailed words m n blamed ⊎ IsAbsent words files → ⊥
 no_file_fails words files m n blamed none (inl failed) =
     blames_nothing blamed (subst (λ names. IsSomeAnd blamed (λ name. Contains names name)) (no_files words none) failed.1)
 no_file_fails words None m n blamed none (inr absent) = absent
 no_file_fails words (Some fs) m n blamed none (inr absent) =
-    let there : answer words fs ≡ Some (answer_to (Refuses Words)) = ap (option_map answer_to) (no_verdict words fs none) in cc
+    let there : answer words fs ≡ Some (answer_to (Refuses Words)) = ap (option_map answer_to) (no_verdict words fs fs none) in cc
 
 some_is : (found : Option Verdict) (v : Verdict) (P : Verdict → Type 0) → found ≡ Some v →
     IsSomeAnd found P → P v
 some_is found v P is has = let given : IsSomeAnd (Some v) P = subst (λ f. IsSomeAnd f P) is has in given
 
 only_verdict : (words : List (List ℕ)) (files : Option Files) (P : Verdict → Type 0) →
-    file_to_run words ≡ None → HasVerdict words files P → P (Refuses Words)
-only_verdict words None P none (fs, has) = some_is (verdict words fs) (Refuses Words) P (no_verdict words fs none) has
-only_verdict words (Some fs) P none has = some_is (verdict words fs) (Refuses Words) P (no_verdict words fs none) has
+    meaning words ≡ None → HasVerdict words files P → P (Refuses Words)
+only_verdict words None P none (first, (second, has)) =
+    some_is (verdict_of (meaning words) first second) (Refuses Words) P (no_verdict words first second none) has
+only_verdict words (Some fs) P none has = some_is (verdict words fs) (Refuses Words) P (no_verdict words fs fs none) has
 
 -- words that mean nothing are refused as such, or memory was short
 pub wrong_words : (words : List (List ℕ)) (files : Option Files) (fm fn : ℕ) (blamed : Option (List ℕ)) (before now : Shown) (m n result : ℕ) →
     (result ≡ 3 → NamedFailed words fm fn blamed ⊎ IsAbsent words files) →
-    (result ≢ 3 → result ≢ 5 → HasVerdict words files (λ v. Answers v before now m n result)) → file_to_run words ≡ None →
+    (result ≢ 3 → result ≢ 5 → HasVerdict words files (λ v. Answers v before now m n result)) → meaning words ≡ None →
     (result ≡ 5) ⊎ Answers (Refuses Words) before now m n result
 wrong_words words files fm fn blamed before now m n result cause gave none = elim (eqb_tells result 5) [
   | inl five ↦ inl five.1

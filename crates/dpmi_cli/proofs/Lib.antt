@@ -1,4 +1,5 @@
 mod Complete
 mod Files
+mod Ranges
 mod RunAnswers
 mod SmallStatus

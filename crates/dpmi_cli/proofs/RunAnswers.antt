@@ -1,19 +1,29 @@
 -- The answer that a run gives, written whole or cut off.
-use Rattle.std.proofs.Common.{arith, ◌≡◌, ◌<◌, inl, inr, ℕ, List, length, sym, ◌∙◌, subst, refl, ap}
-use Rattle.std.specs.Prelude.{Some, All}
+use Rattle.std.proofs.Common.{arith, ◌≡◌, ◌<◌, ◌≤◌, ◌+◌, inl, inr, ℕ, List, length, sym, ◌∙◌, subst, refl, ap}
+use Rattle.std.specs.Prelude.{Some, Result, Ok, Err, OnOk, OnErr}
 use Rattle.std.proofs.lemmas.List.{take_all}
 use Rattle.client_world.specs.declared.outcome.Exit.{Exit}
 use Rattle.client_world.specs.declared.limits.TheConstants.{DEFAULT_BOUND}
 use Rattle.client_world.specs.World.{HostWorld}
-use Rattle.client_world.specs.Access.{IsHeld}
+use Rattle.host_run.specs.Nested.{HasTurns, IsHandedOver, LastPush, Matched, host_depth}
 use Rattle.host_run.specs.Run.{run, turns}
-use Rattle.host_run.specs.Touched.{touched_by_turn}
 use Rattle.dpmi_io.specs.Causes.{Rose}
 use Rattle.dpmi_io.specs.Content.{Shown, Gains, GainsPart}
-use Rattle.dpmi_cli.specs.Answer.{Starts, run_status, exit_status}
+use Rattle.dpmi_report.specs.Summary.{summary, summary_at}
+use Rattle.dpmi_report.specs.Text.{text}
+use Rattle.dpmi_cli.specs.declared.prepare.Reason.{Reason}
+use Rattle.dpmi_cli.specs.Answer.{Refuses, Starts, StartsMade, exit_status, run_status}
 use Rattle.dpmi_cli.specs.Causes.{Answers}
-use Rattle.dpmi_cli.specs.Text.{short_text}
-use Rattle.dpmi_cli.proofs.SmallStatus.{exit_status-small, run_status-small}
+use Rattle.dpmi_cli.specs.Laws.{TouchesWhatIsHeld, NestsByOneRecord, ReturnsInOrder, HandsOverWhatIsNested}
+use Rattle.dpmi_cli.specs.Text.{refused}
+use Rattle.dpmi_cli.proofs.SmallStatus.{run_status-small}
+
+-- the laws of a run
+pub record Laws (w : HostWorld) : Type 0 where
+  pub touches : TouchesWhatIsHeld w
+  pub nests : NestsByOneRecord w
+  pub order : ReturnsInOrder w
+  pub hands_over : HandsOverWhatIsNested w
 
 -- the whole is a part
 part_whole : (a b : Shown) (xs : List ℕ) → Gains a b xs → GainsPart a b xs
@@ -22,40 +32,126 @@ part_whole a b xs whole = (length xs, omega arith, subst (λ l. Gains a b l) (sy
 status_is : (w : HostWorld) (e : Exit) → w.exit ≡ Some e → run_status w ≡ exit_status e
 status_is w e is = rw (is, run_status) refl
 
+pub summary_is : (number : ℕ) (w : HostWorld) (e : Exit) → w.exit ≡ Some e → summary_at number w e ≡ summary number w
+summary_is number w e is = rw (is, summary) refl
+
 not_four : (s : ℕ) → s < 2 → s ≡ 4 → ⊥
 not_four s small four = omega arith
 
--- at each turn of a run, the places that it touches are the client's
-abbrev TouchesHold : Type 0
-TouchesHold = (w : HostWorld) (n : ℕ) → All (IsHeld (turns w n).machine) (touched_by_turn (turns w n))
+-- a refusal, whose line the output may not take
+pub gives_refusal : {A B : Type 0} (r : Result A B) (reason : Reason) (before now : Shown) (m n : ℕ) →
+    OnOk r (Gains before now (refused reason)) → OnErr r (GainsPart before now (refused reason)) → OnErr r (Rose m n) →
+    Answers (Refuses reason) before now m n 2
+gives_refusal (Ok x) reason before now m n whole part rose = record {
+  writes_the_answer = part_whole before now (refused reason) whole;
+  status_of_the_answer = inl refl;
+  whole_text = λ small. absurd (omega arith);
+  whole_line = λ _. inl whole;
+  output_failure_has_cause = λ four. absurd (omega arith);
+  every_touch_is_held = tt;
+  every_turn_changes_the_innermost_record_at_most = tt;
+  nested_calls_return_in_order = tt;
+  every_nested_call_hands_over = tt;
+}
+gives_refusal (Err e) reason before now m n whole part rose = record {
+  writes_the_answer = part;
+  status_of_the_answer = inl refl;
+  whole_text = λ small. absurd (omega arith);
+  whole_line = λ _. inr rose;
+  output_failure_has_cause = λ four. absurd (omega arith);
+  every_touch_is_held = tt;
+  every_turn_changes_the_innermost_record_at_most = tt;
+  nested_calls_return_in_order = tt;
+  every_nested_call_hands_over = tt;
+}
 
--- the run ended so, and its text was written whole
-pub gives_run : (w after : HostWorld) (e : Exit) (before now : Shown) (m n result : ℕ) → TouchesHold →
-    after ≡ run w DEFAULT_BOUND → after.exit ≡ Some e → Gains before now (short_text after) →
+-- a run up to a bound ended so, and its text was written whole
+pub gives_run : (w after : HostWorld) (bound : ℕ) (e : Exit) (before now : Shown) (m n result : ℕ) → Laws w →
+    after ≡ run w bound → after.exit ≡ Some e → Gains before now (text after) →
     result ≡ exit_status e →
-    Answers (Starts w) before now m n result
-gives_run w after e before now m n result held is ended whole status =
-    let text_is : Gains before now (short_text (run w DEFAULT_BOUND)) = subst (λ (v : HostWorld). Gains before now (short_text v)) is whole in
-    let status_of_run : result ≡ run_status (run w DEFAULT_BOUND) =
-    status ∙ sym (status_is after e ended) ∙ ap run_status is in
+    Answers (Starts w bound) before now m n result
+gives_run w after bound e before now m n result laws is ended whole status =
+    let text_is : Gains before now (text (run w bound)) = subst (λ (v : HostWorld). Gains before now (text v)) is whole in
+    let status_of_run : result ≡ run_status (run w bound) = status ∙ sym (status_is after e ended) ∙ ap run_status is in
     record {
-      writes_the_answer = part_whole before now (short_text (run w DEFAULT_BOUND)) text_is;
+      writes_the_answer = part_whole before now (text (run w bound)) text_is;
       status_of_the_answer = inl status_of_run;
       whole_text = λ _. text_is;
       whole_line = λ _. inl text_is;
-      output_failure_has_cause = λ four. absurd (not_four (exit_status e) (exit_status-small e) (sym status ∙ four));
-      every_touch_is_held = held w;
+      output_failure_has_cause = λ four. absurd (not_four (run_status (run w bound)) (run_status-small (run w bound)) (sym status_of_run ∙ four));
+      every_touch_is_held = laws.touches;
+      every_turn_changes_the_innermost_record_at_most = laws.nests;
+      nested_calls_return_in_order = laws.order;
+      every_nested_call_hands_over = laws.hands_over;
     }
 
 -- the run ended, and the output failed in its text
-pub gives_cut : (w after : HostWorld) (before now : Shown) (m n : ℕ) → TouchesHold →
-    after ≡ run w DEFAULT_BOUND → GainsPart before now (short_text after) → Rose m n →
-    Answers (Starts w) before now m n 4
-gives_cut w after before now m n held is part rose = record {
-  writes_the_answer = subst (λ (v : HostWorld). GainsPart before now (short_text v)) is part;
+pub gives_cut : (w after : HostWorld) (bound : ℕ) (before now : Shown) (m n : ℕ) → Laws w →
+    after ≡ run w bound → GainsPart before now (text after) → Rose m n →
+    Answers (Starts w bound) before now m n 4
+gives_cut w after bound before now m n laws is part rose = record {
+  writes_the_answer = subst (λ (v : HostWorld). GainsPart before now (text v)) is part;
+  status_of_the_answer = inr (refl, run_status-small (run w bound));
+  whole_text = λ small. absurd (omega arith);
+  whole_line = λ two. absurd (omega arith);
+  output_failure_has_cause = λ _. rose;
+  every_touch_is_held = laws.touches;
+  every_turn_changes_the_innermost_record_at_most = laws.nests;
+  nested_calls_return_in_order = laws.order;
+  every_nested_call_hands_over = laws.hands_over;
+}
+
+-- the same of a made client and its summary
+pub gives_summary : (number : ℕ) (w after : HostWorld) (e : Exit) (before now : Shown) (m n result : ℕ) → Laws w →
+    after ≡ run w DEFAULT_BOUND → after.exit ≡ Some e → Gains before now (summary_at number after e) →
+    result ≡ exit_status e →
+    Answers (StartsMade number w) before now m n result
+gives_summary number w after e before now m n result laws is ended whole status =
+    let text_is : Gains before now (summary number (run w DEFAULT_BOUND)) =
+    subst (λ l. Gains before now l) (summary_is number after e ended ∙ ap (summary number) is) whole in
+    let status_of_run : result ≡ run_status (run w DEFAULT_BOUND) = status ∙ sym (status_is after e ended) ∙ ap run_status is in
+    record {
+      writes_the_answer = part_whole before now (summary number (run w DEFAULT_BOUND)) text_is;
+      status_of_the_answer = inl status_of_run;
+      whole_text = λ _. text_is;
+      whole_line = λ _. inl text_is;
+      output_failure_has_cause =
+          λ four. absurd (not_four (run_status (run w DEFAULT_BOUND)) (run_status-small (run w DEFAULT_BOUND)) (sym status_of_run ∙ four));
+      every_touch_is_held = laws.touches;
+      every_turn_changes_the_innermost_record_at_most = laws.nests;
+      nested_calls_return_in_order = laws.order;
+      every_nested_call_hands_over = laws.hands_over;
+    }
+
+pub gives_summary_cut : (number : ℕ) (w after : HostWorld) (e : Exit) (before now : Shown) (m n : ℕ) → Laws w →
+    after ≡ run w DEFAULT_BOUND → after.exit ≡ Some e → GainsPart before now (summary_at number after e) → Rose m n →
+    Answers (StartsMade number w) before now m n 4
+gives_summary_cut number w after e before now m n laws is ended part rose = record {
+  writes_the_answer = subst (λ l. GainsPart before now l) (summary_is number after e ended ∙ ap (summary number) is) part;
   status_of_the_answer = inr (refl, run_status-small (run w DEFAULT_BOUND));
   whole_text = λ small. absurd (omega arith);
   whole_line = λ two. absurd (omega arith);
   output_failure_has_cause = λ _. rose;
-  every_touch_is_held = held w;
+  every_touch_is_held = laws.touches;
+  every_turn_changes_the_innermost_record_at_most = laws.nests;
+  nested_calls_return_in_order = laws.order;
+  every_nested_call_hands_over = laws.hands_over;
+}
+
+-- the laws over rows of hosts, for the turns of one run
+abbrev EachDepth : Type 0
+EachDepth = (w : ℕ → HostWorld) (n k : ℕ) → HasTurns w n → k < n →
+    (host_depth (w (k + 1)) ≤ host_depth (w k) + 1) × (host_depth (w k) ≤ host_depth (w (k + 1)) + 1)
+
+abbrev EachPartner : Type 0
+EachPartner = (w : ℕ → HostWorld) (n i j : ℕ) → HasTurns w n → j < n → LastPush w i j → Matched w i j
+
+abbrev EachStays : Type 0
+EachStays = (w : ℕ → HostWorld) (n i j : ℕ) → HasTurns w n → j < n → Matched w i j → IsHandedOver w i j
+
+pub in_order : (w : HostWorld) → NestsByOneRecord w → EachDepth → EachPartner → EachStays → ReturnsInOrder w
+in_order w nests depth partner stays = record {
+  depth = λ k. depth (turns w) (k + 1) k (λ i lt. nests i) (omega arith);
+  partner = λ i j last. partner (turns w) (j + 1) i j (λ k lt. nests k) (omega arith) last;
+  record_stays = λ i j matched. stays (turns w) (j + 1) i j (λ k lt. nests k) (omega arith) matched;
 }

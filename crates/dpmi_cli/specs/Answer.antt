@@ -1,50 +1,76 @@
 -- What the command answers, by its words and the files. Source: own.
-use Rattle.std.specs.Prelude.{ℕ, List, [], length, nat_lt, if◌then◌else◌, None, Some, All, ⊤}
-use Rattle.std.specs.Option.{option_map}
+use Rattle.std.specs.Prelude.{ℕ, List, [], length, nat_lt, if◌then◌else◌, None, Some, option_map, option_and_then}
 use Rattle.std.specs.declared.option.Option.{Option}
-use Rattle.client_world.specs.declared.limits.TheConstants.{DEFAULT_BOUND, DEFAULT_PAGES, DEFAULT_TRACE, MAX_FILE}
+use Rattle.client_world.specs.declared.limits.TheConstants.{DEFAULT_BOUND, DEFAULT_PAGES, MAX_FILE, MAX_KEYS, MAX_TRACE}
 use Rattle.client_world.specs.declared.outcome.Exit.{Exit}
 use Rattle.client_world.specs.declared.outcome.Exit.TheVariants.{Exited, Fault, Bound, NoKeys, ConsoleFull, Deep, Stray, LostStructure, BadFrame, BadSwitch}
 use Rattle.client_world.specs.World.{HostWorld}
-use Rattle.client_world.specs.Access.{IsHeld}
+use Rattle.client_maker.specs.Made.{made}
+use Rattle.dpmi_words.specs.Meaning.{Keys, Pressed, Stored, RunMeaning, Meaning, Runs, Soaks, meaning}
 use Rattle.host_run.specs.Start.{started_host}
 use Rattle.mz_loader.specs.Refusal.{refusal}
-use Rattle.host_run.specs.Run.{run, turns}
-use Rattle.host_run.specs.Touched.{touched_by_turn}
+use Rattle.host_run.specs.Run.{run}
 use Rattle.dpmi_io.specs.Content.{Files}
+use Rattle.dpmi_report.specs.Summary.{summary}
+use Rattle.dpmi_report.specs.Text.{text}
 use Rattle.dpmi_cli.specs.declared.prepare.Reason.{Reason}
-use Rattle.dpmi_cli.specs.declared.prepare.Reason.TheVariants.{Words, FileTooLong, Load}
-use Rattle.dpmi_cli.specs.declared.prepare.Prepared.{Prepared}
-use Rattle.dpmi_cli.specs.declared.prepare.Prepared.TheVariants.{Refused, Ready}
+use Rattle.dpmi_cli.specs.declared.prepare.Reason.TheVariants.{Words, FileTooLong, KeysTooLong, Load}
 use Rattle.dpmi_cli.specs.declared.status.TheConstants.{EXITED, ENDED_OTHERWISE, REFUSED}
-use Rattle.dpmi_cli.specs.Text.{short_text, refused}
-use Rattle.dpmi_cli.specs.Words.{file_to_run}
+use Rattle.dpmi_cli.specs.Text.{refused}
 
--- what comes of the words and the files: a refusal, or the world in which a run starts
+-- what comes of the words and the files: a refusal, the world in which a run starts and its bound, or the number of a made client and
+-- the world in which its run starts
 pub data Verdict : Type 0 where
   Refuses : Reason → Verdict
-  Starts : HostWorld → Verdict
+  Starts : HostWorld → ℕ → Verdict
+  StartsMade : ℕ → HostWorld → Verdict
 
--- the verdict on a file; the run that it starts has no keystrokes, and the page budget and the number of trace lines that are usual
-abbrev pub verdict_of : List ℕ → Verdict
-verdict_of file =
-    if nat_lt MAX_FILE (length file) then Refuses FileTooLong else
-    elim (refusal file) [
-      | None ↦ Starts (started_host DEFAULT_PAGES [] DEFAULT_TRACE file)
-      | Some fault ↦ Refuses (Load fault)
-    ]
+-- the bytes of a file, if they are no more than the limit
+abbrev pub limited : ℕ → List ℕ → Option (List ℕ)
+limited most bytes = if nat_lt most (length bytes) then None else Some bytes
 
--- the verdict on the words; none where the file that they name isn't there
-abbrev pub verdict : List (List ℕ) → Files → Option Verdict
-verdict words files = elim (file_to_run words) [
-  | None ↦ Some (Refuses Words)
-  | Some name ↦ option_map verdict_of (files name)
+-- the keystrokes, which may be the bytes of a file
+abbrev pub keys_from : Keys → Files → Option (List ℕ)
+keys_from (Pressed bytes) files = Some bytes
+keys_from (Stored name) files = files name
+
+-- the verdict on a client's file with these keystrokes
+abbrev pub load_verdict : RunMeaning → List ℕ → List ℕ → Verdict
+load_verdict r file keys = elim (refusal file) [
+  | None ↦ Starts (started_host r.pages keys r.trace file) r.bound
+  | Some fault ↦ Refuses (Load fault)
 ]
 
--- the verdict that was prepared
-abbrev pub verdict_in : Prepared → Verdict
-verdict_in (Refused reason) = Refuses reason
-verdict_in (Ready host) = Starts host.world
+-- the verdict on the keystrokes, and then on the client's file
+abbrev pub keys_verdict : RunMeaning → List ℕ → Option (List ℕ) → Verdict
+keys_verdict r file None = Refuses KeysTooLong
+keys_verdict r file (Some keys) = load_verdict r file keys
+
+-- the verdict on the client's file, and then on the keystrokes; none where the file with the keystrokes isn't there
+abbrev pub file_verdict : RunMeaning → Files → Option (List ℕ) → Option Verdict
+file_verdict r files None = Some (Refuses FileTooLong)
+file_verdict r files (Some file) = option_map (λ keys. keys_verdict r file (limited MAX_KEYS keys)) (keys_from r.keys files)
+
+-- the verdict on a run: its file is read first, and its keystrokes then
+abbrev pub run_verdict : RunMeaning → Files → Files → Option Verdict
+run_verdict r files files_then = option_and_then (λ file. file_verdict r files_then (limited MAX_FILE file)) (files r.file)
+
+-- the verdict on the client that is made from a number. It has no keystrokes, the usual page budget, and the longest trace
+abbrev pub made_verdict : ℕ → Verdict
+made_verdict number = elim (refusal (made number)) [
+  | None ↦ StartsMade number (started_host DEFAULT_PAGES [] MAX_TRACE (made number))
+  | Some fault ↦ Refuses (Load fault)
+]
+
+-- the verdict on a meaning, by the files at the first reading and at the second; none where a file that is read isn't there
+abbrev pub verdict_of : Option Meaning → Files → Files → Option Verdict
+verdict_of None files files_then = Some (Refuses Words)
+verdict_of (Some (Runs r)) files files_then = run_verdict r files files_then
+verdict_of (Some (Soaks number)) files files_then = Some (made_verdict number)
+
+-- the verdict on the words
+abbrev pub verdict : List (List ℕ) → Files → Option Verdict
+verdict words files = verdict_of (meaning words) files files
 
 -- the status of an exit: 0 where the client ended itself, whatever its code
 abbrev pub exit_status : Exit → ℕ
@@ -68,17 +94,13 @@ pub record Answer : Type 0 where
   pub text : List ℕ
   pub status : ℕ
 
--- the answer to a verdict
+-- the answer to a verdict: the line of a refusal, the text of a run, or the summary of the run of a made client
 abbrev pub answer_to : Verdict → Answer
 answer_to (Refuses reason) = record { text = refused reason; status = REFUSED }
-answer_to (Starts w) =
-    let end = run w DEFAULT_BOUND in record { text = short_text end; status = run_status end }
+answer_to (Starts w bound) = let end = run w bound in record { text = text end; status = run_status end }
+answer_to (StartsMade number w) =
+    let end = run w DEFAULT_BOUND in record { text = summary number end; status = run_status end }
 
 -- the answer to the words, by the files
 abbrev pub answer : List (List ℕ) → Files → Option Answer
 answer words files = option_map answer_to (verdict words files)
-
--- at each turn of the run that starts, every place that a client instruction touches is the client's
-abbrev pub TouchesWhatIsHeld : Verdict → Type 0
-TouchesWhatIsHeld (Refuses reason) = ⊤
-TouchesWhatIsHeld (Starts w) = (i : ℕ) → All (IsHeld (turns w i).machine) (touched_by_turn (turns w i))

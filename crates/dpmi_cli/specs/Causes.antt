@@ -1,11 +1,13 @@
 -- What a call of the command wrote and returned, and why. Source: own.
 use Rattle.std.specs.Prelude.{ℕ, List, ◌≡◌, ◌⊎◌, ◌<◌, None, Some, Contains, IsSomeAnd}
 use Rattle.std.specs.declared.option.Option.{Option}
+use Rattle.dpmi_words.specs.Meaning.{meaning}
 use Rattle.dpmi_io.specs.Causes.{Rose}
 use Rattle.dpmi_io.specs.Content.{Files, Shown, Gains, GainsPart}
 use Rattle.dpmi_cli.specs.declared.status.TheConstants.{REFUSED, OUTPUT_FAILED}
 use Rattle.dpmi_cli.specs.Words.{file_names}
-use Rattle.dpmi_cli.specs.Answer.{Verdict, verdict, answer, answer_to, TouchesWhatIsHeld}
+use Rattle.dpmi_cli.specs.Answer.{Verdict, verdict_of, answer, answer_to}
+use Rattle.dpmi_cli.specs.Laws.{OfItsRun, TouchesWhatIsHeld, NestsByOneRecord, ReturnsInOrder, HandsOverWhatIsNested}
 
 -- a file that the words name failed: the count of faults rose, and the file that is blamed is one of theirs
 abbrev pub NamedFailed : List (List ℕ) → ℕ → ℕ → Option (List ℕ) → Type 0
@@ -17,12 +19,18 @@ abbrev pub IsAbsent : List (List ℕ) → Option Files → Type 0
 IsAbsent words None = ⊥
 IsAbsent words (Some files) = answer words files ≡ None
 
--- the words and the files have such a verdict; where the files aren't known, the words and some files have
-abbrev pub HasVerdict : List (List ℕ) → Option Files → (Verdict → Type 0) → Type 0
-HasVerdict words None P = (files : Files) × IsSomeAnd (verdict words files) P
-HasVerdict words (Some files) P = IsSomeAnd (verdict words files) P
+-- it holds of the files, or where they aren't known, of some
+abbrev pub OfFiles : Option Files → (Files → Type 0) → Type 0
+OfFiles None P = (files : Files) × P files
+OfFiles (Some files) P = P files
 
--- the call wrote and returned the answer to the verdict, but for what a failure of the output cut off
+-- the words and the files have such a verdict. Where the files aren't known, the words and some files have: one for the client's, and one
+-- for that with the keystrokes, since a file may change between two readings
+abbrev pub HasVerdict : List (List ℕ) → Option Files → (Verdict → Type 0) → Type 0
+HasVerdict words files P = OfFiles files (λ first. OfFiles files (λ second. IsSomeAnd (verdict_of (meaning words) first second) P))
+
+-- the call wrote and returned the answer to the verdict, but for what a failure of the output cut off; and the run that was answered keeps
+-- the client to its memory, and nests and hands over as it should
 pub record Answers (v : Verdict) (before now : Shown) (faults_before faults_now result : ℕ) : Type 0 where
   pub writes_the_answer : GainsPart before now (answer_to v).text
   pub status_of_the_answer :
@@ -30,4 +38,7 @@ pub record Answers (v : Verdict) (before now : Shown) (faults_before faults_now 
   pub whole_text : result < REFUSED → Gains before now (answer_to v).text
   pub whole_line : result ≡ REFUSED → Gains before now (answer_to v).text ⊎ Rose faults_before faults_now
   pub output_failure_has_cause : result ≡ OUTPUT_FAILED → Rose faults_before faults_now
-  pub every_touch_is_held : TouchesWhatIsHeld v
+  pub every_touch_is_held : OfItsRun TouchesWhatIsHeld v
+  pub every_turn_changes_the_innermost_record_at_most : OfItsRun NestsByOneRecord v
+  pub nested_calls_return_in_order : OfItsRun ReturnsInOrder v
+  pub every_nested_call_hands_over : OfItsRun HandsOverWhatIsNested v

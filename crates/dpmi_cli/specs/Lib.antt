@@ -1,5 +1,6 @@
 pub mod Answer
 pub mod Causes
+pub mod Laws
 pub mod Load
 pub mod Text
 pub mod Words

@@ -1,39 +1,82 @@
--- What the first bytes of a file come to. Source: own.
-use Rattle.std.specs.Prelude.{ℕ, List, ◌≡◌, ◌⊎◌, take, None, Some, IsSomeAnd, ⊤}
-use Rattle.std.specs.Option.{option_map}
+-- What comes before a run: the files that are read, and the client that is loaded. Source: own.
+use Rattle.std.specs.Prelude.{ℕ, List, ◌∷◌, ◌≡◌, ◌≤◌, ◌<◌, ◌⊎◌, take, None, Some, Contains, IsSomeAnd, ⊤, option_map}
 use Rattle.std.specs.declared.option.Option.{Option}
+use Rattle.client_world.specs.declared.limits.TheConstants.{MAX_KEYS, MAX_PAGES, MAX_STEPS, MAX_TRACE}
 use Rattle.client_world.specs.World.{HostWorld}
 use Rattle.client_world.specs.Soundness.{IsSound}
-use Rattle.dpmi_cli.specs.declared.prepare.TheConstants.{FRONT_SIZE}
+use Rattle.host_run.specs.Keys.{HasKeys}
+use Rattle.dpmi_words.specs.Meaning.{Keys, RunMeaning}
 use Rattle.dpmi_io.specs.Causes.{Rose}
 use Rattle.dpmi_io.specs.Content.{Files, Lacks}
-use Rattle.dpmi_cli.specs.declared.prepare.Reason.{Reason}
-use Rattle.dpmi_cli.specs.Answer.{Verdict, Refuses, Starts, verdict_of}
+use Rattle.dpmi_cli.specs.declared.prepare.Prepared.{Prepared}
+use Rattle.dpmi_cli.specs.declared.prepare.Prepared.TheVariants as prepared
+use Rattle.dpmi_cli.specs.Answer.{Verdict, Refuses, Starts, StartsMade, file_verdict, keys_from, limited, run_verdict}
+use Rattle.dpmi_cli.specs.Causes.{OfFiles}
+use Rattle.dpmi_cli.specs.Words.{key_file_names}
 
--- these bytes are the first of the file, as many as are read: one more than the longest file has
-abbrev pub IsFront : List ℕ → List ℕ → Type 0
-IsFront bytes file = bytes ≡ take FRONT_SIZE file
+-- these bytes are the first of the file of that name, so many at most
+abbrev pub HasFront : ℕ → Option Files → List ℕ → List ℕ → Type 0
+HasFront size files name bytes = OfFiles files (λ fs. IsSomeAnd (fs name) (λ file. bytes ≡ take size file))
 
--- the file of that name has these first bytes; where the files aren't known, some file has
-abbrev pub HasFront : Option Files → List ℕ → List ℕ → Type 0
-HasFront None name bytes = (file : List ℕ) × IsFront bytes file
-HasFront (Some files) name bytes = IsSomeAnd (files name) (IsFront bytes)
+-- the file of that name has these bytes, or is longer than the limit
+abbrev pub HasFile : ℕ → Option Files → List ℕ → Option (List ℕ) → Type 0
+HasFile most files name read = OfFiles files (λ fs. option_map (limited most) (fs name) ≡ Some read)
 
--- the file of that name has that verdict; where the files aren't known, some file has
-abbrev pub Comes : Option Files → List ℕ → Verdict → Type 0
-Comes None name v = (file : List ℕ) × (verdict_of file ≡ v)
-Comes (Some files) name v = option_map verdict_of (files name) ≡ Some v
+-- the keystrokes are these, or more than there may be
+abbrev pub HasPressed : Option Files → Keys → Option (List ℕ) → Type 0
+HasPressed files keys read = OfFiles files (λ fs. option_map (limited MAX_KEYS) (keys_from keys fs) ≡ Some read)
 
 -- the file of that name failed in this call and is blamed, or the files are known and have none of that name
 abbrev pub FailsAt : Option Files → List ℕ → ℕ → ℕ → Option (List ℕ) → Type 0
 FailsAt files name before now blamed = (Rose before now × (blamed ≡ Some name)) ⊎ Lacks files name
 
--- what a load came to
-abbrev pub load_verdict : Option Reason → HostWorld → Verdict
-load_verdict None w = Starts w
-load_verdict (Some reason) w = Refuses reason
+-- the file with the keystrokes failed in this call and is blamed, or the files are known and it isn't there
+abbrev pub LacksKeys : Option Files → Keys → Type 0
+LacksKeys None keys = ⊥
+LacksKeys (Some files) keys = keys_from keys files ≡ None
 
--- a run that starts has made no turn, and its machine is sound
+abbrev pub KeysFail : Option Files → Keys → ℕ → ℕ → Option (List ℕ) → Type 0
+KeysFail files keys before now blamed =
+    (Rose before now × IsSomeAnd blamed (λ name. Contains (key_file_names keys) name)) ⊎ LacksKeys files keys
+
+-- a file of the run failed in this call and is blamed, or the files are known and one that is read isn't there
+abbrev pub LacksFile : Option Files → RunMeaning → Type 0
+LacksFile None r = ⊥
+LacksFile (Some files) r = run_verdict r files files ≡ None
+
+abbrev pub RunFails : Option Files → RunMeaning → ℕ → ℕ → Option (List ℕ) → Type 0
+RunFails files r before now blamed =
+    (Rose before now × IsSomeAnd blamed (λ name. Contains (r.file ∷ key_file_names r.keys) name)) ⊎ LacksFile files r
+
+-- the verdict on a run of this file, whose keystrokes are read next
+abbrev pub HasKeysVerdict : Option Files → RunMeaning → List ℕ → Verdict → Type 0
+HasKeysVerdict files r file v = OfFiles files (λ fs. file_verdict r fs (Some file) ≡ Some v)
+
+-- the verdict on a run, whose files are read next
+abbrev pub HasRunVerdict : Option Files → RunMeaning → Verdict → Type 0
+HasRunVerdict files r v = OfFiles files (λ first. OfFiles files (λ second. run_verdict r first second ≡ Some v))
+
+-- the numbers of a run are such as a host takes
+pub record HasRanges (r : RunMeaning) : Type 0 where
+  pub some_pages : 0 < r.pages
+  pub pages : r.pages ≤ MAX_PAGES
+  pub trace : r.trace ≤ MAX_TRACE
+  pub bound : r.bound ≤ MAX_STEPS
+
+-- the verdict that was prepared
+abbrev pub verdict_in : Prepared → Verdict
+verdict_in (prepared.Refused reason) = Refuses reason
+verdict_in (prepared.Run host bound) = Starts host.world bound
+verdict_in (prepared.Soak host number) = StartsMade number host.world
+
+-- no turn was made, the machine is sound, and the keystrokes are bytes
+pub record IsReady (w : HostWorld) : Type 0 where
+  pub no_turn : w.steps ≡ 0
+  pub sound : IsSound w.machine
+  pub keys : HasKeys w
+
+-- a run that starts is ready, and may go up to its bound
 abbrev pub IsNew : Verdict → Type 0
 IsNew (Refuses reason) = ⊤
-IsNew (Starts w) = (w.steps ≡ 0) × IsSound w.machine
+IsNew (Starts w bound) = IsReady w × (bound ≤ MAX_STEPS)
+IsNew (StartsMade number w) = IsReady w

@@ -1,20 +1,26 @@
 // The command.
 ghost use Rattle.std.specs.Prelude.{◌≡◌, ◌≢◌, ◌≤◌, ◌<◌, ◌+◌, ◌⊎◌, map, string_bytes, None, Some, IfSome};
+ghost use Rattle.client_world.specs.World.{HostWorld};
+ghost use Rattle.dpmi_words.specs.Meaning.{meaning};
 ghost use Rattle.dpmi_io.specs.Causes.{Rose};
 ghost use Rattle.dpmi_io.specs.Content.{Gains};
 ghost use Rattle.dpmi_cli.specs.Answer.{answer, exit_status, Verdict};
-ghost use Rattle.dpmi_cli.specs.Answer.Verdict.{Refuses, Starts};
+ghost use Rattle.dpmi_cli.specs.Answer.Verdict.{Refuses, Starts, StartsMade};
 ghost use Rattle.dpmi_cli.specs.Causes.{NamedFailed, IsAbsent, HasVerdict, Answers};
-ghost use Rattle.dpmi_cli.specs.Load.{IsNew};
-ghost use Rattle.dpmi_cli.specs.Words.{file_to_run};
+ghost use Rattle.dpmi_cli.specs.Laws.{TouchesWhatIsHeld, NestsByOneRecord, ReturnsInOrder, HandsOverWhatIsNested};
+ghost use Rattle.dpmi_cli.specs.Load.{IsNew, IsReady};
 
 use crate::prepare::{Prepared, Reason, Stop, prepare};
-use crate::report::{write_all_of, write_refusal};
+use crate::report::write_refusal;
 use crate::status::{ENDED_OTHERWISE, EXITED, FILE_FAILED, NO_MEMORY, OUTPUT_FAILED, REFUSED};
 use client_world::Exit;
 use client_world::limits::DEFAULT_BOUND;
 use dpmi_io::{Shelf, Sink};
-use host_run::{Host, every_touch_of_a_run_is_held};
+use dpmi_report::{write_all_of, write_summary};
+use host_run::{
+    Host, every_nested_call_hands_over, every_touch_of_a_run_is_held,
+    every_turn_changes_the_innermost_record_at_most, nested_calls_return_in_order,
+};
 use std::alloc::Global;
 
 // Refuses for a reason; a line that the output doesn't take changes no status.
@@ -36,16 +42,44 @@ fn status_of(exit: Exit) -> u8
     }
 }
 
-// Runs a client that is loaded, and writes its text.
-fn run_client<O: Sink>(host: &mut Host, out: &mut O) -> u8
-    requires { IsNew (Starts host.old.world) }
-    ensures answers { Answers (Starts host.old.world) (O.taken out.old) (O.taken out.new) (O.faults out.old) (O.faults out.new) result }
+// What holds of each run. It has nothing to do: its contract says it.
+fn every_run_nests_and_hands_over()
+    ensures touches { (w : HostWorld) → TouchesWhatIsHeld w }
+    ensures nests { (w : HostWorld) → IsReady w → NestsByOneRecord w }
+    ensures order { (w : HostWorld) → IsReady w → ReturnsInOrder w }
+    ensures hands_over { (w : HostWorld) → IsReady w → HandsOverWhatIsNested w }
+{
+    every_touch_of_a_run_is_held();
+    every_turn_changes_the_innermost_record_at_most();
+    nested_calls_return_in_order();
+    every_nested_call_hands_over();
+}
+
+// Runs a client that is loaded up to a bound, and writes its text.
+fn run_client<O: Sink>(host: &mut Host, bound: u32, out: &mut O) -> u8
+    requires { IsNew (Starts host.old.world bound) }
+    ensures answers { Answers (Starts host.old.world bound) (O.taken out.old) (O.taken out.new) (O.faults out.old) (O.faults out.new) result }
     ensures status { result ≤ OUTPUT_FAILED }
     ensures no_file_failed { result ≢ FILE_FAILED }
 {
-    every_touch_of_a_run_is_held();
-    let exit = host.run(DEFAULT_BOUND);
+    every_run_nests_and_hands_over();
+    let exit = host.run(bound);
     match write_all_of(host, out) {
+        Ok(()) => status_of(exit),
+        Err(_) => OUTPUT_FAILED,
+    }
+}
+
+// Runs a made client that is loaded, and writes the summary.
+fn run_made_client<O: Sink>(host: &mut Host, number: u64, out: &mut O) -> u8
+    requires { IsNew (StartsMade number host.old.world) }
+    ensures answers { Answers (StartsMade number host.old.world) (O.taken out.old) (O.taken out.new) (O.faults out.old) (O.faults out.new) result }
+    ensures status { result ≤ OUTPUT_FAILED }
+    ensures no_file_failed { result ≢ FILE_FAILED }
+{
+    every_run_nests_and_hands_over();
+    let exit = host.run(DEFAULT_BOUND);
+    match write_summary(number, host, exit, out) {
         Ok(()) => status_of(exit),
         Err(_) => OUTPUT_FAILED,
     }
@@ -71,7 +105,8 @@ fn answer_words<F: Shelf, O: Sink>(
 {
     match prepare(alloc, words, shelf) {
         Ok(Prepared::Refused(reason)) => refuse(reason, out),
-        Ok(Prepared::Ready(mut host)) => run_client(&mut host, out),
+        Ok(Prepared::Run(mut host, bound)) => run_client(&mut host, bound, out),
+        Ok(Prepared::Soak(mut host, number)) => run_made_client(&mut host, number, out),
         Err(Stop::Shelf) => FILE_FAILED,
         Err(Stop::Memory) => NO_MEMORY,
     }
@@ -80,6 +115,7 @@ fn answer_words<F: Shelf, O: Sink>(
 /// All that the program does, with the words after its name, the files and the output. Returns the status: 0 and 1
 /// for a run by its exit, 2 for a refusal, 3 where a file that the words name failed or isn't there, 4 where the
 /// output failed, 5 where memory ran out. With 3 and 5 nothing is written. All memory is taken before the load.
+/// The words are `run FILE` with `--keys HEX`, `--keys-file NAME`, `--bound N`, `--pages N` and `--trace N`, or `soak N`.
 /// Source: own.
 pub fn dpmi<F: Shelf, O: Sink>(alloc: Global, words: &[String], shelf: &mut F, out: &mut O) -> u8
     ensures answers { result ≢ FILE_FAILED → result ≢ NO_MEMORY →
@@ -99,7 +135,7 @@ pub fn dpmi<F: Shelf, O: Sink>(alloc: Global, words: &[String], shelf: &mut F, o
         IfSome (F.files shelf.old) (λ files. IfSome (answer (map string_bytes words.now) files)
         (λ a. (result ≡ NO_MEMORY)
         ⊎ ((result ≡ a.status) × Gains (O.taken out.old) (O.taken out.new) a.text))) }
-    ensures wrong_words_are_refused { file_to_run (map string_bytes words.now) ≡ None →
+    ensures wrong_words_are_refused { meaning (map string_bytes words.now) ≡ None →
         (result ≡ NO_MEMORY)
         ⊎ Answers (Refuses Reason.Words)
         (O.taken out.old) (O.taken out.new) (O.faults out.old) (O.faults out.new) result }

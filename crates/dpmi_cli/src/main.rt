@@ -1,6 +1,8 @@
 //! A DPMI host that runs one client: the words of the command line in, the client's text and a status out.
-//! It promises that what it writes is the model's text, whole or cut off where the output failed, and that each
-//! failure that it reports has its cause. It uses `host_run` and `dpmi_io`.
+//! It promises that what it writes is the model's text, whole or cut off where the output failed, that each
+//! failure that it reports has its cause, and that the run that it answers keeps the client to its memory, and nests and
+//! hands over as the laws of `host_run` say. It uses `dpmi_words` for the words, `client_maker` for made clients, `host_run` for the run,
+//! `dpmi_report` for the text, and `dpmi_io`.
 #![tactic(auto)]
 
 mod command;
@@ -9,7 +11,6 @@ mod report;
 mod status;
 #[cfg(test)]
 mod tests;
-mod words;
 
 use dpmi_io::{FileShelf, StdoutSink};
 use std::alloc::Global;

@@ -1,35 +1,40 @@
-// What comes before the run: the words, the memory, the file and the load.
-ghost use Rattle.std.specs.Prelude.{◌≡◌, ◌≤◌, ◌⊎◌, [], map, string_bytes, None, Some, length, take, IfOk, OnErr, IsErrOf};
-ghost use Rattle.client_world.specs.declared.limits.TheConstants.{DEFAULT_PAGES, DEFAULT_TRACE};
-ghost use Rattle.dpmi_cli.specs.Answer.{verdict_in, verdict_of};
-ghost use Rattle.dpmi_cli.specs.Load.{HasFront, Comes, FailsAt, load_verdict, IsNew};
-ghost use Rattle.host_run.specs.Start.{blank};
+// What comes before the run: the words, the files, the memory and the load.
+ghost use Rattle.std.specs.Prelude.{◌≡◌, ◌≤◌, ◌<◌, ◌⊎◌, map, string_bytes, None, Some, Ok, Err, length, take, option_map, IfOk, IfErr, OnOk, OnErr, IsErrOf};
+ghost use Rattle.client_world.specs.declared.limits.TheConstants.{MAX_FILE, MAX_KEYS, MAX_PAGES, MAX_TRACE};
+ghost use Rattle.client_maker.specs.Made.{made};
+ghost use Rattle.dpmi_words.specs.Meaning.{keys_in, run_in};
+ghost use Rattle.guest_ram.specs.Bytes.{AreBytes};
+ghost use Rattle.host_run.specs.Start.{started_host};
+ghost use Rattle.mz_loader.specs.Refusal.{refusal};
+ghost use Rattle.dpmi_cli.specs.Answer.{limited, load_verdict, made_verdict};
 ghost use Rattle.dpmi_cli.specs.Causes.{NamedFailed, IsAbsent, HasVerdict};
+ghost use Rattle.dpmi_cli.specs.Load.{HasFront, HasFile, HasPressed, FailsAt, KeysFail, RunFails, HasKeysVerdict, HasRunVerdict, HasRanges, verdict_in, IsReady, IsNew};
 ghost use Rattle.dpmi_cli.specs.declared.prepare.Stop.TheVariants.{Memory};
 
-use crate::words::file_to_run;
+use client_maker::make;
 use client_world::LoadFault;
-use client_world::limits::{DEFAULT_PAGES, DEFAULT_TRACE, MAX_FILE};
+use client_world::limits::{DEFAULT_PAGES, MAX_FILE, MAX_KEYS, MAX_TRACE};
 use dpmi_io::{Shelf, ShelfFail, read_whole};
+use dpmi_words::{KeySource, Run, Words, read_words};
 use host_run::Host;
 use std::alloc::{AllocError, Global};
 
-/// The bytes that are read of a file: one more than the longest file has.
-pub const FRONT_SIZE: usize = MAX_FILE as usize + 1;
-
-/// Why the words or the file are refused. Source: own.
+/// Why the words, a file or the keystrokes are refused. Source: own.
 #[derive(Clone, Copy, Debug, PartialEq, Eq)]
 pub enum Reason {
     Words,
     FileTooLong,
+    KeysTooLong,
     Load(LoadFault),
 }
 
-/// What the words and the file come to: a refusal, or a host with the client loaded.
+/// What the words and the files come to: a refusal, a host with the client loaded and the bound of its run, or a host with a made client
+/// loaded and its number.
 #[derive(Drop)]
 pub enum Prepared {
     Refused(Reason),
-    Ready(Host),
+    Run(Host, u32),
+    Soak(Host, u64),
 }
 
 /// Why there is no answer: out of memory, or a file failed or wasn't there.
@@ -47,12 +52,18 @@ impl From<AllocError> for Stop {
     }
 }
 
+// Each of the bytes fits: the type says so, and contracts see numbers alone.
+fn all_bytes_fit(bytes: &[u8])
+    ensures { AreBytes bytes.now }
+{}
+
 // Reads the first bytes of a file, as many as the buffer holds.
 fn read_front<F: Shelf>(shelf: &mut F, name: String, buf: &mut [u8]) -> Result<usize, ShelfFail>
-    requires { length buf.old ≡ FRONT_SIZE }
     ensures bound { IfOk result (λ n. n ≤ length buf.new) }
     ensures bytes { IfOk result (λ n.
-        HasFront (F.files shelf.old) (string_bytes name) (take n buf.new)) }
+        HasFront (length buf.old) (F.files shelf.old) (string_bytes name) (take n buf.new)) }
+    ensures files { F.files shelf.new ≡ F.files shelf.old }
+    ensures quiet { OnOk result (F.faults shelf.new ≡ F.faults shelf.old) }
     ensures failed { OnErr result
         (FailsAt (F.files shelf.old) (string_bytes name) (F.faults shelf.old) (F.faults shelf.new) (F.blamed shelf.new)) }
 {
@@ -65,62 +76,153 @@ fn read_front<F: Shelf>(shelf: &mut F, name: String, buf: &mut [u8]) -> Result<u
     }
 }
 
-// Loads a file's first bytes into a new host. Returns None where it is taken, else the reason.
-fn load_front(front: &[u8], host: &mut Host) -> Option<Reason>
-    requires blank { host.old.world ≡ blank DEFAULT_PAGES [] DEFAULT_TRACE }
-    ensures verdict { verdict_of front.now ≡ load_verdict result host.new.world }
-    ensures new { IsNew (load_verdict result host.new.world) }
-{
-    if front.len() > MAX_FILE as usize {
-        return Some(Reason::FileTooLong);
-    }
-    match host.load(front) {
-        Ok(()) => None,
-        Err(fault) => Some(Reason::Load(fault)),
-    }
-}
-
-// Reads a file and loads it into a new host. Returns None where it is taken, else the reason.
-fn load_file<F: Shelf>(
+// Reads a file of at most so many bytes. Returns None where it is longer, after one byte more.
+fn read_file<F: Shelf>(
+    alloc: Global,
+    name: &str,
+    most: u32,
     shelf: &mut F,
-    name: String,
-    buf: &mut [u8],
-    host: &mut Host,
-) -> Result<Option<Reason>, ShelfFail>
-    requires room { length buf.old ≡ FRONT_SIZE }
-    requires blank { host.old.world ≡ blank DEFAULT_PAGES [] DEFAULT_TRACE }
-    ensures verdict { IfOk result (λ reason.
-        Comes (F.files shelf.old) (string_bytes name) (load_verdict reason host.new.world)) }
-    ensures new { IfOk result (λ reason. IsNew (load_verdict reason host.new.world)) }
-    ensures failed { OnErr result
-        (FailsAt (F.files shelf.old) (string_bytes name) (F.faults shelf.old) (F.faults shelf.new) (F.blamed shelf.new)) }
-{
-    let n = match read_front(shelf, name, buf) {
-        Ok(n) => n,
-        Err(fail) => return Err(fail),
-    };
-    Ok(load_front(&buf[..n], host))
-}
-
-// Takes all the memory, reads the file of that name and loads it.
-fn prepare_file<F: Shelf>(alloc: Global, name: &str, shelf: &mut F) -> Result<Prepared, Stop>
-    ensures verdict { IfOk result (λ p. Comes (F.files shelf.old) name.now (verdict_in p)) }
-    ensures new { IfOk result (λ p. IsNew (verdict_in p)) }
+) -> Result<Option<Vec<u8>>, Stop>
+    requires { most ≤ MAX_FILE }
+    ensures bytes { IfOk result (λ read.
+        HasFile most (F.files shelf.old) name.now (option_map (λ v. v.items) read)) }
+    ensures files { F.files shelf.new ≡ F.files shelf.old }
+    ensures quiet { OnOk result (F.faults shelf.new ≡ F.faults shelf.old) }
     ensures failed { IsErrOf result Stop.Shelf →
         FailsAt (F.files shelf.old) name.now (F.faults shelf.old) (F.faults shelf.new) (F.blamed shelf.new) }
 {
     let name = String::from_str(alloc, name)?;
-    let mut buf = vec![in alloc; 0; FRONT_SIZE]?;
-    let mut host = Host::new(alloc, DEFAULT_PAGES, &[], DEFAULT_TRACE)?;
-    match load_file(shelf, name, &mut buf, &mut host) {
-        Ok(None) => Ok(Prepared::Ready(host)),
-        Ok(Some(reason)) => Ok(Prepared::Refused(reason)),
-        Err(_) => Err(Stop::Shelf),
+    let mut bytes = vec![in alloc; 0; most as usize + 1]?;
+    let n = match read_front(shelf, name, &mut bytes) {
+        Ok(n) => n,
+        Err(_) => return Err(Stop::Shelf),
+    };
+    if n > most as usize {
+        return Ok(None);
+    }
+    bytes.truncate(n);
+    Ok(Some(bytes))
+}
+
+// The keystrokes of the words, where they aren't too many.
+fn take_pressed(alloc: Global, bytes: &[u8]) -> Result<Option<Vec<u8>>, AllocError>
+    ensures { IfOk result (λ read. option_map (λ v. v.items) read ≡ limited MAX_KEYS bytes.now) }
+{
+    if bytes.len() > MAX_KEYS as usize {
+        return Ok(None);
+    }
+    let mut taken = Vec::new(alloc);
+    taken.extend_from_slice(bytes)?;
+    Ok(Some(taken))
+}
+
+// The keystrokes of a run. Returns None where they are too many.
+fn read_keys<F: Shelf>(
+    alloc: Global,
+    keys: &KeySource<'_>,
+    shelf: &mut F,
+) -> Result<Option<Vec<u8>>, Stop>
+    ensures keys { IfOk result (λ read.
+        HasPressed (F.files shelf.old) (keys_in keys.now) (option_map (λ v. v.items) read)) }
+    ensures failed { IsErrOf result Stop.Shelf →
+        KeysFail (F.files shelf.old) (keys_in keys.now) (F.faults shelf.old) (F.faults shelf.new) (F.blamed shelf.new) }
+{
+    match keys {
+        KeySource::Pressed(bytes) => Ok(take_pressed(alloc, bytes.as_slice())?),
+        KeySource::Stored(name) => read_file(alloc, name, MAX_KEYS, shelf),
     }
 }
 
-/// Reads the words, takes all the memory, reads the file and loads it.
-/// `Memory`: an allocation was refused. `Shelf`: the file failed or isn't there.
+// A new host, with the client of a file loaded.
+fn start_host(
+    alloc: Global,
+    pages: u32,
+    keys: &[u8],
+    trace: u32,
+    file: &[u8],
+) -> Result<Result<Host, LoadFault>, AllocError>
+    requires some_pages { 0 < pages }
+    requires pages { pages ≤ MAX_PAGES }
+    requires keys { length keys.now ≤ MAX_KEYS }
+    requires trace { trace ≤ MAX_TRACE }
+    ensures refused { IfOk result (λ r. IfErr r (λ fault. refusal file.now ≡ Some fault)) }
+    ensures taken { IfOk result (λ r. OnOk r (refusal file.now ≡ None)) }
+    ensures started { IfOk result (λ r. IfOk r (λ host. host.world ≡ started_host pages keys.now trace file.now)) }
+    ensures ready { IfOk result (λ r. IfOk r (λ host. IsReady host.world)) }
+{
+    all_bytes_fit(keys);
+    let mut host = Host::new(alloc, pages, keys, trace)?;
+    match host.load(file) {
+        Ok(()) => Ok(Ok(host)),
+        Err(fault) => Ok(Err(fault)),
+    }
+}
+
+// Loads the client of a run.
+fn load_run(alloc: Global, run: &Run<'_>, file: &[u8], keys: &[u8]) -> Result<Prepared, AllocError>
+    requires ranges { HasRanges (run_in run.now) }
+    requires keys { length keys.now ≤ MAX_KEYS }
+    ensures verdict { IfOk result (λ p. load_verdict (run_in run.now) file.now keys.now ≡ verdict_in p) }
+    ensures new { IfOk result (λ p. IsNew (verdict_in p)) }
+{
+    match start_host(alloc, run.pages, keys, run.trace, file)? {
+        Ok(host) => Ok(Prepared::Run(host, run.bound)),
+        Err(fault) => Ok(Prepared::Refused(Reason::Load(fault))),
+    }
+}
+
+// Reads the keystrokes of a run, and loads its client.
+fn prepare_keys<F: Shelf>(
+    alloc: Global,
+    run: &Run<'_>,
+    file: &[u8],
+    shelf: &mut F,
+) -> Result<Prepared, Stop>
+    requires { HasRanges (run_in run.now) }
+    ensures verdict { IfOk result (λ p. HasKeysVerdict (F.files shelf.old) (run_in run.now) file.now (verdict_in p)) }
+    ensures new { IfOk result (λ p. IsNew (verdict_in p)) }
+    ensures failed { IsErrOf result Stop.Shelf →
+        KeysFail (F.files shelf.old) (keys_in run.now.keys) (F.faults shelf.old) (F.faults shelf.new) (F.blamed shelf.new) }
+{
+    match read_keys(alloc, &run.keys, shelf) {
+        Ok(Some(keys)) => Ok(load_run(alloc, run, file, keys.as_slice())?),
+        Ok(None) => Ok(Prepared::Refused(Reason::KeysTooLong)),
+        Err(stop) => Err(stop),
+    }
+}
+
+// Reads the files of a run, and loads its client.
+fn prepare_run<F: Shelf>(alloc: Global, run: &Run<'_>, shelf: &mut F) -> Result<Prepared, Stop>
+    requires { HasRanges (run_in run.now) }
+    ensures verdict { IfOk result (λ p. HasRunVerdict (F.files shelf.old) (run_in run.now) (verdict_in p)) }
+    ensures new { IfOk result (λ p. IsNew (verdict_in p)) }
+    ensures failed { IsErrOf result Stop.Shelf →
+        RunFails (F.files shelf.old) (run_in run.now) (F.faults shelf.old) (F.faults shelf.new) (F.blamed shelf.new) }
+{
+    match read_file(alloc, run.file, MAX_FILE, shelf) {
+        Ok(Some(file)) => match prepare_keys(alloc, run, file.as_slice(), shelf) {
+            Ok(prepared) => Ok(prepared),
+            Err(stop) => Err(stop),
+        },
+        Ok(None) => Ok(Prepared::Refused(Reason::FileTooLong)),
+        Err(stop) => Err(stop),
+    }
+}
+
+// Makes the client of a number, and loads it.
+fn prepare_soak(alloc: Global, number: u64) -> Result<Prepared, AllocError>
+    ensures verdict { IfOk result (λ p. verdict_in p ≡ made_verdict number) }
+    ensures new { IfOk result (λ p. IsNew (verdict_in p)) }
+{
+    let file = make(alloc, number)?;
+    match start_host(alloc, DEFAULT_PAGES, &[], MAX_TRACE, file.as_slice())? {
+        Ok(host) => Ok(Prepared::Soak(host, number)),
+        Err(fault) => Ok(Prepared::Refused(Reason::Load(fault))),
+    }
+}
+
+/// Reads the words and the files that they name, takes the memory, and loads the client.
+/// `Memory`: an allocation was refused. `Shelf`: a file failed or isn't there.
 pub fn prepare<F: Shelf>(alloc: Global, words: &[String], shelf: &mut F) -> Result<Prepared, Stop>
     ensures verdict { IfOk result (λ p.
         HasVerdict (map string_bytes words.now) (F.files shelf.old) (λ v. v ≡ verdict_in p)) }
@@ -129,11 +231,12 @@ pub fn prepare<F: Shelf>(alloc: Global, words: &[String], shelf: &mut F) -> Resu
         NamedFailed (map string_bytes words.now) (F.faults shelf.old) (F.faults shelf.new) (F.blamed shelf.new)
         ⊎ IsAbsent (map string_bytes words.now) (F.files shelf.old) }
 {
-    match file_to_run(words) {
-        Some(name) => match prepare_file(alloc, name, shelf) {
+    match read_words(alloc, words)? {
+        Some(Words::Run(run)) => match prepare_run(alloc, &run, shelf) {
             Ok(prepared) => Ok(prepared),
             Err(stop) => Err(stop),
         },
+        Some(Words::Soak(number)) => Ok(prepare_soak(alloc, number)?),
         None => Ok(Prepared::Refused(Reason::Words)),
     }
 }

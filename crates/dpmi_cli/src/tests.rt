@@ -11,8 +11,13 @@ const ONE_LETTER: [u8; 43] = [
     0xB4, 0x02, 0xB2, 0x41, 0xCD, 0x21, 0xB8, 0x00, 0x4C, 0xCD, 0x21,
 ];
 
-// What is written of its run.
-const LETTER_TEXT: &str = "console 1\nA\nexit exited 0\nsteps 7\n";
+// What is written of its run. The megabyte of the digest holds the vectors, the blocks of DOS memory, the environment, the prefix and the
+// code, by their definitions, and the frame of the last interrupt on the stack.
+const LETTER_TEXT: &str =
+    "console 1\nA\ntrace 2 of 2\nint21 02\nint21 4c\nreport\nexit exited 0\nsteps 7\nmode real\ndepth 0\nregs eax=00004c00 ebx=00000000 ecx=00000000 edx=00000041 esi=00000000 edi=00000000 ebp=00000000 esp=000000fa eip=00000021 fl=0002 cs=f000 ss=0075 ds=0064 es=0064 fs=0000 gs=0000\ndescs 0\nblocks 0\ndos sha256=220e234fe35f69a2ba2e07da76cf70cd8b99b83b215fd0727bd9dc65ea7956ae\n";
+
+// The console, the exit and the turns of that run.
+const LETTER: &str = "console 1\nA\nexit exited 0\nsteps 7\n";
 
 // Those words, in owned texts.
 fn words(rt: &impl AllocGlobal, texts: &[&str]) -> Result<Vec<String>, Fail> {
@@ -23,7 +28,24 @@ fn words(rt: &impl AllocGlobal, texts: &[&str]) -> Result<Vec<String>, Fail> {
     Ok(words)
 }
 
-// Runs the command over one file A.EXE, and compares the status and the text.
+// Whether a text starts so, and has that part.
+fn shows(bytes: &[u8], start: &str, part: &str) -> bool {
+    match str::from_utf8(bytes) {
+        Ok(text) => text.starts_with(start) && text.contains(part),
+        Err(_) => false,
+    }
+}
+
+// Whether it is that line of a refusal, or a text with that console, exit and turns.
+fn has(bytes: &[u8], text: &str) -> bool {
+    match text.split_once("\nexit ") {
+        Some((console, end)) => shows(bytes, console, "\nreport\nexit ")
+            && shows(bytes, console, end),
+        None => bytes == text.as_bytes(),
+    }
+}
+
+// Runs the command over one file A.EXE, and compares the status, the console, the exit and the turns, or the line of a refusal.
 fn expect(
     rt: &(impl Abort + AllocGlobal),
     texts: &[&str],
@@ -33,28 +55,22 @@ fn expect(
 ) -> Result<(), Fail> {
     let mut shelf = MemShelf::new(rt.alloc());
     shelf.add("A.EXE", file)?;
-    let mut out = MemSink::new(rt.alloc(), 100, 3)?;
+    let mut out = MemSink::new(rt.alloc(), 2000, 3)?;
     let words = words(rt, texts)?;
     assert_eq!(rt;
         dpmi(rt.alloc(), words.as_slice(), &mut shelf, &mut out),
         status
     );
-    assert_eq!(rt; out.bytes(), text.as_bytes());
+    assert!(rt; has(out.bytes(), text), "{text}");
     Ok(())
 }
 
 #[test]
-fn each_file_has_its_answer(rt: HostRuntime) -> Result<(), Fail> {
-    let run = ["run", "A.EXE"];
-    expect(&rt, &run, &ONE_LETTER, 0, LETTER_TEXT)?;
-    expect(&rt, &run, &[], 2, "refused ShortHeader\n")?;
-    expect(&rt, &run, &ONE_LETTER[..27], 2, "refused ShortHeader\n")?;
-    expect(&rt, &run, &[0; 28], 2, "refused Signature\n")
-}
-
-#[test]
-fn a_file_of_too_many_bytes_is_refused(rt: HostRuntime) -> Result<(), Fail> {
+fn a_file_of_zeros_is_refused_by_its_length(rt: HostRuntime) -> Result<(), Fail> {
     for (count, text) in [
+        (0, "refused ShortHeader\n"),
+        (27, "refused ShortHeader\n"),
+        (28, "refused Signature\n"),
         (4_194_304, "refused Signature\n"),
         (4_194_305, "refused FileTooLong\n"),
     ] {
@@ -103,27 +119,27 @@ fn each_code_has_its_exit(rt: HostRuntime) -> Result<(), Fail> {
 // The client of the letter with one word of its header changed, to 0 and to FFFFh: its place, and the texts. With CS = FFFFh the run
 // begins in the prefix, whose last sixteen bytes are eight instructions; without a header the header is the code.
 const HEADER_WORDS: [(usize, &str, &str); 13] = [
-    (0x02, LETTER_TEXT, "refused LastPage\n"),
+    (0x02, LETTER, "refused LastPage\n"),
     (0x04, "refused LastPage\n", "refused NoRoom\n"),
-    (0x06, LETTER_TEXT, "refused RelocTable\n"),
+    (0x06, LETTER, "refused RelocTable\n"),
     (
         0x08,
         "console 0\n\nexit fault 06 code=00000000\nsteps 9\n",
         "refused LastPage\n",
     ),
-    (0x0A, LETTER_TEXT, "refused NoRoom\n"),
-    (0x0C, LETTER_TEXT, LETTER_TEXT),
-    (0x0E, LETTER_TEXT, LETTER_TEXT),
-    (0x10, LETTER_TEXT, LETTER_TEXT),
-    (0x12, LETTER_TEXT, LETTER_TEXT),
+    (0x0A, LETTER, "refused NoRoom\n"),
+    (0x0C, LETTER, LETTER),
+    (0x0E, LETTER, LETTER),
+    (0x10, LETTER, LETTER),
+    (0x12, LETTER, LETTER),
     (
         0x14,
-        LETTER_TEXT,
+        LETTER,
         "console 0\n\nexit fault 0d code=00000000\nsteps 1\n",
     ),
-    (0x16, LETTER_TEXT, "console 1\nA\nexit exited 0\nsteps 15\n"),
-    (0x18, LETTER_TEXT, LETTER_TEXT),
-    (0x1A, LETTER_TEXT, LETTER_TEXT),
+    (0x16, LETTER, "console 1\nA\nexit exited 0\nsteps 15\n"),
+    (0x18, LETTER, LETTER),
+    (0x1A, LETTER, LETTER),
 ];
 
 // Runs the command over the client of the letter with that word in its header.
@@ -139,10 +155,10 @@ fn expect_word(
     file[at + 1] = byte;
     let mut shelf = MemShelf::new(rt.alloc());
     shelf.add("A.EXE", &file)?;
-    let mut out = MemSink::new(rt.alloc(), 100, 100)?;
+    let mut out = MemSink::new(rt.alloc(), 2000, 100)?;
     let words = words(rt, &["run", "A.EXE"])?;
     let _ = dpmi(rt.alloc(), words.as_slice(), &mut shelf, &mut out);
-    assert_eq!(rt; out.bytes(), text.as_bytes(), "word {at} of bytes {byte}");
+    assert!(rt; has(out.bytes(), text), "word {at} of bytes {byte}");
     Ok(())
 }
 
@@ -218,8 +234,8 @@ fn each_last_page_has_its_answer(rt: HostRuntime) -> Result<(), Fail> {
     let mut file = [0; 512];
     file[..43].copy_from_slice(&ONE_LETTER);
     for (low, high, status, text) in [
-        (0x00, 0x00, 0, LETTER_TEXT),
-        (0x00, 0x02, 0, LETTER_TEXT),
+        (0x00, 0x00, 0, LETTER),
+        (0x00, 0x02, 0, LETTER),
         (0x01, 0x02, 2, "refused LastPage\n"),
     ] {
         file[2] = low;
@@ -237,39 +253,212 @@ fn each_relocation_has_its_answer(rt: HostRuntime) -> Result<(), Fail> {
     file[0x0C] = 0x10;
     file[0x0D] = 0x00;
     file[0x1D] = 0x01;
-    for (offset, status, text) in [(0x0E, 0, LETTER_TEXT), (0x0F, 2, "refused RelocTarget\n")] {
+    for (offset, status, text) in [(0x0E, 0, LETTER), (0x0F, 2, "refused RelocTarget\n")] {
         file[0x1C] = offset;
         expect(&rt, &["run", "A.EXE"], &file, status, text)?;
     }
     Ok(())
 }
 
-#[test]
-fn words_that_mean_nothing_are_refused(rt: HostRuntime) -> Result<(), Fail> {
-    expect(&rt, &[], &ONE_LETTER, 2, "refused words\n")?;
-    expect(&rt, &["run"], &ONE_LETTER, 2, "refused words\n")?;
-    expect(&rt, &["run", ""], &ONE_LETTER, 2, "refused words\n")?;
-    expect(&rt, &["run", "-A.EXE"], &ONE_LETTER, 2, "refused words\n")?;
-    expect(&rt, &["walk", "A.EXE"], &ONE_LETTER, 2, "refused words\n")?;
-    expect(
-        &rt,
-        &["run", "A.EXE", "A.EXE"],
-        &ONE_LETTER,
-        2,
-        "refused words\n",
-    )
-}
+// Words that mean nothing: each option twice, without a value, with an empty one, with a value of another kind, and out of its range at
+// both ends; FILE that is empty, that begins with a dash, or comes twice; an option that isn't there; both kinds of keystrokes; and the
+// same of a made client.
+const WRONG_WORDS: [&[&str]; 49] = [
+    &[],
+    &[""],
+    &["run"],
+    &["run", ""],
+    &["run", "-A.EXE"],
+    &["run", "--"],
+    &["run", "-"],
+    &["run", "--", "A.EXE"],
+    &["run", "A.EXE", "A.EXE"],
+    &["walk", "A.EXE"],
+    &["--help"],
+    &["run", "A.EXE", "--help"],
+    &["run", "A.EXE", "--steps", "1"],
+    &["run", "A.EXE", "--bound"],
+    &["run", "A.EXE", "--bound="],
+    &["run", "A.EXE", "--bound", ""],
+    &["run", "A.EXE", "--bound", "--pages"],
+    &["run", "A.EXE", "--bound", "0"],
+    &["run", "A.EXE", "--bound", "1000000001"],
+    &["run", "A.EXE", "--bound", "00000000001"],
+    &["run", "A.EXE", "--bound", "1x"],
+    &["run", "A.EXE", "--bound", "+1"],
+    &["run", "A.EXE", "--bound=1", "--bound=1"],
+    &["run", "A.EXE", "--pages"],
+    &["run", "A.EXE", "--pages", "0"],
+    &["run", "A.EXE", "--pages=4097"],
+    &["run", "A.EXE", "--pages", "ten"],
+    &["run", "A.EXE", "--pages", "1", "--pages", "1"],
+    &["run", "--trace", "A.EXE"],
+    &["run", "A.EXE", "--trace=10001"],
+    &["run", "A.EXE", "--trace", "-1"],
+    &["run", "A.EXE", "--trace=0", "--trace", "0"],
+    &["run", "A.EXE", "--keys"],
+    &["run", "A.EXE", "--keys", "4"],
+    &["run", "A.EXE", "--keys=4g"],
+    &["run", "A.EXE", "--keys="],
+    &["run", "A.EXE", "--keys", "41", "--keys", "41"],
+    &["run", "A.EXE", "--keys-file"],
+    &["run", "A.EXE", "--keys-file", "-K"],
+    &["run", "A.EXE", "--keys-file=K", "--keys-file=K"],
+    &["run", "A.EXE", "--keys=41", "--keys-file=K"],
+    &["soak"],
+    &["soak", ""],
+    &["soak", "-1"],
+    &["soak", "18446744073709551616"],
+    &["soak", "000000000000000000001"],
+    &["soak", "1", "1"],
+    &["soak", "1", "--bound", "1"],
+    &["Run", "A.EXE"],
+];
 
 #[test]
+fn words_that_mean_nothing_are_refused(rt: HostRuntime) -> Result<(), Fail> {
+    for texts in WRONG_WORDS {
+        expect(&rt, texts, &ONE_LETTER, 2, "refused words\n")?;
+    }
+    Ok(())
+}
+
+// The client that reads a key and prints it: MOV AH,01h; INT 21h; MOV AX,4C00h; INT 21h. The file of keystrokes is the letter `Y` and 65,535 more.
+const ONE_KEY: [u8; 9] = [0xB4, 0x01, 0xCD, 0x21, 0xB8, 0x00, 0x4C, 0xCD, 0x21];
+
+// The client that enters protected mode, allocates a block of 65,536 bytes and one of a byte, and ends.
+const TWO_BLOCKS: [u8; 41] = [
+    0xB8, 0x87, 0x16, 0xCD, 0x2F, 0x06, 0x57, 0x89, 0xE5, 0x31, 0xC0, 0xFF, 0x5E, 0x00, 0xB8, 0x01,
+    0x05, 0xBB, 0x01, 0x00, 0xB9, 0x00, 0x00, 0xCD, 0x31, 0xB8, 0x01, 0x05, 0xBB, 0x00, 0x00, 0xB9,
+    0x01, 0x00, 0xCD, 0x31, 0xB8, 0x00, 0x4C, 0xCD, 0x21,
+];
+
+// Options, the status, the first of the text, and a part of it.
+const OPTIONS: [(&[&str], u8, &str, &str); 14] = [
+    (
+        &["run", "P.EXE", "--pages", "16"],
+        0,
+        "console 0\n\ntrace 5 of 5\nint2f 1687\nentry 16\nint31 0501 ok\nint31 0501 carry\nint21 4c\nreport\nexit exited 0\nsteps 22\nmode protected\ndepth 0\n",
+        "\nblocks 1\nblock 1 base=00400000 pages=16 locked=0 sha256=de2f256064a0af797747c2b97505dc0b9f3df0de4f489eac731c23ae9ca9cc31\ndos sha256=",
+    ),
+    (
+        &["run", "P.EXE", "--pages=00017"],
+        0,
+        "console 0\n\ntrace 5 of 5\nint2f 1687\nentry 16\nint31 0501 ok\nint31 0501 ok\nint21 4c\n",
+        "\nblocks 2\nblock 1 base=00400000 pages=16 locked=0 sha256=",
+    ),
+    (
+        &["run", "A.EXE"],
+        1,
+        "console 0\n\ntrace 1 of 1\nint21 01\nreport\nexit nokeys\nsteps 3\n",
+        "",
+    ),
+    (
+        &["run", "A.EXE", "--keys", "58"],
+        0,
+        "console 1\nX\ntrace 2 of 2\nint21 01\nint21 4c\nreport\nexit exited 0\nsteps 6\n",
+        "",
+    ),
+    (
+        &["run", "--keys-file=K", "A.EXE"],
+        0,
+        "console 1\nY\ntrace 2 of 2\nint21 01\nint21 4c\nreport\nexit exited 0\nsteps 6\n",
+        "",
+    ),
+    (
+        &["run", "--keys=4a4B", "--trace", "1", "A.EXE"],
+        0,
+        "console 1\nJ\ntrace 1 of 2\nint21 01\nreport\nexit exited 0\nsteps 6\n",
+        "",
+    ),
+    (
+        &["run", "A.EXE", "--trace=0", "--keys-file", "K", "--pages=1"],
+        0,
+        "console 1\nY\ntrace 0 of 2\nreport\nexit exited 0\nsteps 6\n",
+        "",
+    ),
+    (
+        &["run", "A.EXE", "--bound", "1"],
+        1,
+        "console 0\n\ntrace 0 of 0\nreport\nexit bound\nsteps 1\nmode real\n",
+        "",
+    ),
+    (
+        &["run", "A.EXE", "--bound=05", "--keys=58"],
+        1,
+        "console 1\nX\ntrace 1 of 1\nint21 01\nreport\nexit bound\nsteps 5\nmode real\n",
+        "",
+    ),
+    (
+        &["run", "A.EXE", "--bound=0000000006", "--keys=58"],
+        0,
+        "console 1\nX\ntrace 2 of 2\n",
+        "",
+    ),
+    (&["run", "K"], 2, "refused Signature\n", ""),
+    (
+        &["run", "A.EXE", "--keys-file", "LONG"],
+        2,
+        "refused KeysTooLong\n",
+        "",
+    ),
+    (&["run", "A.EXE", "--keys-file", "NONE"], 3, "", ""),
+    (&["run", "NONE", "--keys-file", "LONG"], 3, "", ""),
+];
+
+#[test]
+fn each_option_has_its_effect(rt: HostRuntime) -> Result<(), Fail> {
+    let file = client(&rt, &ONE_KEY)?;
+    let mut keys = vec![in rt.alloc(); b'Y'; 65_536]?;
+    let mut shelf = MemShelf::new(rt.alloc());
+    shelf.add("A.EXE", &file)?;
+    let file = client(&rt, &TWO_BLOCKS)?;
+    shelf.add("P.EXE", &file)?;
+    shelf.add("K", &keys)?;
+    keys.push(b'Y')?;
+    shelf.add("LONG", &keys)?;
+    for (texts, status, start, part) in OPTIONS {
+        let given = words(&rt, texts)?;
+        let mut out = MemSink::new(rt.alloc(), 2000, 100)?;
+        assert_eq!(rt;
+            dpmi(rt.alloc(), given.as_slice(), &mut shelf, &mut out),
+            status
+        );
+        assert!(rt; shows(out.bytes(), start, part), "{start}");
+    }
+    Ok(())
+}
+
+// A made client run twice writes the same six lines.
+#[test]
+fn a_made_client_has_its_summary(rt: HostRuntime) -> Result<(), Fail> {
+    let soak = words(&rt, &["soak", "7"])?;
+    let mut shelf = MemShelf::new(rt.alloc());
+    let mut first = MemSink::new(rt.alloc(), 1000, 1000)?;
+    let mut second = MemSink::new(rt.alloc(), 1000, 3)?;
+    assert_eq!(rt;
+        dpmi(rt.alloc(), soak.as_slice(), &mut shelf, &mut first),
+        0
+    );
+    assert_eq!(rt;
+        dpmi(rt.alloc(), soak.as_slice(), &mut shelf, &mut second),
+        0
+    );
+    assert_eq!(rt; first.bytes(), second.bytes());
+    assert!(rt; first.bytes().starts_with(b"soak 7\nexit exited 0\nsteps "));
+    assert_eq!(rt; first.bytes().iter().filter(|b| **b == b'\n').count(), 6);
+    Ok(())
+}
+
+// The calls are: the client's file is opened, read and read to its end; and so are the keystrokes.
+#[test]
 fn a_file_fails(rt: HostRuntime) -> Result<(), Fail> {
-    let run = words(&rt, &["run", "A.EXE"])?;
+    let run = words(&rt, &["run", "A.EXE", "--keys-file", "K"])?;
     let mut out = MemSink::new(rt.alloc(), 100, 1)?;
-    let mut missing = MemShelf::new(rt.alloc());
-    assert_eq!(rt; dpmi(rt.alloc(), run.as_slice(), &mut missing, &mut out), 3);
-    // the first call opens, the second reads
-    for call in 1..3 {
+    for call in 1..7 {
         let mut shelf = MemShelf::new(rt.alloc());
         shelf.add("A.EXE", &ONE_LETTER)?;
+        shelf.add("K", b"Y")?;
         shelf.fail_at(call)?;
         assert_eq!(rt; dpmi(rt.alloc(), run.as_slice(), &mut shelf, &mut out), 3);
     }
@@ -277,26 +466,32 @@ fn a_file_fails(rt: HostRuntime) -> Result<(), Fail> {
     Ok(())
 }
 
-// The text is put in pieces of at most 8 bytes: two of the head, one of the console, one for the end of its line, three after it.
+// In pieces of one byte each put writes one: where one fails, those before it are written. The text has 361 bytes, so there is no put after as many.
 #[test]
 fn each_put_fails_in_turn(rt: HostRuntime) -> Result<(), Fail> {
     let run = words(&rt, &["run", "A.EXE"])?;
-    let kept = [
-        "",
-        "console ",
-        "console 1\n",
-        "console 1\nA",
-        "console 1\nA\n",
-        "console 1\nA\nexit exi",
-        "console 1\nA\nexit exited 0\nst",
-    ];
-    for (i, text) in kept.iter().enumerate() {
+    for (count, status) in [
+        (0_u64, 4),
+        (1, 4),
+        (10, 4),
+        (11, 4),
+        (12, 4),
+        (25, 4),
+        (76, 4),
+        (275, 4),
+        (360, 4),
+        (361, 0),
+    ] {
         let mut shelf = MemShelf::new(rt.alloc());
         shelf.add("A.EXE", &ONE_LETTER)?;
-        let mut out = MemSink::new(rt.alloc(), 100, 8)?;
-        out.fail_at(i as u64 + 1)?;
-        assert_eq!(rt; dpmi(rt.alloc(), run.as_slice(), &mut shelf, &mut out), 4);
-        assert_eq!(rt; out.bytes(), text.as_bytes());
+        let mut out = MemSink::new(rt.alloc(), 1000, 1)?;
+        out.fail_at(count.saturating_add(1))?;
+        assert_eq!(rt;
+            dpmi(rt.alloc(), run.as_slice(), &mut shelf, &mut out),
+            status
+        );
+        assert_eq!(rt; out.bytes().len() as u64, count);
+        assert!(rt; LETTER_TEXT.as_bytes().starts_with(out.bytes()));
     }
     Ok(())
 }

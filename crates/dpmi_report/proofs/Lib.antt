@@ -1,3 +1,4 @@
+mod BlockBytes
 mod Counts
 mod Decimal
 mod Pieces

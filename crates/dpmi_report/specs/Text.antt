@@ -37,8 +37,8 @@ processor_text mode n r vif =
     codes "mode " ++ mode_text mode ++ line_end ++ codes "depth " ++ decimal n ++ line_end
     ++ codes "regs " ++ regs_text r vif ++ line_end
 
-abbrev pub processor_part : ℕ → World → List ℕ
-processor_part n w = processor_text w.mode n w.regs w.vif
+abbrev pub processor_part : World → List ℕ
+processor_part w = processor_text w.mode (depth w) w.regs w.vif
 
 -- the line before the descriptors: their number
 abbrev pub descs_head : ℕ → List ℕ
@@ -48,21 +48,29 @@ descs_head count = codes "descs " ++ decimal count ++ line_end
 abbrev pub descs_part : World → List ℕ
 descs_part w = descs_head (count_by is_some w.descriptors) ++ up_to (desc_row w.descriptors) DESCRIPTORS
 
+-- the line before the memory blocks: their number
+abbrev pub blocks_head : ℕ → List ℕ
+blocks_head count = codes "blocks " ++ decimal count ++ line_end
+
 -- the memory blocks by their handles
 abbrev pub blocks_part : World → List ℕ
-blocks_part w = codes "blocks " ++ decimal (count_by is_some w.blocks) ++ line_end ++ up_to (block_row w.blocks) MAX_BLOCKS
+blocks_part w = blocks_head (count_by is_some w.blocks) ++ up_to (block_row w.blocks) MAX_BLOCKS
 
 -- what the run did
 abbrev pub run_part : HostWorld → Exit → List ℕ
 run_part w exit = (console_part w ++ trace_part w) ++ end_part exit w.steps
 
--- the state that it left, at this depth: the processor and the descriptors
-abbrev pub state_part : ℕ → World → List ℕ
-state_part n w = processor_part n w ++ descs_part w
+-- the state that it left: the processor and the descriptors
+abbrev pub state_part : World → List ℕ
+state_part w = processor_part w ++ descs_part w
+
+-- the memory that it left: the blocks and the DOS megabyte
+abbrev pub memory_part : World → List ℕ
+memory_part w = blocks_part w ++ dos_line w.dos
 
 -- the text of a run that ended so
 abbrev pub text_at : HostWorld → Exit → List ℕ
-text_at w exit = (run_part w exit ++ state_part (depth w.machine) w.machine) ++ (blocks_part w.machine ++ dos_line w.machine.dos)
+text_at w exit = (run_part w exit ++ state_part w.machine) ++ memory_part w.machine
 
 -- the text of a run
 abbrev pub text : HostWorld → List ℕ

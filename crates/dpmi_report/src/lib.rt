@@ -3,6 +3,7 @@
 //! count of faults rose. It uses `host_run`, whose hosts it shows, and `dpmi_io`.
 #![tactic(auto)]
 
+mod blocks;
 mod digest;
 mod line;
 mod lines;
@@ -15,5 +16,5 @@ mod trace;
 
 pub use line::{Line, add};
 pub use parts::{put_console, put_dos, put_exit};
-pub use report::{write_run, write_state};
+pub use report::{write_all_of, write_memory, write_run, write_state};
 pub use summary::write_summary;

@@ -3,7 +3,7 @@ ghost use Rattle.std.specs.Prelude.{◌≡◌, ◌≤◌, ◌<◌, ◌+◌, ◌/
 ghost use Rattle.client_world.specs.Descriptor.{access_byte, flags_byte};
 ghost use Rattle.dpmi_report.specs.Digits.{hex_word, hex_doubleword};
 ghost use Rattle.dpmi_report.specs.Lines.{exit_text, exit_part, mode_text, wide_text, narrow_text, regs_text, origin_text, desc_line, digest_line, block_line_with};
-ghost use Rattle.dpmi_report.specs.Text.{console_head, trace_head, end_part, processor_text, descs_head};
+ghost use Rattle.dpmi_report.specs.Text.{console_head, trace_head, end_part, processor_text, descs_head, blocks_head};
 ghost use Rattle.dpmi_report.specs.Summary.{soak_head, services_text, console_digest_text};
 
 use crate::line::{
@@ -237,6 +237,18 @@ pub fn descriptors_line(count: u32) -> Line
 {
     let mut line = Line::new();
     add(&mut line, b"descs ");
+    add_decimal(&mut line, u64::from(count));
+    add(&mut line, b"\n");
+    line
+}
+
+/// The line before the memory blocks.
+#[tactic(auto, using(crate::proofs::Decimal::decimal_short))]
+pub fn blocks_line(count: u32) -> Line
+    ensures { result.items ≡ blocks_head count }
+{
+    let mut line = Line::new();
+    add(&mut line, b"blocks ");
     add_decimal(&mut line, u64::from(count));
     add(&mut line, b"\n");
     line

@@ -21,6 +21,7 @@ use client_world::selectors::selector_of;
 use dpmi_io::{Sink, SinkFail, put_all};
 use guest_space::Machine;
 use host_run::Host;
+use mode_stack::depth;
 
 // The line before the console's bytes.
 fn console_line_of(host: &Host) -> Line
@@ -198,21 +199,21 @@ pub fn put_end<O: Sink>(host: &Host, exit: Exit, out: &mut O) -> Result<(), Sink
 }
 
 // The lines of the mode, the depth and the registers.
-fn processor_lines_of(machine: &Machine, depth: u8) -> Line
-    ensures { result.items ≡ processor_part depth machine.now.world }
+fn processor_lines_of(machine: &Machine) -> Line
+    ensures { result.items ≡ processor_part machine.now.world }
 {
     let regs = machine.regs();
-    processor_lines(machine.mode(), depth, &regs, machine.vif())
+    processor_lines(machine.mode(), depth(machine), &regs, machine.vif())
 }
 
 /// Puts the mode, the depth and the registers.
-pub fn put_processor<O: Sink>(machine: &Machine, depth: u8, out: &mut O) -> Result<(), SinkFail>
-    ensures whole { OnOk result (Gains (O.taken out.old) (O.taken out.new) (processor_part depth machine.now.world)) }
-    ensures part { OnErr result (GainsPart (O.taken out.old) (O.taken out.new) (processor_part depth machine.now.world)) }
+pub fn put_processor<O: Sink>(machine: &Machine, out: &mut O) -> Result<(), SinkFail>
+    ensures whole { OnOk result (Gains (O.taken out.old) (O.taken out.new) (processor_part machine.now.world)) }
+    ensures part { OnErr result (GainsPart (O.taken out.old) (O.taken out.new) (processor_part machine.now.world)) }
     ensures quiet { OnOk result (O.faults out.new ≡ O.faults out.old) }
     ensures failed { OnErr result (Rose (O.faults out.old) (O.faults out.new)) }
 {
-    let lines = processor_lines_of(machine, depth);
+    let lines = processor_lines_of(machine);
     put_all(out, lines.as_slice())
 }
 

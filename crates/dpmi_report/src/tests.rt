@@ -51,7 +51,7 @@ fn a_run_has_its_text(rt: HostRuntime) -> Result<(), Fail> {
 fn a_state_has_its_text(rt: HostRuntime) -> Result<(), Fail> {
     let (host, _) = ended(&rt)?;
     let mut out = MemSink::new(rt.alloc(), 1000, 1000)?;
-    assert!(rt; write_state(host.machine(), 0, &mut out).is_ok());
+    assert!(rt; write_state(host.machine(), &mut out).is_ok());
     assert_eq!(rt; out.bytes(), STATE_TEXT.as_bytes());
     Ok(())
 }

@@ -1,0 +1,144 @@
+// The part of the memory blocks. It takes no memory; where it fails, a first part of its text was put, and the count of faults rose.
+ghost use Rattle.std.specs.Prelude.{◌≡◌, ◌<◌, ◌+◌, OnOk, OnErr, Some, None, count_by, is_some, nat_lt, slice_index, slice_index_or};
+ghost use Rattle.client_world.specs.declared.limits.TheConstants.{MAX_BLOCKS};
+ghost use Rattle.client_world.specs.World.{block_at};
+ghost use Rattle.block_memory.specs.BlockSizes.{locks_of_block, row_seen};
+ghost use Rattle.dpmi_io.specs.Causes.{Rose};
+ghost use Rattle.dpmi_io.specs.Content.{Gains, GainsPart};
+ghost use Rattle.dpmi_report.specs.Lines.{block_text, block_row};
+ghost use Rattle.dpmi_report.specs.Rows.{up_to};
+ghost use Rattle.dpmi_report.specs.Text.{blocks_head, blocks_part};
+
+use crate::digest::block_digest;
+use crate::line::Line;
+use crate::lines::{block_line, blocks_line};
+use client_world::host_frames::PAGE_SIZE;
+use client_world::limits::MAX_BLOCKS;
+use dpmi_io::{Sink, SinkFail, put_all};
+use guest_space::Machine;
+
+// Whether a page of a memory block is locked.
+fn is_locked(machine: &Machine, handle: u16, base: u32, pages: u32, page: u32) -> bool
+    requires block { row_seen (block_at machine.now.world.blocks handle) ≡ Some (base, pages) }
+    requires inside { page < pages }
+    ensures { result ≡ nat_lt 0 (slice_index (locks_of_block (block_at machine.now.world.blocks handle)) page) }
+{
+    machine.soundness();
+    machine.lock_count(base + page * PAGE_SIZE) > 0
+}
+
+// The number of locked pages of a memory block.
+fn count_locked(machine: &Machine, handle: u16, base: u32, pages: u32) -> u32
+    requires { row_seen (block_at machine.now.world.blocks handle) ≡ Some (base, pages) }
+    ensures { result ≡ count_by (nat_lt 0) (locks_of_block (block_at machine.now.world.blocks handle)) }
+{
+    let mut count = 0;
+    for page in 0..pages {
+        if is_locked(machine, handle, base, pages, page) {
+            count += 1;
+        }
+    }
+    count
+}
+
+// The line of a memory block.
+fn block_line_of(machine: &Machine, handle: u16, base: u32, pages: u32) -> Line
+    requires { row_seen (block_at machine.now.world.blocks handle) ≡ Some (base, pages) }
+    ensures { result.items ≡ block_text handle (block_at machine.now.world.blocks handle) }
+{
+    machine.soundness();
+    let locked = count_locked(machine, handle, base, pages);
+    let digest = block_digest(machine, handle, pages);
+    block_line(u32::from(handle), base, pages, locked, &digest)
+}
+
+// Puts the line of the memory block of a place, where there is one.
+fn put_block<O: Sink>(machine: &Machine, place: u16, out: &mut O) -> Result<(), SinkFail>
+    requires { place < MAX_BLOCKS }
+    ensures whole { OnOk result (Gains (O.taken out.old) (O.taken out.new) (block_row machine.now.world.blocks place)) }
+    ensures part { OnErr result (GainsPart (O.taken out.old) (O.taken out.new) (block_row machine.now.world.blocks place)) }
+    ensures quiet { OnOk result (O.faults out.new ≡ O.faults out.old) }
+    ensures failed { OnErr result (Rose (O.faults out.old) (O.faults out.new)) }
+{
+    let handle = place + 1;
+    match machine.block(handle) {
+        Some((base, pages)) => {
+            let line = block_line_of(machine, handle, base, pages);
+            put_all(out, line.as_slice())
+        }
+        None => put_all(out, b"".as_slice()),
+    }
+}
+
+// Puts the lines of the memory blocks.
+fn put_block_rows<O: Sink>(machine: &Machine, out: &mut O) -> Result<(), SinkFail>
+    ensures whole { OnOk result (Gains (O.taken out.old) (O.taken out.new) (up_to (block_row machine.now.world.blocks) MAX_BLOCKS)) }
+    ensures part { OnErr result (GainsPart (O.taken out.old) (O.taken out.new) (up_to (block_row machine.now.world.blocks) MAX_BLOCKS)) }
+    ensures quiet { OnOk result (O.faults out.new ≡ O.faults out.old) }
+    ensures failed { OnErr result (Rose (O.faults out.old) (O.faults out.new)) }
+{
+    for place in 0..MAX_BLOCKS as u16 {
+        match put_block(machine, place, out) {
+            Ok(()) => {}
+            Err(fail) => return Err(fail),
+        }
+    }
+    Ok(())
+}
+
+// Whether a place has a memory block.
+fn is_block(machine: &Machine, place: u16) -> bool
+    requires { place < MAX_BLOCKS }
+    ensures { result ≡ is_some (slice_index_or machine.now.world.blocks place None) }
+{
+    machine.block(place + 1).is_some()
+}
+
+// The number of memory blocks.
+fn count_blocks(machine: &Machine) -> u32
+    ensures { result ≡ count_by is_some machine.now.world.blocks }
+{
+    machine.soundness();
+    let mut count = 0;
+    for place in 0..MAX_BLOCKS as u16 {
+        if is_block(machine, place) {
+            count += 1;
+        }
+    }
+    count
+}
+
+// The line before the memory blocks.
+fn blocks_line_of(machine: &Machine) -> Line
+    ensures { result.items ≡ blocks_head (count_by is_some machine.now.world.blocks) }
+{
+    blocks_line(count_blocks(machine))
+}
+
+// Puts the line before the memory blocks.
+fn put_blocks_head<O: Sink>(machine: &Machine, out: &mut O) -> Result<(), SinkFail>
+    ensures whole { OnOk result (Gains (O.taken out.old) (O.taken out.new) (blocks_head (count_by is_some machine.now.world.blocks))) }
+    ensures part { OnErr result (GainsPart (O.taken out.old) (O.taken out.new) (blocks_head (count_by is_some machine.now.world.blocks))) }
+    ensures quiet { OnOk result (O.faults out.new ≡ O.faults out.old) }
+    ensures failed { OnErr result (Rose (O.faults out.old) (O.faults out.new)) }
+{
+    let line = blocks_line_of(machine);
+    put_all(out, line.as_slice())
+}
+
+/// Puts the memory blocks' part.
+pub fn put_blocks<O: Sink>(machine: &Machine, out: &mut O) -> Result<(), SinkFail>
+    ensures whole { OnOk result (Gains (O.taken out.old) (O.taken out.new) (blocks_part machine.now.world)) }
+    ensures part { OnErr result (GainsPart (O.taken out.old) (O.taken out.new) (blocks_part machine.now.world)) }
+    ensures quiet { OnOk result (O.faults out.new ≡ O.faults out.old) }
+    ensures failed { OnErr result (Rose (O.faults out.old) (O.faults out.new)) }
+{
+    match put_blocks_head(machine, out) {
+        Ok(()) => {}
+        Err(fail) => return Err(fail),
+    }
+    match put_block_rows(machine, out) {
+        Ok(()) => Ok(()),
+        Err(fail) => Err(fail),
+    }
+}
