@@ -7,7 +7,9 @@ use Rattle.std.proofs.lemmas.List.{take_all, length-take-le}
 use Rattle.std.specs.declared.option.Option.{Option}
 use Rattle.client_world.specs.declared.limits.TheConstants.{DEFAULT_PAGES, MAX_FILE, MAX_KEYS, MAX_TRACE}
 use Rattle.client_world.specs.declared.outcome.LoadFault.{LoadFault}
+use Rattle.client_world.specs.Soundness.{IsSound}
 use Rattle.client_world.specs.World.{HostWorld}
+use Rattle.guest_ram.specs.Bytes.{AreBytes}
 use Rattle.client_maker.specs.Made.{made}
 use Rattle.host_memory.specs.Blank.{blank_world}
 use Rattle.mz_loader.specs.Refusal.{refusal}
@@ -17,7 +19,7 @@ use Rattle.dpmi_io.specs.Content.{Files, Lacks, Starts as Opens}
 use Rattle.dpmi_cli.specs.declared.prepare.Reason.TheVariants.{Words, FileTooLong, Load}
 use Rattle.dpmi_cli.specs.Answer.{Verdict, Refuses, StartsMade, answer_to, file_verdict, keys_from, keys_verdict, limited, made_verdict, run_verdict, verdict_of}
 use Rattle.dpmi_cli.specs.Causes.{HasVerdict, IsAbsent, NamedFailed, OfFiles}
-use Rattle.dpmi_cli.specs.Load.{FailsAt, HasFile, HasFront, HasKeysVerdict, HasPressed, HasRunVerdict, KeysFail, LacksFile, LacksKeys, RunFails}
+use Rattle.dpmi_cli.specs.Load.{FailsAt, HasFile, HasFront, HasKeysVerdict, HasPressed, HasRunVerdict, IsReady, KeysFail, LacksFile, LacksKeys, RunFails}
 use Rattle.dpmi_cli.specs.Words.{key_file_names, names_in}
 
 -- what holds of the files
@@ -45,6 +47,14 @@ pub is_started : (pages : ℕ) (keys : List ℕ) (keep : ℕ) (file : List ℕ) 
     w ≡ started_host before.machine.budget before.keys before.keep file → w ≡ started_host pages keys keep file
 is_started pages keys keep file before w new is =
     is ∙ ap (λ (v : HostWorld). started_host v.machine.budget v.keys v.keep file) new ∙ ap (λ n. started_host n keys keep file) (blank_budget pages)
+
+pub is_ready : (pages : ℕ) (keys : List ℕ) (keep : ℕ) (file : List ℕ) (w : HostWorld) → w ≡ started_host pages keys keep file →
+    IsSound w.machine → AreBytes keys → IsReady w
+is_ready pages keys keep file w is sound bytes = record {
+  no_turn = ap (λ (v : HostWorld). v.steps) is;
+  sound = sound;
+  keys = subst (λ (ks : List ℕ). AreBytes ks) (sym (ap (λ (v : HostWorld). v.keys) is)) bytes;
+}
 
 -- the limits
 
