@@ -26,7 +26,7 @@ start:  mov     ax, cs
         mov     ds, bx
         mov     es, bx
         mov     ss, bx
-        mov     esp, 0x10000
+        mov     esp, offset stack_top
         sub     bx, 8
         movzx   ebx, bx
         push    ebx
