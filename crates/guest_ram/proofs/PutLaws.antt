@@ -135,3 +135,11 @@ put_away b at xs k h = elim h [
   | inl above ↦ put_above b at xs k above
   | inr below ↦ put_below b at xs k below
 ]
+
+-- four bytes that are put one by one
+pub put_four : (b : List ℕ) (at w x y z : ℕ) → set (set (set (set b at w) (at + 1) x) (at + 2) y) (at + 3) z ≡ put b at (w ∷ x ∷ y ∷ z ∷ [])
+put_four b at w x y z =
+    let third : at + 2 ≡ at + 1 + 1 = omega arith in
+    let fourth : at + 3 ≡ at + 1 + 1 + 1 = omega arith in
+    let two = set (set b at w) (at + 1) x in
+    ap (λ (i : ℕ). set (set two i y) (at + 3) z) third ∙ ap (λ (i : ℕ). set (set two (at + 1 + 1) y) i z) fourth

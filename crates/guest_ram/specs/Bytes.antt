@@ -1,10 +1,15 @@
 -- Words, doublewords and runs of bytes in a list of bytes, least byte first.
 -- Source: 80386 Programmer's Reference Manual, ch. 2, "Data Types".
-use Rattle.std.specs.Prelude.{ℕ, ◌+◌, ◌*◌, ◌/◌, ◌%◌, ◌<◌, List, [], ◌∷◌, slice_index, slice_set, take, drop}
+use Rattle.std.specs.Prelude.{ℕ, ◌+◌, ◌*◌, ◌/◌, ◌%◌, ◌<◌, Bool, true, ◌&&◌, nat_lt, List, [], ◌∷◌, slice_index, slice_set, take, drop}
 
 -- the numbers are bytes
 abbrev pub AreBytes : List ℕ → Type 0
 AreBytes xs = (at : ℕ) → slice_index xs at < 0x100
+
+-- whether they are
+abbrev pub all_fit : List ℕ → Bool
+all_fit [] = true
+all_fit (x ∷ xs) = nat_lt x 0x100 && all_fit xs
 
 -- the word at an address
 abbrev pub word_of : List ℕ → ℕ → ℕ

@@ -1,10 +1,14 @@
 // A list of bytes that never changes its length.
-ghost use Rattle.std.specs.Prelude.{◌≡◌, ◌≤◌, ◌<◌, ◌+◌, ◌*◌, List, ℕ, IfOk, length, slice_index, slice_set};
-ghost use Rattle.guest_ram.specs.Bytes.{word_of, with_word, dword, dword_bytes, put, region};
-ghost use Rattle.guest_ram.specs.Listed.{copies};
+ghost use Rattle.std.specs.Prelude.{◌≡◌, ◌≤◌, ◌<◌, ◌+◌, ◌*◌, List, ℕ, true, IfOk, length, slice_index, slice_set};
+ghost use Rattle.guest_ram.specs.Bytes.{all_fit, word_of, with_word, dword, dword_bytes, put, region};
+ghost use Rattle.guest_ram.specs.Listed.{copies, zeros};
+ghost use Rattle.guest_ram.specs.Owned.{bytes_type};
+ghost use Rattle.std.specs.Borrow.{full_share, sem, u8};
+ghost use denote.Array.{Array};
+ghost use denote.RawPtr.{lies_at, room_for};
 ghost use Rattle.guest_ram.specs.declared.ram.TheConstants.{FRAME_SIZE, MAX_FRAMES};
 
-use std::alloc::{AllocError, Global};
+use std::alloc::{AllocError, Allocator, Global};
 use std::marker::Model;
 
 /// The bytes of a frame. Source: 80386 Programmer's Reference Manual, ch. 5, "Page Translation".
@@ -14,17 +18,30 @@ pub const FRAME_SIZE: u32 = 4096;
 pub const MAX_FRAMES: u32 = 65_536;
 
 /// The memory of the machine, seen as the list of its bytes. Its length never changes.
-#[derive(Drop)]
 pub struct Ram {
-    pub(crate) bytes: Vec<u8>,
+    pub(crate) block: *mut u8,
+    pub(crate) frames: u32,
+    pub(crate) alloc: Global,
+    ghost bytes: { List ℕ },
+    ghost long: { length bytes ≡ FRAME_SIZE * frames },
+    ghost few: { frames ≤ MAX_FRAMES },
+    ghost fit: { all_fit bytes ≡ true },
 }
 
 impl Model for Ram {
+    ghost use Rattle.std.specs.Prelude.{◌≡◌, ◌≤◌, ◌*◌, List, ℕ, length, true};
+    ghost use Rattle.guest_ram.specs.Owned.{block_owns, block_shares};
+    ghost use Rattle.guest_ram.specs.declared.ram.TheConstants.{FRAME_SIZE, MAX_FRAMES};
+
     ghost Value = { List ℕ };
 
-    ghost view = { λ r. r.bytes.items };
+    ghost also_owns = { λ r. block_owns r.alloc r.block (FRAME_SIZE * r.frames) r.bytes };
 
-    ghost invariant = { λ r. length r.bytes.items ≤ MAX_FRAMES * FRAME_SIZE };
+    ghost also_shares = { λ r _ κ. block_shares r.block (FRAME_SIZE * r.frames) r.bytes κ };
+
+    ghost view = { λ r. r.bytes };
+
+    ghost invariant = { λ r. length r.bytes ≤ MAX_FRAMES * FRAME_SIZE };
 }
 
 impl Ram {
@@ -35,22 +52,21 @@ impl Ram {
         ensures size { IfOk result (λ ram. length ram ≡ frames * FRAME_SIZE) }
         ensures zero { IfOk result (λ ram. (at : ℕ) → slice_index ram at ≡ 0) }
     {
-        let bytes = vec![in alloc; 0; frames as usize * FRAME_SIZE as usize]?;
-        Ok(Ram { bytes })
+        zeroed(&alloc, frames)
     }
 
     /// The number of bytes.
     pub fn len(&self) -> u32
         ensures { result ≡ length self.now }
     {
-        self.bytes.len() as u32
+        self.frames * FRAME_SIZE
     }
 
     /// Each is a byte.
     pub fn bytes_fit(&self)
         ensures { (at : ℕ) → slice_index self.now at < 0x100 }
     {
-        all_bytes_fit(&self.bytes);
+        let _ = &self.frames;
     }
 
     /// The byte at an address.
@@ -58,7 +74,7 @@ impl Ram {
         requires { at < length self.now }
         ensures { result ≡ slice_index self.now at }
     {
-        self.bytes[at as usize]
+        unsafe { *self.block.add(at as usize) }
     }
 
     /// The word at an address, least byte first.
@@ -66,8 +82,9 @@ impl Ram {
         requires { at + 1 < length self.now }
         ensures { result ≡ word_of self.now at }
     {
-        let at = at as usize;
-        u16::from(self.bytes[at]) + 0x100 * u16::from(self.bytes[at + 1])
+        // The bytes are so few that their addresses fit.
+        let _ = &self.frames;
+        u16::from(self.get8(at)) + 0x100 * u16::from(self.get8(at + 1))
     }
 
     /// The doubleword at an address, least byte first.
@@ -76,9 +93,8 @@ impl Ram {
         requires { at + 3 < length self.now }
         ensures { result ≡ dword self.now at }
     {
-        let at = at as usize;
-        let low = u32::from(self.bytes[at]) + 0x100 * u32::from(self.bytes[at + 1]);
-        low + 0x1_0000 * u32::from(self.bytes[at + 2]) + 0x100_0000 * u32::from(self.bytes[at + 3])
+        let _ = &self.frames;
+        u32::from(self.get16(at)) + 0x1_0000 * u32::from(self.get16(at + 2))
     }
 
     /// The N bytes from an address on.
@@ -86,9 +102,11 @@ impl Ram {
         requires { at + N ≤ length self.now }
         ensures { result ≡ region self.now at N }
     {
-        let at = at as usize;
+        let _ = &self.frames;
         let mut run = [0; N];
-        run.copy_from_slice(&self.bytes[at..at + N]);
+        for i in 0..N {
+            run[i] = self.get8(at + i as u32);
+        }
         run
     }
 
@@ -98,7 +116,7 @@ impl Ram {
         ensures bytes { self.new ≡ slice_set self.old at v }
         ensures size { length self.new ≡ length self.old }
     {
-        self.bytes[at as usize] = v;
+        unsafe { *self.block.add(at as usize) = v }
     }
 
     /// Puts a word at an address, least byte first.
@@ -107,9 +125,13 @@ impl Ram {
         ensures bytes { self.new ≡ with_word self.old at v }
         ensures size { length self.new ≡ length self.old }
     {
-        let at = at as usize;
-        self.bytes[at] = (v % 0x100) as u8;
-        self.bytes[at + 1] = (v / 0x100) as u8;
+        let low = (v % 0x100) as u8;
+        let high = (v / 0x100) as u8;
+        unsafe {
+            let place = self.block.add(at as usize);
+            *place = low;
+            *place.add(1) = high;
+        }
     }
 
     /// Puts a doubleword at an address, least byte first.
@@ -118,11 +140,17 @@ impl Ram {
         ensures bytes { self.new ≡ put self.old at (dword_bytes v) }
         ensures size { length self.new ≡ length self.old }
     {
-        let at = at as usize;
-        self.bytes[at] = (v % 0x100) as u8;
-        self.bytes[at + 1] = (v / 0x100 % 0x100) as u8;
-        self.bytes[at + 2] = (v / 0x1_0000 % 0x100) as u8;
-        self.bytes[at + 3] = (v / 0x100_0000) as u8;
+        let first = (v % 0x100) as u8;
+        let second = (v / 0x100 % 0x100) as u8;
+        let third = (v / 0x1_0000 % 0x100) as u8;
+        let fourth = (v / 0x100_0000) as u8;
+        unsafe {
+            let place = self.block.add(at as usize);
+            *place = first;
+            *place.add(1) = second;
+            *place.add(2) = third;
+            *place.add(3) = fourth;
+        }
     }
 
     /// Puts bytes from an address on.
@@ -131,8 +159,19 @@ impl Ram {
         ensures bytes { self.new ≡ put self.old at bytes.now }
         ensures size { length self.new ≡ length self.old }
     {
-        let at = at as usize;
-        self.bytes[at..at + bytes.len()].copy_from_slice(bytes);
+        let _ = &self.frames;
+        // As few stores as there can be: doublewords, then a word, then a byte.
+        let fours = bytes.len() / 4;
+        for k in 0..fours {
+            self.set32(at + 4 * k as u32, doubleword(bytes, 4 * k));
+        }
+        let twos = bytes.len() / 2;
+        for k in 2 * fours..twos {
+            self.set16(at + 2 * k as u32, word(bytes, 2 * k));
+        }
+        for i in 2 * twos..bytes.len() {
+            self.set8(at + i as u32, bytes[i]);
+        }
     }
 
     /// Copies n bytes from an address to another; the two ranges may overlap.
@@ -142,8 +181,11 @@ impl Ram {
         ensures bytes { self.new ≡ put self.old to (region self.old from n) }
         ensures size { length self.new ≡ length self.old }
     {
-        let from = from as usize;
-        self.bytes.copy_within(from..from + n as usize, to as usize);
+        if to <= from {
+            self.copy_up(from, to, n);
+        } else {
+            self.copy_down(from, to, n);
+        }
     }
 
     /// Puts n copies of a byte from an address on.
@@ -152,12 +194,106 @@ impl Ram {
         ensures bytes { self.new ≡ put self.old at (copies n v) }
         ensures size { length self.new ≡ length self.old }
     {
-        let at = at as usize;
-        self.bytes[at..at + n as usize].fill(v);
+        let n = n as usize;
+        let place = unsafe { self.block.add(at as usize) };
+        let mut i = 0;
+        while i < n {
+            unsafe { *place.add(i) = v };
+            i += 1;
+        }
+    }
+
+    // From the first byte on: the bytes that are still to be copied aren't overwritten.
+    fn copy_up(&mut self, from: u32, to: u32, n: u32)
+        requires source { from + n ≤ length self.old }
+        requires order { to ≤ from }
+        ensures bytes { self.new ≡ put self.old to (region self.old from n) }
+        ensures size { length self.new ≡ length self.old }
+    {
+        let _ = &self.frames;
+        for i in 0..n {
+            let v = self.get8(from + i);
+            self.set8(to + i, v);
+        }
+    }
+
+    // From the last byte on.
+    fn copy_down(&mut self, from: u32, to: u32, n: u32)
+        requires target { to + n ≤ length self.old }
+        requires order { from ≤ to }
+        ensures bytes { self.new ≡ put self.old to (region self.old from n) }
+        ensures size { length self.new ≡ length self.old }
+    {
+        let _ = &self.frames;
+        for i in 0..n {
+            let last = n - 1 - i;
+            let v = self.get8(from + last);
+            self.set8(to + last, v);
+        }
+    }
+
+    // Gives the block back.
+    fn free(self, alloc: &Global) {
+        let Ram {
+            block,
+            frames,
+            alloc: _,
+        } = self;
+        unsafe { alloc.deallocate(block, FRAME_SIZE as usize * frames as usize, 1) }
     }
 }
 
-// Each byte of a run fits: the type says so, and contracts see numbers alone.
-fn all_bytes_fit(bytes: &[u8])
-    ensures { (at : ℕ) → slice_index bytes.now at < 0x100 }
-{}
+impl Drop for Ram {
+    fn drop(self) {
+        let alloc = self.alloc;
+        self.free(&alloc);
+    }
+}
+
+// Two bytes of a run, least byte first.
+fn word(bytes: &[u8], i: usize) -> u16
+    requires { i + 1 < length bytes.now }
+    ensures { result ≡ word_of bytes.now i }
+{
+    u16::from(bytes[i]) + 0x100 * u16::from(bytes[i + 1])
+}
+
+// Four bytes of a run, least byte first.
+#[tactic(auto, unfolding(crate::specs::Bytes::dword))]
+fn doubleword(bytes: &[u8], i: usize) -> u32
+    requires { i + 3 < length bytes.now }
+    ensures { result ≡ dword bytes.now i }
+{
+    u32::from(word(bytes, i)) + 0x1_0000 * u32::from(word(bytes, i + 2))
+}
+
+// One block of that many frames, each byte 0.
+fn zeroed(alloc: &Global, frames: u32) -> Result<Ram, AllocError>
+    requires { frames ≤ MAX_FRAMES }
+    ensures { IfOk result (λ ram. ram ≡ zeros (FRAME_SIZE * frames)) }
+{
+    let size = FRAME_SIZE as usize * frames as usize;
+    match alloc.allocate(size, 1) {
+        Ok(block) => {
+            unsafe { put_zeros(block, size) };
+            Ok(Ram {
+                block,
+                frames,
+                alloc: *alloc,
+            })
+        }
+        Err(error) => Err(error),
+    }
+}
+
+// Puts a 0 at each of n places from p on.
+unsafe fn put_zeros(p: *mut u8, n: usize)
+    requires* { sem 𝓛 (room_for (bytes_type n) p) }
+    ensures* { sem 𝓛 (lies_at (Array u8 n) full_share p (zeros n)) }
+{
+    let mut i = 0;
+    while i < n {
+        *p.add(i) = 0;
+        i += 1;
+    }
+}

@@ -1,0 +1,26 @@
+-- The names that walks cite, passed on.
+pub use Rattle.std.proofs.Common.{◌≡◌, ℕ, ◌≤◌, List, [], ◌∷◌, refl, sym, ap, ◌∙◌, lit<, nltb→le, w8, arith}
+pub use Rattle.std.proofs.raw_atomic.Walks.{proved}
+pub use base.Fraction.{full_share}
+pub use base.Logic.{id⊢}
+pub use base.Fml.{ftrue, fat, flft}
+pub use mir.Syntax.{ty_int, named}
+pub use mir.Val.{Val, vunit, vint}
+pub use contract.Monad.{fact}
+pub use contract.Running.{tables}
+pub use types.Kit.{fpick, fpack, ‵, raw, ◌⊛◌, some, later, prop, at_ret, Sq, ◌$◌, ◌∵◌, !, qed, done, move, keep, drop, use1, use2, split, join, fsplit, fsplit3, fjoin, feq_i, feq_l, pick, await, rewrite, regoal, suffices, frame, group}
+pub use types.Run.{un, enter, of_opd, lit, unit_lit, bin, load, look, store, stop, fld, no_more, and_then, assigns, assigns_last, first, blocks, branches, skips, exec, returns}
+pub use types.ByLocal.{alloc_all, pass_all, free_all, look_at, get, through, sets, lands_as, env}
+pub use denote.Builtin.{u8, unit}
+pub use denote.Exit.{yes}
+pub use denote.Laws.{shows}
+pub use denote.Plain.{uint_in, uint_vals, uint_Tells}
+pub use denote.RawPtr.{Ptr, RawPtr, block_ptr, lies_at, in_a_block, rawptr_vals, rawptr_Tells}
+pub use denote.Ref.{MutRef, mut_vals, mut_Tells}
+pub use denote.Signature.{plain}
+pub use denote.Steps.{nothing, owned, opens, closes, heard, peeks, only}
+pub use denote.Triple.Call.{calls_at}
+pub use denote.Triple.Entry.{on_entry}
+pub use denote.Triple.Spec.{triple_of}
+pub use denote.Triple.Walked.{Stays, walk_of, says, stay_dropped, Goes-dropped, stay_ref, Goes-ref, ends_at}
+pub use denote.Triple.Table.{framed}
