@@ -2,7 +2,7 @@
 use Rattle.std.proofs.Common.{◌≡◌, ◌≢◌, ℕ, suc, ◌+◌, ◌-◌, ◌*◌, List, length, length-set, slice_index_or, slice_set, refl, ap, ◌∙◌, sym, subst, arith, Option, None, Some, take}
 use Rattle.std.specs.Prelude.{min}
 use Rattle.std.proofs.lemmas.Bool.{ne_eqb}
-use Rattle.std.proofs.lemmas.List.{length-append, length-take}
+use Rattle.std.proofs.lemmas.List.{length-append, length-take, set-get_or}
 use Rattle.client_world.specs.declared.host_frames.TheConstants.{PAGE_SIZE, BLOCK_ROWS, BLOCK_TABLES, LOCK_COUNTS, BLOCK_ROW_SIZE, LOCK_COUNT_SIZE, PAGE_ENTRY_SIZE}
 use Rattle.client_world.specs.Access.{HasByte, bytes_of_block}
 use Rattle.client_world.specs.Soundness.{SoundBlocks, pages_of_block}
@@ -16,7 +16,7 @@ use Rattle.host_memory.proofs.BlockRows.{row_there, held_base}
 use Rattle.host_memory.proofs.Parts.{parts_of}
 use Rattle.block_memory.specs.BlockChanges.{blocks_held, CanHoldIn, CanMoveIn, CanSizeIn, HasBlockIn, HasPagesIn, IsHeldIn, ReplacesBlock, with_at}
 use Rattle.block_memory.specs.BlockSizes.{CanHold, CanMove, HasPages, at_base, base_of_held, extended, sized_block, shorter, slid}
-use Rattle.block_memory.proofs.BlockSteps.{becomes, for_budget, held_still, held_there, one_budget, ranges_held, replaced_at}
+use Rattle.block_memory.proofs.BlockSteps.{becomes, for_budget, held_still, held_there, one_budget, ranges_held, replaced_at, same_blocks}
 use Rattle.block_memory.proofs.MoveWrites.{moved, moved_changes}
 use Rattle.block_memory.proofs.PageChanges.{block_reads}
 use Rattle.block_memory.proofs.PageCounts.{pages_of_row}
@@ -86,6 +86,18 @@ block_moved b b1 b2 b3 place old base n g e1 e2 e3 =
     replaced_at b (moved b place old base n) b3 g.budget place (λ o. at_base base o) g.holds (moved_is b b1 b2 b3 place old base n e1 e2 e3)
     (moved_changes b g.budget place old base n g.holds.holds (ranges_held b g.budget g.holds) g.has g.can)
     (moved_sound blocks g.budget place base n g.holds.sound g.can) (moved_fits blocks place base n g.holds.fits g.can)
+
+-- its own linear address
+own_base : (o : Option MemoryBlock) (base : ℕ) → base_of_held o ≡ base → at_base base o ≡ o
+own_base None base e = refl
+own_base (Some block) base e = ap (λ (at : ℕ). Some (record { base = at; bytes = block.bytes; locks = block.locks })) (sym e)
+
+pub block_stays : (b : List ℕ) (place from base n : ℕ) → CanMoveIn b place from base n → from ≡ base → ReplacesBlock b b place (λ o. at_base base o)
+block_stays b place from base n g same =
+    let blocks = blocks_held b g.budget in
+    for_budget b b place (λ o. at_base base o) g.budget g.holds.holds
+    (same_blocks b g.budget (with_at blocks place (λ o. at_base base o)) g.holds
+    (sym (ap (slice_set blocks place) (own_base (slice_index_or blocks place None) base (g.has.based g.can.some ∙ same)) ∙ set-get_or blocks place None)))
 
 -- ---- another size, in three steps
 

@@ -11,14 +11,16 @@ use Rattle.client_world.specs.Soundness.{SoundBlocks, HoldBytes}
 use Rattle.client_world.specs.World.{World, MemoryBlock}
 use Rattle.guest_ram.specs.Bytes.{put, dword_bytes}
 use Rattle.guest_ram.specs.Listed.{copies}
-use Rattle.page_tables.specs.Budget.{HasBudget, IsBudgetFrame, IsFree, IsTaken, IsNamedNowhere, AllTaken, taken_place}
+use Rattle.page_tables.specs.Budget.{HasBudget, IsBudgetFrame, IsFree, IsTaken, IsNamedNowhere, AllTaken}
 use Rattle.page_tables.specs.Entry.{page_entry}
+use Rattle.page_tables.specs.FreeList.{HasFreeList, first_free, with_head, without_head}
 use Rattle.page_tables.specs.Mapping.{HasTables, IsCovered, IsMapped, IsUnmapped}
 use Rattle.page_tables.specs.Walk.{frame_of}
 use Rattle.page_tables.proofs.MapLaws.{with_entry}
-use Rattle.host_memory.specs.Holds.{Holds}
+use Rattle.host_memory.specs.Holds.{Holds, ListsFreeFrames}
 use Rattle.host_memory.specs.Layout.{world_of, handles_part, tables_part, locks_part, budget_part, taken_part, entry_of}
 use Rattle.host_memory.proofs.BlockRows.{HasRanges, IsRange, ranges}
+use Rattle.host_memory.proofs.FreeParts.{list_of_parts}
 use Rattle.host_memory.proofs.HostTables.{has_tables}
 use Rattle.host_memory.proofs.Parts.{MemoryParts, parts_of, holds_parts}
 use Rattle.block_memory.specs.BlockChanges.{blocks_held, CanHoldIn, HasPagesIn, HoldsSoundBlocks, IsHeldIn, ReplacesBlock, ReplacesBlocks, with_at}
@@ -115,6 +117,10 @@ replaced_at b c d budget place change holds e changes sound fits =
     for_budget b d place change budget holds.holds
     (subst (λ (x : List ℕ). ReplacesBlocks b x budget (with_at (blocks_held b budget) place change)) (sym e) (replaced b c budget _ changes sound fits))
 
+-- the memory lists its free frames
+pub free_list : (b : List ℕ) (budget : ℕ) → Holds b budget → HasFreeList b
+free_list b budget holds = list_of_parts b budget (record { size = holds.size; most = holds.most }) holds.free
+
 -- ---- a page more
 
 -- a frame is free
@@ -128,7 +134,7 @@ pub record CanMap (b : List ℕ) (lin : ℕ) : Type 0 where
   pub unmapped : IsUnmapped b lin
 
 pub can_map : (b : List ℕ) (place base n frame : ℕ) → CanHoldIn b place base n (n + 1) → IsBudgetFrame b frame → (b1 c : List ℕ) →
-    b1 ≡ slice_set b (taken_place frame) 1 → c ≡ put b1 (PAGE_SIZE * frame) (copies PAGE_SIZE 0) → CanMap c (base + PAGE_SIZE * n)
+    b1 ≡ without_head b frame → c ≡ put b1 (PAGE_SIZE * frame) (copies PAGE_SIZE 0) → CanMap c (base + PAGE_SIZE * n)
 can_map b place base n frame g is b1 c e1 e2 =
     let budget = g.budget in
     let holds = g.holds.holds in
@@ -148,28 +154,28 @@ can_map b place base n frame g is b1 c e1 e2 =
           ∙ ap (entry_of (tables_part b)) (page_is base n room.range) ∙ absent);
     })
   where
-    cleared_is : (b b1 b2 : List ℕ) (frame : ℕ) → b1 ≡ slice_set b (taken_place frame) 1 → b2 ≡ put b1 (PAGE_SIZE * frame) (copies PAGE_SIZE 0) →
+    cleared_is : (b b1 b2 : List ℕ) (frame : ℕ) → b1 ≡ without_head b frame → b2 ≡ put b1 (PAGE_SIZE * frame) (copies PAGE_SIZE 0) →
         b2 ≡ cleared b frame
     cleared_is b b1 b2 frame e f = f ∙ ap (λ (x : List ℕ). put x (PAGE_SIZE * frame) (copies PAGE_SIZE 0)) e
 
 -- the four writes
-grown_is : (b b1 b2 b3 b4 : List ℕ) (place base n frame : ℕ) → b1 ≡ slice_set b (taken_place frame) 1 → b2 ≡ put b1 (PAGE_SIZE * frame) (copies PAGE_SIZE 0) →
+grown_is : (b b1 b2 b3 b4 : List ℕ) (place base n frame : ℕ) → b1 ≡ without_head b frame → b2 ≡ put b1 (PAGE_SIZE * frame) (copies PAGE_SIZE 0) →
     b3 ≡ with_entry b2 (base + PAGE_SIZE * n) (page_entry frame true) → b4 ≡ with_block_row b3 place base (n + 1) → b4 ≡ grown b place base n frame
 grown_is b b1 b2 b3 b4 place base n frame e1 e2 e3 e4 =
     e4 ∙ ap (λ (x : List ℕ). with_block_row x place base (n + 1))
     (e3 ∙ ap (λ (x : List ℕ). with_entry x (base + PAGE_SIZE * n) (page_entry frame true))
     (e2 ∙ ap (λ (x : List ℕ). put x (PAGE_SIZE * frame) (copies PAGE_SIZE 0)) e1))
 
-pub page_added : (b b1 b2 b3 b4 : List ℕ) (place base n frame : ℕ) → CanHoldIn b place base n (n + 1) → IsBudgetFrame b frame → IsFree b frame →
-    b1 ≡ slice_set b (taken_place frame) 1 → b2 ≡ put b1 (PAGE_SIZE * frame) (copies PAGE_SIZE 0) →
+pub page_added : (b b1 b2 b3 b4 : List ℕ) (place base n frame : ℕ) → CanHoldIn b place base n (n + 1) → IsBudgetFrame b frame → IsFree b frame → first_free b ≡ frame →
+    b1 ≡ without_head b frame → b2 ≡ put b1 (PAGE_SIZE * frame) (copies PAGE_SIZE 0) →
     b3 ≡ with_entry b2 (base + PAGE_SIZE * n) (page_entry frame true) → b4 ≡ with_block_row b3 place base (n + 1) →
     ReplacesBlock b b4 place (λ o. Some (longer base o 1))
-page_added b b1 b2 b3 b4 place base n frame g is free e1 e2 e3 e4 =
+page_added b b1 b2 b3 b4 place base n frame g is free head e1 e2 e3 e4 =
     let blocks = blocks_held b g.budget in
     replaced_at b (grown b place base n frame) b4 g.budget place (λ o. Some (longer base o 1)) g.holds
     (grown_is b b1 b2 b3 b4 place base n frame e1 e2 e3 e4)
     (grown_changes b g.budget place base n (n + 1) frame g.holds.holds (ranges_held b g.budget g.holds) g.can (omega arith)
-    (in_budget b g.budget frame g.holds.holds is) free)
+    (in_budget b g.budget frame g.holds.holds is) free head)
     (longer_sound blocks g.budget place base n (n + 1) g.holds.sound g.can (omega arith))
     (longer_fits blocks g.budget place base n (n + 1) g.holds.sound g.holds.fits g.can)
 
@@ -204,6 +210,7 @@ tables_there b place base n d = has_tables b d.budget d.holds.holds
 -- what giving the frame back asks, once the page is mapped no longer
 pub record CanGive (b : List ℕ) (frame : ℕ) : Type 0 where
   pub budget : HasBudget b
+  pub list : HasFreeList b
   pub is : IsBudgetFrame b frame
   pub taken : IsTaken b frame
   pub nowhere : IsNamedNowhere b frame
@@ -242,6 +249,8 @@ can_give b place base n d c e frame f =
     let busy = more.busy in
     rw (e, f) (record {
       budget = budget_of after budget after_host;
+      list = list_of_parts after budget (record { size = after_host.size; most = holds.most })
+          (subst (λ (p : MemoryParts). ListsFreeFrames p.vectors p.taken p.frames budget) (sym parts) holds.free);
       is = record { from = s.last.inside.from; inside = omega arith };
       taken = λ none. (
           let free : slice_index (taken_part b) (last_frame b base n - BUDGET_FRAMES) ≡ 0 =
@@ -259,16 +268,16 @@ can_give b place base n d c e frame f =
 
 -- the five writes
 shrunk_is : (b b1 b2 b3 b4 : List ℕ) (place base n frame other kept : ℕ) → b1 ≡ with_entry b (base + PAGE_SIZE * n) 0 →
-    b2 ≡ slice_set b1 (taken_place other) 0 → other ≡ frame → b3 ≡ unlocked b2 (region_page base n) → b4 ≡ with_block_row b3 place kept n → kept ≡ base_in_row base n →
+    b2 ≡ with_head b1 other → other ≡ frame → b3 ≡ unlocked b2 (region_page base n) → b4 ≡ with_block_row b3 place kept n → kept ≡ base_in_row base n →
     b4 ≡ shrunk b place base n frame
 shrunk_is b b1 b2 b3 b4 place base n frame other kept e f same g h row =
     h ∙ ap (λ (x : ℕ). with_block_row b3 place x n) row
     ∙ ap (λ (x : List ℕ). with_block_row x place (base_in_row base n) n)
     (g ∙ ap (λ (x : List ℕ). unlocked x (region_page base n))
-    (f ∙ ap (λ (k : ℕ). slice_set b1 (taken_place k) 0) same ∙ ap (λ (x : List ℕ). slice_set x (taken_place frame) 0) e))
+    (f ∙ ap (λ (k : ℕ). with_head b1 k) same ∙ ap (λ (x : List ℕ). with_head x frame) e))
 
 pub page_removed : (b b1 b2 b3 b4 : List ℕ) (place base n frame kept : ℕ) → HasPagesIn b place base (n + 1) → b1 ≡ with_entry b (base + PAGE_SIZE * n) 0 →
-    b2 ≡ slice_set b1 (taken_place frame) 0 → frame ≡ last_frame b base n → b3 ≡ unlocked b2 (region_page base n) → b4 ≡ with_block_row b3 place kept n →
+    b2 ≡ with_head b1 frame → frame ≡ last_frame b base n → b3 ≡ unlocked b2 (region_page base n) → b4 ≡ with_block_row b3 place kept n →
     kept ≡ base_in_row base n → ReplacesBlock b b4 place (λ o. shorter o n)
 page_removed b b1 b2 b3 b4 place base n frame kept d e1 e2 same e3 e4 row =
     let blocks = blocks_held b d.budget in

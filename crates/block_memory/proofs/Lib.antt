@@ -3,6 +3,7 @@ pub mod BlockMore
 pub mod BlockMoves
 pub mod BlockRuns
 pub mod BlockSteps
+pub mod FreeSteps
 pub mod LockWrites
 pub mod MoveWrites
 pub mod PageChanges

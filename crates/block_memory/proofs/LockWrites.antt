@@ -242,6 +242,7 @@ locks_page b budget lin n holds ranges is =
         records = h.records;
         handles = h.handles;
         blocks = h.blocks;
+        free = h.free;
         count = h.count;
         locks = locked_keeps p.handles p.locks byte.place byte.at (page_at lin) n byte.within byte.inside byte.page h.locks;
         arena = h.arena;

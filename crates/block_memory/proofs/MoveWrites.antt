@@ -134,6 +134,7 @@ moved_holds p budget place old base n sizes h may based =
       records = h.records;
       handles = keeps_handles p.handles place base n sizes.handles may.within (λ none. absurd (may.some none)) h.handles;
       blocks = moved_entries (block_parts p) (block_parts (moved_parts p place old base n)) budget place base n m h.blocks;
+      free = h.free;
       count = h.count ∙ sym (same_pages p.handles (with_row p.handles place base n) (λ other within. elim (cases_eq other place) [
         | inl e ↦ ap (pages_of (with_row p.handles place base n)) e ∙ m.new_pages ∙ sym may.pages ∙ ap (pages_of p.handles) (sym e)
         | inr ne ↦ m.other_pages other within ne

@@ -12,22 +12,28 @@ use Rattle.client_world.specs.declared.registers.Width.{Width}
 use Rattle.client_world.specs.Access.{HasByte, IsHeld}
 use Rattle.client_world.specs.Soundness.{pages_of_block}
 use Rattle.client_world.specs.World.{World, MemoryBlock, block_at}
+use Rattle.guest_ram.specs.Bytes.{dword}
 use Rattle.guest_ram.proofs.ListedLaws.{at_listed}
 use Rattle.page_tables.specs.Budget.{IsBudgetFrame, IsFree, AllTaken, taken_place}
 use Rattle.page_tables.specs.Entry.{page_entry}
+use Rattle.page_tables.specs.FreeList.{first_free}
 use Rattle.page_tables.specs.Walk.{table_entry, frame_of}
 use Rattle.block_memory.specs.BlockChanges.{blocks_held, IsHeldIn}
 use Rattle.block_memory.specs.BlockSizes.{CanHold, longer, shorter, base_of_held}
 use Rattle.host_memory.specs.Holds.{Holds}
-use Rattle.host_memory.specs.Layout.{world_of, address_of, rows_part, handles_part, tables_part, taken_part, base_of, pages_of, first_page_of, entry_of, held_block}
+use Rattle.host_memory.specs.Layout.{world_of, address_of, rows_part, vectors_part, handles_part, tables_part, taken_part, base_of, pages_of, first_page_of, entry_of, held_block}
 use Rattle.host_memory.specs.Tables.{NamesBudgetFrame}
+use Rattle.host_memory.specs.Vectors.{interrupt_vectors_in, exception_vectors_in, callbacks_in, pageable_in}
 use Rattle.block_memory.proofs.BlockMore.{block_of, blocks_of, more_blocks, less_blocks}
 use Rattle.host_memory.proofs.BlockRows.{HasRanges, IsRange, held_base, length-held_bytes, row_there, row_at_block}
 use Rattle.block_memory.proofs.PageCounts.{used_front, pages_of_row, all_pages_are}
 use Rattle.block_memory.proofs.PageMore.{BlockParts, HasRoom, HasPageMore, region_page, page_inside, is_away, first_new, first_old, first_other}
 use Rattle.block_memory.proofs.PageParts.{block_parts, MayGrow, MayShrink, grown_parts, grown_more, grown_beside, grown_zero, grown_unlocked, grown_holds, shrunk_parts, shrunk_less, shrunk_beside, shrunk_holds}
 use Rattle.block_memory.proofs.PageWrites.{InBudget, grown, grown_are, grown_size, shrunk, shrunk_are, shrunk_size, sizes_of, host_of, page_in_region, page_is}
+use Rattle.host_memory.proofs.FreeParts.{head_is}
 use Rattle.host_memory.proofs.Parts.{MemoryParts, parts_of, world_by, holds_by, holds_parts}
+use Rattle.host_memory.proofs.VectorParts.{put_head}
+use Rattle.host_memory.proofs.VectorWrites.{head_lists, same_lists}
 use Rattle.block_memory.proofs.RegionPages.{region_entry, taken_byte}
 
 pub held_in : (w : World) (blocks : List (Option MemoryBlock)) (p : Place) → w.blocks ≡ blocks → IsHeld w p → IsHeldIn blocks p
@@ -116,6 +122,19 @@ world_after b c budget q e same mode regs vif width =
     world_by c budget (record (parts_of b budget) { handles = q.handles; tables = q.tables; taken = q.taken; locks = q.locks; frames = q.frames })
     (e ∙ same) mode regs vif width
 
+-- and where the head of the list of free frames changes too
+pub world_after_head : (b c : List ℕ) (budget head : ℕ) (q : MemoryParts) → parts_of c budget ≡ q →
+    q ≡ record (parts_of b budget) { vectors = put_head (vectors_part b) head; handles = q.handles; tables = q.tables; taken = q.taken; locks = q.locks; frames = q.frames } →
+    (mode : Mode) (regs : Regs) (vif : Bool) (width : Option Width) →
+    world_of c budget mode regs vif width ≡ record (world_of b budget mode regs vif width) { blocks = blocks_of (block_parts q) }
+unfolding world_of
+world_after_head b c budget head q e same mode regs vif width =
+    let part = vectors_part b in
+    world_by c budget (record (parts_of b budget) { vectors = put_head part head; handles = q.handles; tables = q.tables; taken = q.taken; locks = q.locks; frames = q.frames })
+    (e ∙ same) mode regs vif width
+    ∙ same_lists (record (world_of b budget mode regs vif width) { blocks = blocks_of (block_parts q) }) (put_head part head) (interrupt_vectors_in part)
+    (exception_vectors_in part) (callbacks_in part) (pageable_in part) (head_lists part head)
+
 -- what the world says of the blocks, the rows say
 
 pub block_reads : (s : BlockParts) (place : ℕ) → place < MAX_BLOCKS → slice_index_or (blocks_of s) place None ≡ block_of s place
@@ -171,28 +190,29 @@ in_budget b budget frame holds is =
     record { from = is.from; to = omega arith }
 
 pub may_grow : (b : List ℕ) (budget place base n to frame : ℕ) → Holds b budget → HasRanges (handles_part b) →
-    CanHold (blocks_held b budget) budget place base n to → n < to → InBudget budget frame → IsFree b frame →
+    CanHold (blocks_held b budget) budget place base n to → n < to → InBudget budget frame → IsFree b frame → first_free b ≡ frame →
     MayGrow (parts_of b budget) budget place base n (frame - BUDGET_FRAMES)
-may_grow b budget place base n to frame holds ranges can more inside free =
+may_grow b budget place base n to frame holds ranges can more inside free head =
     let from = inside.from in let end = inside.to in let most = holds.most in
     record {
       sizes = sizes_of b budget (host_of b budget holds);
       room = room_of (block_parts (parts_of b budget)) budget place base n to ranges can more;
       few = omega arith;
       free = sym (taken_byte b (frame - BUDGET_FRAMES) (omega arith)) ∙ free;
+      head = sym (head_is b) ∙ head ∙ (let e : frame ≡ BUDGET_FRAMES + (frame - BUDGET_FRAMES) = omega arith in e);
     }
 
 -- a page more
 pub grown_changes : (b : List ℕ) (budget place base n to frame : ℕ) → Holds b budget → HasRanges (handles_part b) →
-    CanHold (blocks_held b budget) budget place base n to → n < to → InBudget budget frame → IsFree b frame →
+    CanHold (blocks_held b budget) budget place base n to → n < to → InBudget budget frame → IsFree b frame → first_free b ≡ frame →
     ChangesBlocks b (grown b place base n frame) budget
     (slice_set (blocks_held b budget) place (Some (longer base (slice_index_or (blocks_held b budget) place None) 1)))
-grown_changes b budget place base n to frame holds ranges can further inside free =
+grown_changes b budget place base n to frame holds ranges can further inside free head =
     let f = frame - BUDGET_FRAMES in
     let p = parts_of b budget in
     let q = grown_parts p place base n f in
     let h = holds_parts b budget holds in
-    let may = may_grow b budget place base n to frame holds ranges can further inside free in
+    let may = may_grow b budget place base n to frame holds ranges can further inside free head in
     let e = grown_are b budget place base n frame (host_of b budget holds) inside can.within may.room.range in
     let more = grown_more p budget place base n f h may in
     let blocks : blocks_of (block_parts q) ≡ slice_set (blocks_held b budget) place (Some (longer base (slice_index_or (blocks_held b budget) place None) 1)) =
@@ -202,7 +222,7 @@ grown_changes b budget place base n to frame holds ranges can further inside fre
     record {
       holds = holds_by (grown b place base n frame) budget q e (grown_size b budget place base n frame holds.size) holds.most (grown_holds p budget place base n f h may);
       are = ap (λ (x : MemoryParts). blocks_of (block_parts x)) e ∙ blocks;
-      world = λ mode regs vif width. world_after b (grown b place base n frame) budget q e refl mode regs vif width
+      world = λ mode regs vif width. world_after_head b (grown b place base n frame) budget (dword p.frames (PAGE_SIZE * f)) q e refl mode regs vif width
           ∙ ap (λ (bs : List (Option MemoryBlock)). record (world_of b budget mode regs vif width) { blocks = bs }) blocks;
       rows = ap (λ (x : MemoryParts). x.rows) e;
       addresses = λ place_of_it before after. kept_addresses b (grown b place base n frame) (block_parts p) (block_parts q) budget place base n f more
@@ -287,7 +307,7 @@ shrunk_changes b budget place base n holds ranges has =
     record {
       holds = holds_by (shrunk b place base n frame) budget q e (shrunk_size b budget place base n frame holds.size) holds.most after;
       are = ap (λ (x : MemoryParts). blocks_of (block_parts x)) e ∙ blocks;
-      world = λ mode regs vif width. world_after b (shrunk b place base n frame) budget q e refl mode regs vif width
+      world = λ mode regs vif width. world_after_head b (shrunk b place base n frame) budget (BUDGET_FRAMES + f) q e refl mode regs vif width
           ∙ ap (λ (bs : List (Option MemoryBlock)). record (world_of b budget mode regs vif width) { blocks = bs }) blocks;
       rows = ap (λ (x : MemoryParts). x.rows) e;
       addresses = λ place_of_it before held. sym (kept_addresses (shrunk b place base n frame) b (block_parts q) (block_parts p) budget place base n f more

@@ -2,7 +2,7 @@
 use Rattle.std.proofs.Common.{◌≡◌, ◌≢◌, ℕ, zero, suc, ◌+◌, ◌-◌, ◌*◌, ◌<◌, ◌≤◌, ◌⊎◌, inl, inr, List, [], ◌∷◌, length, slice_index, slice_set, refl, ap, ◌∙◌, sym, arith, get_or-set_same, get_or-set_other, length-set}
 use Rattle.std.specs.Prelude.{nat_eq, if◌then◌else◌}
 use Rattle.std.proofs.lemmas.Bool.{cases_eq, cases_lt, eq-eqb, ne_eqb}
-use Rattle.client_world.specs.declared.host_frames.TheConstants.{PAGE_SIZE, BLOCK_ROW_FRAMES, BLOCK_ROW_SIZE, LOCK_COUNT_SIZE, PAGE_ENTRY_SIZE}
+use Rattle.client_world.specs.declared.host_frames.TheConstants.{PAGE_SIZE, BLOCK_ROW_FRAMES, BLOCK_ROW_SIZE, LOCK_COUNT_SIZE, PAGE_ENTRY_SIZE, VECTOR_FRAMES, BUDGET_FRAMES}
 use Rattle.client_world.specs.declared.limits.TheConstants.{MAX_BLOCKS, MAX_PAGES}
 use Rattle.client_world.specs.declared.memory_map.TheConstants.{BLOCK_REGION_PAGES}
 use Rattle.guest_ram.specs.Bytes.{put, dword, dword_bytes}
@@ -10,12 +10,16 @@ use Rattle.guest_ram.specs.Listed.{copies}
 use Rattle.guest_ram.specs.Count.{used}
 use Rattle.guest_ram.proofs.ListedLaws.{length-copies, at_copies}
 use Rattle.guest_ram.proofs.PutLaws.{length-put, put_away, put_within, dword_put, dword_put_other}
-use Rattle.host_memory.specs.Holds.{KeepsHandles, all_pages}
+use Rattle.page_tables.proofs.FreeWrites.{dword_put_beside}
+use Rattle.host_memory.specs.Holds.{KeepsHandles, ListsFreeFrames, all_pages}
 use Rattle.host_memory.specs.Layout.{base_of, pages_of, entry_of, lock_of}
+use Rattle.host_memory.specs.Vectors.{head_start}
 use Rattle.host_memory.proofs.BlockRows.{IsRange, HasRanges}
 use Rattle.block_memory.proofs.PageCounts.{used_more, one_page_more}
 use Rattle.block_memory.proofs.PageMore.{BlockParts, HasRoom, HasPageMore, AgreesBeside, region_page, budget_entry, page_inside, page_outside, more_entries, less_entries, more_locks, less_locks}
 use Rattle.host_memory.proofs.Parts.{MemoryParts, HoldsParts}
+use Rattle.host_memory.proofs.VectorParts.{keeps_head, put_head}
+use Rattle.block_memory.proofs.FreeSteps.{list_given, list_taken}
 
 -- the parts that blocks lie in
 abbrev pub block_parts : MemoryParts → BlockParts
@@ -28,6 +32,7 @@ pub record HasSizes (p : MemoryParts) (budget : ℕ) : Type 0 where
   pub taken : length p.taken ≡ MAX_PAGES
   pub locks : length p.locks ≡ LOCK_COUNT_SIZE * BLOCK_REGION_PAGES
   pub frames : length p.frames ≡ PAGE_SIZE * budget
+  pub vectors : length p.vectors ≡ PAGE_SIZE * VECTOR_FRAMES
   pub most : budget ≤ MAX_PAGES
 
 -- the rows of the blocks with another row
@@ -155,16 +160,18 @@ abbrev pub grown_parts : MemoryParts → ℕ → ℕ → ℕ → ℕ → MemoryP
 grown_parts p place base n frame = record p {
   handles = with_row p.handles place base (n + 1);
   tables = put p.tables (PAGE_ENTRY_SIZE * region_page base n) (dword_bytes (budget_entry frame));
+  vectors = put_head p.vectors (dword p.frames (PAGE_SIZE * frame));
   taken = slice_set p.taken frame 1;
   frames = put p.frames (PAGE_SIZE * frame) (copies PAGE_SIZE 0);
 }
 
--- what is asked: the block may have the page, and the frame is free
+-- what is asked: the block may have the page, and the frame is the first free one
 pub record MayGrow (p : MemoryParts) (budget place base n frame : ℕ) : Type 0 where
   pub sizes : HasSizes p budget
   pub room : HasRoom (block_parts p) place base n
   pub few : frame < budget
   pub free : slice_index p.taken frame ≡ 0
+  pub head : dword p.vectors head_start ≡ BUDGET_FRAMES + frame
 
 pub grown_more : (p : MemoryParts) (budget place base n frame : ℕ) → HoldsParts p budget → MayGrow p budget place base n frame →
     HasPageMore (block_parts p) (block_parts (grown_parts p place base n frame)) budget place base n frame
@@ -210,6 +217,16 @@ pub grown_unlocked : (p : MemoryParts) (budget place base n frame : ℕ) → Hol
 grown_unlocked p budget place base n frame h may =
     h.locks.outside (region_page base n) (page_inside base n may.room.range) (page_outside (block_parts p) place base n may.room)
 
+grown_list : (p : MemoryParts) (budget place base n frame : ℕ) → HoldsParts p budget → MayGrow p budget place base n frame →
+    ListsFreeFrames (put_head p.vectors (dword p.frames (PAGE_SIZE * frame))) (slice_set p.taken frame 1) (put p.frames (PAGE_SIZE * frame) (copies PAGE_SIZE 0)) budget
+grown_list p budget place base n frame h may =
+    let few = may.few in let most = may.sizes.most in let long = may.sizes.vectors in
+    list_taken p.vectors p.taken p.frames (put p.frames (PAGE_SIZE * frame) (copies PAGE_SIZE 0)) budget frame (omega arith) (omega (arith, may.sizes.taken)) may.head
+    (λ other ne. dword_put_beside p.frames (PAGE_SIZE * frame) (PAGE_SIZE * other) (copies PAGE_SIZE 0) (elim (cases_lt frame other) [
+      | inl below ↦ inl (omega (arith, length-copies PAGE_SIZE 0))
+      | inr above ↦ inr (omega arith)
+    ])) h.free
+
 pub grown_holds : (p : MemoryParts) (budget place base n frame : ℕ) → HoldsParts p budget → MayGrow p budget place base n frame →
     HoldsParts (grown_parts p place base n frame) budget
 grown_holds p budget place base n frame h may =
@@ -221,10 +238,11 @@ grown_holds p budget place base n frame h may =
     record {
       fixed = h.fixed;
       rows = h.rows;
-      vectors = h.vectors;
+      vectors = keeps_head p.vectors (dword p.frames (PAGE_SIZE * frame)) h.vectors;
       records = h.records;
       handles = keeps_handles p.handles place base (n + 1) may.sizes.handles may.room.within (λ none. absurd (omega arith)) h.handles;
       blocks = more_entries old new budget place base n frame more h.blocks;
+      free = grown_list p budget place base n frame h may;
       count = used_more p.taken (slice_set p.taken frame 1) frame (sym (length-set p.taken frame 1)) (omega (arith, may.sizes.taken)) may.free
           (let busy = more.busy in omega arith) more.other_frames
           ∙ ap (λ (k : ℕ). k + 1) h.count
@@ -244,8 +262,10 @@ abbrev pub shrunk_parts : MemoryParts → ℕ → ℕ → ℕ → ℕ → Memory
 shrunk_parts p place base n frame = record p {
   handles = with_row p.handles place (base_in_row base n) n;
   tables = put p.tables (PAGE_ENTRY_SIZE * region_page base n) (dword_bytes 0);
+  vectors = put_head p.vectors (BUDGET_FRAMES + frame);
   taken = slice_set p.taken frame 0;
   locks = without_lock p.locks (region_page base n);
+  frames = put p.frames (PAGE_SIZE * frame) (dword_bytes (dword p.vectors head_start));
 }
 
 -- what is asked: page n is the last one of the block, and lies in the frame
@@ -315,7 +335,10 @@ pub shrunk_beside : (p : MemoryParts) (budget place base n frame : ℕ) →
     AgreesBeside (block_parts (shrunk_parts p place base n frame)) (block_parts p) budget (region_page base n) frame
 shrunk_beside p budget place base n frame = record {
   locks = λ other less ne. sym (lock_other p.locks (region_page base n) other ne);
-  frames = λ at inside away. refl;
+  frames = λ at inside away. sym (put_away p.frames (PAGE_SIZE * frame) (dword_bytes (dword p.vectors head_start)) at (elim away [
+    | inl below ↦ inr below
+    | inr above ↦ inl (omega arith)
+  ]));
 }
 
 pub shrunk_holds : (p : MemoryParts) (budget place base n frame : ℕ) → HoldsParts p budget → MayShrink p budget place base n frame →
@@ -334,10 +357,13 @@ shrunk_holds p budget place base n frame h may =
     record {
       fixed = h.fixed;
       rows = h.rows;
-      vectors = h.vectors;
+      vectors = keeps_head p.vectors (BUDGET_FRAMES + frame) h.vectors;
       records = h.records;
       handles = keeps_handles p.handles place (base_in_row base n) n may.sizes.handles may.within (base_gone base n) h.handles;
       blocks = less_entries old new budget place base n frame more h.blocks;
+      free = (
+          let busy = more.busy in let long = may.sizes.vectors in
+          list_given p.vectors p.taken p.frames budget frame (omega arith) may.few (omega (arith, may.sizes.taken)) (omega (arith, may.sizes.frames)) (omega arith) h.free);
       count = omega (arith, count, together, h.count);
       locks = less_locks old new budget place base n frame more beside
           (lock_here p.locks (region_page base n) may.sizes.locks (page_inside base n (own_range p budget place base n frame may))) h.locks;

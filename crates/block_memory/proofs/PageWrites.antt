@@ -1,23 +1,28 @@
 -- The writes that give a page to a block and take it away, as what they make of the parts of the memory. Between them the host's own entries
 -- stay, so that each step may be made.
 use Rattle.std.proofs.Common.{◌≡◌, ℕ, ◌+◌, ◌-◌, ◌*◌, ◌<◌, ◌≤◌, true, List, [], ◌∷◌, length, slice_set, refl, ap, ◌∙◌, sym, subst, arith, length-set}
-use Rattle.client_world.specs.declared.host_frames.TheConstants.{PAGE_SIZE, BLOCK_TABLES, BLOCK_ROWS, LOCK_COUNTS, TAKEN_FRAMES, BUDGET_FRAMES, BLOCK_ROW_FRAMES, BLOCK_ROW_SIZE, BLOCK_TABLE_FRAMES, LOCK_COUNT_FRAMES, LOCK_COUNT_SIZE, PAGE_ENTRY_SIZE, TAKEN_BYTE_FRAMES}
+use Rattle.client_world.specs.declared.host_frames.TheConstants.{PAGE_SIZE, BLOCK_TABLES, BLOCK_ROWS, LOCK_COUNTS, TAKEN_FRAMES, BUDGET_FRAMES, BLOCK_ROW_FRAMES, BLOCK_ROW_SIZE, BLOCK_TABLE_FRAMES, LOCK_COUNT_FRAMES, LOCK_COUNT_SIZE, PAGE_ENTRY_SIZE, TAKEN_BYTE_FRAMES, VECTORS, VECTOR_FRAMES}
 use Rattle.client_world.specs.declared.limits.TheConstants.{MAX_BLOCKS}
-use Rattle.guest_ram.specs.Bytes.{put, dword_bytes}
+use Rattle.guest_ram.specs.Bytes.{put, dword, dword_bytes}
 use Rattle.guest_ram.specs.Listed.{copies}
 use Rattle.guest_ram.proofs.ListedLaws.{length-copies}
 use Rattle.guest_ram.proofs.PutLaws.{length-put, length-region}
 use Rattle.page_tables.specs.Budget.{taken_place}
+use Rattle.page_tables.specs.FreeList.{first_free, next_free, with_head, without_head}
+use Rattle.page_tables.specs.declared.budget.TheConstants.{FREE_LIST_HEAD}
 use Rattle.page_tables.specs.Entry.{page_entry}
 use Rattle.page_tables.proofs.MapLaws.{with_entry}
 use Rattle.host_memory.specs.Holds.{Holds}
-use Rattle.host_memory.specs.Layout.{fixed_part, tables_part, handles_part, taken_part}
+use Rattle.host_memory.specs.Layout.{fixed_part, tables_part, vectors_part, handles_part, taken_part, budget_part}
 use Rattle.host_memory.specs.Tables.{HasFixedEntries}
+use Rattle.host_memory.specs.Vectors.{head_start}
 use Rattle.host_memory.proofs.BlockRows.{IsRange}
+use Rattle.host_memory.proofs.FreeParts.{head_is, next_is}
+use Rattle.host_memory.proofs.VectorParts.{put_head}
 use Rattle.block_memory.proofs.PageMore.{region_page, budget_entry}
 use Rattle.block_memory.proofs.PageParts.{HasSizes, grown_parts, shrunk_parts, with_row, without_lock, base_in_row}
 use Rattle.host_memory.proofs.Parts.{MemoryParts, parts_of, HasSize}
-use Rattle.host_memory.proofs.PutParts.{put_tables, put_handles, put_locks, put_taken, put_frames, size_put}
+use Rattle.host_memory.proofs.PutParts.{put_tables, put_handles, put_locks, put_taken, put_vectors, put_frames, size_put}
 use Rattle.block_memory.proofs.RegionPages.{HasHost, InRegion, page_at, region_place}
 
 -- the parts have their sizes
@@ -30,6 +35,7 @@ sizes_of b budget host =
       taken = length-region b (PAGE_SIZE * TAKEN_FRAMES) (PAGE_SIZE * TAKEN_BYTE_FRAMES) (omega arith);
       locks = length-region b (PAGE_SIZE * LOCK_COUNTS) (PAGE_SIZE * LOCK_COUNT_FRAMES) (omega arith);
       frames = length-region b (PAGE_SIZE * BUDGET_FRAMES) (PAGE_SIZE * budget) (omega arith);
+      vectors = length-region b (PAGE_SIZE * VECTORS) (PAGE_SIZE * VECTOR_FRAMES) (omega arith);
       most = host.most;
     }
 
@@ -58,34 +64,96 @@ taken_are b budget frame v host inside =
     let from = inside.from in let to = inside.to in let most = host.most in
     put_taken b budget (taken_place frame) (frame - BUDGET_FRAMES) (v ∷ []) host.size refl (omega arith)
 
-pub taken_host : (b : List ℕ) (budget frame v : ℕ) → HasHost b budget → InBudget budget frame → HasHost (slice_set b (taken_place frame) v) budget
-taken_host b budget frame v host inside =
-    host_by b (slice_set b (taken_place frame) v) budget _ host (length-set b (taken_place frame) v ∙ host.size) (taken_are b budget frame v host inside) refl
+-- the head of the list of free frames
+head_are : (b : List ℕ) (budget v : ℕ) → HasHost b budget →
+    parts_of (put b FREE_LIST_HEAD (dword_bytes v)) budget ≡ record (parts_of b budget) { vectors = put_head (vectors_part b) v }
+head_are b budget v host = put_vectors b budget FREE_LIST_HEAD head_start (dword_bytes v) host.size (omega arith) (omega arith)
+
+head_host : (b : List ℕ) (budget v : ℕ) → HasHost b budget → HasHost (put b FREE_LIST_HEAD (dword_bytes v)) budget
+head_host b budget v host =
+    host_by b (put b FREE_LIST_HEAD (dword_bytes v)) budget _ host (length-put b FREE_LIST_HEAD (dword_bytes v) ∙ host.size) (head_are b budget v host) refl
+
+-- the frame at the head is taken
+taken_parts : (b : List ℕ) (budget frame : ℕ) → HasHost b budget → InBudget budget frame →
+    parts_of (without_head b frame) budget
+    ≡ record (parts_of b budget) {
+      vectors = put_head (vectors_part b) (dword (budget_part b budget) (PAGE_SIZE * (frame - BUDGET_FRAMES)));
+      taken = slice_set (taken_part b) (frame - BUDGET_FRAMES) 1;
+    }
+taken_parts b budget frame host inside =
+    taken_are (put b FREE_LIST_HEAD (dword_bytes (next_free b frame))) budget frame 1 (head_host b budget (next_free b frame) host) inside
+    ∙ ap (λ (p : MemoryParts). record p { taken = slice_set p.taken (frame - BUDGET_FRAMES) 1 }) (head_are b budget (next_free b frame) host)
+    ∙ ap (λ (v : ℕ). record (parts_of b budget) { vectors = put_head (vectors_part b) v; taken = slice_set (taken_part b) (frame - BUDGET_FRAMES) 1 })
+    (next_is b budget frame inside.from inside.to)
+
+taken_host : (b : List ℕ) (budget frame : ℕ) → HasHost b budget → InBudget budget frame → HasHost (without_head b frame) budget
+taken_host b budget frame host inside =
+    host_by b (without_head b frame) budget _ host
+    (length-set (put b FREE_LIST_HEAD (dword_bytes (next_free b frame))) (taken_place frame) 1 ∙ length-put b FREE_LIST_HEAD (dword_bytes (next_free b frame)) ∙ host.size)
+    (taken_parts b budget frame host inside) refl
+
+-- a frame is given back
+given_parts : (b : List ℕ) (budget frame : ℕ) → HasHost b budget → InBudget budget frame →
+    parts_of (with_head b frame) budget
+    ≡ record (parts_of b budget) {
+      vectors = put_head (vectors_part b) frame;
+      taken = slice_set (taken_part b) (frame - BUDGET_FRAMES) 0;
+      frames = put (budget_part b budget) (PAGE_SIZE * (frame - BUDGET_FRAMES)) (dword_bytes (dword (vectors_part b) head_start));
+    }
+given_parts b budget frame host inside =
+    let from = inside.from in let to = inside.to in
+    let b1 = put b (PAGE_SIZE * frame) (dword_bytes (first_free b)) in
+    let e1 = put_frames b budget (PAGE_SIZE * frame) (PAGE_SIZE * (frame - BUDGET_FRAMES)) (dword_bytes (first_free b)) host.size (omega arith) (omega arith) in
+    let host1 : HasHost b1 budget = host_by b b1 budget _ host (size_put b budget (PAGE_SIZE * frame) (dword_bytes (first_free b)) host.size) e1 refl in
+    taken_are (put b1 FREE_LIST_HEAD (dword_bytes frame)) budget frame 0 (head_host b1 budget frame host1) inside
+    ∙ ap (λ (p : MemoryParts). record p { taken = slice_set p.taken (frame - BUDGET_FRAMES) 0 })
+    (head_are b1 budget frame host1 ∙ ap (λ (p : MemoryParts). record p { vectors = put_head p.vectors frame }) e1)
+    ∙ ap (λ (v : ℕ). record (parts_of b budget) {
+      vectors = put_head (vectors_part b) frame;
+      taken = slice_set (taken_part b) (frame - BUDGET_FRAMES) 0;
+      frames = put (budget_part b budget) (PAGE_SIZE * (frame - BUDGET_FRAMES)) (dword_bytes v);
+    }) (head_is b)
+
+given_size : (b : List ℕ) (frame : ℕ) → length (with_head b frame) ≡ length b
+given_size b frame =
+    let b1 = put b (PAGE_SIZE * frame) (dword_bytes (first_free b)) in
+    length-set (put b1 FREE_LIST_HEAD (dword_bytes frame)) (taken_place frame) 0 ∙ length-put b1 FREE_LIST_HEAD (dword_bytes frame)
+    ∙ length-put b (PAGE_SIZE * frame) (dword_bytes (first_free b))
+
+given_host : (b : List ℕ) (budget frame : ℕ) → HasHost b budget → InBudget budget frame → HasHost (with_head b frame) budget
+given_host b budget frame host inside =
+    host_by b (with_head b frame) budget _ host (given_size b frame ∙ host.size) (given_parts b budget frame host inside) refl
 
 -- a frame is taken and cleared
 
 abbrev pub cleared : List ℕ → ℕ → List ℕ
-cleared b frame = put (slice_set b (taken_place frame) 1) (PAGE_SIZE * frame) (copies PAGE_SIZE 0)
+cleared b frame = put (without_head b frame) (PAGE_SIZE * frame) (copies PAGE_SIZE 0)
 
 abbrev cleared_parts : MemoryParts → ℕ → MemoryParts
-cleared_parts p frame = record p { taken = slice_set p.taken frame 1; frames = put p.frames (PAGE_SIZE * frame) (copies PAGE_SIZE 0) }
+cleared_parts p frame = record p {
+  vectors = put_head p.vectors (dword p.frames (PAGE_SIZE * frame));
+  taken = slice_set p.taken frame 1;
+  frames = put p.frames (PAGE_SIZE * frame) (copies PAGE_SIZE 0);
+}
 
 pub cleared_are : (b : List ℕ) (budget frame : ℕ) → HasHost b budget → InBudget budget frame →
     parts_of (cleared b frame) budget ≡ cleared_parts (parts_of b budget) (frame - BUDGET_FRAMES)
 cleared_are b budget frame host inside =
     let from = inside.from in let to = inside.to in
-    let b1 = slice_set b (taken_place frame) 1 in
-    let host1 = taken_host b budget frame 1 host inside in
-    put_frames b1 budget (PAGE_SIZE * frame) (PAGE_SIZE * (frame - BUDGET_FRAMES)) (copies PAGE_SIZE 0) host1.size (omega arith)
+    let host1 = taken_host b budget frame host inside in
+    put_frames (without_head b frame) budget (PAGE_SIZE * frame) (PAGE_SIZE * (frame - BUDGET_FRAMES)) (copies PAGE_SIZE 0) host1.size (omega arith)
     (omega (arith, length-copies PAGE_SIZE 0))
     ∙ ap (λ (p : MemoryParts). record p { frames = put p.frames (PAGE_SIZE * (frame - BUDGET_FRAMES)) (copies PAGE_SIZE 0) })
-    (taken_are b budget frame 1 host inside)
+    (taken_parts b budget frame host inside)
+
+cleared_size : (b : List ℕ) (frame : ℕ) → length (cleared b frame) ≡ length b
+cleared_size b frame =
+    length-put (without_head b frame) (PAGE_SIZE * frame) (copies PAGE_SIZE 0)
+    ∙ length-set (put b FREE_LIST_HEAD (dword_bytes (next_free b frame))) (taken_place frame) 1 ∙ length-put b FREE_LIST_HEAD (dword_bytes (next_free b frame))
 
 pub cleared_host : (b : List ℕ) (budget frame : ℕ) → HasHost b budget → InBudget budget frame → HasHost (cleared b frame) budget
 cleared_host b budget frame host inside =
-    host_by b (cleared b frame) budget _ host
-    (length-put (slice_set b (taken_place frame) 1) (PAGE_SIZE * frame) (copies PAGE_SIZE 0) ∙ length-set b (taken_place frame) 1 ∙ host.size)
-    (cleared_are b budget frame host inside) refl
+    host_by b (cleared b frame) budget _ host (cleared_size b frame ∙ host.size) (cleared_are b budget frame host inside) refl
 
 -- an entry of the block region
 
@@ -156,14 +224,12 @@ grown_are b budget place base n frame host inside within range =
 pub grown_size : (b : List ℕ) (budget place base n frame : ℕ) → HasSize b budget → HasSize (grown b place base n frame) budget
 grown_size b budget place base n frame size =
     row_size (with_entry (cleared b frame) (base + PAGE_SIZE * n) (page_entry frame true)) place base (n + 1)
-    ∙ length-put (cleared b frame) _ (dword_bytes (page_entry frame true))
-    ∙ length-put (slice_set b (taken_place frame) 1) (PAGE_SIZE * frame) (copies PAGE_SIZE 0)
-    ∙ length-set b (taken_place frame) 1 ∙ size
+    ∙ length-put (cleared b frame) _ (dword_bytes (page_entry frame true)) ∙ cleared_size b frame ∙ size
 
 -- all writes that take the last page from a block
 
 abbrev pub without_entry : List ℕ → ℕ → ℕ → List ℕ
-without_entry b lin frame = slice_set (with_entry b lin 0) (taken_place frame) 0
+without_entry b lin frame = with_head (with_entry b lin 0) frame
 
 abbrev pub unlocked : List ℕ → ℕ → List ℕ
 unlocked b page = put b (PAGE_SIZE * LOCK_COUNTS + LOCK_COUNT_SIZE * page) (0 ∷ 0 ∷ [])
@@ -175,14 +241,14 @@ shrunk b place base n frame =
 pub shrunk_are : (b : List ℕ) (budget place base n frame : ℕ) → HasHost b budget → InBudget budget frame → place < MAX_BLOCKS → IsRange base (n + 1) →
     parts_of (shrunk b place base n frame) budget ≡ shrunk_parts (parts_of b budget) place base n (frame - BUDGET_FRAMES)
 shrunk_are b budget place base n frame host inside within range =
-    let range_from = range.from in let range_to = range.to in let range_whole = range.whole in
+    let range_from = range.from in let range_to = range.to in let range_whole = range.whole in let inside_from = inside.from in
     let lin = base + PAGE_SIZE * n in
     let in_region = page_in_region base n range in
     let page = page_is base n range in
     let b1 = with_entry b lin 0 in
     let host1 = entry_host b budget lin (region_page base n) 0 host in_region page in
     let b2 = without_entry b lin frame in
-    let host2 = taken_host b1 budget frame 0 host1 inside in
+    let host2 = given_host b1 budget frame host1 inside in
     let b3 = unlocked b2 (region_page base n) in
     let e3 = put_locks b2 budget (PAGE_SIZE * LOCK_COUNTS + LOCK_COUNT_SIZE * region_page base n) (LOCK_COUNT_SIZE * region_page base n) (0 ∷ 0 ∷ []) host2.size refl (omega arith) in
     let host3 : HasHost b3 budget = host_by b2 b3 budget _ host2 (size_put b2 budget _ (0 ∷ 0 ∷ []) host2.size) e3 refl in
@@ -190,13 +256,18 @@ shrunk_are b budget place base n frame host inside within range =
     ∙ ap (λ (p : MemoryParts). record p { handles = with_row p.handles place (base_in_row base n) n })
     (e3
     ∙ ap (λ (p : MemoryParts). record p { locks = without_lock p.locks (region_page base n) })
-    (taken_are b1 budget frame 0 host1 inside
-    ∙ ap (λ (p : MemoryParts). record p { taken = slice_set p.taken (frame - BUDGET_FRAMES) 0 })
-    (entry_are b budget lin (region_page base n) 0 host in_region page)))
+    (given_parts b1 budget frame host1 inside
+    ∙ ap (λ (p : MemoryParts). record p {
+      vectors = put_head p.vectors frame;
+      taken = slice_set p.taken (frame - BUDGET_FRAMES) 0;
+      frames = put p.frames (PAGE_SIZE * (frame - BUDGET_FRAMES)) (dword_bytes (dword p.vectors head_start));
+    }) (entry_are b budget lin (region_page base n) 0 host in_region page)))
+    ∙ ap (λ (f : ℕ). record (shrunk_parts (parts_of b budget) place base n (frame - BUDGET_FRAMES)) { vectors = put_head (vectors_part b) f })
+    (let e : frame ≡ BUDGET_FRAMES + (frame - BUDGET_FRAMES) = omega arith in e)
 
 pub shrunk_size : (b : List ℕ) (budget place base n frame : ℕ) → HasSize b budget → HasSize (shrunk b place base n frame) budget
 shrunk_size b budget place base n frame size =
     row_size (unlocked (without_entry b (base + PAGE_SIZE * n) frame) (region_page base n)) place (base_in_row base n) n
     ∙ length-put (without_entry b (base + PAGE_SIZE * n) frame) _ (0 ∷ 0 ∷ [])
-    ∙ length-set (with_entry b (base + PAGE_SIZE * n) 0) (taken_place frame) 0
+    ∙ given_size (with_entry b (base + PAGE_SIZE * n) 0) frame
     ∙ length-put b _ (dword_bytes 0) ∙ size

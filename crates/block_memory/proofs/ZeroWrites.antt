@@ -17,10 +17,13 @@ use Rattle.guest_ram.proofs.PutLaws.{length-put, put_away, put_within}
 use Rattle.guest_ram.proofs.ListedLaws.{length-listed, at_listed, same_listed, listed-set, length-copies, at_copies}
 use Rattle.page_tables.specs.Entry.{page_entry}
 use Rattle.block_memory.specs.BlockSizes.{IsBlocks, zeroed, with_zero_page}
+use Rattle.page_tables.proofs.FreeWrites.{dword_put_beside}
 use Rattle.host_memory.specs.Holds.{Holds}
 use Rattle.host_memory.specs.Layout.{world_of, address_of, handles_part, tables_part, rows_part, pages_of, first_page_of, entry_of, page_byte, held_block, block_in, blocks_in}
 use Rattle.host_memory.specs.Tables.{HasBlockEntries, NamesBudgetFrame}
 use Rattle.host_memory.proofs.BlockBytes.{apart_pages, page_small}
+use Rattle.host_memory.proofs.FreeParts.{list_kept}
+use Rattle.host_memory.proofs.IdleFrames.{entry_away}
 use Rattle.host_memory.proofs.BlockRows.{HasRanges, row_there, row_free, block_at_row}
 use Rattle.block_memory.proofs.LockWrites.{block_byte}
 use Rattle.block_memory.specs.BlockChanges.{blocks_held}
@@ -208,6 +211,14 @@ clears_page b budget lin holds ranges is =
         records = h.records;
         handles = h.handles;
         blocks = h.blocks;
+        free = list_kept p.vectors p.vectors p.taken p.frames (cleared_frame p.frames frame) budget refl (λ other idle. (
+            let away = entry_away b budget (page_at lin) other holds names idle in
+            let low = idle.from in
+            dword_put_beside p.frames (PAGE_SIZE * frame) (PAGE_SIZE * (other - BUDGET_FRAMES)) (copies PAGE_SIZE 0)
+            (elim (cases_lt (entry_of p.tables (page_at lin) / PAGE_SIZE) other) [
+              | inl below ↦ inl (omega (arith, length-copies PAGE_SIZE 0))
+              | inr above ↦ inr (omega arith)
+            ]))) h.free;
         count = h.count;
         locks = h.locks;
         arena = h.arena;

@@ -72,11 +72,14 @@ fn cut_block(ram: &mut Ram, place: u32, base: u32, from: u32, to: u32)
     }
 }
 
-// Moves a block of n pages to another linear address. Its bytes stay in their frames; its lock counts move with it.
+// Moves a block of n pages to a linear address, its own or another one. Its bytes stay in their frames; its lock counts move with it.
 fn move_block(ram: &mut Ram, place: u32, from: u32, base: u32, n: u32)
     requires room { CanMoveIn ram.old place from base n }
     ensures { ReplacesBlock ram.old ram.new place (λ block. at_base base block) }
 {
+    if from == base {
+        return;
+    }
     let first = (from - BLOCK_REGION) / PAGE_SIZE;
     let last = (base - BLOCK_REGION) / PAGE_SIZE;
     slide(

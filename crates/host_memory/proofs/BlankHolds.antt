@@ -1,5 +1,5 @@
 -- A new memory holds a world, the blank one.
-use Rattle.std.proofs.Common.{◌≡◌, ℕ, ◌+◌, ◌-◌, ◌*◌, ◌≤◌, true, false, List, slice_index, nat_eq, None, refl, ap, ◌∙◌, sym, arith}
+use Rattle.std.proofs.Common.{◌≡◌, ℕ, ◌+◌, ◌-◌, ◌*◌, ◌≤◌, inl, inr, true, false, List, slice_index, nat_eq, None, refl, ap, ◌∙◌, sym, arith}
 use Rattle.std.specs.declared.option.Option.{Option}
 use Rattle.client_world.specs.declared.registers.Mode.TheVariants.{Real}
 use Rattle.client_world.specs.declared.host_frames.TheConstants.{PAGE_SIZE, PAGE_DIRECTORY, LOW_TABLE, WINDOW_TABLE, DESCRIPTORS, BLOCK_ROW_SIZE, CALLBACK_SIZE, DESCRIPTOR_ROW_SIZE, FIXED_TABLE_FRAMES, PAGE_ENTRY_SIZE, VECTOR_SIZE}
@@ -19,6 +19,7 @@ use Rattle.host_memory.specs.Layout.{world_of, fixed_part, tables_part, rows_par
 use Rattle.host_memory.specs.Records.{KeepsRecords}
 use Rattle.host_memory.specs.Tables.{HasFixedEntries, HasBlockEntries, low_table_start, window_table_start}
 use Rattle.host_memory.specs.Vectors.{KeepsVectors, pointer_at, callback_at, callback_bytes, callbacks_start, pageable_start, exceptions_start, interrupt_vectors_in, exception_vectors_in, callbacks_in, pageable_in}
+use Rattle.host_memory.proofs.FreeParts.{parts_of_list}
 use Rattle.host_memory.proofs.FreshMemory.{IsBlank}
 use Rattle.host_memory.proofs.BlankLists.{OneEntry, no_records, no_calls, arena_is_whole, keeps_one_entry, none_used, no_pages_together}
 use Rattle.host_memory.proofs.BlankParts.{rows_zero, records_zero, handles_zero, taken_zero, no_entry, no_pages, no_lock, free_row_byte, no_row, vector_of, vector_is, vector_byte_is, rest_zero, no_callback, free_callback_byte, arena_byte, arena_zero}
@@ -47,11 +48,11 @@ host_vectors : (b : List ℕ) (budget : ℕ) → IsBlank b budget → KeepsVecto
 host_vectors b budget h = record {
   vectors = λ n at small within. vector_byte_is b budget h n at small within;
   callbacks = λ slot at small within.
-      rest_zero b budget h (callbacks_start + (CALLBACK_SIZE * slot + at)) (omega arith)
+      rest_zero b budget h (callbacks_start + (CALLBACK_SIZE * slot + at)) (omega arith) (omega arith) (inl (omega arith))
       ∙ sym (ap (λ (callback : Option Callback). slice_index (callback_bytes callback) at)
-      (no_callback b budget h (callbacks_start + CALLBACK_SIZE * slot) (omega arith)) ∙ free_callback_byte at within);
-  pageable = λ page small. let e = rest_zero b budget h (pageable_start + page) (omega arith) in omega arith;
-  rest = λ at from to. rest_zero b budget h at (omega arith);
+      (no_callback b budget h (callbacks_start + CALLBACK_SIZE * slot) (omega arith) (omega arith)) ∙ free_callback_byte at within);
+  pageable = λ page small. let e = rest_zero b budget h (pageable_start + page) (omega arith) (omega arith) (inl (omega arith)) in omega arith;
+  rest = λ at from to. rest_zero b budget h at (omega arith) to (inr from);
 }
 
 records_none : (b : List ℕ) (budget : ℕ) → IsBlank b budget → KeepsRecords (records_part b)
@@ -91,6 +92,7 @@ blank_holds b budget most h = record {
   records = records_none b budget h;
   handles = free_handles b budget h;
   blocks = absent_entries b budget h;
+  free = parts_of_list b budget (record { size = h.size; most = most }) h.free;
   count = none_used (taken_part b) (taken_zero b budget h) ∙ sym (no_pages_together (handles_part b) (no_pages b budget h));
   locks = record { outside = λ page small outside. no_lock b budget h page };
   arena = keeps_one_entry (arena_part b) (one_entry b budget h);
@@ -126,11 +128,11 @@ exceptions b budget h = same_listed EXCEPTION_VECTORS (λ n. pointer_at (vectors
 
 no_callbacks : (b : List ℕ) (budget : ℕ) → IsBlank b budget → callbacks_in (vectors_part b) ≡ listed CALLBACKS (λ slot. None)
 no_callbacks b budget h = same_listed CALLBACKS (λ slot. callback_at (vectors_part b) (callbacks_start + CALLBACK_SIZE * slot)) (λ slot. None)
-    (λ slot small. no_callback b budget h (callbacks_start + CALLBACK_SIZE * slot) (omega arith))
+    (λ slot small. no_callback b budget h (callbacks_start + CALLBACK_SIZE * slot) (omega arith) (omega arith))
 
 not_pageable : (b : List ℕ) (budget : ℕ) → IsBlank b budget → pageable_in (vectors_part b) ≡ listed DOS_VIEW_PAGES (λ page. false)
 not_pageable b budget h = same_listed DOS_VIEW_PAGES (λ page. nat_eq (slice_index (vectors_part b) (pageable_start + page)) 1) (λ page. false)
-    (λ page small. ap (λ (v : ℕ). nat_eq v 1) (rest_zero b budget h (pageable_start + page) (omega arith)))
+    (λ page small. ap (λ (v : ℕ). nat_eq v 1) (rest_zero b budget h (pageable_start + page) (omega arith) (omega arith) (inl (omega arith))))
 
 pub blank_world_is : (b : List ℕ) (budget : ℕ) → IsBlank b budget → world_of b budget Real no_regs true None ≡ blank_world budget
 unfolding world_of blank_world

@@ -1,5 +1,5 @@
 -- The parts of a new memory: most are zeros, the vectors lead to the host, and the list of DOS memory has one entry.
-use Rattle.std.proofs.Common.{◌≡◌, ℕ, ◌+◌, ◌-◌, ◌*◌, ◌/◌, ◌%◌, ◌<◌, ◌≤◌, inl, inr, zero, suc, List, length, slice_index, None, refl, ap, ◌∙◌, sym, arith, zero-add}
+use Rattle.std.proofs.Common.{◌≡◌, ℕ, ◌+◌, ◌-◌, ◌*◌, ◌/◌, ◌%◌, ◌<◌, ◌≤◌, ◌⊎◌, inl, inr, zero, suc, List, length, slice_index, None, refl, ap, ◌∙◌, sym, arith, zero-add}
 use Rattle.std.proofs.lemmas.Bool.{cases_lt}
 use Rattle.std.proofs.lemmas.List.{get_or_past}
 use Rattle.client_world.specs.declared.limits.TheConstants.{EXCEPTION_VECTORS, INTERRUPT_VECTORS}
@@ -18,7 +18,7 @@ use Rattle.host_memory.specs.declared.blank.TheConstants.{VECTOR_HALVES}
 use Rattle.host_memory.specs.DosList.{entry_bytes, entry_size}
 use Rattle.host_memory.specs.Filling.{vector_half_at}
 use Rattle.host_memory.specs.Layout.{tables_part, rows_part, vectors_part, records_part, handles_part, locks_part, arena_part, taken_part, entry_of, pages_of, lock_of}
-use Rattle.host_memory.specs.Vectors.{pointer_at, vector_bytes, callback_at, callback_bytes, callbacks_start}
+use Rattle.host_memory.specs.Vectors.{pointer_at, vector_bytes, callback_at, callback_bytes, callbacks_start, head_start, head_end}
 use Rattle.host_memory.proofs.Filling.{dword_is}
 use Rattle.host_memory.proofs.FreshMemory.{IsBlank, whole_arena}
 
@@ -32,27 +32,27 @@ zero_part b from n room h at = elim (cases_lt at n) [
 
 pub tables_zero : (b : List ℕ) (budget : ℕ) → IsBlank b budget → (at : ℕ) → slice_index (tables_part b) at ≡ 0
 tables_zero b budget h = zero_part b (PAGE_SIZE * BLOCK_TABLES) (PAGE_SIZE * BLOCK_TABLE_FRAMES) (let size = h.size in omega arith)
-    (λ at from to. h.zeros at (omega arith) (inl (omega arith)) (inl (omega arith)))
+    (λ at from to. h.zeros at (omega arith) (omega arith) (inl (omega arith)) (inl (omega arith)) (inl (omega arith)))
 
 pub rows_zero : (b : List ℕ) (budget : ℕ) → IsBlank b budget → (at : ℕ) → slice_index (rows_part b) at ≡ 0
 rows_zero b budget h = zero_part b (PAGE_SIZE * DESCRIPTOR_ROWS) (PAGE_SIZE * DESCRIPTOR_ROW_FRAMES) (let size = h.size in omega arith)
-    (λ at from to. h.zeros at (omega arith) (inl (omega arith)) (inl (omega arith)))
+    (λ at from to. h.zeros at (omega arith) (omega arith) (inl (omega arith)) (inl (omega arith)) (inl (omega arith)))
 
 pub records_zero : (b : List ℕ) (budget : ℕ) → IsBlank b budget → (at : ℕ) → slice_index (records_part b) at ≡ 0
 records_zero b budget h = zero_part b (PAGE_SIZE * RECORDS) (PAGE_SIZE * RECORD_FRAMES) (let size = h.size in omega arith)
-    (λ at from to. h.zeros at (omega arith) (inr (omega arith)) (inl (omega arith)))
+    (λ at from to. h.zeros at (omega arith) (omega arith) (inr (omega arith)) (inl (omega arith)) (inr (omega arith)))
 
 pub handles_zero : (b : List ℕ) (budget : ℕ) → IsBlank b budget → (at : ℕ) → slice_index (handles_part b) at ≡ 0
 handles_zero b budget h = zero_part b (PAGE_SIZE * BLOCK_ROWS) (PAGE_SIZE * BLOCK_ROW_FRAMES) (let size = h.size in omega arith)
-    (λ at from to. h.zeros at (omega arith) (inr (omega arith)) (inl (omega arith)))
+    (λ at from to. h.zeros at (omega arith) (omega arith) (inr (omega arith)) (inl (omega arith)) (inr (omega arith)))
 
 pub locks_zero : (b : List ℕ) (budget : ℕ) → IsBlank b budget → (at : ℕ) → slice_index (locks_part b) at ≡ 0
 locks_zero b budget h = zero_part b (PAGE_SIZE * LOCK_COUNTS) (PAGE_SIZE * LOCK_COUNT_FRAMES) (let size = h.size in omega arith)
-    (λ at from to. h.zeros at (omega arith) (inr (omega arith)) (inl (omega arith)))
+    (λ at from to. h.zeros at (omega arith) (omega arith) (inr (omega arith)) (inl (omega arith)) (inr (omega arith)))
 
 pub taken_zero : (b : List ℕ) (budget : ℕ) → IsBlank b budget → (at : ℕ) → slice_index (taken_part b) at ≡ 0
 taken_zero b budget h = zero_part b (PAGE_SIZE * TAKEN_FRAMES) (PAGE_SIZE * TAKEN_BYTE_FRAMES) (let size = h.size in omega arith)
-    (λ at from to. h.zeros at (omega arith) (inr (omega arith)) (inr (omega arith)))
+    (λ at from to. h.zeros at (omega arith) (omega arith) (inr (omega arith)) (inr (omega arith)) (inr (omega arith)))
 
 pub no_entry : (b : List ℕ) (budget : ℕ) → IsBlank b budget → (page : ℕ) → entry_of (tables_part b) page ≡ 0
 no_entry b budget h page = dword_zero (tables_part b) (PAGE_ENTRY_SIZE * page) (λ at small. tables_zero b budget h (PAGE_ENTRY_SIZE * page + at))
@@ -151,23 +151,21 @@ vector_byte_is b budget h n at small within =
     ]
     ∙ ap (λ (p : FarPtr). slice_index (vector_bytes p) at) (sym (vector_is b budget h n small))
 
--- after the vectors their frame is zero
-pub rest_zero : (b : List ℕ) (budget : ℕ) → IsBlank b budget → (at : ℕ) → callbacks_start ≤ at → slice_index (vectors_part b) at ≡ 0
-rest_zero b budget h at from = elim (cases_lt at (PAGE_SIZE * VECTOR_FRAMES)) [
-  | inl within ↦
-      at_region b (PAGE_SIZE * VECTORS) (PAGE_SIZE * VECTOR_FRAMES) at within
-      ∙ h.zeros (PAGE_SIZE * VECTORS + at) (omega arith) (inr (omega arith)) (inl (omega arith))
-  | inr past ↦
-      get_or_past (vectors_part b) at 0
-      (let long = length-region b (PAGE_SIZE * VECTORS) (PAGE_SIZE * VECTOR_FRAMES) (let size = h.size in omega arith) in omega arith)
-]
+-- after the vectors their frame is zero, but for the head of the list of free frames
+pub rest_zero : (b : List ℕ) (budget : ℕ) → IsBlank b budget → (at : ℕ) → callbacks_start ≤ at → at < PAGE_SIZE * VECTOR_FRAMES →
+    (at < head_start) ⊎ (head_end ≤ at) → slice_index (vectors_part b) at ≡ 0
+rest_zero b budget h at from within away =
+    at_region b (PAGE_SIZE * VECTORS) (PAGE_SIZE * VECTOR_FRAMES) at within
+    ∙ h.zeros (PAGE_SIZE * VECTORS + at) (omega arith) (omega arith) (inr (omega arith)) (inl (omega arith))
+    (elim away [ inl below ↦ inl (omega arith) | inr above ↦ inr (omega arith) ])
 
 free_callback : (part : List ℕ) (at : ℕ) → slice_index part (at + 12) ≡ 0 → callback_at part at ≡ None
 unfolding callback_at
 free_callback part at e = rw e refl
 
-pub no_callback : (b : List ℕ) (budget : ℕ) → IsBlank b budget → (at : ℕ) → callbacks_start ≤ at → callback_at (vectors_part b) at ≡ None
-no_callback b budget h at from = free_callback (vectors_part b) at (rest_zero b budget h (at + 12) (omega arith))
+pub no_callback : (b : List ℕ) (budget : ℕ) → IsBlank b budget → (at : ℕ) → callbacks_start ≤ at → at + CALLBACK_SIZE ≤ head_start →
+    callback_at (vectors_part b) at ≡ None
+no_callback b budget h at from room = free_callback (vectors_part b) at (rest_zero b budget h (at + 12) (omega arith) (omega arith) (inl (omega arith)))
 
 no_callback_is_zeros : callback_bytes None ≡ zeros CALLBACK_SIZE
 unfolding callback_bytes zeros
@@ -185,7 +183,7 @@ pub arena_zero : (b : List ℕ) (budget : ℕ) → IsBlank b budget → (at : �
 arena_zero b budget h at from = elim (cases_lt at (PAGE_SIZE * DOS_LIST_FRAMES)) [
   | inl within ↦
       at_region b (PAGE_SIZE * DOS_LIST) (PAGE_SIZE * DOS_LIST_FRAMES) at within
-      ∙ h.zeros (PAGE_SIZE * DOS_LIST + at) (omega arith) (inr (omega arith)) (inr (omega arith))
+      ∙ h.zeros (PAGE_SIZE * DOS_LIST + at) (omega arith) (omega arith) (inr (omega arith)) (inr (omega arith)) (inr (omega arith))
   | inr past ↦
       get_or_past (arena_part b) at 0
       (let long = length-region b (PAGE_SIZE * DOS_LIST) (PAGE_SIZE * DOS_LIST_FRAMES) (let size = h.size in omega arith) in omega arith)

@@ -1,6 +1,6 @@
 -- A byte that the client may write, put where its place is, is that byte in the world, and in nothing else: the memory still holds a
 -- world, the host's frames keep their bytes and places their addresses.
-use Rattle.std.proofs.Common.{◌≡◌, ◌≢◌, ℕ, suc, ◌+◌, ◌*◌, ◌<◌, ◌≤◌, inl, inr, Bool, true, List, [], ◌∷◌, length, slice_index, slice_set, refl, ap, ◌∙◌, arith, Option, get_or-set_other}
+use Rattle.std.proofs.Common.{◌≡◌, ◌≢◌, ℕ, suc, ◌+◌, ◌-◌, ◌*◌, ◌<◌, ◌≤◌, inl, inr, Bool, true, List, [], ◌∷◌, length, slice_index, slice_set, refl, ap, ◌∙◌, arith, Option, get_or-set_other}
 use Rattle.client_world.specs.declared.registers.Mode.{Mode}
 use Rattle.client_world.specs.declared.registers.Regs.{Regs}
 use Rattle.client_world.specs.declared.registers.Width.{Width}
@@ -13,13 +13,16 @@ use Rattle.client_world.specs.Soundness.{SoundBlocks}
 use Rattle.client_world.specs.World.{MemoryBlock}
 use Rattle.guest_ram.specs.Bytes.{put}
 use Rattle.guest_ram.proofs.PutLaws.{length-region}
+use Rattle.page_tables.proofs.FreeWrites.{dword_set_other}
 use Rattle.host_memory.specs.Layout.{world_of, address_of, dos_part, handles_part, tables_part, locks_part, budget_part, taken_part, first_page_of, blocks_in}
 use Rattle.host_memory.specs.Holds.{Holds}
+use Rattle.host_memory.specs.Tables.{IsIdle, next_frame}
 use Rattle.host_memory.proofs.Parts.{MemoryParts, parts_of, world_by, holds_by, holds_parts, holds_with_dos, holds_with_frames, addresses_by}
 use Rattle.host_memory.proofs.PutParts.{put_dos, put_frames, size_put}
 use Rattle.host_memory.proofs.BlockRows.{HasRanges}
 use Rattle.host_memory.proofs.BlockBytes.{IsBlockByte, spot_small, blocks_written}
 use Rattle.host_memory.proofs.ByteLaw.{spot, block_spot}
+use Rattle.host_memory.proofs.IdleFrames.{spot_away}
 use Rattle.host_memory.proofs.ClientPlaces.{IsWritable, writable, ranges_of, address_dos, address_outside}
 
 -- a run of bytes in the megabyte
@@ -57,12 +60,14 @@ frames_world b budget holds mode regs vif width address at xs e room blocks is =
     ∙ ap (λ (bs : List (Option MemoryBlock)). record (world_of b budget mode regs vif width) { blocks = bs }) is
 
 pub frames_holds : (b : List ℕ) (budget : ℕ) → Holds b budget → (address at : ℕ) (xs : List ℕ) →
-    address ≡ PAGE_SIZE * BUDGET_FRAMES + at → at + length xs ≤ PAGE_SIZE * budget → Holds (put b address xs) budget
-frames_holds b budget holds address at xs e room =
+    address ≡ PAGE_SIZE * BUDGET_FRAMES + at → at + length xs ≤ PAGE_SIZE * budget →
+    ((frame : ℕ) → IsIdle (taken_part b) budget frame →
+    next_frame (put (budget_part b budget) at xs) frame ≡ next_frame (budget_part b budget) frame) → Holds (put b address xs) budget
+frames_holds b budget holds address at xs e room idle =
     holds_by (put b address xs) budget (record (parts_of b budget) { frames = put (budget_part b budget) at xs })
     (put_frames b budget address at xs holds.size e room)
     (size_put b budget address xs holds.size) holds.most
-    (holds_with_frames (parts_of b budget) budget (put (budget_part b budget) at xs) (holds_parts b budget holds))
+    (holds_with_frames (parts_of b budget) budget (put (budget_part b budget) at xs) idle (holds_parts b budget holds))
 
 pub frames_addresses : (b : List ℕ) (budget : ℕ) → Holds b budget → (address at : ℕ) (xs : List ℕ) →
     address ≡ PAGE_SIZE * BUDGET_FRAMES + at → at + length xs ≤ PAGE_SIZE * budget → (place : Place) →
@@ -90,6 +95,8 @@ block_holds b budget holds place at v byte =
     let small = spot_small (handles_part b) (tables_part b) (taken_part b) budget holds.blocks place at byte in
     frames_holds b budget holds (address_of b (Block (suc place) at)) (spot (tables_part b) (first_page_of (handles_part b) place) at) (v ∷ [])
     (block_spot b budget place at holds byte.within byte.inside) (omega arith)
+    (λ frame is. dword_set_other (budget_part b budget) (spot (tables_part b) (first_page_of (handles_part b) place) at) (PAGE_SIZE * (frame - BUDGET_FRAMES)) v
+    (spot_away b budget place at frame holds byte is))
 
 block_addresses : (b : List ℕ) (budget : ℕ) → Holds b budget → (place at v : ℕ) → IsBlockByte (handles_part b) place at → (q : Place) →
     address_of (slice_set b (address_of b (Block (suc place) at)) v) q ≡ address_of b q

@@ -1,15 +1,19 @@
--- The writes of a new memory, one after the other, and what they leave: its tables, its megabyte, and zeros elsewhere.
+-- The writes of a new memory, one after the other, and what they leave: its tables, its megabyte, the list of free frames, and zeros elsewhere.
 use Rattle.std.proofs.Common.{◌≡◌, ℕ, ◌+◌, ◌-◌, ◌*◌, ◌/◌, ◌%◌, ◌<◌, ◌≤◌, ◌⊎◌, inl, inr, zero, suc, List, length, slice_index, nat_eq, if◌then◌else◌, refl, ap, ◌∙◌, sym, arith, zero-add}
 use Rattle.std.proofs.lemmas.Bool.{cases_lt, lt-ltb, le-ltb}
 use Rattle.std.proofs.lemmas.Grind.{same_number_lists}
 use Rattle.client_world.specs.declared.dos_memory.DosEntry.{DosEntry}
 use Rattle.client_world.specs.declared.dos_memory.DosState.TheVariants.{Free}
 use Rattle.client_world.specs.declared.host_frames.TheConstants.{PAGE_SIZE, PAGE_DIRECTORY, LOW_TABLE, WINDOW_TABLE, BLOCK_TABLES, VECTORS, DOS_LIST, BUDGET_FRAMES, PAGE_ENTRY_SIZE, TABLE_ENTRIES}
-use Rattle.client_world.specs.declared.limits.TheConstants.{INTERRUPT_VECTORS}
+use Rattle.client_world.specs.declared.limits.TheConstants.{INTERRUPT_VECTORS, MAX_PAGES}
 use Rattle.client_world.specs.declared.memory_map.TheConstants.{PARAGRAPH_SIZE, DOS_SIZE, VECTOR_TABLE_SIZE, ROM_START, ROM_BYTE, ARENA_START, ARENA_END}
 use Rattle.guest_ram.specs.Bytes.{put, region, dword, dword_bytes}
 use Rattle.guest_ram.specs.Listed.{listed, copies}
 use Rattle.guest_ram.specs.declared.ram.TheConstants.{FRAME_SIZE}
+use Rattle.page_tables.specs.Budget.{taken_place}
+use Rattle.page_tables.specs.FreeList.{HasFreeList}
+use Rattle.page_tables.specs.declared.budget.TheConstants.{FREE_LIST_HEAD}
+use Rattle.page_tables.proofs.FreeWrites.{same_free_list}
 use Rattle.guest_ram.proofs.PutLaws.{length-put, put_below, put_above, put_within, put_away, length-region, at_region, same_region, region-put, same_dword}
 use Rattle.guest_ram.proofs.ListedLaws.{length-listed, at_listed, length-copies, at_copies}
 use Rattle.host_memory.specs.declared.blank.TheConstants.{VECTOR_HALVES}
@@ -25,12 +29,14 @@ use Rattle.host_memory.proofs.Filling.{written_dword}
 abbrev pub whole_arena : DosEntry
 whole_arena = record { at = ARENA_START; paras = ARENA_END - ARENA_START - 1; state = Free }
 
--- the writes; of the two runs of bytes that are put, what they are
+-- the writes into zeros in which the free frames are linked; of the two runs of bytes that are put, what they are
 pub record Fresh (budget : ℕ) (header row b0 b1 b2 b3 b4 b5 b6 b7 b8 : List ℕ) : Type 0 where
   pub header_is : header ≡ dos_header 0x5A whole_arena
   pub row_is : row ≡ entry_bytes whole_arena
   pub size : length b0 ≡ (BUDGET_FRAMES + budget) * FRAME_SIZE
-  pub zero : (at : ℕ) → slice_index b0 at ≡ 0
+  pub zero : (at : ℕ) → at < PAGE_SIZE * BUDGET_FRAMES → (at < FREE_LIST_HEAD) ⊎ (FREE_LIST_HEAD + 4 ≤ at) → slice_index b0 at ≡ 0
+  pub free : HasFreeList b0
+  pub few : budget ≤ MAX_PAGES
   pub rom : b1 ≡ put b0 ROM_START (copies (DOS_SIZE - ROM_START) ROM_BYTE)
   pub reals : Written real_vector_at 0 INTERRUPT_VECTORS b1 b2
   pub head : b3 ≡ put b2 (PARAGRAPH_SIZE * ARENA_START) header
@@ -50,9 +56,11 @@ pub record IsBlank (b : List ℕ) (budget : ℕ) : Type 0 where
   pub list : (at : ℕ) → at < entry_size → slice_index b (PAGE_SIZE * DOS_LIST + at) ≡ slice_index (entry_bytes whole_arena) at
   pub vectors : (k at : ℕ) → k < VECTOR_HALVES → at < 4 →
       slice_index b (PAGE_SIZE * VECTORS + (4 * k + at)) ≡ slice_index (dword_bytes (vector_half_at k)) at
-  pub zeros : (at : ℕ) → PAGE_SIZE * BLOCK_TABLES ≤ at →
+  pub zeros : (at : ℕ) → PAGE_SIZE * BLOCK_TABLES ≤ at → at < PAGE_SIZE * BUDGET_FRAMES →
       (at < PAGE_SIZE * VECTORS) ⊎ (PAGE_SIZE * VECTORS + 4 * VECTOR_HALVES ≤ at) →
-      (at < PAGE_SIZE * DOS_LIST) ⊎ (PAGE_SIZE * DOS_LIST + entry_size ≤ at) → slice_index b at ≡ 0
+      (at < PAGE_SIZE * DOS_LIST) ⊎ (PAGE_SIZE * DOS_LIST + entry_size ≤ at) → (at < FREE_LIST_HEAD) ⊎ (FREE_LIST_HEAD + 4 ≤ at) →
+      slice_index b at ≡ 0
+  pub free : HasFreeList b
 
 length-header : (header : List ℕ) → header ≡ dos_header 0x5A whole_arena → length header ≡ 16
 unfolding dos_header
@@ -78,7 +86,7 @@ pub plain_rom : (k : ℕ) → ROM_START ≤ k → plain_byte k ≡ ROM_BYTE
 plain_rom k from = let past : VECTOR_TABLE_SIZE ≤ k = omega arith in rw (le-ltb k VECTOR_TABLE_SIZE past, le-ltb k ROM_START from)
 
 -- a memory of zeros with read-only memory and the real vectors
-vectors_and_rom : (b0 b1 b2 : List ℕ) → DOS_SIZE ≤ length b0 → ((at : ℕ) → slice_index b0 at ≡ 0) →
+vectors_and_rom : (b0 b1 b2 : List ℕ) → DOS_SIZE ≤ length b0 → ((at : ℕ) → at < DOS_SIZE → slice_index b0 at ≡ 0) →
     b1 ≡ put b0 ROM_START (copies (DOS_SIZE - ROM_START) ROM_BYTE) → Written real_vector_at 0 INTERRUPT_VECTORS b1 b2 →
     (k : ℕ) → k < DOS_SIZE → slice_index b2 k ≡ plain_byte k
 vectors_and_rom b0 b1 b2 room blank rom reals k small = elim (cases_lt k VECTOR_TABLE_SIZE) [
@@ -88,7 +96,7 @@ vectors_and_rom b0 b1 b2 room blank rom reals k small = elim (cases_lt k VECTOR_
       ∙ real_byte (k / 4) (k % 4) (omega arith) (omega arith)
       ∙ sym (plain_vector k vector)
   | inr past ↦ reals.others k (inr (omega arith)) ∙ ap (λ (b : List ℕ). slice_index b k) rom ∙ elim (cases_lt k ROM_START) [
-    | inl below ↦ put_below b0 ROM_START (copies (DOS_SIZE - ROM_START) ROM_BYTE) k below ∙ blank k ∙ sym (plain_zero k past below)
+    | inl below ↦ put_below b0 ROM_START (copies (DOS_SIZE - ROM_START) ROM_BYTE) k below ∙ blank k small ∙ sym (plain_zero k past below)
     | inr inside ↦
         put_within b0 ROM_START (copies (DOS_SIZE - ROM_START) ROM_BYTE) (k - ROM_START) k
         (let long = length-copies (DOS_SIZE - ROM_START) ROM_BYTE in omega arith)
@@ -125,7 +133,7 @@ is_blank budget header row b0 b1 b2 b3 b4 b5 b6 b7 b8 w = record {
       (let e = at_end ∙ at_tables ∙ at_head ∙ before in let size = w.size in omega arith)
       (λ at from to. in_megabyte at (omega arith))
       ∙ with_header header b2 b3 w.header_is (let e = before in let size = w.size in omega arith)
-      (vectors_and_rom b0 b1 b2 (let room = w.size in omega arith) w.zero w.rom w.reals) w.head;
+      (vectors_and_rom b0 b1 b2 (let room = w.size in omega arith) (λ at low. w.zero at (omega arith) (inl (omega arith))) w.rom w.reals) w.head;
   directory = λ k small.
       same_dword b8 b4 (PAGE_SIZE * PAGE_DIRECTORY + 4 * k) (PAGE_SIZE * PAGE_DIRECTORY + 4 * k) (λ at within.
       late (PAGE_SIZE * PAGE_DIRECTORY + 4 * k + at) (inl (omega arith)) (inl (omega arith))
@@ -148,13 +156,14 @@ is_blank budget header row b0 b1 b2 b3 b4 b5 b6 b7 b8 w = record {
       (let e = at_tables ∙ at_head ∙ before in let size = w.size in let long = long_row in omega arith) (let long = long_row in omega arith) refl
       ∙ ap (λ (run : List ℕ). slice_index run at) w.row_is;
   vectors = w.vectors.each;
-  zeros = λ at from no_vector no_list.
-      late at no_vector no_list
-      ∙ w.window.others at (inr (omega arith)) ∙ w.low.others at (inr (omega arith)) ∙ w.directory.others at (inr (omega arith))
-      ∙ ap (λ (b : List ℕ). slice_index b at) w.head ∙ put_above b2 (PARAGRAPH_SIZE * ARENA_START) header at (let long = long_header in omega arith)
-      ∙ w.reals.others at (inr (omega arith)) ∙ ap (λ (b : List ℕ). slice_index b at) w.rom
-      ∙ put_above b0 ROM_START (copies (DOS_SIZE - ROM_START) ROM_BYTE) at (let long = length-copies (DOS_SIZE - ROM_START) ROM_BYTE in omega arith)
-      ∙ w.zero at;
+  zeros = λ at from to no_vector no_list no_head. kept at from no_vector no_list ∙ w.zero at to no_head;
+  free = (
+      let size = w.size in let few = w.few in
+      same_free_list b0 b8 w.free (at_end ∙ at_tables ∙ at_head ∙ before)
+      (same_dword b8 b0 FREE_LIST_HEAD FREE_LIST_HEAD (λ i less. kept (FREE_LIST_HEAD + i) (omega arith) (inr (omega arith)) (inl (omega arith))))
+      (λ frame is. (let from = is.from in same_dword b8 b0 (PAGE_SIZE * frame) (PAGE_SIZE * frame)
+      (λ i less. kept (PAGE_SIZE * frame + i) (omega arith) (inr (omega arith)) (inr (omega arith)))))
+      (λ frame is. (let from = is.from in kept (taken_place frame) (omega arith) (inr (omega arith)) (inr (omega arith)))));
 }
   where
     long_row : length row ≡ 8
@@ -184,6 +193,16 @@ is_blank budget header row b0 b1 b2 b3 b4 b5 b6 b7 b8 w = record {
           | inl below ↦ inr below
           | inr above ↦ inl (let long = long_row in omega arith)
         ])
+
+    -- and what all writes leave
+    kept : (at : ℕ) → PAGE_SIZE * BLOCK_TABLES ≤ at → (at < PAGE_SIZE * VECTORS) ⊎ (PAGE_SIZE * VECTORS + 4 * VECTOR_HALVES ≤ at) →
+        (at < PAGE_SIZE * DOS_LIST) ⊎ (PAGE_SIZE * DOS_LIST + entry_size ≤ at) → slice_index b8 at ≡ slice_index b0 at
+    kept at from no_vector no_list =
+        late at no_vector no_list
+        ∙ w.window.others at (inr (omega arith)) ∙ w.low.others at (inr (omega arith)) ∙ w.directory.others at (inr (omega arith))
+        ∙ ap (λ (b : List ℕ). slice_index b at) w.head ∙ put_above b2 (PARAGRAPH_SIZE * ARENA_START) header at (let long = long_header in omega arith)
+        ∙ w.reals.others at (inr (omega arith)) ∙ ap (λ (b : List ℕ). slice_index b at) w.rom
+        ∙ put_above b0 ROM_START (copies (DOS_SIZE - ROM_START) ROM_BYTE) at (let long = length-copies (DOS_SIZE - ROM_START) ROM_BYTE in omega arith)
 
     in_megabyte : (at : ℕ) → at < DOS_SIZE → slice_index b8 at ≡ slice_index b3 at
     in_megabyte at small =

@@ -18,6 +18,7 @@ use Rattle.host_memory.specs.HoldsWorld.{HoldsWorld, frame_place}
 use Rattle.host_memory.specs.Layout.{world_of, dos_part, rows_part, tables_part, handles_part, locks_part, budget_part, blocks_in}
 use Rattle.host_memory.proofs.BlockRows.{HasRanges, ranges}
 use Rattle.host_memory.proofs.BlocksClaim.{blocks_claim}
+use Rattle.host_memory.proofs.FreeParts.{list_of_parts}
 use Rattle.host_memory.proofs.ListsClaim.{lists_claim}
 use Rattle.host_memory.proofs.PartBytes.{part_byte}
 use Rattle.host_memory.proofs.TablesClaim.{tables_claim, taken_claim}
@@ -56,6 +57,7 @@ holds_world b budget mode regs vif width holds sound =
       megabyte = megabyte_claim b w (dos_is b budget mode regs vif width);
       tables = tables_claim b budget w holds in_ranges has budgets;
       taken = taken_claim b budget w holds budgets;
+      free = list_of_parts b budget (record { size = holds.size; most = holds.most }) holds.free;
       descriptors = descriptor_claim b budget w holds (descriptors_is b budget mode regs vif width);
       blocks = blocks_claim b budget w holds in_ranges has;
       vectors = vectors_claim b budget w holds (record {

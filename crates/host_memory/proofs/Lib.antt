@@ -12,9 +12,11 @@ pub mod ClientWrites
 pub mod EntryEnds
 pub mod Filling
 pub mod FixedWalks
+pub mod FreeParts
 pub mod FreshMemory
 pub mod HoldsWorldLaw
 pub mod HostTables
+pub mod IdleFrames
 pub mod ListsClaim
 pub mod OnlyAtLaws
 pub mod PartBytes

@@ -10,14 +10,16 @@ use Rattle.client_world.specs.declared.place.Place.TheVariants.{Dos, Block, Host
 use Rattle.client_world.specs.declared.host_frames.TheConstants.{PAGE_SIZE, BUDGET_FRAMES}
 use Rattle.client_world.specs.declared.limits.TheConstants.{MAX_PAGES}
 use Rattle.client_world.specs.World.{World}
+use Rattle.guest_ram.specs.Bytes.{dword}
 use Rattle.guest_ram.specs.Count.{used}
 use Rattle.desc_table.specs.Rows.{rows_from}
 use Rattle.host_memory.specs.Layout.{world_of, address_of, dos_part, fixed_part, tables_part, rows_part, vectors_part, records_part, handles_part, locks_part, arena_part, taken_part, budget_part, blocks_in}
-use Rattle.host_memory.specs.Vectors.{interrupt_vectors_in, exception_vectors_in, callbacks_in, pageable_in, KeepsVectors}
+use Rattle.host_memory.specs.Vectors.{interrupt_vectors_in, exception_vectors_in, callbacks_in, pageable_in, head_start, KeepsVectors}
 use Rattle.host_memory.specs.Records.{calls_in, KeepsRecords}
 use Rattle.host_memory.specs.DosList.{arena_in, KeepsArena}
-use Rattle.host_memory.specs.Tables.{HasFixedEntries, HasBlockEntries}
-use Rattle.host_memory.specs.Holds.{Holds, KeepsRows, KeepsHandles, KeepsLocks, all_pages}
+use Rattle.host_memory.specs.Tables.{HasFixedEntries, HasBlockEntries, IsIdle, next_frame}
+use Rattle.host_memory.specs.Holds.{Holds, KeepsRows, KeepsHandles, KeepsLocks, ListsFreeFrames, all_pages}
+use Rattle.host_memory.proofs.FreeParts.{list_kept}
 
 -- the bytes of each part
 pub record MemoryParts : Type 0 where
@@ -91,6 +93,7 @@ pub record HoldsParts (parts : MemoryParts) (budget : ℕ) : Type 0 where
   pub records : KeepsRecords parts.records
   pub handles : KeepsHandles parts.handles
   pub blocks : HasBlockEntries parts.handles parts.tables parts.taken budget
+  pub free : ListsFreeFrames parts.vectors parts.taken parts.frames budget
   pub count : used parts.taken ≡ all_pages parts.handles
   pub locks : KeepsLocks parts.handles parts.locks
   pub arena : KeepsArena parts.arena
@@ -103,6 +106,7 @@ holds_parts b budget holds = record {
   records = holds.records;
   handles = holds.handles;
   blocks = holds.blocks;
+  free = holds.free;
   count = holds.count;
   locks = holds.locks;
   arena = holds.arena;
@@ -118,6 +122,7 @@ parts_hold c budget size most holds = record {
   records = holds.records;
   handles = holds.handles;
   blocks = holds.blocks;
+  free = holds.free;
   count = holds.count;
   locks = holds.locks;
   arena = holds.arena;
@@ -141,38 +146,43 @@ addresses_by b c handles tables Nothing = refl
 
 -- the parts that no other has to agree with may change; each has its own condition
 holds_with : (parts : MemoryParts) (budget : ℕ) (dos rows vectors records arena frames : List ℕ) → KeepsRows rows → KeepsVectors vectors →
-    KeepsRecords records → KeepsArena arena → HoldsParts parts budget →
+    KeepsRecords records → KeepsArena arena → ListsFreeFrames vectors parts.taken frames budget → HoldsParts parts budget →
     HoldsParts (record parts { dos = dos; rows = rows; vectors = vectors; records = records; arena = arena; frames = frames }) budget
-holds_with parts budget dos rows vectors records arena frames keeps_rows keeps_vectors keeps_records keeps_arena h = record {
+holds_with parts budget dos rows vectors records arena frames keeps_rows keeps_vectors keeps_records keeps_arena free h = record {
   fixed = h.fixed;
   rows = keeps_rows;
   vectors = keeps_vectors;
   records = keeps_records;
   handles = h.handles;
   blocks = h.blocks;
+  free = free;
   count = h.count;
   locks = h.locks;
   arena = keeps_arena;
 }
 
 pub holds_with_dos : (parts : MemoryParts) (budget : ℕ) (dos : List ℕ) → HoldsParts parts budget → HoldsParts (record parts { dos = dos }) budget
-holds_with_dos p budget dos h = holds_with p budget dos p.rows p.vectors p.records p.arena p.frames h.rows h.vectors h.records h.arena h
+holds_with_dos p budget dos h = holds_with p budget dos p.rows p.vectors p.records p.arena p.frames h.rows h.vectors h.records h.arena h.free h
 
 pub holds_with_rows : (parts : MemoryParts) (budget : ℕ) (rows : List ℕ) → KeepsRows rows → HoldsParts parts budget →
     HoldsParts (record parts { rows = rows }) budget
-holds_with_rows p budget rows keeps h = holds_with p budget p.dos rows p.vectors p.records p.arena p.frames keeps h.vectors h.records h.arena h
+holds_with_rows p budget rows keeps h = holds_with p budget p.dos rows p.vectors p.records p.arena p.frames keeps h.vectors h.records h.arena h.free h
 
-pub holds_with_vectors : (parts : MemoryParts) (budget : ℕ) (vectors : List ℕ) → KeepsVectors vectors → HoldsParts parts budget →
-    HoldsParts (record parts { vectors = vectors }) budget
-holds_with_vectors p budget vectors keeps h = holds_with p budget p.dos p.rows vectors p.records p.arena p.frames h.rows keeps h.records h.arena h
+pub holds_with_vectors : (parts : MemoryParts) (budget : ℕ) (vectors : List ℕ) → KeepsVectors vectors →
+    dword vectors head_start ≡ dword parts.vectors head_start → HoldsParts parts budget → HoldsParts (record parts { vectors = vectors }) budget
+holds_with_vectors p budget vectors keeps head h = holds_with p budget p.dos p.rows vectors p.records p.arena p.frames h.rows keeps h.records h.arena
+    (list_kept p.vectors vectors p.taken p.frames p.frames budget head (λ frame is. refl) h.free) h
 
 pub holds_with_records : (parts : MemoryParts) (budget : ℕ) (records : List ℕ) → KeepsRecords records → HoldsParts parts budget →
     HoldsParts (record parts { records = records }) budget
-holds_with_records p budget records keeps h = holds_with p budget p.dos p.rows p.vectors records p.arena p.frames h.rows h.vectors keeps h.arena h
+holds_with_records p budget records keeps h = holds_with p budget p.dos p.rows p.vectors records p.arena p.frames h.rows h.vectors keeps h.arena h.free h
 
 pub holds_with_arena : (parts : MemoryParts) (budget : ℕ) (arena : List ℕ) → KeepsArena arena → HoldsParts parts budget →
     HoldsParts (record parts { arena = arena }) budget
-holds_with_arena p budget arena keeps h = holds_with p budget p.dos p.rows p.vectors p.records arena p.frames h.rows h.vectors h.records keeps h
+holds_with_arena p budget arena keeps h = holds_with p budget p.dos p.rows p.vectors p.records arena p.frames h.rows h.vectors h.records keeps h.free h
 
-pub holds_with_frames : (parts : MemoryParts) (budget : ℕ) (frames : List ℕ) → HoldsParts parts budget → HoldsParts (record parts { frames = frames }) budget
-holds_with_frames p budget frames h = holds_with p budget p.dos p.rows p.vectors p.records p.arena frames h.rows h.vectors h.records h.arena h
+pub holds_with_frames : (parts : MemoryParts) (budget : ℕ) (frames : List ℕ) →
+    ((frame : ℕ) → IsIdle parts.taken budget frame → next_frame frames frame ≡ next_frame parts.frames frame) → HoldsParts parts budget →
+    HoldsParts (record parts { frames = frames }) budget
+holds_with_frames p budget frames same h = holds_with p budget p.dos p.rows p.vectors p.records p.arena frames h.rows h.vectors h.records h.arena
+    (list_kept p.vectors p.vectors p.taken p.frames frames budget refl same h.free) h

@@ -9,7 +9,7 @@ use Rattle.client_world.specs.World.{Callback}
 use Rattle.guest_ram.specs.Bytes.{put, dword, dword_bytes, word_of}
 use Rattle.guest_ram.proofs.ListedLaws.{listed-set, same_listed}
 use Rattle.guest_ram.proofs.PutLaws.{dword_put, length-put, put_away, put_below, put_within, same_dword}
-use Rattle.host_memory.specs.Vectors.{KeepsVectors, callback_at, callback_bytes, callbacks_in, callbacks_start, exception_vectors_in, exceptions_start, interrupt_vectors_in, pageable_in, pageable_start, pointer_at, vector_bytes, word_bytes}
+use Rattle.host_memory.specs.Vectors.{KeepsVectors, callback_at, callback_bytes, callbacks_in, callbacks_start, exception_vectors_in, exceptions_start, head_end, head_start, interrupt_vectors_in, pageable_in, pageable_start, pointer_at, vector_bytes, word_bytes}
 
 -- ---- a pointer
 
@@ -99,7 +99,7 @@ pub same_callbacks : (b c : List ℕ) → ((k : ℕ) → callbacks_start ≤ k �
 same_callbacks b c same = same_listed CALLBACKS (λ slot. callback_at b (callbacks_start + CALLBACK_SIZE * slot)) (λ slot. callback_at c (callbacks_start + CALLBACK_SIZE * slot))
     (λ slot less. same_callback b c (callbacks_start + CALLBACK_SIZE * slot) (λ i small. same (callbacks_start + CALLBACK_SIZE * slot + i) (omega arith) (omega arith)))
 
-pub same_pageable : (b c : List ℕ) → ((k : ℕ) → pageable_start ≤ k → k < PAGE_SIZE * VECTOR_FRAMES → slice_index b k ≡ slice_index c k) → pageable_in b ≡ pageable_in c
+pub same_pageable : (b c : List ℕ) → ((k : ℕ) → pageable_start ≤ k → k < head_start → slice_index b k ≡ slice_index c k) → pageable_in b ≡ pageable_in c
 same_pageable b c same = same_listed DOS_VIEW_PAGES (λ page. nat_eq (slice_index b (pageable_start + page)) 1) (λ page. nat_eq (slice_index c (pageable_start + page)) 1)
     (λ page less. ap (λ (x : ℕ). nat_eq x 1) (same (pageable_start + page) (omega arith) (omega arith)))
 
@@ -310,3 +310,22 @@ pageable_set part page on long within =
     listed-set DOS_VIEW_PAGES (λ k. nat_eq (slice_index part (pageable_start + k)) 1) (λ k. nat_eq (slice_index (put_pageable part page on) (pageable_start + k)) 1) page on within
     (ap (λ (x : ℕ). nat_eq x 1) (pageable_there part page on long within) ∙ is_one on)
     (λ k less ne. ap (λ (x : ℕ). nat_eq x 1) (pageable_away part page on (pageable_start + k) (λ z. ne (omega arith))))
+
+-- ---- the head of the list of free frames
+
+abbrev pub put_head : List ℕ → ℕ → List ℕ
+put_head part frame = put part head_start (dword_bytes frame)
+
+pub head_away : (part : List ℕ) (frame k : ℕ) → (k < head_start) ⊎ (head_end ≤ k) → slice_index (put_head part frame) k ≡ slice_index part k
+head_away part frame k away = put_away part head_start (dword_bytes frame) k (elim away [ inl below ↦ inr below | inr above ↦ inl (omega arith) ])
+
+pub keeps_head : (part : List ℕ) (frame : ℕ) → KeepsVectors part → KeepsVectors (put_head part frame)
+keeps_head part frame keeps = record {
+  vectors = λ n at small less. head_away part frame (VECTOR_SIZE * n + at) (inl (omega arith))
+      ∙ keeps.vectors n at small less
+      ∙ sym (ap (λ (q : FarPtr). slice_index (vector_bytes q) at) (same_pointer (put_head part frame) part (VECTOR_SIZE * n)
+      (λ i s. head_away part frame (VECTOR_SIZE * n + i) (inl (omega arith)))));
+  callbacks = keeps_callbacks part (put_head part frame) keeps (λ k from to. head_away part frame k (inl (omega arith)));
+  pageable = λ page less. subst (λ (x : ℕ). x < 2) (sym (head_away part frame (pageable_start + page) (inl (omega arith)))) (keeps.pageable page less);
+  rest = λ at from to. head_away part frame at (inr from) ∙ keeps.rest at from to;
+}

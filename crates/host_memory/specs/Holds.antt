@@ -4,13 +4,15 @@ use Rattle.std.specs.List.{range_with_len}
 use Rattle.client_world.specs.declared.host_frames.TheConstants.{PAGE_SIZE, BUDGET_FRAMES, DESCRIPTORS, DESCRIPTOR_ROW_SIZE, BLOCK_ROW_SIZE}
 use Rattle.client_world.specs.declared.limits.TheConstants.{MAX_BLOCKS, MAX_PAGES}
 use Rattle.client_world.specs.declared.memory_map.TheConstants.{BLOCK_REGION_PAGES}
+use Rattle.guest_ram.specs.Bytes.{dword}
 use Rattle.guest_ram.specs.Count.{used, total}
 use Rattle.desc_table.specs.Rows.{row_at, row_bytes}
-use Rattle.host_memory.specs.Layout.{fixed_part, tables_part, rows_part, vectors_part, records_part, handles_part, locks_part, arena_part, taken_part, pages_of, lock_of}
-use Rattle.host_memory.specs.Vectors.{KeepsVectors}
+use Rattle.page_tables.specs.FreeList.{ListsFree}
+use Rattle.host_memory.specs.Layout.{fixed_part, tables_part, rows_part, vectors_part, records_part, handles_part, locks_part, arena_part, taken_part, budget_part, pages_of, lock_of}
+use Rattle.host_memory.specs.Vectors.{KeepsVectors, head_start}
 use Rattle.host_memory.specs.Records.{KeepsRecords}
 use Rattle.host_memory.specs.DosList.{KeepsArena}
-use Rattle.host_memory.specs.Tables.{HasFixedEntries, HasBlockEntries, IsOutside}
+use Rattle.host_memory.specs.Tables.{HasFixedEntries, HasBlockEntries, IsIdle, IsOutside, next_frame}
 
 -- each row of descriptors is exactly the bytes of what it holds
 pub record KeepsRows (rows : List ℕ) : Type 0 where
@@ -26,6 +28,10 @@ pub record KeepsHandles (handles : List ℕ) : Type 0 where
 unfoldable pub all_pages : List ℕ → ℕ
 all_pages handles = total (pages_of handles) (range_with_len 0 MAX_BLOCKS)
 
+-- from the head on follow exactly the frames of the budget whose taken byte is 0, each once: the first doubleword of each names the next one
+abbrev pub ListsFreeFrames : List ℕ → List ℕ → List ℕ → ℕ → Type 0
+ListsFreeFrames vectors taken frames budget = ListsFree (dword vectors head_start) (next_frame frames) (IsIdle taken budget)
+
 -- pages that no block holds have no lock
 pub record KeepsLocks (handles locks : List ℕ) : Type 0 where
   pub outside : (page : ℕ) → page < BLOCK_REGION_PAGES → IsOutside handles page → lock_of locks page ≡ 0
@@ -40,6 +46,7 @@ pub record Holds (b : List ℕ) (budget : ℕ) : Type 0 where
   pub records : KeepsRecords (records_part b)
   pub handles : KeepsHandles (handles_part b)
   pub blocks : HasBlockEntries (handles_part b) (tables_part b) (taken_part b) budget
+  pub free : ListsFreeFrames (vectors_part b) (taken_part b) (budget_part b budget) budget
   pub count : used (taken_part b) ≡ all_pages (handles_part b)
   pub locks : KeepsLocks (handles_part b) (locks_part b)
   pub arena : KeepsArena (arena_part b)

@@ -14,7 +14,8 @@ use Rattle.client_world.specs.World.{World, MemoryBlock, block_at}
 use Rattle.guest_ram.specs.Bytes.{dword, word_of}
 use Rattle.desc_table.specs.Rows.{row_bytes}
 use Rattle.page_tables.specs.Entry.{page_entry}
-use Rattle.host_memory.specs.Vectors.{vector_bytes, callback_bytes, exceptions_start, callbacks_start, pageable_start}
+use Rattle.page_tables.specs.FreeList.{HasFreeList}
+use Rattle.host_memory.specs.Vectors.{vector_bytes, callback_bytes, exceptions_start, callbacks_start, pageable_start, head_end}
 use Rattle.host_memory.specs.Records.{record_bytes, record_size}
 use Rattle.host_memory.specs.DosList.{entry_bytes, entry_size, list_size}
 use Rattle.host_memory.specs.Tables.{directory_entry_at, low_entry_at, window_entry_at, NamesBudgetFrame}
@@ -80,7 +81,7 @@ pub record HoldsBlocks (b : List ℕ) (w : World) : Type 0 where
       word_of b (frame_place LOCK_COUNTS (LOCK_COUNT_SIZE * block_page block page)) ≡ slice_index block.locks page
   pub unlocked : (page : ℕ) → page < BLOCK_REGION_PAGES → IsNoBlocks w page → word_of b (frame_place LOCK_COUNTS (LOCK_COUNT_SIZE * page)) ≡ 0
 
--- the frame of the vectors: each list in its place, and zeros after them
+-- the frame of the vectors: each list in its place, then the head of the list of free frames, and zeros after it
 pub record HoldsVectors (b : List ℕ) (w : World) : Type 0 where
   pub interrupts : (n at : ℕ) (p : FarPtr) → slice_get w.interrupt_vectors n ≡ Some p → at < VECTOR_SIZE →
       slice_index b (frame_place VECTORS (VECTOR_SIZE * n + at)) ≡ slice_index (vector_bytes p) at
@@ -90,7 +91,7 @@ pub record HoldsVectors (b : List ℕ) (w : World) : Type 0 where
       slice_index b (frame_place VECTORS (callbacks_start + (CALLBACK_SIZE * slot + at))) ≡ slice_index (callback_bytes (slice_index_or w.callbacks slot None)) at
   pub pageable : (page : ℕ) → page < DOS_VIEW_PAGES →
       slice_index b (frame_place VECTORS (pageable_start + page)) ≡ cond (slice_index_or w.pageable page false) 1 0
-  pub rest : (at : ℕ) → pageable_start + DOS_VIEW_PAGES ≤ at → at < PAGE_SIZE * VECTOR_FRAMES → slice_index b (frame_place VECTORS at) ≡ 0
+  pub rest : (at : ℕ) → head_end ≤ at → at < PAGE_SIZE * VECTOR_FRAMES → slice_index b (frame_place VECTORS at) ≡ 0
 
 -- lists whose length the world gives: their items one after another, and zeros after them
 pub record HoldsLists (b : List ℕ) (w : World) : Type 0 where
@@ -108,6 +109,7 @@ pub record HoldsWorld (b : List ℕ) (w : World) : Type 0 where
   pub megabyte : (at : ℕ) → at < DOS_SIZE → slice_index b at ≡ slice_index w.dos at
   pub tables : HoldsTables b w
   pub taken : HoldsTaken b w
+  pub free : HasFreeList b
   pub descriptors : (index at : ℕ) → index < DESCRIPTORS → at < DESCRIPTOR_ROW_SIZE →
       slice_index b (frame_place DESCRIPTOR_ROWS (DESCRIPTOR_ROW_SIZE * index + at)) ≡ slice_index (row_bytes (row_at_index w.descriptors index)) at
   pub blocks : HoldsBlocks b w

@@ -62,6 +62,16 @@ pub record NamesFrame (tables : List ℕ) (frame : ℕ) : Type 0 where
   pub inside : page < BLOCK_REGION_PAGES
   pub named : entry_of tables page ≡ page_entry (BUDGET_FRAMES + frame) true
 
+-- a frame of the budget whose taken byte is 0
+pub record IsIdle (taken : List ℕ) (budget frame : ℕ) : Type 0 where
+  pub from : BUDGET_FRAMES ≤ frame
+  pub to : frame < BUDGET_FRAMES + budget
+  pub idle : slice_index taken (frame - BUDGET_FRAMES) ≡ 0
+
+-- the frame that follows it in the list of free frames: its first doubleword
+abbrev pub next_frame : List ℕ → ℕ → ℕ
+next_frame frames frame = dword frames (PAGE_SIZE * (frame - BUDGET_FRAMES))
+
 -- the pages of blocks lie in budget frames, each in one of its own, and exactly these frames are taken
 pub record HasBlockEntries (handles tables taken : List ℕ) (budget : ℕ) : Type 0 where
   pub named : (place offset : ℕ) → place < MAX_BLOCKS → offset < pages_of handles place →

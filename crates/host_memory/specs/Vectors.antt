@@ -1,4 +1,4 @@
--- The frame of the protected-mode vectors, the callbacks and the pageable pages. Source: own.
+-- The frame of the protected-mode vectors, the callbacks, the pageable pages and the head of the list of free frames. Source: own.
 use Rattle.std.specs.Prelude.{◌≡◌, ℕ, ◌+◌, ◌*◌, ◌/◌, ◌%◌, ◌<◌, ◌≤◌, Bool, nat_eq, if◌then◌else◌, List, [], ◌∷◌, ◌++◌, None, Some, slice_index}
 use Rattle.std.specs.declared.option.Option.{Option}
 use Rattle.client_world.specs.declared.segments.FarPtr.{FarPtr}
@@ -18,6 +18,13 @@ callbacks_start = exceptions_start + VECTOR_SIZE * EXCEPTION_VECTORS
 
 abbrev pub pageable_start : ℕ
 pageable_start = callbacks_start + CALLBACK_SIZE * CALLBACKS
+
+-- the doubleword that names the first free frame of the page budget, and where it ends
+abbrev pub head_start : ℕ
+head_start = pageable_start + DOS_VIEW_PAGES
+
+abbrev pub head_end : ℕ
+head_end = head_start + 4
 
 -- a far pointer: its offset, and after it its selector
 abbrev pub pointer_at : List ℕ → ℕ → FarPtr
@@ -56,11 +63,11 @@ callbacks_in part = listed CALLBACKS (λ slot. callback_at part (callbacks_start
 abbrev pub pageable_in : List ℕ → List Bool
 pageable_in part = listed DOS_VIEW_PAGES (λ page. nat_eq (slice_index part (pageable_start + page)) 1)
 
--- the bytes of the frame are exactly those of its lists, and zeros after them
+-- the bytes of the frame are exactly those of its lists, and zeros after the head of the list of free frames
 pub record KeepsVectors (part : List ℕ) : Type 0 where
   pub vectors : (n at : ℕ) → n < INTERRUPT_VECTORS + EXCEPTION_VECTORS → at < VECTOR_SIZE →
       slice_index part (VECTOR_SIZE * n + at) ≡ slice_index (vector_bytes (pointer_at part (VECTOR_SIZE * n))) at
   pub callbacks : (slot at : ℕ) → slot < CALLBACKS → at < CALLBACK_SIZE →
       slice_index part (callbacks_start + (CALLBACK_SIZE * slot + at)) ≡ slice_index (callback_bytes (callback_at part (callbacks_start + CALLBACK_SIZE * slot))) at
   pub pageable : (page : ℕ) → page < DOS_VIEW_PAGES → slice_index part (pageable_start + page) < 2
-  pub rest : (at : ℕ) → pageable_start + DOS_VIEW_PAGES ≤ at → at < PAGE_SIZE * VECTOR_FRAMES → slice_index part at ≡ 0
+  pub rest : (at : ℕ) → head_end ≤ at → at < PAGE_SIZE * VECTOR_FRAMES → slice_index part at ≡ 0

@@ -1,4 +1,4 @@
-// A new memory: real mode, no block, no descriptor, the vectors that lead to the host, and all of DOS memory free.
+// A new memory: real mode, no block, no descriptor, the vectors that lead to the host, and all of DOS memory and of the page budget free.
 ghost use Rattle.std.specs.Prelude.{◌≡◌, ◌≤◌, ◌<◌, ◌+◌, ◌*◌, ℕ, IfOk, None, length, true};
 ghost use Rattle.client_world.specs.declared.registers.Mode.TheVariants.{Real};
 ghost use Rattle.client_world.specs.Soundness.{IsSound};
@@ -22,7 +22,7 @@ use client_world::selectors::{HOST_CODE, selector_of};
 use client_world::traps::PROTECTED_VECTOR_TRAPS;
 use client_world::{DosEntry, DosState};
 use guest_ram::Ram;
-use page_tables::{SUPERVISOR_WRITABLE, TABLE_SPAN, USER_READ_ONLY, USER_WRITABLE};
+use page_tables::{SUPERVISOR_WRITABLE, TABLE_SPAN, USER_READ_ONLY, USER_WRITABLE, link_frames};
 use std::alloc::{AllocError, Global};
 
 // The doublewords of the protected vectors, two for each.
@@ -165,6 +165,7 @@ pub fn blank_memory(alloc: Global, pages: u32) -> Result<Ram, AllocError>
     ensures sound { IfOk result (λ ram. IsSound (blank_world pages)) }
 {
     let mut ram = Ram::new(alloc, BUDGET_FRAMES + pages)?;
+    link_frames(&mut ram);
     ram.fill(ROM_START, DOS_SIZE - ROM_START, ROM_BYTE);
     fill_real_vectors(&mut ram);
     ram.write(

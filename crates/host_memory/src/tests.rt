@@ -13,7 +13,7 @@ fn word(ram: &Ram, at: u32) -> Option<u32> {
 }
 
 // Doublewords of a new memory, by their addresses.
-const DOUBLEWORDS: [(u32, u32); 31] = [
+const DOUBLEWORDS: [(u32, u32); 34] = [
     // Real vectors 21h and FFh, and what follows them.
     (0x84, 0xF000_0021),
     (0x3FC, 0xF000_00FF),
@@ -50,6 +50,10 @@ const DOUBLEWORDS: [(u32, u32); 31] = [
     (0x13_3800, 0x300),
     (0x13_3804, 0x87),
     (0x13_3900, 0),
+    // The head of the list of free frames, what follows it, and the only frame of the budget.
+    (0x13_3B10, 0x18F),
+    (0x13_3B14, 0),
+    (0x18_F000, 0),
     // The list of DOS memory.
     (0x13_E000, 0x9F9F_0060),
     (0x13_E004, 1),

@@ -1,10 +1,13 @@
 -- The tables of a memory in which one doubleword of the directory is, or none.
-use Rattle.std.proofs.Common.{◌≡◌, ◌≢◌, ℕ, ◌+◌, ◌*◌, ◌/◌, ◌<◌, ◌≤◌, inl, inr, List, length, get_or, true, false, refl, ◌∙◌, arith, add-zero, set, get_or-set_other}
+use Rattle.std.proofs.Common.{◌≡◌, ◌≢◌, ℕ, ◌+◌, ◌*◌, ◌/◌, ◌<◌, ◌≤◌, inl, inr, List, length, get_or, true, false, refl, ap, ◌∙◌, arith, add-zero, get_or-set_other}
 use Rattle.std.proofs.lemmas.Bool.{cases_eq}
 use Rattle.client_world.specs.declared.host_frames.TheConstants.{TABLE_ENTRIES}
-use Rattle.guest_ram.specs.Bytes.{dword}
+use Rattle.guest_ram.specs.Bytes.{dword, dword_bytes, put}
+use Rattle.guest_ram.proofs.PutLaws.{put_away}
 use Rattle.page_tables.specs.Mapping.{HasTables, NamesTable, directory_word}
-use Rattle.page_tables.specs.Budget.{IsNamedNowhere}
+use Rattle.page_tables.specs.Budget.{IsNamedNowhere, taken_place}
+use Rattle.page_tables.specs.FreeList.{next_free, without_head}
+use Rattle.page_tables.specs.declared.budget.TheConstants.{FREE_LIST_HEAD}
 use Rattle.page_tables.specs.declared.entry.TheConstants.{TABLE_SPAN}
 
 -- four zero bytes are a zero doubleword
@@ -40,12 +43,16 @@ one_table b long first others = record {
   ];
 }
 
--- where only a byte after the directory isn't 0, no page lies in a frame
-pub named_nowhere : (b c : List ℕ) (at v frame : ℕ) → ((k : ℕ) → get_or b k 0 ≡ 0) → c ≡ set b at v → 0x101000 ≤ at → IsNamedNowhere c frame
-named_nowhere b c at v frame blank e behind = λ lin l mapped named.
-    names_none c (lin / TABLE_SPAN)
-    (rw e (dword_zero (set b at v) (0x100000 + 4 * (lin / TABLE_SPAN)) (λ i m.
-    let ne : 0x100000 + 4 * (lin / TABLE_SPAN) + i ≢ at = omega arith in
-    get_or-set_other b at (0x100000 + 4 * (lin / TABLE_SPAN) + i) v 0 ne
-    ∙ blank (0x100000 + 4 * (lin / TABLE_SPAN) + i))))
+-- where the directory is zero, no page lies in a frame
+pub named_nowhere : (b : List ℕ) (frame : ℕ) → ((k : ℕ) → k < 0x101000 → get_or b k 0 ≡ 0) → IsNamedNowhere b frame
+named_nowhere b frame blank = λ lin l mapped named.
+    names_none b (lin / TABLE_SPAN)
+    (dword_zero b (0x100000 + 4 * (lin / TABLE_SPAN)) (λ i m. blank (0x100000 + 4 * (lin / TABLE_SPAN) + i) (omega arith)))
     mapped.covered
+
+-- below the head of the list of free frames a frame that is taken leaves the bytes
+pub below_head : (b c : List ℕ) (frame k : ℕ) → c ≡ without_head b frame → k < 0x101000 → get_or c k 0 ≡ get_or b k 0
+below_head b c frame k e low =
+    ap (λ (x : List ℕ). get_or x k 0) e
+    ∙ get_or-set_other (put b FREE_LIST_HEAD (dword_bytes (next_free b frame))) (taken_place frame) k 1 0 (omega arith)
+    ∙ put_away b FREE_LIST_HEAD (dword_bytes (next_free b frame)) k (inr (omega arith))

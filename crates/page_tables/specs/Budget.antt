@@ -31,9 +31,9 @@ IsTaken bytes frame = slice_index bytes (taken_place frame) ≢ 0
 abbrev pub AllTaken : List ℕ → Type 0
 AllTaken bytes = (frame : ℕ) → IsBudgetFrame bytes frame → IsTaken bytes frame
 
--- each frame of the budget below that one is taken
-abbrev pub AllTakenBelow : List ℕ → ℕ → Type 0
-AllTakenBelow bytes end = (frame : ℕ) → BUDGET_FRAMES ≤ frame → frame < end → IsTaken bytes frame
+-- each frame of the budget is free
+abbrev pub AllFree : List ℕ → Type 0
+AllFree bytes = (frame : ℕ) → IsBudgetFrame bytes frame → IsFree bytes frame
 
 -- no page lies in the frame
 abbrev pub IsNamedNowhere : List ℕ → ℕ → Type 0

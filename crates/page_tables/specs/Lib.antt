@@ -1,4 +1,5 @@
 pub mod Budget
 pub mod Entry
+pub mod FreeList
 pub mod Mapping
 pub mod Walk

@@ -1,9 +1,21 @@
-// The frames of the page budget: a byte for each says which are taken.
-ghost use Rattle.std.specs.Prelude.{◌≡◌, ◌↔◌, ◌<◌, ◌≤◌, IsNone, IfSome, IfNone, slice_set, length};
-ghost use Rattle.page_tables.specs.Budget.{HasBudget, IsBudgetFrame, IsFree, IsTaken, AllTaken, AllTakenBelow, IsNamedNowhere, taken_place};
+// The frames of the page budget: a byte for each says which are taken, and the free ones form a list inside themselves.
+ghost use Rattle.std.specs.Prelude.{◌≡◌, ◌↔◌, ◌<◌, ◌≤◌, IsNone, IfSome, IfNone, length};
+ghost use Rattle.page_tables.specs.Budget.{HasBudget, IsBudgetFrame, IsFree, IsTaken, AllFree, AllTaken, IsNamedNowhere, taken_place};
+ghost use Rattle.page_tables.specs.FreeList.{HasFreeList, KeepsBesideList, first_free, with_head, without_head};
 
-use client_world::host_frames::{BUDGET_FRAMES, PAGE_SIZE, TAKEN_FRAMES};
+use client_world::host_frames::{
+    BUDGET_FRAMES, CALLBACK_SIZE, PAGE_SIZE, TAKEN_FRAMES, VECTOR_SIZE, VECTORS,
+};
+use client_world::limits::{CALLBACKS, EXCEPTION_VECTORS, INTERRUPT_VECTORS};
+use client_world::memory_map::DOS_VIEW_PAGES;
 use guest_ram::Ram;
+
+/// The address of the head of the list of free frames, a doubleword: it follows the vectors, the callbacks and the pageable pages in their
+/// frame. Source: own.
+pub const FREE_LIST_HEAD: u32 = PAGE_SIZE * VECTORS
+    + VECTOR_SIZE * (INTERRUPT_VECTORS + EXCEPTION_VECTORS)
+    + CALLBACK_SIZE * CALLBACKS
+    + DOS_VIEW_PAGES;
 
 // The address of the taken byte of a frame.
 fn place_of(ram: &Ram, frame: u32) -> u32
@@ -16,51 +28,67 @@ fn place_of(ram: &Ram, frame: u32) -> u32
     PAGE_SIZE * TAKEN_FRAMES + (frame - BUDGET_FRAMES)
 }
 
-// The lowest free frame.
-fn lowest_free(ram: &Ram) -> Option<u32>
-    requires frames { HasBudget ram.now }
-    ensures none { IfNone result (AllTaken ram.now) }
-    ensures budget { IfSome result (IsBudgetFrame ram.now) }
-    ensures free { IfSome result (IsFree ram.now) }
-    ensures lowest { IfSome result (AllTakenBelow ram.now) }
-{
-    let end = ram.len() / PAGE_SIZE;
-    for frame in BUDGET_FRAMES..end {
-        if ram.get8(place_of(ram, frame)) == 0 {
-            return Some(frame);
-        }
-    }
-    None
-}
-
-/// Takes the lowest free frame of the budget, or none where each is taken. Source: own.
+/// Takes the frame at the head of the list of free frames, or none where each frame of the budget is taken. Its bytes stay.
+/// Source: own.
 pub fn take_frame(ram: &mut Ram) -> Option<u32>
     requires frames { HasBudget ram.old }
+    requires list { HasFreeList ram.old }
     ensures none { IsNone result ↔ AllTaken ram.old }
     ensures unchanged { IfNone result (ram.new ≡ ram.old) }
+    ensures head { IfSome result (λ frame. first_free ram.old ≡ frame) }
     ensures budget { IfSome result (IsBudgetFrame ram.old) }
     ensures free { IfSome result (IsFree ram.old) }
-    ensures lowest { IfSome result (AllTakenBelow ram.old) }
-    ensures bytes { IfSome result (λ frame. ram.new ≡ slice_set ram.old (taken_place frame) 1) }
+    ensures bytes { IfSome result (λ frame. ram.new ≡ without_head ram.old frame) }
     ensures taken { IfSome result (IsTaken ram.new) }
+    ensures list { HasFreeList ram.new }
     ensures size { length ram.new ≡ length ram.old }
 {
-    let frame = lowest_free(ram)?;
+    let _size = ram.len();
+    let frame = ram.get32(FREE_LIST_HEAD);
+    if frame == 0 {
+        return None;
+    }
     let place = place_of(ram, frame);
+    let next = ram.get32(PAGE_SIZE * frame);
+    ram.set32(FREE_LIST_HEAD, next);
     ram.set8(place, 1);
     Some(frame)
 }
 
-/// Gives a frame of the budget back. Source: own.
+/// Gives a frame of the budget back: it becomes the head of the list of free frames. Source: own.
 pub fn give_frame(ram: &mut Ram, frame: u32)
     requires frames { HasBudget ram.old }
+    requires list { HasFreeList ram.old }
     requires budget { IsBudgetFrame ram.old frame }
     requires taken { IsTaken ram.old frame }
     requires unmapped { IsNamedNowhere ram.old frame }
-    ensures bytes { ram.new ≡ slice_set ram.old (taken_place frame) 0 }
+    ensures bytes { ram.new ≡ with_head ram.old frame }
     ensures free { IsFree ram.new frame }
+    ensures list { HasFreeList ram.new }
     ensures size { length ram.new ≡ length ram.old }
 {
+    let _size = ram.len();
     let place = place_of(ram, frame);
+    let head = ram.get32(FREE_LIST_HEAD);
+    ram.set32(PAGE_SIZE * frame, head);
+    ram.set32(FREE_LIST_HEAD, frame);
     ram.set8(place, 0);
+}
+
+/// Lists all frames of the budget, none of which is taken, for a new memory. Source: own.
+pub fn link_frames(ram: &mut Ram)
+    requires frames { HasBudget ram.old }
+    requires free { AllFree ram.old }
+    ensures list { HasFreeList ram.new }
+    ensures others { KeepsBesideList ram.old ram.new }
+    ensures size { length ram.new ≡ length ram.old }
+{
+    let frames = ram.len() / PAGE_SIZE;
+    let mut first = 0;
+    for linked in 0..frames - BUDGET_FRAMES {
+        let frame = frames - 1 - linked;
+        ram.set32(PAGE_SIZE * frame, first);
+        first = frame;
+    }
+    ram.set32(FREE_LIST_HEAD, first);
 }

@@ -10,7 +10,7 @@ mod mapping;
 mod tests;
 mod translation;
 
-pub use budget::{give_frame, take_frame};
+pub use budget::{FREE_LIST_HEAD, give_frame, link_frames, take_frame};
 pub use entry::{
     ACCESSED, DIRTY, PRESENT, SUPERVISOR_WRITABLE, TABLE_SPAN, USER, USER_READ_ONLY, USER_WRITABLE,
     WRITABLE,

@@ -3,7 +3,7 @@ ghost use Rattle.std.specs.Prelude.{◌≡◌, ◌+◌, ◌*◌, IfOk, length};
 ghost use Rattle.page_tables.specs.declared.tests.TheConstants.{PAGE};
 ghost use Rattle.page_tables.specs.Mapping.{HasTables, IsCovered, IsUnmapped};
 
-use crate::{give_frame, map, take_frame, unmap, walk};
+use crate::{FREE_LIST_HEAD, give_frame, link_frames, map, take_frame, unmap, walk};
 use client_world::PageFault;
 use client_world::host_frames::{BUDGET_FRAMES, PAGE_DIRECTORY, PAGE_SIZE, TAKEN_FRAMES};
 use guest_ram::Ram;
@@ -49,17 +49,25 @@ fn a_page_is_mapped_and_no_longer(rt: HostRuntime) -> Result<(), Fail> {
 }
 
 #[test]
-fn the_lowest_free_frame_is_taken(rt: HostRuntime) -> Result<(), Fail> {
+fn frames_are_taken_from_the_list_of_free_ones(rt: HostRuntime) -> Result<(), Fail> {
     let mut ram = Ram::new(rt.alloc(), BUDGET_FRAMES + 2)?;
+    link_frames(&mut ram);
+    assert_eq!(rt; ram.get32(FREE_LIST_HEAD), BUDGET_FRAMES);
+    assert_eq!(rt; ram.get32(PAGE_SIZE * BUDGET_FRAMES), BUDGET_FRAMES + 1);
+    assert_eq!(rt; ram.get32(PAGE_SIZE * (BUDGET_FRAMES + 1)), 0);
+
     let first = take_frame(&mut ram);
     assert_eq!(rt; first, Some(BUDGET_FRAMES));
     assert_eq!(rt; ram.get8(PAGE_SIZE * TAKEN_FRAMES), 1);
+    assert_eq!(rt; ram.get32(FREE_LIST_HEAD), BUDGET_FRAMES + 1);
     if let Some(frame) = first {
         give_frame(&mut ram, frame);
     }
     assert_eq!(rt; ram.get8(PAGE_SIZE * TAKEN_FRAMES), 0);
+    assert_eq!(rt; ram.get32(FREE_LIST_HEAD), BUDGET_FRAMES);
     assert_eq!(rt; take_frame(&mut ram), Some(BUDGET_FRAMES));
     assert_eq!(rt; take_frame(&mut ram), Some(BUDGET_FRAMES + 1));
+    assert_eq!(rt; ram.get32(FREE_LIST_HEAD), 0);
     assert_eq!(rt; take_frame(&mut ram), None);
     Ok(())
 }

@@ -8,6 +8,11 @@ unmap-frame-requires-clause-tables c = tables_there c.args.ram.now c.args.place 
 pub unmap-frame-requires-clause-mapped : goal.unmap-frame-requires-clause-mapped
 unmap-frame-requires-clause-mapped c = is_mapped c.args.ram.now c.args.place c.args.base c.args.n c.requires.pages
 
+pub give_frame-requires-clause-list : goal.give_frame-requires-clause-list
+give_frame-requires-clause-list c =
+    (can_give c.args.ram.now c.args.place c.args.base c.args.n c.requires.pages c.unmap-frame.new.ram c.unmap-frame.ensures.bytes c.unmap-frame.result
+    c.unmap-frame.ensures.frame).list
+
 pub give_frame-requires-clause-budget : goal.give_frame-requires-clause-budget
 give_frame-requires-clause-budget c =
     (can_give c.args.ram.now c.args.place c.args.base c.args.n c.requires.pages c.unmap-frame.new.ram c.unmap-frame.ensures.bytes c.unmap-frame.result

@@ -1,6 +1,9 @@
 use Rattle.std.proofs.Common.{refl}
-use Rattle.block_memory.proofs.BlockSteps.{can_map, frame_free, page_added}
+use Rattle.block_memory.proofs.BlockSteps.{can_map, frame_free, free_list, page_added}
 use Rattle.block_memory.proofs.blocks.grow_page.Goals as goal
+
+pub take_frame-requires-clause-list : goal.take_frame-requires-clause-list
+take_frame-requires-clause-list c = free_list c.args.ram.now c.requires.room.budget c.requires.room.holds.holds
 
 pub map-requires-clause-tables : goal.map-requires-clause-tables
 map-requires-clause-tables c =
@@ -23,4 +26,4 @@ unreachable-requires c = frame_free c.args.ram.now c.args.place c.args.base c.ar
 pub returns : goal.returns
 returns c =
     page_added c.args.ram.now c.take_frame.new.ram c.fill.new.self c.map.new.ram c.set_block_row.new.ram c.args.place c.args.base c.args.n c.in-Some.frame
-    c.requires.room c.in-Some.ensures.budget c.in-Some.ensures.free c.in-Some.ensures.bytes c.fill.ensures.bytes c.map.ensures.bytes c.set_block_row.ensures
+    c.requires.room c.in-Some.ensures.budget c.in-Some.ensures.free c.in-Some.ensures.head c.in-Some.ensures.bytes c.fill.ensures.bytes c.map.ensures.bytes c.set_block_row.ensures

@@ -1,3 +1,4 @@
+use Rattle.std.proofs.Common.{◌∙◌}
 use Rattle.host_memory.proofs.BlankHolds.{blank_holds, blank_world_is}
 use Rattle.host_memory.proofs.BlankSound.{blank_is_sound}
 use Rattle.host_memory.proofs.FreshMemory.{IsBlank, is_blank}
@@ -5,13 +6,15 @@ use Rattle.host_memory.proofs.blank.blank_memory.Goals as goal
 
 -- the memory that the writes leave
 left : (c : goal.After-fill_protected_vectors) → IsBlank c.fill_protected_vectors.new.ram c.args.pages
-left c = is_blank c.args.pages c.header.result c.listed_entry.result c.in_ok-ram.ram c.fill.new.self c.fill_real_vectors.new.ram c.write.new.self
+left c = is_blank c.args.pages c.header.result c.listed_entry.result c.link_frames.new.ram c.fill.new.self c.fill_real_vectors.new.ram c.write.new.self
     c.fill_directory.new.ram c.fill_low_table.new.ram c.fill_window_table.new.ram c.write-2.new.self c.fill_protected_vectors.new.ram
     (record {
       header_is = c.header.ensures;
       row_is = c.listed_entry.ensures;
-      size = c.in_ok-ram.ensures.size;
-      zero = c.in_ok-ram.ensures.zero;
+      size = c.link_frames.ensures.size ∙ c.in_ok-ram.ensures.size;
+      zero = λ at less away. c.link_frames.ensures.others at less away ∙ c.in_ok-ram.ensures.zero at;
+      free = c.link_frames.ensures.list;
+      few = c.requires.few;
       rom = c.fill.ensures.bytes;
       reals = c.fill_real_vectors.ensures;
       head = c.write.ensures.bytes;
