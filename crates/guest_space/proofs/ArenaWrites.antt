@@ -40,7 +40,7 @@ put_all : (b xs : List ℕ) → length xs ≡ length b → put b 0 xs ≡ xs
 put_all b xs size = same_number_lists (put b 0 xs) xs (length-put b 0 xs ∙ sym size) (λ at small.
     put_within b 0 xs at at (omega arith) (omega (arith, length-put b 0 xs)) (omega arith))
 
-arena_parts : (b : List ℕ) (budget : ℕ) (es : List DosEntry) → HasSize b budget → IsArena es →
+pub arena_parts : (b : List ℕ) (budget : ℕ) (es : List DosEntry) → HasSize b budget → IsArena es →
     parts_of (with_arena b es) budget ≡ record (parts_of b budget) { arena = arena_bytes es; dos = with_headers (dos_part b) es }
 arena_parts b budget es size arena =
     let few = arena_few es arena in
@@ -179,3 +179,7 @@ put_is es xs b c place old new same is = rw same is
 pub with_entries_rows : (w : World) (place old : ℕ) (new : List DosEntry) → (with_entries w place old new).descriptors ≡ w.descriptors
 unfolding with_entries
 with_entries_rows w place old new = refl
+
+pub with_entries_blocks : (w : World) (place old : ℕ) (new : List DosEntry) → (with_entries w place old new).blocks ≡ w.blocks
+unfolding with_entries
+with_entries_blocks w place old new = refl

@@ -11,6 +11,7 @@ pub mod BlockLocks
 pub mod BlockPageCalls
 pub mod BlockReads
 pub mod BlockViews
+pub mod CacheLaws
 pub mod ChangedRegs
 pub mod CodeRuns
 pub mod Codes
@@ -23,6 +24,7 @@ pub mod FarLaws
 pub mod FarPuts
 pub mod Fars
 pub mod Fills
+pub mod HiddenLaws
 pub mod HostRows
 pub mod HostStacks
 pub mod KeptAccess

@@ -62,7 +62,8 @@ dos_size w (Block number at) x size = size
 dos_size w Host x size = size
 dos_size w Nothing x size = size
 
-bytes_kept : (w : World) (places : List Place) (bytes : List ℕ) (p : Place) →
+-- a write at places leaves the byte of every other place
+pub bytes_kept : (w : World) (places : List Place) (bytes : List ℕ) (p : Place) →
     ((i : ℕ) → i < length places → slice_index_or places i Nothing ≡ p → ⊥) → byte_of (with_bytes_of w places bytes) p ≡ byte_of w p
 bytes_kept w [] bytes p other = refl
 bytes_kept w (q ∷ places) [] p other = refl

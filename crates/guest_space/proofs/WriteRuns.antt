@@ -128,7 +128,7 @@ run_opened k v seg low n at bytes machine run size small =
     store_opened k v (linear (run.base + low)) n at bytes machine (omega arith) run.room run.ends size small
 
 -- they move no place, and no address of one
-places_keep_addresses : (k : Processor) (v : MachineView) (places : List Place) (bytes : List ℕ) → IsMachine k v → CanWriteAll v.world places →
+pub places_keep_addresses : (k : Processor) (v : MachineView) (places : List Place) (bytes : List ℕ) → IsMachine k v → CanWriteAll v.world places →
     AllBytes bytes → (q : Place) → address_of (with_places v places bytes).bytes q ≡ address_of v.bytes q
 places_keep_addresses k v [] bytes m can small q = ap (λ (u : MachineView). address_of u.bytes q) (with_places_none v bytes)
 places_keep_addresses k v (p ∷ places) [] m can small q = ap (λ (u : MachineView). address_of u.bytes q) (with_places_short v (p ∷ places))

@@ -1,8 +1,10 @@
 pub mod Arena
+pub mod Cache
 pub mod Code
 pub mod Dos
 pub mod DosRuns
 pub mod Far
+pub mod HiddenParts
 pub mod Machines
 pub mod Pending
 pub mod Records

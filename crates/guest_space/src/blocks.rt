@@ -8,6 +8,7 @@ ghost use Rattle.client_world.specs.World.{block_at, with_block_at};
 ghost use Rattle.block_memory.specs.BlockSizes.{CanHold, CanMake, CanMove, CanSize, HasPages, longer, shorter, extended, at_base, sized_block, fresh_block, IsBlocks, lock_in, with_lock, row_seen, zeroed, locked_pages};
 ghost use Rattle.host_memory.specs.Layout.{address_of};
 
+use crate::cache::empty_cache;
 use crate::machine::Machine;
 use block_memory::{
     block_row, drop_block, extend_block, locked_pages, region_page, resize_block, used_pages,
@@ -35,6 +36,7 @@ impl Machine {
     {
         self.soundness();
         extend_block(&mut self.ram, handle as u32 - 1, base, 0, pages);
+        self.cache = empty_cache();
     }
 
     /// Frees the memory block of a handle. Source: own.
@@ -47,6 +49,7 @@ impl Machine {
     {
         self.soundness();
         drop_block(&mut self.ram, handle as u32 - 1);
+        self.cache = empty_cache();
     }
 
     /// Gives the memory block of a handle that linear address and that many pages. The pages that it keeps keep their contents and lock
@@ -63,6 +66,7 @@ impl Machine {
     {
         self.soundness();
         resize_block(&mut self.ram, handle as u32 - 1, base, pages);
+        self.cache = empty_cache();
     }
 
     /// The lock count of the page of a linear address, 0 where no memory block covers it. Source: own.
@@ -89,6 +93,7 @@ impl Machine {
         let page = region_page(lin);
         self.ram
             .set16(PAGE_SIZE * LOCK_COUNTS + LOCK_COUNT_SIZE * page, n);
+        self.cache = empty_cache();
     }
 
     /// Fills the page of a linear address that a memory block covers with zeros. Source: own.
@@ -99,6 +104,7 @@ impl Machine {
     {
         let entry = self.ram.get32(PAGE_SIZE * BLOCK_TABLES + PAGE_ENTRY_SIZE * region_page(lin));
         self.ram.fill(PAGE_SIZE * (entry / PAGE_SIZE), PAGE_SIZE, 0);
+        self.cache = empty_cache();
     }
 
     /// The number of pages of all memory blocks. Source: own.

@@ -62,7 +62,7 @@ impl Machine {
         ensures { IfSome result (λ words. code_from self.now.world 0 code_room ≡ code_bytes words) }
     {
         let eip = self.registers().eip;
-        let base = self.quick_base(SegReg::Cs, eip, MAX_CODE as u32)?;
+        let base = self.quick_base(SegReg::Cs, eip, MAX_CODE as u32, false)?;
         self.load_words(base.wrapping_add(eip))
     }
 

@@ -9,6 +9,8 @@ ghost use Rattle.client_world.specs.Soundness.{IsSound, IsOfDosBlock, host_code,
 ghost use Rattle.guest_ram.specs.Bytes.{put};
 ghost use Rattle.desc_table.specs.Rows.{row_address, row_bytes};
 
+use crate::cache::empty_cache;
+use crate::hidden_parts::all_parts;
 use crate::machine::Machine;
 use client_world::host_frames::DESCRIPTORS;
 use client_world::limits::GREATEST_DEPTH;
@@ -99,6 +101,8 @@ impl Machine {
         ensures bytes { self.new.bytes ≡ put self.old.bytes (row_address index) (row_bytes row) }
     {
         set(&mut self.ram, index, row);
+        let parts = all_parts(&self.ram, self.mode, &self.regs);
+        self.hidden = parts;
     }
 
     /// The first index from 64 on at which n indices one after another are free. `None` where n is 0 or there is no such run.
@@ -127,5 +131,7 @@ impl Machine {
             Some((host_stacks(w), Origin::Host)),
         );
         self.width = Some(w);
+        self.cache = empty_cache();
+        self.hidden = all_parts(&self.ram, self.mode, &self.regs);
     }
 }

@@ -7,6 +7,8 @@ ghost use Rattle.desc_table.specs.Rows.{HasRows};
 ghost use Rattle.guest_space.specs.DosRuns.{CanPutRun, dos_descriptor, dos_limit, dos_row, rows_of_run, with_entries_and_run, with_run_bytes};
 
 use crate::arena::put_entries;
+use crate::cache::empty_cache;
+use crate::hidden_parts::all_parts;
 use crate::machine::Machine;
 use arrayvec::ArrayVec;
 use client_world::memory_map::PARAGRAPH_SIZE;
@@ -88,5 +90,7 @@ impl Machine {
     {
         put_entries(&mut self.ram, place, old, new);
         put_dos_rows(&mut self.ram, run);
+        self.cache = empty_cache();
+        self.hidden = all_parts(&self.ram, self.mode, &self.regs);
     }
 }

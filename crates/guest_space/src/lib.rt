@@ -5,11 +5,13 @@
 
 mod arena;
 mod blocks;
+mod cache;
 mod code;
 mod descriptors;
 mod dos;
 mod dos_runs;
 mod far;
+mod hidden_parts;
 mod laws;
 mod loading;
 mod machine;

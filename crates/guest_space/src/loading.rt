@@ -5,7 +5,7 @@ ghost use Rattle.client_world.specs.Loading.{is_privileged, data_fault, stack_fa
 ghost use Rattle.client_world.specs.Segments.{with_selector};
 ghost use Rattle.client_world.specs.Descriptor.{is_code, is_writable};
 
-use crate::machine::{Machine, segments_fit};
+use crate::machine::Machine;
 use crate::segments::fault_with;
 use client_world::faults::{GENERAL_PROTECTION, SEGMENT_NOT_PRESENT, STACK_EXCEPTION};
 use client_world::selectors::{CLIENT_PRIVILEGE, is_null, privilege_of, selector_code};
@@ -125,8 +125,7 @@ impl Machine {
             (register_fault self.old.world seg sel ≡ Some fault) × (self.new ≡ self.old)) }
     {
         self.check_load(seg, sel)?;
-        self.regs.set_selector(seg, sel);
-        segments_fit(self.regs);
+        self.set_selector(seg, sel);
         Ok(())
     }
 }

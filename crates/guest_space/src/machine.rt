@@ -13,6 +13,10 @@ ghost use Rattle.host_memory.specs.Law.{walk_result, StandsAt};
 ghost use Rattle.page_tables.specs.Walk.{walked};
 ghost use Rattle.guest_space.specs.Registers.{with_registers};
 
+use crate::cache::{CacheEntry, empty_cache};
+use crate::hidden_parts::{
+    Hidden, all_parts, have_same_selectors, number, part_of_selector, parts_after,
+};
 use client_world::limits::MAX_PAGES;
 use client_world::{Flags, Mode, Regs, SegReg, Width};
 use guest_ram::Ram;
@@ -21,7 +25,8 @@ use std::alloc::{AllocError, Global};
 use std::marker::Model;
 
 /// A machine. Its descriptors, vectors, memory blocks, records, callbacks and the list of DOS memory lie in the bytes of its memory alone;
-/// contracts see the world that they hold, and the bytes.
+/// contracts see the world that they hold, and the bytes. The hidden parts of the segment registers are what these find in them,
+/// and the entries of the cache what the page tables say.
 #[derive(Drop)]
 pub struct Machine {
     pub(crate) ram: Ram,
@@ -30,10 +35,16 @@ pub struct Machine {
     pub(crate) mode: Mode,
     pub(crate) width: Option<Width>,
     pub(crate) vif: bool,
+    pub(crate) hidden: [Option<Hidden>; 6],
+    pub(crate) cache: [CacheEntry; 64],
 }
 
 impl Model for Machine {
+    ghost use Rattle.std.specs.Prelude.{◌≡◌};
     ghost use Rattle.client_world.specs.Soundness.{IsSound};
+    ghost use Rattle.desc_table.specs.Rows.{rows_from, rows_start};
+    ghost use Rattle.guest_space.specs.Cache.{Warm};
+    ghost use Rattle.guest_space.specs.HiddenParts.{all_found};
     ghost use Rattle.host_memory.specs.View.{MachineView};
     ghost use Rattle.host_memory.specs.Layout.{world_of};
     ghost use Rattle.host_memory.specs.Holds.{Holds};
@@ -42,7 +53,8 @@ impl Model for Machine {
 
     ghost view = { λ m. record { world = world_of m.ram m.pages m.mode m.regs m.vif m.width; bytes = m.ram } };
 
-    ghost invariant = { λ m. (Holds m.ram m.pages) × (IsSound (world_of m.ram m.pages m.mode m.regs m.vif m.width)) };
+    ghost invariant = { λ m. (Holds m.ram m.pages) × (IsSound (world_of m.ram m.pages m.mode m.regs m.vif m.width))
+        × (m.hidden ≡ all_found m.mode m.regs (rows_from m.ram rows_start)) × (Warm m.ram m.cache) };
 }
 
 impl Machine {
@@ -53,6 +65,7 @@ impl Machine {
         ensures { IfOk result (λ machine. machine.world ≡ blank_world pages) }
     {
         let ram = blank_memory(alloc, pages)?;
+        let hidden = all_parts(&ram, Mode::Real, &Regs::ZERO);
         Ok(Machine {
             ram,
             pages,
@@ -60,6 +73,8 @@ impl Machine {
             mode: Mode::Real,
             width: None,
             vif: true,
+            hidden,
+            cache: empty_cache(),
         })
     }
 
@@ -134,8 +149,12 @@ impl Machine {
     pub fn set_selector(&mut self, seg: SegReg, sel: u16)
         ensures { self.new ≡ with_registers (with_selector self.old.world.regs seg sel) self.old }
     {
+        let is_same = self.regs.selector(seg) == sel;
         self.regs.set_selector(seg, sel);
         segments_fit(self.regs);
+        if !is_same {
+            self.hidden[number(seg)] = part_of_selector(&self.ram, self.mode, seg, sel);
+        }
     }
 
     /// Sets the registers.
@@ -144,7 +163,12 @@ impl Machine {
         ensures bytes { self.new.bytes ≡ self.old.bytes }
     {
         segments_fit(r);
-        self.regs = r;
+        if have_same_selectors(&self.regs, &r) {
+            self.regs = r;
+        } else {
+            self.hidden = parts_after(&self.ram, self.mode, &self.hidden, &self.regs, &r);
+            self.regs = r;
+        }
     }
 
     /// The processor's mode.
@@ -162,6 +186,7 @@ impl Machine {
         ensures bytes { self.new.bytes ≡ self.old.bytes }
     {
         self.mode = m;
+        self.hidden = all_parts(&self.ram, self.mode, &self.regs);
     }
 
     /// The client's width, `None` before its entry to protected mode.

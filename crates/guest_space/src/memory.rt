@@ -6,6 +6,7 @@ ghost use Rattle.host_memory.specs.View.{OnlyAt};
 ghost use Rattle.guest_space.specs.Machines.{HoldsItsWorld};
 ghost use Rattle.guest_space.specs.Transfer.{read_result, places_of_access, access_fault, stored, translated, linear_access, bytes_at, fault_of, with_places};
 
+use crate::cache::cache_place;
 use crate::machine::Machine;
 use crate::segments::fault_with;
 use client_world::faults::{PAGE_FAULT, PROTECTION_CODE, USER_CODE, WRITE_CODE};
@@ -48,6 +49,19 @@ impl Machine {
     /// Where the byte of a linear address lies in the memory, or the page fault of its access.
     #[inline(always)]
     pub(crate) fn translate(&self, lin: u32, write: bool) -> Result<u32, Fault>
+        ensures { result ≡ translated self.now lin write }
+    {
+        let entry = &self.cache[cache_place(lin)];
+        if entry.serves(lin, write) {
+            Ok(PAGE_SIZE * entry.frame + lin % PAGE_SIZE)
+        } else {
+            self.walk_to(lin, write)
+        }
+    }
+
+    // The same, by a walk of the page tables.
+    #[inline(always)]
+    fn walk_to(&self, lin: u32, write: bool) -> Result<u32, Fault>
         ensures { result ≡ translated self.now lin write }
     {
         match walk(&self.ram, PAGE_DIRECTORY, lin, write) {
@@ -122,7 +136,7 @@ impl Machine {
         requires few { N ≤ PAGE_SIZE }
         ensures { result ≡ read_result self.now.world seg off N }
     {
-        match self.quick_base(seg, off, N as u32) {
+        match self.quick_base(seg, off, N as u32, false) {
             Some(base) => self.load(base.wrapping_add(off)),
             None => self.read_checked(seg, off),
         }
@@ -148,7 +162,7 @@ impl Machine {
         ensures { MatchResult result (λ _. access_fault self.now.world seg off n write ≡ None)
             (λ fault. access_fault self.now.world seg off n write ≡ Some fault) }
     {
-        match self.quick_base(seg, off, n) {
+        match self.quick_base(seg, off, n, write) {
             Some(base) => self.check(base.wrapping_add(off), n, write),
             None => self.probe_checked(seg, off, n, write),
         }
@@ -229,7 +243,7 @@ impl Machine {
         ensures only { OnlyAt (places_of_access (access self.old.world seg off N true)) self.old.bytes self.new.bytes }
     {
         self.holds_world();
-        match self.quick_base(seg, off, N as u32) {
+        match self.quick_base(seg, off, N as u32, true) {
             Some(base) => self.store(base.wrapping_add(off), &v),
             None => self.write_checked(seg, off, v),
         }

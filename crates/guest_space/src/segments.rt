@@ -1,14 +1,14 @@
 // Where an access through a segment begins, and how it is refused before any page is asked.
-ghost use Rattle.std.specs.Prelude.{◌≡◌, ◌+◌, Bool, nat_le, IfSome, Ok};
-ghost use Rattle.client_world.specs.declared.memory_map.TheConstants.{SEGMENT_SIZE};
-ghost use Rattle.client_world.specs.Access.{fault_with, stack_or, suits_register, base_in_row, protected_base, real_base, segment_base};
+ghost use Rattle.std.specs.Prelude.{◌≡◌, IfSome, Ok};
+ghost use Rattle.client_world.specs.Access.{fault_with, stack_or, suits_register, base_in_row, protected_base, segment_base};
 ghost use Rattle.client_world.specs.Selector.{FitsRow};
+ghost use Rattle.guest_space.specs.HiddenParts.{found};
 
+use crate::hidden_parts::{Hidden, number};
 use crate::machine::Machine;
 use client_world::faults::{GENERAL_PROTECTION, SEGMENT_NOT_PRESENT, STACK_EXCEPTION};
-use client_world::memory_map::{PARAGRAPH_SIZE, SEGMENT_SIZE};
 use client_world::selectors::{is_null, selector_code};
-use client_world::{Desc, Fault, Kind, Mode, Origin, SegReg};
+use client_world::{Desc, Fault, Kind, Origin, SegReg};
 
 /// The exception with that number and code.
 pub(crate) fn fault_with(number: u8, code: u32) -> Fault
@@ -19,7 +19,7 @@ pub(crate) fn fault_with(number: u8, code: u32) -> Fault
 
 // Of an access through SS the stack's exception, else that one.
 #[inline(always)]
-fn stack_or(seg: SegReg, number: u8) -> u8
+pub(crate) fn stack_or(seg: SegReg, number: u8) -> u8
     ensures { result ≡ stack_or seg number }
 {
     match seg {
@@ -29,7 +29,7 @@ fn stack_or(seg: SegReg, number: u8) -> u8
 }
 
 // Whether what the segment holds suits the register: CS takes code, and SS data that may be written.
-fn suits_register(seg: SegReg, kind: Kind) -> bool
+pub(crate) fn suits_register(seg: SegReg, kind: Kind) -> bool
     ensures { result ≡ suits_register seg kind }
 {
     match seg {
@@ -66,39 +66,25 @@ fn base_in_row(
     }
 }
 
-// Whether n bytes at an offset are inside the limit of a segment in real mode, which is FFFFh.
-#[inline(always)]
-fn is_in_real_segment(off: u32, n: u32) -> bool
-    ensures { result ≡ nat_le (off + n) SEGMENT_SIZE }
-{
-    u64::from(off) + u64::from(n) <= u64::from(SEGMENT_SIZE)
-}
-
-// An access through a segment in real mode.
-fn real_base(seg: SegReg, segment: u16, off: u32, n: u32) -> Result<u32, Fault>
-    ensures { result ≡ real_base seg segment off n }
-{
-    if is_in_real_segment(off, n) {
-        Ok(u32::from(segment) * PARAGRAPH_SIZE)
-    } else {
-        Err(fault_with(stack_or(seg, GENERAL_PROTECTION), 0))
-    }
-}
-
 impl Machine {
-    /// The linear address of the segment's first byte, where a quick look shows that the segment allows the access, as a read and as a
-    /// write; `None` says nothing.
+    // The hidden part of a segment register.
     #[inline(always)]
-    #[tactic(auto, unfolding(client_world::specs::Access::segment_base, host_memory::specs::Layout::world_of))]
-    pub(crate) fn quick_base(&self, seg: SegReg, off: u32, n: u32) -> Option<u32>
-        ensures { IfSome result (λ base. (write : Bool) →
+    fn part(&self, seg: SegReg) -> &Option<Hidden>
+        ensures { result.now ≡ found self.now.world.mode self.now.world.regs self.now.world.descriptors seg }
+    {
+        &self.hidden[number(seg)]
+    }
+
+    /// The linear address of the segment's first byte, where a quick look at the hidden part shows that the segment allows the access;
+    /// `None` says nothing.
+    #[inline(always)]
+    pub(crate) fn quick_base(&self, seg: SegReg, off: u32, n: u32, write: bool) -> Option<u32>
+        ensures { IfSome result (λ base.
             segment_base self.now.world.mode self.now.world.regs self.now.world.descriptors seg off n write ≡ Ok base) }
     {
-        match self.mode {
-            Mode::Real if is_in_real_segment(off, n) => {
-                Some(u32::from(self.regs.selector(seg)) * PARAGRAPH_SIZE)
-            }
-            Mode::Real | Mode::Protected => None,
+        match self.part(seg) {
+            Some(part) if part.allows(off, n, write) => Some(part.base),
+            _ => None,
         }
     }
 
@@ -122,7 +108,6 @@ impl Machine {
 
     /// An access to n bytes at an offset of a segment register: the linear address of the segment's first byte, or the fault.
     #[inline(never)]
-    #[tactic(auto, unfolding(client_world::specs::Access::segment_base, host_memory::specs::Layout::world_of))]
     pub(crate) fn segment_base(
         &self,
         seg: SegReg,
@@ -132,10 +117,10 @@ impl Machine {
     ) -> Result<u32, Fault>
         ensures { result ≡ segment_base self.now.world.mode self.now.world.regs self.now.world.descriptors seg off n write }
     {
-        let sel = self.regs.selector(seg);
-        match self.mode {
-            Mode::Real => real_base(seg, sel, off, n),
-            Mode::Protected => self.protected_base(seg, sel, off, n, write),
+        match self.part(seg) {
+            Some(part) => part.base_within(seg, off, n, write),
+            // In real mode there is a part; what is wrong with a selector of protected mode, the table says.
+            None => self.protected_base(seg, self.registers().selector(seg), off, n, write),
         }
     }
 }

@@ -37,7 +37,7 @@ impl Machine {
         requires { n ≤ PAGE_SIZE }
         ensures { IfSome result (λ at. IsRun self.now seg off n at) }
     {
-        let base = match self.quick_base(seg, off, n) {
+        let base = match self.quick_base(seg, off, n, true) {
             Some(base) => base,
             None => self.segment_base(seg, off, n, true).ok()?,
         };

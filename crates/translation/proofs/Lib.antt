@@ -1,7 +1,6 @@
 pub mod Begun
 pub mod Ended
 pub mod HandedOver
-pub mod KeptBytes
 pub mod KeptWorld
 pub mod NamedWords
 pub mod PutPart

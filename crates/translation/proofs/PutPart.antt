@@ -24,7 +24,7 @@ use Rattle.guest_space.proofs.FarPuts.{world_far_written}
 use Rattle.guest_space.proofs.Fars.{Reached, far_places, parts_reachable, reachable_linear, reached}
 use Rattle.guest_space.proofs.KeptAccess.{far_access_same, reachable_kept, same_places}
 use Rattle.guest_space.proofs.Parts.{protected_part, protected_read}
-use Rattle.translation.proofs.KeptBytes.{bytes_kept}
+use Rattle.guest_space.proofs.ReadBack.{bytes_kept}
 
 -- a machine with that world, whose bytes don't matter
 abbrev bare : World → MachineView

@@ -1,10 +1,16 @@
-use Rattle.std.proofs.Common.{◌+◌, ◌≤◌, ◌∙◌, ap, subst, List, length}
+use Rattle.std.proofs.Common.{◌+◌, ◌≤◌, ◌∙◌, ap, subst, List, length, sym, ◌≡◌, ℕ, Option}
 use Rattle.client_world.specs.declared.dos_memory.DosEntry.{DosEntry}
 use Rattle.client_world.specs.DosMemory.{IsArena}
 use Rattle.host_memory.specs.View.{MachineView}
 use Rattle.guest_space.specs.Arena.{spliced}
 use Rattle.guest_space.specs.Machines.{Processor}
-use Rattle.guest_space.proofs.ArenaWrites.{with_arena, arena_of, entries_holds, entries_world, entries_sound, put_is}
+use Rattle.guest_space.proofs.ArenaWrites.{with_arena, arena_of, entries_holds, entries_world, entries_sound, put_is, with_entries_rows, with_entries_blocks}
+use Rattle.client_world.specs.World.{World, MemoryBlock}
+use Rattle.guest_space.proofs.HiddenLaws.{kept}
+use Rattle.guest_space.proofs.CacheLaws.{kept_warm, arena_addresses}
+use Rattle.client_world.specs.Access.{place_in}
+use Rattle.client_world.specs.declared.place.Place.{Place}
+use Rattle.host_memory.specs.Layout.{address_of}
 use Rattle.guest_space.proofs.machine.Machine.arena_put.Goals as goal
 
 pub put_entries-requires-clause-within : goal.put_entries-requires-clause-within
@@ -31,6 +37,21 @@ invariant_of-self c =
       entries_holds k m.ram c.put_entries.new.ram v c.args.place c.args.old c.args.new.now.items c.self.view_is c.self.invariant.0 c.requires.sound written,
       entries_sound k m.ram c.put_entries.new.ram v c.args.place c.args.old c.args.new.now.items c.self.view_is c.self.invariant.0 c.self.invariant.1
           c.requires.old_plain c.requires.new_plain c.requires.sound written,
+      kept k m.ram c.put_entries.new.ram m.hidden v.world.descriptors (ap (λ (x : MachineView). x.world.descriptors) c.self.view_is)
+          (ap (λ (w : World). w.descriptors)
+          (entries_world k m.ram c.put_entries.new.ram v c.args.place c.args.old c.args.new.now.items c.self.view_is c.self.invariant.0 c.requires.sound written)
+          ∙ with_entries_rows v.world c.args.place c.args.old c.args.new.now.items) c.self.invariant.2,
+      kept_warm k m.ram c.put_entries.new.ram m.cache c.self.invariant.0 c.self.invariant.1
+          (entries_holds k m.ram c.put_entries.new.ram v c.args.place c.args.old c.args.new.now.items c.self.view_is c.self.invariant.0 c.requires.sound written)
+          (entries_sound k m.ram c.put_entries.new.ram v c.args.place c.args.old c.args.new.now.items c.self.view_is c.self.invariant.0 c.self.invariant.1
+          c.requires.old_plain c.requires.new_plain c.requires.sound written)
+          (λ lin. ap (λ (w : World). place_in w.blocks lin)
+          (entries_world k m.ram c.put_entries.new.ram v c.args.place c.args.old c.args.new.now.items c.self.view_is c.self.invariant.0 c.requires.sound written)
+          ∙ ap (λ (bs : List (Option MemoryBlock)). place_in bs lin) (with_entries_blocks v.world c.args.place c.args.old c.args.new.now.items)
+          ∙ ap (λ (x : MachineView). place_in x.world.blocks lin) (sym c.self.view_is))
+          (subst (λ (b : List ℕ). (p : Place) → address_of b p ≡ address_of m.ram p) (sym written)
+          (arena_addresses m.ram m.pages (spliced v.world.arena c.args.place c.args.old c.args.new.now.items) c.self.invariant.0 c.requires.sound))
+          c.self.invariant.3,
     )
 
 pub returns-clause-world : goal.returns-clause-world

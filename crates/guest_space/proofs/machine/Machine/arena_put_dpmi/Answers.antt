@@ -30,6 +30,18 @@ put_dos_rows-requires-clause-rows c =
     let size = (entries_holds k m.ram c.put_entries.new.ram v c.args.place c.args.old c.args.new.now.items c.self.view_is c.self.invariant.0 c.requires.arena written).size in
     omega arith
 
+pub all_parts-self-inside-requires : goal.all_parts-self-inside-requires
+all_parts-self-inside-requires c =
+    let m = c.self.inside in
+    let v = c.args.self.now in
+    let k : Processor = record { budget = m.pages; mode = m.mode; regs = m.regs; vif = m.vif; width = m.width } in
+    let after = run_machine k m.ram c.put_entries.new.ram c.put_dos_rows.new.ram v c.args.place c.args.old c.args.new.now.items c.args.run c.self.view_is
+    c.self.invariant.0 c.self.invariant.1 (omega arith) (omega arith) c.requires
+    (put_is v.world.arena _ m.ram c.put_entries.new.ram c.args.place c.args.old c.args.new.now.items (arena_of k m.ram v c.self.view_is) c.put_entries.ensures)
+    c.put_dos_rows.ensures in
+    let size = after.holds.size in
+    omega arith
+
 pub invariant_of-self : goal.invariant_of-self
 invariant_of-self c =
     let m = c.self.inside in
@@ -39,7 +51,7 @@ invariant_of-self c =
     c.self.invariant.0 c.self.invariant.1 (omega arith) (omega arith) c.requires
     (put_is v.world.arena _ m.ram c.put_entries.new.ram c.args.place c.args.old c.args.new.now.items (arena_of k m.ram v c.self.view_is) c.put_entries.ensures)
     c.put_dos_rows.ensures in
-    (after.holds, after.sound)
+    (after.holds, after.sound, c.all_parts-self-inside.ensures, c.empty_cache-self-inside.ensures c.put_dos_rows.new.ram)
 
 pub returns : goal.returns
 returns c =

@@ -3,6 +3,8 @@ use Rattle.client_world.specs.World.{World, block_at}
 use Rattle.block_memory.specs.BlockSizes.{extended, fresh_block}
 use Rattle.guest_space.specs.Machines.{Processor, held_world}
 use Rattle.guest_space.proofs.BlockCalls.{block_call, held_after_make, made_block, may_make}
+use Rattle.host_memory.specs.View.{MachineView}
+use Rattle.guest_space.proofs.HiddenLaws.{kept}
 use Rattle.guest_space.proofs.machine.Machine.block_make.Goals as goal
 
 pub extend_block-requires-clause-room : goal.extend_block-requires-clause-room
@@ -19,8 +21,13 @@ invariant_of-self c =
     let w = c.args.self.now.world in
     let done = block_call k m.ram c.args.self.now c.self.view_is c.extend_block.new.ram c.self.invariant.0 c.self.invariant.1 c.args.handle
     (λ o. extended c.args.base o (c.args.pages - 0)) (Some (fresh_block c.args.base c.args.pages)) c.requires.some c.extend_block.ensures c.requires.width
-    (made_block c.args.base c.args.pages (block_at w.blocks c.args.handle) c.requires.free c.requires.room.some) in
-    (done.holds, done.sound)
+    (made_block c.args.base c.args.pages (block_at w.blocks c.args.handle) c.requires.free c.requires.room.some) in (
+      done.holds,
+      done.sound,
+      kept k m.ram c.extend_block.new.ram m.hidden w.descriptors (ap (λ (v : MachineView). v.world.descriptors) c.self.view_is)
+          (ap (λ (x : World). x.descriptors) done.world) c.self.invariant.2,
+      c.empty_cache-self-inside.ensures c.extend_block.new.ram,
+    )
 
 pub returns-clause-world : goal.returns-clause-world
 returns-clause-world c =

@@ -7,7 +7,7 @@ pub invariant_of-self : goal.invariant_of-self
 invariant_of-self c =
     let m = c.self.inside in
     let r = m.regs in
-    (c.self.invariant.0, regs_sound m.ram m.pages m.mode r (record r { eip = c.args.eip }) m.vif m.width c.self.invariant.1 c.segments_fit.ensures)
+    (c.self.invariant.0, regs_sound m.ram m.pages m.mode r (record r { eip = c.args.eip }) m.vif m.width c.self.invariant.1 c.segments_fit.ensures, c.self.invariant.2, c.self.invariant.3)
 
 pub returns : goal.returns
 returns c =

@@ -1,15 +1,23 @@
-use Rattle.std.proofs.Common.{ap, ◌∙◌}
+use Rattle.std.proofs.Common.{ap, sym, ◌∙◌}
 use Rattle.client_world.specs.declared.registers.Regs.{Regs}
 use Rattle.client_world.specs.General.{with_general}
 use Rattle.host_memory.specs.Layout.{world_of}
 use Rattle.guest_space.proofs.ChangedRegs.{changed_regs}
+use Rattle.desc_table.specs.Rows.{rows_from, rows_start}
+use Rattle.guest_space.specs.HiddenParts.{all_found}
+use Rattle.guest_space.proofs.HiddenLaws.{found_general}
 use Rattle.guest_space.proofs.OwnParts.{regs_sound}
 use Rattle.guest_space.proofs.machine.Machine.set_general.Goals as goal
 
 pub invariant_of-self : goal.invariant_of-self
 invariant_of-self c =
     let m = c.self.inside in
-    (c.self.invariant.0, regs_sound m.ram m.pages m.mode m.regs c.set_general.new.self m.vif m.width c.self.invariant.1 c.segments_fit.ensures)
+    let rows = rows_from m.ram rows_start in (
+      c.self.invariant.0,
+      regs_sound m.ram m.pages m.mode m.regs c.set_general.new.self m.vif m.width c.self.invariant.1 c.segments_fit.ensures,
+      c.self.invariant.2 ∙ found_general m.mode m.regs rows c.args.n c.args.v ∙ ap (λ (r : Regs). all_found m.mode r rows) (sym c.set_general.ensures),
+      c.self.invariant.3,
+    )
 
 pub returns : goal.returns
 returns c =

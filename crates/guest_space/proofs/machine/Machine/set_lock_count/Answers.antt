@@ -1,4 +1,4 @@
-use Rattle.std.proofs.Common.{◌≡◌, ◌∙◌, ◌+◌, ◌*◌, ℕ, ap, subst, arith}
+use Rattle.std.proofs.Common.{◌≡◌, ◌∙◌, ◌+◌, ◌*◌, ℕ, ap, subst, arith, refl}
 use Rattle.client_world.specs.declared.place.Place.{Place}
 use Rattle.host_memory.specs.Layout.{address_of}
 use Rattle.host_memory.specs.View.{MachineView}
@@ -8,6 +8,8 @@ use Rattle.client_world.specs.declared.host_frames.TheConstants.{PAGE_SIZE, LOCK
 use Rattle.guest_ram.specs.Bytes.{put}
 use Rattle.host_memory.specs.Vectors.{word_bytes}
 use Rattle.block_memory.proofs.LockWrites.{in_region_of}
+use Rattle.client_world.specs.World.{World}
+use Rattle.guest_space.proofs.HiddenLaws.{kept}
 use Rattle.guest_space.proofs.machine.Machine.set_lock_count.Goals as goal
 
 pub invariant_of-self : goal.invariant_of-self
@@ -16,8 +18,12 @@ invariant_of-self c =
     let k : Processor = record { budget = m.pages; mode = m.mode; regs = m.regs; vif = m.vif; width = m.width } in
     let after = locked_machine k m.ram c.args.self.now c.self.view_is c.self.invariant.0 c.self.invariant.1 c.args.lin c.args.n (omega arith) c.requires
     c.set16.new.self
-    (c.set16.ensures.bytes ∙ ap (λ (page : ℕ). put m.ram (PAGE_SIZE * LOCK_COUNTS + LOCK_COUNT_SIZE * page) (word_bytes c.args.n)) c.region_page-page.ensures.page) in
-    (after.holds, after.sound)
+    (c.set16.ensures.bytes ∙ ap (λ (page : ℕ). put m.ram (PAGE_SIZE * LOCK_COUNTS + LOCK_COUNT_SIZE * page) (word_bytes c.args.n)) c.region_page-page.ensures.page) in (
+      after.holds,
+      after.sound,
+      kept k m.ram c.set16.new.self m.hidden _ refl (ap (λ (w : World). w.descriptors) after.world) c.self.invariant.2,
+      c.empty_cache-self-inside.ensures c.set16.new.self,
+    )
 
 pub returns-clause-world : goal.returns-clause-world
 returns-clause-world c =

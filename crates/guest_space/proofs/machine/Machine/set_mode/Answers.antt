@@ -10,6 +10,8 @@ invariant_of-self c =
       c.self.invariant.0,
       mode_sound m.ram m.pages m.mode c.args.m m.regs m.vif m.width c.self.invariant.1
           (subst (λ (v : MachineView). c.args.m ≡ protected → v.world.width ≢ None) (sym c.self.view_is) c.requires.width),
+      c.all_parts-self-inside.ensures,
+      c.self.invariant.3,
     )
 
 pub returns-clause-world : goal.returns-clause-world

@@ -1,4 +1,4 @@
-use Rattle.std.proofs.Common.{◌≡◌, ◌∙◌, ◌+◌, ◌*◌, ℕ, ap, slice_set, subst}
+use Rattle.std.proofs.Common.{◌≡◌, ◌∙◌, ◌+◌, ◌*◌, ℕ, ap, slice_set, subst, refl}
 use Rattle.client_world.specs.declared.host_frames.TheConstants.{PAGE_SIZE, VECTORS}
 use Rattle.client_world.specs.declared.place.Place.{Place}
 use Rattle.host_memory.specs.Layout.{address_of}
@@ -6,6 +6,10 @@ use Rattle.host_memory.specs.Vectors.{pageable_start}
 use Rattle.host_memory.specs.View.{MachineView}
 use Rattle.guest_space.specs.Machines.{Processor}
 use Rattle.guest_space.proofs.VectorCalls.{set_pageable}
+use Rattle.client_world.specs.World.{World}
+use Rattle.guest_space.proofs.HiddenLaws.{kept}
+use Rattle.guest_space.proofs.CacheLaws.{kept_warm}
+use Rattle.client_world.specs.Access.{place_in}
 use Rattle.guest_space.proofs.machine.Machine.set_pageable.Goals as goal
 
 pub invariant_of-self : goal.invariant_of-self
@@ -13,8 +17,13 @@ invariant_of-self c =
     let m = c.self.inside in
     let k : Processor = record { budget = m.pages; mode = m.mode; regs = m.regs; vif = m.vif; width = m.width } in
     let on = ap (λ (x : ℕ). slice_set m.ram (PAGE_SIZE * VECTORS + pageable_start + c.args.page) x) c.bit.ensures in
-    let after = set_pageable k m.ram c.self.invariant.0 c.self.invariant.1 c.args.page c.args.on c.requires c.set8.new.self (c.set8.ensures.bytes ∙ on) in
-    (after.holds, after.sound)
+    let after = set_pageable k m.ram c.self.invariant.0 c.self.invariant.1 c.args.page c.args.on c.requires c.set8.new.self (c.set8.ensures.bytes ∙ on) in (
+      after.holds,
+      after.sound,
+      kept k m.ram c.set8.new.self m.hidden _ refl (ap (λ (w : World). w.descriptors) after.world) c.self.invariant.2,
+      kept_warm k m.ram c.set8.new.self m.cache c.self.invariant.0 c.self.invariant.1 after.holds after.sound
+          (λ lin. ap (λ (w : World). place_in w.blocks lin) after.world) after.addresses c.self.invariant.3,
+    )
 
 pub returns-clause-world : goal.returns-clause-world
 returns-clause-world c =

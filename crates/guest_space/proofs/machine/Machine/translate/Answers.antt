@@ -1,23 +1,17 @@
-use Rattle.std.proofs.Common.{◌∙◌, sym, arith}
-use Rattle.host_memory.proofs.HostTables.{tables_inside}
+use Rattle.std.proofs.Common.{sym, arith, slice_index_or}
+use Rattle.guest_space.specs.Cache.{empty_entry}
 use Rattle.guest_space.specs.Machines.{Processor}
+use Rattle.guest_space.proofs.CacheLaws.{hit_ends}
 use Rattle.guest_space.proofs.Machines.{machine_of}
-use Rattle.guest_space.proofs.Runs.{translated_by_walk, translated_by_failure}
+use Rattle.guest_space.proofs.Runs.{translated_by_walk}
 use Rattle.guest_space.proofs.machine.Machine.translate.Goals as goal
 
-pub walk-requires-clause-tables : goal.walk-requires-clause-tables
-walk-requires-clause-tables c = tables_inside c.self.inside.ram c.self.inside.pages c.self.invariant.0
-
-pub returns-in-Ok : goal.returns-in-Ok
-returns-in-Ok c =
+pub returns-then-serves : goal.returns-then-serves
+returns-then-serves c =
     let m = c.self.inside in
     let k : Processor = record { budget = m.pages; mode = m.mode; regs = m.regs; vif = m.vif; width = m.width } in
-    rw (← c.self.view_is) (sym (translated_by_walk k _ c.args.lin c.args.write c.in-Ok.at (machine_of k m.ram c.self.invariant.0 c.self.invariant.1)
-    (omega arith) (sym c.walk.ensures ∙ c.in-Ok.is)))
-
-pub returns-in-Err : goal.returns-in-Err
-returns-in-Err c =
-    let m = c.self.inside in
-    let k : Processor = record { budget = m.pages; mode = m.mode; regs = m.regs; vif = m.vif; width = m.width } in
-    rw (← c.self.view_is, c.page_fault.ensures) (sym (translated_by_failure k _ c.args.lin c.args.write c.in-Err.fault (machine_of k m.ram c.self.invariant.0 c.self.invariant.1)
-    (omega arith) (sym c.walk.ensures ∙ c.in-Err.is)))
+    let entry = slice_index_or m.cache c.cache_place.result empty_entry in
+    let told = c.serves.ensures c.if-serves.true in
+    let hit = c.self.invariant.3.hit c.cache_place.result c.cache_place.ensures.inside told.0 in
+    rw (← c.self.view_is) (sym (translated_by_walk k _ c.args.lin c.args.write _ (machine_of k m.ram c.self.invariant.0 c.self.invariant.1) (omega arith)
+    (hit_ends m.ram entry c.args.lin c.args.write hit told.1 told.2)))

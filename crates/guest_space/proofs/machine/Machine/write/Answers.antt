@@ -1,4 +1,3 @@
-use Rattle.std.proofs.Common.{true}
 use Rattle.guest_space.proofs.Accesses.{write_done, write_refused}
 use Rattle.guest_space.proofs.MachineLaws.{stored_or_kept}
 use Rattle.guest_space.proofs.machine.Machine.write.Goals as goal
@@ -6,20 +5,20 @@ use Rattle.guest_space.proofs.machine.Machine.write.Goals as goal
 pub returns-in-Some-clause-done : goal.returns-in-Some-clause-done
 returns-in-Some-clause-done g c =
     write_done c.args.self.now c.store.new.self c.args.seg c.args.off g.row.N c.in-Some.base c.args.v c.store.result
-    (c.in-Some.ensures true) c.store.ensures.done
+    c.in-Some.ensures c.store.ensures.done
 
 pub returns-in-Some-clause-refused : goal.returns-in-Some-clause-refused
 returns-in-Some-clause-refused g c =
     write_refused c.args.self.now c.store.new.self c.args.seg c.args.off g.row.N c.in-Some.base c.store.result
-    (c.in-Some.ensures true) c.store.ensures.refused
+    c.in-Some.ensures c.store.ensures.refused
 
 pub returns-in-Some-clause-only : goal.returns-in-Some-clause-only
 returns-in-Some-clause-only g c =
     stored_or_kept c.args.self.now c.store.new.self c.holds_world.ensures c.args.seg c.args.off g.row.N c.args.v c.store.result
     (write_done c.args.self.now c.store.new.self c.args.seg c.args.off g.row.N c.in-Some.base c.args.v c.store.result
-    (c.in-Some.ensures true) c.store.ensures.done)
+    c.in-Some.ensures c.store.ensures.done)
     (write_refused c.args.self.now c.store.new.self c.args.seg c.args.off g.row.N c.in-Some.base c.store.result
-    (c.in-Some.ensures true) c.store.ensures.refused)
+    c.in-Some.ensures c.store.ensures.refused)
 
 pub returns-in-None-clause-only : goal.returns-in-None-clause-only
 returns-in-None-clause-only g c =

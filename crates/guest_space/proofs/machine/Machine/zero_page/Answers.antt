@@ -1,4 +1,4 @@
-use Rattle.std.proofs.Common.{◌≡◌, ◌∙◌, ◌+◌, ◌*◌, ℕ, ap, subst}
+use Rattle.std.proofs.Common.{◌≡◌, ◌∙◌, ◌+◌, ◌*◌, ℕ, ap, subst, refl}
 use Rattle.client_world.specs.declared.place.Place.{Place}
 use Rattle.host_memory.specs.Layout.{address_of}
 use Rattle.host_memory.specs.View.{MachineView}
@@ -7,6 +7,8 @@ use Rattle.guest_space.proofs.BlockPageCalls.{frame_inside, cleared_machine}
 use Rattle.client_world.specs.declared.host_frames.TheConstants.{PAGE_SIZE, BLOCK_TABLES, PAGE_ENTRY_SIZE}
 use Rattle.guest_ram.specs.Bytes.{dword}
 use Rattle.block_memory.proofs.LockWrites.{in_region_of}
+use Rattle.client_world.specs.World.{World}
+use Rattle.guest_space.proofs.HiddenLaws.{kept}
 use Rattle.guest_space.proofs.machine.Machine.zero_page.Goals as goal
 
 pub fill-requires : goal.fill-requires
@@ -20,8 +22,12 @@ invariant_of-self c =
     let m = c.self.inside in
     let k : Processor = record { budget = m.pages; mode = m.mode; regs = m.regs; vif = m.vif; width = m.width } in
     let after = cleared_machine k m.ram c.args.self.now c.self.view_is c.self.invariant.0 c.self.invariant.1 c.args.lin c.get32-entry.result c.requires
-    (c.get32-entry.ensures ∙ ap (λ (page : ℕ). dword c.self.inside.ram (PAGE_SIZE * BLOCK_TABLES + PAGE_ENTRY_SIZE * page)) c.region_page.ensures.page) c.fill.new.self c.fill.ensures.bytes in
-    (after.holds, after.sound)
+    (c.get32-entry.ensures ∙ ap (λ (page : ℕ). dword c.self.inside.ram (PAGE_SIZE * BLOCK_TABLES + PAGE_ENTRY_SIZE * page)) c.region_page.ensures.page) c.fill.new.self c.fill.ensures.bytes in (
+      after.holds,
+      after.sound,
+      kept k m.ram c.fill.new.self m.hidden _ refl (ap (λ (w : World). w.descriptors) after.world) c.self.invariant.2,
+      c.empty_cache-self-inside.ensures c.fill.new.self,
+    )
 
 pub returns-clause-world : goal.returns-clause-world
 returns-clause-world c =

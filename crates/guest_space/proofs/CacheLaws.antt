@@ -1,0 +1,227 @@
+-- The cache of translations: a page that is walked once is walked so at each of its bytes, and the walks of a memory stay the same where the
+-- places of linear addresses and the addresses of places do.
+use Rattle.std.proofs.Common.{◌≡◌, ◌≢◌, ℕ, zero, suc, [], ◌∷◌, ◌+◌, ◌*◌, ◌/◌, ◌%◌, ◌<◌, ◌≤◌, ◌^◌, ◌⊎◌, inl, inr, Bool, true, false, not, ◌&&◌, ◌||◌, if◌then◌else◌, List, length, slice_index_or, replicate, set, length-set, refl, ap, ◌∙◌, sym, subst, arith, Result, Ok, Err}
+use Rattle.std.proofs.lemmas.Bool.{cases_lt}
+use Rattle.std.proofs.lemmas.List.{get_or-set_other, get_or-set_same}
+use Rattle.client_world.specs.declared.faults.PageFault.{PageFault}
+use Rattle.client_world.specs.declared.host_frames.TheConstants.{PAGE_SIZE, PAGE_DIRECTORY, TABLE_ENTRIES, BUDGET_FRAMES, BLOCK_TABLES, BLOCK_TABLE_FRAMES, BLOCK_ROWS, BLOCK_ROW_FRAMES, DESCRIPTORS}
+use Rattle.client_world.specs.declared.limits.TheConstants.{GREATEST_DEPTH}
+use Rattle.client_world.specs.declared.dos_memory.DosEntry.{DosEntry}
+use Rattle.client_world.specs.DosMemory.{IsArena}
+use Rattle.client_world.specs.Selector.{Row}
+use Rattle.guest_ram.specs.Bytes.{put}
+use Rattle.guest_ram.proofs.PutLaws.{region-put_away}
+use Rattle.desc_table.specs.Rows.{row_address, row_bytes}
+use Rattle.desc_table.proofs.RowLaws.{length-row_bytes}
+use Rattle.client_world.specs.declared.place.Place.{Place}
+use Rattle.client_world.specs.Access.{place_in, place_of, places_from}
+use Rattle.client_world.specs.Registers.{has_bit}
+use Rattle.client_world.specs.Soundness.{IsSound}
+use Rattle.host_memory.specs.Holds.{Holds}
+use Rattle.host_memory.specs.Law.{walk_result}
+use Rattle.host_memory.specs.Layout.{address_of}
+use Rattle.host_memory.specs.View.{MachineView}
+use Rattle.host_memory.specs.Records.{record_size}
+use Rattle.host_memory.proofs.Parts.{MemoryParts, addresses_by}
+use Rattle.host_memory.proofs.WalkLaw.{walk_agrees}
+use Rattle.page_tables.specs.Entry.{allows}
+use Rattle.page_tables.specs.Walk.{walked, walk_end, fault, frame_of, directory_entry, table_entry}
+use Rattle.page_tables.specs.declared.entry.TheConstants.{TABLE_SPAN, PRESENT}
+use Rattle.guest_space.specs.declared.cache.CacheEntry.{CacheEntry}
+use Rattle.guest_space.specs.Cache.{Hit, Warm, empty_entry}
+use Rattle.guest_space.specs.Machines.{Processor, IsMachine, held_world}
+use Rattle.guest_space.specs.Records.{record_place}
+use Rattle.guest_space.specs.Transfer.{translated, with_places}
+use Rattle.guest_space.proofs.ArenaWrites.{with_arena, arena_parts}
+use Rattle.guest_space.proofs.KeptAccess.{same_places}
+use Rattle.guest_space.proofs.Machines.{AllBytes, machine_of, sound_blocks}
+use Rattle.guest_space.proofs.Puts.{store_bytes}
+use Rattle.guest_space.proofs.Runs.{can_write_run, run_all}
+use Rattle.guest_space.proofs.WriteRuns.{places_keep_addresses}
+
+abbrev IsYes : Bool → Type 0
+IsYes true = Unit {0}
+IsYes false = ⊥
+
+-- a cache with no entry in use
+
+empty_at : (n i : ℕ) → slice_index_or (replicate n empty_entry) i empty_entry ≡ empty_entry
+empty_at zero i = refl
+empty_at (suc n) zero = refl
+empty_at (suc n) (suc i) = empty_at n i
+
+pub empty_warm : (b : List ℕ) → Warm b (replicate 64 empty_entry)
+empty_warm b = record {
+  long = refl;
+  hit = λ i within used. absurd (subst IsYes (sym used ∙ ap (λ (e : CacheEntry). e.used) (empty_at 64 i)) tt);
+}
+
+-- an entry that serves says where the walk ends
+pub hit_ends : (b : List ℕ) (e : CacheEntry) (lin : ℕ) (write : Bool) → Hit b e → e.page ≡ lin / PAGE_SIZE → (write ≡ true → e.writable ≡ true) →
+    walked b PAGE_DIRECTORY lin write ≡ Ok (PAGE_SIZE * e.frame + lin % PAGE_SIZE)
+hit_ends b e lin write hit page may =
+    let whole : lin ≡ PAGE_SIZE * e.page + lin % PAGE_SIZE = omega arith in
+    ap (λ (at : ℕ). walked b PAGE_DIRECTORY at write) whole ∙ hit.same (lin % PAGE_SIZE) write (omega arith) may
+
+-- a walk that ends at one byte of a page ends at each
+
+abbrev IsEnd : Result ℕ PageFault → Type 0
+IsEnd (Ok p) = Unit {0}
+IsEnd (Err f) = ⊥
+
+abbrev end_or : ℕ → Result ℕ PageFault → ℕ
+end_or d (Ok p) = p
+end_or d (Err f) = d
+
+abbrev end_at : ℕ → Result ℕ PageFault
+end_at p = Ok p
+
+abbrev by_tests : Bool → Bool → ℕ → ℕ → Result ℕ PageFault
+by_tests absent allowed frame lin = if absent then fault false else if allowed then Ok (PAGE_SIZE * frame + lin % PAGE_SIZE) else fault true
+
+tests_moved : (absent allowed : Bool) (frame lin other p : ℕ) → by_tests absent allowed frame lin ≡ end_at p →
+    by_tests absent allowed frame other ≡ end_at (PAGE_SIZE * (p / PAGE_SIZE) + other % PAGE_SIZE)
+tests_moved true allowed frame lin other p e = absurd (subst IsEnd (sym e) tt)
+tests_moved false false frame lin other p e = absurd (subst IsEnd (sym e) tt)
+tests_moved false true frame lin other p e =
+    let ends : PAGE_SIZE * frame + lin % PAGE_SIZE ≡ p = ap (end_or 0) e in
+    let same : frame ≡ p / PAGE_SIZE = omega arith in
+    ap (λ (f : ℕ). end_at (PAGE_SIZE * f + other % PAGE_SIZE)) same
+
+end_moved : (directory table lin other p : ℕ) (write : Bool) → walk_end directory table lin write ≡ end_at p →
+    walk_end directory table other write ≡ end_at (PAGE_SIZE * (p / PAGE_SIZE) + other % PAGE_SIZE)
+unfolding walk_end
+end_moved directory table lin other p write e =
+    tests_moved (not (has_bit directory PRESENT) || not (has_bit table PRESENT)) (allows directory write && allows table write) (frame_of table) lin other p e
+
+same_page : (b : List ℕ) (lin at p : ℕ) (write : Bool) → at < PAGE_SIZE → walked b PAGE_DIRECTORY lin write ≡ end_at p →
+    walked b PAGE_DIRECTORY (PAGE_SIZE * (lin / PAGE_SIZE) + at) write ≡ end_at (PAGE_SIZE * (p / PAGE_SIZE) + at)
+unfolding walked
+same_page b lin at p write within e =
+    let other = PAGE_SIZE * (lin / PAGE_SIZE) + at in
+    let directory : other / TABLE_SPAN ≡ lin / TABLE_SPAN = omega arith in
+    let table : other / PAGE_SIZE % TABLE_ENTRIES ≡ lin / PAGE_SIZE % TABLE_ENTRIES = omega arith in
+    let rest : other % PAGE_SIZE ≡ at = omega arith in
+    rw (directory, table) (subst (λ (x : ℕ).
+    walk_end (directory_entry b PAGE_DIRECTORY lin) (table_entry b PAGE_DIRECTORY lin) other write ≡ end_at (PAGE_SIZE * (p / PAGE_SIZE) + x)) rest
+    (end_moved (directory_entry b PAGE_DIRECTORY lin) (table_entry b PAGE_DIRECTORY lin) lin other p write e))
+
+pub entry_hits : (b : List ℕ) (lin p : ℕ) (on : Bool) → lin < 2 ^ 32 → p < 2 ^ 32 → walked b PAGE_DIRECTORY lin false ≡ end_at p →
+    (on ≡ true → walked b PAGE_DIRECTORY lin true ≡ end_at p) →
+    Hit b (record { used = true; page = lin / PAGE_SIZE; frame = p / PAGE_SIZE; writable = on })
+entry_hits b lin p on small low reads writes =
+    record { page = omega arith; frame = omega arith; same = λ at write within may. by_kind at write within may }
+  where
+    by_kind : (at : ℕ) (write : Bool) → at < PAGE_SIZE → (write ≡ true → on ≡ true) →
+        walked b PAGE_DIRECTORY (PAGE_SIZE * (lin / PAGE_SIZE) + at) write ≡ end_at (PAGE_SIZE * (p / PAGE_SIZE) + at)
+    by_kind at true within may = same_page b lin at p true within (writes (may refl))
+    by_kind at false within may = same_page b lin at p false within reads
+
+-- one entry set
+pub set_warm : (b : List ℕ) (cache : List CacheEntry) (j : ℕ) (e : CacheEntry) → j < 64 → Warm b cache → Hit b e → Warm b (set cache j e)
+set_warm b cache j e inside warm hit = record { long = length-set cache j e ∙ warm.long; hit = λ i within used. by_place i within used (cases_lt i j) }
+  where
+    low : j < length cache
+    low = subst (λ (n : ℕ). j < n) (sym warm.long) inside
+
+    beside : (i : ℕ) → i < 64 → i ≢ j → (slice_index_or (set cache j e) i empty_entry).used ≡ true → Hit b (slice_index_or (set cache j e) i empty_entry)
+    beside i within other used =
+        let same = get_or-set_other cache j i e empty_entry other in
+        subst (Hit b) (sym same) (warm.hit i within (sym (ap (λ (x : CacheEntry). x.used) same) ∙ used))
+
+    by_place : (i : ℕ) → i < 64 → (slice_index_or (set cache j e) i empty_entry).used ≡ true → (i < j) ⊎ (j ≤ i) → Hit b (slice_index_or (set cache j e) i empty_entry)
+    by_place i within used (inl below) = beside i within (λ same. absurd (omega (arith, below, same))) used
+    by_place i within used (inr from) = elim (cases_lt j i) [
+      | inl above ↦ beside i within (λ same. absurd (omega (arith, above, same))) used
+      | inr to ↦ (
+          let same : i ≡ j = omega arith in
+          subst (λ (x : ℕ). Hit b (slice_index_or (set cache j e) x empty_entry)) (sym same)
+          (subst (Hit b) (sym (get_or-set_same cache j e empty_entry low)) hit))
+    ]
+
+-- other bytes with the same walks
+
+abbrev pub SameWalks : List ℕ → List ℕ → Type 0
+SameWalks b c = (lin : ℕ) (write : Bool) → lin < 2 ^ 32 → walked c PAGE_DIRECTORY lin write ≡ walked b PAGE_DIRECTORY lin write
+
+hit_kept : (b c : List ℕ) (e : CacheEntry) → SameWalks b c → Hit b e → Hit c e
+hit_kept b c e walks hit = record {
+  page = hit.page;
+  frame = hit.frame;
+  same = λ at write within may. walks (PAGE_SIZE * e.page + at) write (omega (arith, hit.page, within)) ∙ hit.same at write within may;
+}
+
+warm_kept : (b c : List ℕ) (cache : List CacheEntry) → SameWalks b c → Warm b cache → Warm c cache
+warm_kept b c cache walks warm = record {
+  long = warm.long;
+  hit = λ i within used. hit_kept b c (slice_index_or cache i empty_entry) walks (warm.hit i within used);
+}
+
+walk_of : (k : Processor) (b : List ℕ) → Holds b k.budget → IsSound (held_world k b) → (lin : ℕ) (write : Bool) → lin < 2 ^ 32 →
+    walked b PAGE_DIRECTORY lin write ≡ walk_result b (place_of (held_world k b) lin) write
+walk_of k b holds sound lin write small =
+    walk_agrees b k.budget holds k.mode k.regs k.vif k.width
+    (sound_blocks k (record { world = held_world k b; bytes = b }) (machine_of k b holds sound)) lin write small
+
+told_same : (b c : List ℕ) (p q : Place) (write : Bool) → q ≡ p → ((x : Place) → address_of c x ≡ address_of b x) →
+    walk_result c q write ≡ walk_result b p write
+unfolding walk_result
+told_same b c p q write same addresses = rw (same, addresses p) refl
+
+-- two machines with the same places and addresses
+pub kept_warm : (k : Processor) (b c : List ℕ) (cache : List CacheEntry) → Holds b k.budget → IsSound (held_world k b) → Holds c k.budget →
+    IsSound (held_world k c) → ((lin : ℕ) → place_in (held_world k c).blocks lin ≡ place_in (held_world k b).blocks lin) →
+    ((p : Place) → address_of c p ≡ address_of b p) → Warm b cache → Warm c cache
+kept_warm k b c cache holds sound held sounds places addresses =
+    warm_kept b c cache (λ lin write small.
+    walk_of k c held sounds lin write small
+    ∙ told_same b c (place_of (held_world k b) lin) (place_of (held_world k c) lin) write (places lin) addresses
+    ∙ sym (walk_of k b holds sound lin write small))
+
+-- bytes that are put beside the tables of the blocks' pages and the rows of blocks move no address
+pub record IsBeside (at n : ℕ) : Type 0 where
+  pub tables : (at + n ≤ PAGE_SIZE * BLOCK_TABLES) ⊎ (PAGE_SIZE * BLOCK_TABLES + PAGE_SIZE * BLOCK_TABLE_FRAMES ≤ at)
+  pub handles : (at + n ≤ PAGE_SIZE * BLOCK_ROWS) ⊎ (PAGE_SIZE * BLOCK_ROWS + PAGE_SIZE * BLOCK_ROW_FRAMES ≤ at)
+
+pub put_beside : (b : List ℕ) (at : ℕ) (xs : List ℕ) → IsBeside at (length xs) → PAGE_SIZE * BUDGET_FRAMES ≤ length b → (p : Place) →
+    address_of (put b at xs) p ≡ address_of b p
+put_beside b at xs beside size =
+    addresses_by b (put b at xs)
+    (region-put_away b at xs (PAGE_SIZE * BLOCK_ROWS) (PAGE_SIZE * BLOCK_ROW_FRAMES) beside.handles (omega (arith, size)))
+    (region-put_away b at xs (PAGE_SIZE * BLOCK_TABLES) (PAGE_SIZE * BLOCK_TABLE_FRAMES) beside.tables (omega (arith, size)))
+
+pub row_beside : (index : ℕ) (row : Row) → index < DESCRIPTORS → IsBeside (row_address index) (length (row_bytes row))
+row_beside index row small =
+    let size = length-row_bytes row in
+    record { tables = inr (omega arith); handles = inl (omega arith) }
+
+pub record_beside : (place : ℕ) (xs : List ℕ) → place < GREATEST_DEPTH → length xs ≡ record_size → IsBeside (record_place place) (length xs)
+record_beside place xs small size = record { tables = inr (omega arith); handles = inl (omega arith) }
+
+pub arena_addresses : (b : List ℕ) (budget : ℕ) (es : List DosEntry) → Holds b budget → IsArena es → (p : Place) →
+    address_of (with_arena b es) p ≡ address_of b p
+arena_addresses b budget es holds arena =
+    let parts = arena_parts b budget es holds.size arena in
+    addresses_by b (with_arena b es) (ap (λ (p : MemoryParts). p.handles) parts) (ap (λ (p : MemoryParts). p.tables) parts)
+
+-- a write of the client
+pub write_addresses_all : (k : Processor) (v : MachineView) (lin n p : ℕ) (bytes : List ℕ) → IsMachine k v → lin < 2 ^ 32 →
+    lin % PAGE_SIZE + n ≤ PAGE_SIZE → translated v lin true ≡ Ok p → length bytes ≡ n → AllBytes bytes → (q : Place) →
+    address_of (put v.bytes p bytes) q ≡ address_of v.bytes q
+write_addresses_all k v lin n p bytes m small room ends size all q =
+    ap (λ (b : List ℕ). address_of b q) (store_bytes k v lin n p bytes m small room ends size all)
+    ∙ places_keep_addresses k v (places_from v.world.blocks lin n) bytes m
+    (can_write_run v.world lin n (run_all k v lin n p true m small room ends)) all q
+
+pub written_warm : (k : Processor) (b c : List ℕ) (cache : List CacheEntry) (places : List Place) (bytes : List ℕ) → Holds b k.budget →
+    IsSound (held_world k b) → Holds c k.budget → IsSound (held_world k c) →
+    record { world = held_world k c; bytes = c } ≡ with_places (record { world = held_world k b; bytes = b }) places bytes →
+    ((q : Place) → address_of c q ≡ address_of b q) → Warm b cache → Warm c cache
+written_warm k b c cache places bytes holds sound held sounds is addresses =
+    kept_warm k b c cache holds sound held sounds
+    (λ lin. ap (λ (v : MachineView). place_in v.world.blocks lin) is
+    ∙ (same_places (record { world = held_world k b; bytes = b }) places bytes).places lin) addresses
+
+pub byte_alone : (x : ℕ) → x < 0x100 → AllBytes (x ∷ [])
+byte_alone x small zero within = small
+byte_alone x small (suc i) within = absurd (omega arith)

@@ -1,0 +1,105 @@
+// The cache of translations.
+ghost use Rattle.std.specs.Prelude.{◌≡◌, ◌<◌, ◌≤◌, ◌+◌, ◌*◌, ◌/◌, ◌%◌, IsTrue, Ok, length, true, false, List, ℕ};
+ghost use Rattle.client_world.specs.declared.host_frames.TheConstants.{PAGE_SIZE, PAGE_DIRECTORY};
+ghost use Rattle.guest_space.specs.Cache.{Hit, Warm};
+ghost use Rattle.page_tables.specs.Walk.{IsFrame, TablesInside, walked};
+
+use crate::machine::Machine;
+use client_world::SegReg;
+use client_world::host_frames::{PAGE_DIRECTORY, PAGE_SIZE};
+use guest_ram::Ram;
+use page_tables::walk;
+
+/// The number of entries of the cache.
+pub(crate) const CACHE_SIZE: usize = 64;
+
+/// Where a linear page lies in the memory: its frame, and whether it may be written. Only a page that may be read is in use.
+/// Source: 80386 Programmer's Reference Manual, ch. 5, "Page Translation Cache".
+#[derive(Clone, Copy, Debug, PartialEq, Eq)]
+pub struct CacheEntry {
+    pub used: bool,
+    pub page: u32,
+    pub frame: u32,
+    pub writable: bool,
+}
+
+const EMPTY: CacheEntry = CacheEntry {
+    used: false,
+    page: 0,
+    frame: 0,
+    writable: false,
+};
+
+/// A cache with no entry in use.
+pub(crate) fn empty_cache() -> [CacheEntry; 64]
+    ensures { (b : List ℕ) → Warm b result }
+{
+    [EMPTY; CACHE_SIZE]
+}
+
+/// The place of a linear address's page in the cache.
+#[inline(always)]
+pub(crate) fn cache_place(lin: u32) -> usize
+    ensures place { result ≡ lin / PAGE_SIZE % 64 }
+    ensures inside { result < 64 }
+{
+    (lin / PAGE_SIZE) as usize % CACHE_SIZE
+}
+
+impl CacheEntry {
+    /// Whether the entry tells of the page of a linear address, and for a write that it may be written.
+    #[inline(always)]
+    pub(crate) fn serves(&self, lin: u32, write: bool) -> bool
+        ensures { IsTrue result → (self.now.used ≡ true) × (self.now.page ≡ lin / PAGE_SIZE) × (write ≡ true → self.now.writable ≡ true) }
+    {
+        self.used && self.page == lin / PAGE_SIZE && (!write || self.writable)
+    }
+}
+
+// Whether a write at a linear address ends there.
+fn is_written_at(ram: &Ram, lin: u32, at: u32) -> bool
+    requires root { IsFrame ram.now PAGE_DIRECTORY }
+    requires tables { TablesInside ram.now PAGE_DIRECTORY }
+    ensures { IsTrue result → walked ram.now PAGE_DIRECTORY lin true ≡ Ok at }
+{
+    match walk(ram, PAGE_DIRECTORY, lin, true) {
+        Ok(end) => end == at,
+        Err(_) => false,
+    }
+}
+
+// The entry of a page of which a byte may be read, by where that ends.
+fn entry_of(ram: &Ram, lin: u32, at: u32) -> CacheEntry
+    requires root { IsFrame ram.now PAGE_DIRECTORY }
+    requires tables { TablesInside ram.now PAGE_DIRECTORY }
+    requires ends { walked ram.now PAGE_DIRECTORY lin false ≡ Ok at }
+    ensures { Hit ram.now result }
+{
+    CacheEntry {
+        used: true,
+        page: lin / PAGE_SIZE,
+        frame: at / PAGE_SIZE,
+        writable: is_written_at(ram, lin, at),
+    }
+}
+
+impl Machine {
+    // Notes where the page of a linear address lies, where it may be read.
+    fn note(&mut self, lin: u32)
+        ensures { self.new ≡ self.old }
+    {
+        if let Ok(at) = walk(&self.ram, PAGE_DIRECTORY, lin, false) {
+            self.cache[cache_place(lin)] = entry_of(&self.ram, lin, at);
+        }
+    }
+
+    /// Makes further accesses to the page of one byte at an offset of a segment register faster, where that byte may be read. Source: own.
+    #[inline(never)]
+    pub fn warm(&mut self, seg: SegReg, off: u32)
+        ensures { self.new ≡ self.old }
+    {
+        if let Ok(base) = self.segment_base(seg, off, 1, false) {
+            self.note(base.wrapping_add(off));
+        }
+    }
+}
