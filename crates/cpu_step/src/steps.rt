@@ -8,12 +8,13 @@ ghost use Rattle.cpu_step.specs.Step.{behind, client_row, client_step, code, exe
 use arrayvec::ArrayVec;
 use client_world::faults::{GENERAL_PROTECTION, INVALID_OPCODE};
 use client_world::memory_map::PARAGRAPH_SIZE;
-use client_world::{CodeWords, Event, Fault, Mode};
+use client_world::{CodeWords, Event, Fault, Mode, SegReg};
 use exec_core::{is_core, run_core};
 use exec_flow::run_flow;
 use guest_space::Machine;
 use insn_decode::{Decoded, Memo, decode};
-use insn_forms::{Insn, every_instruction_is_well_formed};
+use insn_forms::{Insn, Operand, every_instruction_is_well_formed};
+use insn_plan::offset_of;
 
 /// Whether operands and addresses have 32 bits where no prefix says otherwise: the code segment has D = 1.
 /// Source: 80386 Programmer's Reference Manual, ch. 16, "How the 80386 Implements 16-Bit and 32-Bit Features".
@@ -116,6 +117,25 @@ fn code_key(m: &Machine) -> u32 {
     (PARAGRAPH_SIZE * u32::from(r.cs)).wrapping_add(r.eip)
 }
 
+// Notes the page of an operand, if it is in memory.
+fn warm_operand(m: &mut Machine, addr32: bool, operand: &Operand)
+    ensures { m.new ≡ m.old }
+{
+    if let Operand::Mem(form) = operand {
+        let off = offset_of(m.registers(), addr32, form);
+        m.warm(form.seg, off);
+    }
+}
+
+// Notes the pages of an instruction that is met for the first time, and of its operands.
+fn warm_pages(m: &mut Machine, insn: &Insn)
+    ensures { m.new ≡ m.old }
+{
+    m.warm(SegReg::Cs, m.registers().eip);
+    warm_operand(m, insn.addr32, &insn.first);
+    warm_operand(m, insn.addr32, &insn.second);
+}
+
 // Learns the instruction of these code bytes and makes it.
 #[inline(never)]
 #[tactic(auto, using(crate::proofs::KnownSteps::known_step))]
@@ -132,7 +152,10 @@ fn learn_and_step(
     let key = code_key(m);
     memo.learn(key, words, big);
     match memo.known(key, words, big) {
-        Some(entry) => execute(m, &entry.insn, entry.len),
+        Some(entry) => {
+            warm_pages(m, &entry.insn);
+            execute(m, &entry.insn, entry.len)
+        }
         None => step(m),
     }
 }

@@ -14,6 +14,7 @@ use std::test::Fail;
 
 mod bytes;
 mod cases;
+mod instructions;
 mod protected;
 mod real;
 

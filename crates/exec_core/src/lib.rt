@@ -15,7 +15,5 @@ mod shift_operations;
 mod shifts;
 mod stacks;
 mod strings;
-#[cfg(test)]
-mod tests;
 
 pub use dispatch::{is_core, run_core};
