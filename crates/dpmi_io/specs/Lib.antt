@@ -5,3 +5,4 @@ pub mod FileShelf
 pub mod MemShelf
 pub mod MemSink
 pub mod StoredFiles
+pub mod SureShelf

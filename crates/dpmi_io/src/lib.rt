@@ -5,15 +5,18 @@
 
 mod memory_shelf;
 mod memory_sink;
+mod open_file;
 mod outside;
 mod plan;
 mod real;
+mod sure;
 mod whole;
 
 pub use memory_shelf::MemShelf;
 pub use memory_sink::MemSink;
 pub use outside::{Shelf, ShelfFail, Sink, SinkFail};
 pub use real::{FileShelf, StdoutSink};
+pub use sure::{SureShelf, SureSink};
 pub use whole::{put_all, read_whole};
 
 #[cfg(test)]

@@ -4,18 +4,12 @@ ghost use Rattle.std.specs.FinMap as map;
 ghost use Rattle.std.specs.Option.{option_copied};
 ghost use Rattle.dpmi_io.specs.StoredFiles.{files_of};
 
+use crate::open_file::{OpenFile, give};
 use crate::plan::FaultPlan;
 use crate::{Shelf, ShelfFail};
 use std::alloc::{AllocError, Global};
 use std::collections::BTreeMap;
 use std::marker::Model;
-
-/// The file that is open: its name, and how many of its bytes are read. Source: own.
-#[derive(Drop)]
-struct OpenFile {
-    name: String,
-    at: usize,
-}
 
 /// Files in memory.
 /// Its calls of `open` and `read` count together from 1, and fail where they are listed.
@@ -142,22 +136,6 @@ fn stored<'a>(files: &'a BTreeMap<String, Vec<u8>>, name: &str) -> Option<&'a [u
         Some(bytes) => Some(bytes.as_slice()),
         None => None,
     }
-}
-
-// Moves bytes from a place on into the buffer, and the place after them.
-fn give(bytes: &[u8], at: &mut usize, buf: &mut [u8]) -> usize
-    ensures bound { result ≤ length buf.new }
-    ensures count { result ≡ min (length buf.old) (length (drop at.old bytes.now)) }
-    ensures place { at.new ≡ at.old + result }
-    ensures bytes { drop at.old bytes.now ≡ take result buf.new ++ drop at.new bytes.now }
-    ensures ends { 0 < length buf.old → take result buf.new ≡ [] → drop at.old bytes.now ≡ [] }
-    ensures rest { drop result buf.new ≡ drop result buf.old }
-{
-    let left = bytes.get(*at..).unwrap_or(&[]);
-    let count = buf.len().min(left.len());
-    buf[..count].copy_from_slice(&left[..count]);
-    *at += count;
-    count
 }
 
 impl MemShelf {

@@ -1,6 +1,7 @@
 // The outside in memory and over the system, at values known by hand.
 use crate::{
-    FileShelf, MemShelf, MemSink, Shelf, ShelfFail, Sink, SinkFail, StdoutSink, put_all, read_whole,
+    FileShelf, MemShelf, MemSink, Shelf, ShelfFail, Sink, SinkFail, StdoutSink, SureShelf,
+    SureSink, put_all, read_whole,
 };
 use std::test::Fail;
 
@@ -59,6 +60,20 @@ fn listed_calls_of_a_shelf_fail(rt: HostRuntime) -> Result<(), Fail> {
     shelf.open(String::from_str(rt.alloc(), "A.EXE")?)?;
     assert_eq!(rt; shelf.read(&mut buf)?, 2);
     assert_eq!(rt; shelf.read(&mut buf), Err(ShelfFail::Failed));
+    Ok(())
+}
+
+#[test]
+fn a_sure_shelf_has_its_file_under_every_name(rt: HostRuntime) -> Result<(), Fail> {
+    let mut shelf = SureShelf::new(rt.alloc(), b"abc")?;
+    let mut sink = SureSink::new();
+    for name in ["A.EXE", ""] {
+        shelf.open(String::from_str(rt.alloc(), name)?)?;
+        let mut buf = [0; 8];
+        assert_eq!(rt; read_whole(&mut shelf, &mut buf), Ok(3));
+        assert_eq!(rt; put_all(&mut sink, &buf[..3]), Ok(()));
+    }
+    assert_eq!(rt; sink.count(), 6);
     Ok(())
 }
 

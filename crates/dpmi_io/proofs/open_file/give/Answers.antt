@@ -1,7 +1,7 @@
 use Rattle.std.proofs.Common.{arith}
 use Rattle.std.proofs.lemmas.Grind.{common_steps}
 use Rattle.dpmi_io.proofs.Input.{given_rest}
-use Rattle.dpmi_io.proofs.memory_shelf.give.Goals as goal
+use Rattle.dpmi_io.proofs.open_file.give.Goals as goal
 
 pub returns-clause-bytes : goal.returns-clause-bytes
 returns-clause-bytes c =

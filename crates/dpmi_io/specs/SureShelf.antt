@@ -1,0 +1,31 @@
+-- A shelf and a sink in memory that never fail. Source: own.
+use Rattle.std.specs.Prelude.{ℕ, List, [], ◌+◌, drop, length, min, unwrap_or, Some}
+use Rattle.std.specs.Option.{option_map}
+use Rattle.std.specs.declared.option.Option.{Option}
+use Rattle.dpmi_io.specs.Causes.{greatest}
+use Rattle.dpmi_io.specs.MemShelf.{OpenAt, read_on}
+
+-- the bytes of the one file, which has every name, and the file that is open
+pub record SureShelfState : Type 0 where
+  pub bytes : List ℕ
+  pub current : Option OpenAt
+
+-- the bytes left of the open file
+abbrev pub sure_left : SureShelfState → Option (List ℕ)
+sure_left s = option_map (λ o. drop o.at s.bytes) s.current
+
+-- the shelf with the file open under that name
+abbrev pub after_sure_open : SureShelfState → List ℕ → SureShelfState
+after_sure_open s name = record s { current = Some (record { name = name; at = 0 }) }
+
+-- how many bytes a read gives into a buffer of that length
+abbrev pub sure_count : SureShelfState → ℕ → ℕ
+sure_count s len = min len (length (unwrap_or (sure_left s) []))
+
+-- the shelf after n bytes of the open file were given
+abbrev pub after_sure_read : SureShelfState → ℕ → SureShelfState
+after_sure_read s n = record s { current = option_map (read_on n) s.current }
+
+-- how many bytes a sink has taken once it took n more, up to the greatest u64
+abbrev pub after_sure_put : ℕ → ℕ → ℕ
+after_sure_put taken n = min (taken + n) greatest
