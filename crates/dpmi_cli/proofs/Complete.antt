@@ -1,5 +1,5 @@
 -- What is answered where nothing fails, and what words that mean nothing get.
-use Rattle.std.proofs.Common.{arith, ◌≡◌, ◌≢◌, ◌<◌, ◌⊎◌, inl, inr, ℕ, List, [], sym, subst, ap}
+use Rattle.std.proofs.Common.{arith, ◌≡◌, ◌≢◌, ◌<◌, ◌≤◌, ◌⊎◌, inl, inr, ℕ, List, [], sym, subst, ap}
 use Rattle.std.specs.Prelude.{None, Some, IfSome, IsSomeAnd, Contains}
 use Rattle.std.specs.Option.{option_map}
 use Rattle.std.specs.declared.option.Option.{Option}
@@ -9,9 +9,11 @@ use Rattle.dpmi_words.specs.Meaning.{meaning}
 use Rattle.host_run.specs.Run.{run}
 use Rattle.dpmi_io.specs.Causes.{Rose}
 use Rattle.dpmi_io.specs.Content.{Files, Shown, Gains}
+use Rattle.dpmi_cli.specs.declared.prepare.Prepared.{Prepared}
 use Rattle.dpmi_cli.specs.declared.prepare.Reason.TheVariants.{Words}
 use Rattle.dpmi_cli.specs.Answer.{Verdict, Refuses, Starts, StartsMade, verdict, verdict_of, answer, answer_to}
 use Rattle.dpmi_cli.specs.Causes.{NamedFailed, IsAbsent, HasVerdict, Answers}
+use Rattle.dpmi_cli.specs.Load.{verdict_in}
 use Rattle.dpmi_cli.specs.Words.{file_names, names_in}
 use Rattle.dpmi_cli.proofs.Files.{no_verdict}
 use Rattle.dpmi_cli.proofs.SmallStatus.{run_status-small}
@@ -43,12 +45,20 @@ some_map None v P holds has = absurd has
 some_map (Some u) v P holds has = subst P (sym has) holds
 
 -- what holds of the verdict that was prepared holds of the verdict on the words
-pub verdict_map : (words : List (List ℕ)) (files : Option Files) (v : Verdict) (P : Verdict → Type 0) →
+verdict_map : (words : List (List ℕ)) (files : Option Files) (v : Verdict) (P : Verdict → Type 0) →
     P v →
     HasVerdict words files (λ u. u ≡ v) → HasVerdict words files P
 verdict_map words None v P holds (first, (second, has)) =
     (first, (second, some_map (verdict_of (meaning words) first second) v P holds has))
 verdict_map words (Some fs) v P holds has = some_map (verdict words fs) v P holds has
+
+-- the answer to the verdict that was prepared is one to the words
+pub answers_prepared : (words : List (List ℕ)) (files : Option Files) (p q : Prepared) (before now : Shown) (m n result : ℕ) → p ≡ q →
+    Answers (verdict_in q) before now m n result → HasVerdict words files (λ v. v ≡ verdict_in p) →
+    HasVerdict words files (λ v. Answers v before now m n result)
+answers_prepared words files p q before now m n result is gives has =
+    verdict_map words files (verdict_in p) (λ v. Answers v before now m n result)
+    (subst (λ r. Answers (verdict_in r) before now m n result) (sym is) gives) has
 
 verdict_sure : (found : Option Verdict) (N : Type 0) (before now : Shown) (m n result : ℕ) →
     (result ≡ 3 → N ⊎ (option_map answer_to found ≡ None)) →
@@ -60,6 +70,20 @@ verdict_sure (Some v) N before now m n result cause gave named calm = elim (eqb_
   | inr not_three ↦ elim (eqb_tells result 5) [
     | inl five ↦ inl five.1
     | inr not_five ↦ inr (gives_whole v before now m n result (gave not_three.1 not_five.1) calm)
+  ]
+]
+
+-- where no named file failed or lacked, and the output took all, the run or the refusal was answered, or memory was short
+pub ends_without_failure : (N F : Type 0) (m n result : ℕ) → (result ≡ 3 → N ⊎ F) → (result ≡ 4 → Rose m n) → result ≤ 5 →
+    (N → ⊥) → (F → ⊥) → (Rose m n → ⊥) → (result ≤ 2) ⊎ (result ≡ 5)
+ends_without_failure N F m n result file output known named absent calm = elim (eqb_tells result 3) [
+  | inl three ↦ absurd (elim (file three.1) [ inl failed ↦ named failed | inr none ↦ absent none ])
+  | inr not_three ↦ elim (eqb_tells result 4) [
+    | inl four ↦ absurd (calm (output four.1))
+    | inr not_four ↦ elim (eqb_tells result 5) [
+      | inl five ↦ inr five.1
+      | inr not_five ↦ inl (omega (arith, known, not_three.1, not_four.1, not_five.1))
+    ]
   ]
 ]
 

@@ -12,18 +12,11 @@ use Rattle.dpmi_io.specs.Content.{Shown, Gains, GainsPart}
 use Rattle.dpmi_report.specs.Summary.{summary, summary_at}
 use Rattle.dpmi_report.specs.Text.{text}
 use Rattle.dpmi_cli.specs.declared.prepare.Reason.{Reason}
-use Rattle.dpmi_cli.specs.Answer.{Refuses, Starts, StartsMade, exit_status, run_status}
+use Rattle.dpmi_cli.specs.Answer.{Verdict, Refuses, Starts, StartsMade, answer_to, exit_status, run_status}
 use Rattle.dpmi_cli.specs.Causes.{Answers}
-use Rattle.dpmi_cli.specs.Laws.{TouchesWhatIsHeld, NestsByOneRecord, ReturnsInOrder, HandsOverWhatIsNested}
+use Rattle.dpmi_cli.specs.Laws.{OfItsRun, KeepsTheLaws, NestsByOneRecord, ReturnsInOrder}
 use Rattle.dpmi_cli.specs.Text.{refused}
 use Rattle.dpmi_cli.proofs.SmallStatus.{run_status-small}
-
--- the laws of a run
-pub record Laws (w : HostWorld) : Type 0 where
-  pub touches : TouchesWhatIsHeld w
-  pub nests : NestsByOneRecord w
-  pub order : ReturnsInOrder w
-  pub hands_over : HandsOverWhatIsNested w
 
 -- the whole is a part
 part_whole : (a b : Shown) (xs : List ℕ) → Gains a b xs → GainsPart a b xs
@@ -35,9 +28,6 @@ status_is w e is = rw (is, run_status) refl
 pub summary_is : (number : ℕ) (w : HostWorld) (e : Exit) → w.exit ≡ Some e → summary_at number w e ≡ summary number w
 summary_is number w e is = rw (is, summary) refl
 
-not_four : (s : ℕ) → s < 2 → s ≡ 4 → ⊥
-not_four s small four = omega arith
-
 -- a refusal, whose line the output may not take
 pub gives_refusal : {A B : Type 0} (r : Result A B) (reason : Reason) (before now : Shown) (m n : ℕ) →
     OnOk r (Gains before now (refused reason)) → OnErr r (GainsPart before now (refused reason)) → OnErr r (Rose m n) →
@@ -48,10 +38,7 @@ gives_refusal (Ok x) reason before now m n whole part rose = record {
   whole_text = λ small. absurd (omega arith);
   whole_line = λ _. inl whole;
   output_failure_has_cause = λ four. absurd (omega arith);
-  every_touch_is_held = tt;
-  every_turn_changes_the_innermost_record_at_most = tt;
-  nested_calls_return_in_order = tt;
-  every_nested_call_hands_over = tt;
+  run_keeps_the_laws = tt;
 }
 gives_refusal (Err e) reason before now m n whole part rose = record {
   writes_the_answer = part;
@@ -59,84 +46,60 @@ gives_refusal (Err e) reason before now m n whole part rose = record {
   whole_text = λ small. absurd (omega arith);
   whole_line = λ _. inr rose;
   output_failure_has_cause = λ four. absurd (omega arith);
-  every_touch_is_held = tt;
-  every_turn_changes_the_innermost_record_at_most = tt;
-  nested_calls_return_in_order = tt;
-  every_nested_call_hands_over = tt;
+  run_keeps_the_laws = tt;
 }
 
--- a run up to a bound ended so, and its text was written whole
-pub gives_run : (w after : HostWorld) (bound : ℕ) (e : Exit) (before now : Shown) (m n result : ℕ) → Laws w →
-    after ≡ run w bound → after.exit ≡ Some e → Gains before now (text after) →
-    result ≡ exit_status e →
-    Answers (Starts w bound) before now m n result
-gives_run w after bound e before now m n result laws is ended whole status =
-    let text_is : Gains before now (text (run w bound)) = subst (λ (v : HostWorld). Gains before now (text v)) is whole in
-    let status_of_run : result ≡ run_status (run w bound) = status ∙ sym (status_is after e ended) ∙ ap run_status is in
-    record {
-      writes_the_answer = part_whole before now (text (run w bound)) text_is;
-      status_of_the_answer = inl status_of_run;
-      whole_text = λ _. text_is;
-      whole_line = λ _. inl text_is;
-      output_failure_has_cause = λ four. absurd (not_four (run_status (run w bound)) (run_status-small (run w bound)) (sym status_of_run ∙ four));
-      every_touch_is_held = laws.touches;
-      every_turn_changes_the_innermost_record_at_most = laws.nests;
-      nested_calls_return_in_order = laws.order;
-      every_nested_call_hands_over = laws.hands_over;
-    }
+-- a run answers with its status and its text, written whole
+whole : (v : Verdict) (before now : Shown) (m n result : ℕ) → OfItsRun KeepsTheLaws v → (answer_to v).status < 2 →
+    result ≡ (answer_to v).status → Gains before now (answer_to v).text → Answers v before now m n result
+whole v before now m n result laws small status text = record {
+  writes_the_answer = part_whole before now (answer_to v).text text;
+  status_of_the_answer = inl status;
+  whole_text = λ _. text;
+  whole_line = λ _. inl text;
+  output_failure_has_cause = λ four. absurd (omega (arith, small, status, four));
+  run_keeps_the_laws = laws;
+}
 
--- the run ended, and the output failed in its text
-pub gives_cut : (w after : HostWorld) (bound : ℕ) (before now : Shown) (m n : ℕ) → Laws w →
-    after ≡ run w bound → GainsPart before now (text after) → Rose m n →
-    Answers (Starts w bound) before now m n 4
-gives_cut w after bound before now m n laws is part rose = record {
-  writes_the_answer = subst (λ (v : HostWorld). GainsPart before now (text v)) is part;
-  status_of_the_answer = inr (refl, run_status-small (run w bound));
-  whole_text = λ small. absurd (omega arith);
+-- the output failed in the text of a run
+cut : (v : Verdict) (before now : Shown) (m n : ℕ) → OfItsRun KeepsTheLaws v → (answer_to v).status < 2 →
+    GainsPart before now (answer_to v).text → Rose m n → Answers v before now m n 4
+cut v before now m n laws small part rose = record {
+  writes_the_answer = part;
+  status_of_the_answer = inr (refl, small);
+  whole_text = λ little. absurd (omega arith);
   whole_line = λ two. absurd (omega arith);
   output_failure_has_cause = λ _. rose;
-  every_touch_is_held = laws.touches;
-  every_turn_changes_the_innermost_record_at_most = laws.nests;
-  nested_calls_return_in_order = laws.order;
-  every_nested_call_hands_over = laws.hands_over;
+  run_keeps_the_laws = laws;
 }
+
+-- the run of a client up to a bound ended so, and its text was written
+pub gives_run : (w after : HostWorld) (bound : ℕ) (e : Exit) (before now : Shown) (m n result : ℕ) → KeepsTheLaws w →
+    after ≡ run w bound → after.exit ≡ Some e → Gains before now (text after) → result ≡ exit_status e →
+    Answers (Starts w bound) before now m n result
+gives_run w after bound e before now m n result laws is ended written status =
+    whole (Starts w bound) before now m n result laws (run_status-small (run w bound)) (status ∙ sym (status_is after e ended) ∙ ap run_status is)
+    (subst (λ (v : HostWorld). Gains before now (text v)) is written)
+
+pub gives_cut : (w after : HostWorld) (bound : ℕ) (before now : Shown) (m n : ℕ) → KeepsTheLaws w → after ≡ run w bound →
+    GainsPart before now (text after) → Rose m n → Answers (Starts w bound) before now m n 4
+gives_cut w after bound before now m n laws is part rose =
+    cut (Starts w bound) before now m n laws (run_status-small (run w bound)) (subst (λ (v : HostWorld). GainsPart before now (text v)) is part) rose
 
 -- the same of a made client and its summary
-pub gives_summary : (number : ℕ) (w after : HostWorld) (e : Exit) (before now : Shown) (m n result : ℕ) → Laws w →
-    after ≡ run w DEFAULT_BOUND → after.exit ≡ Some e → Gains before now (summary_at number after e) →
-    result ≡ exit_status e →
+pub gives_summary : (number : ℕ) (w after : HostWorld) (e : Exit) (before now : Shown) (m n result : ℕ) → KeepsTheLaws w →
+    after ≡ run w DEFAULT_BOUND → after.exit ≡ Some e → Gains before now (summary_at number after e) → result ≡ exit_status e →
     Answers (StartsMade number w) before now m n result
-gives_summary number w after e before now m n result laws is ended whole status =
-    let text_is : Gains before now (summary number (run w DEFAULT_BOUND)) =
-    subst (λ l. Gains before now l) (summary_is number after e ended ∙ ap (summary number) is) whole in
-    let status_of_run : result ≡ run_status (run w DEFAULT_BOUND) = status ∙ sym (status_is after e ended) ∙ ap run_status is in
-    record {
-      writes_the_answer = part_whole before now (summary number (run w DEFAULT_BOUND)) text_is;
-      status_of_the_answer = inl status_of_run;
-      whole_text = λ _. text_is;
-      whole_line = λ _. inl text_is;
-      output_failure_has_cause =
-          λ four. absurd (not_four (run_status (run w DEFAULT_BOUND)) (run_status-small (run w DEFAULT_BOUND)) (sym status_of_run ∙ four));
-      every_touch_is_held = laws.touches;
-      every_turn_changes_the_innermost_record_at_most = laws.nests;
-      nested_calls_return_in_order = laws.order;
-      every_nested_call_hands_over = laws.hands_over;
-    }
+gives_summary number w after e before now m n result laws is ended written status =
+    whole (StartsMade number w) before now m n result laws (run_status-small (run w DEFAULT_BOUND)) (status ∙ sym (status_is after e ended) ∙ ap run_status is)
+    (subst (λ l. Gains before now l) (summary_is number after e ended ∙ ap (summary number) is) written)
 
-pub gives_summary_cut : (number : ℕ) (w after : HostWorld) (e : Exit) (before now : Shown) (m n : ℕ) → Laws w →
+pub gives_summary_cut : (number : ℕ) (w after : HostWorld) (e : Exit) (before now : Shown) (m n : ℕ) → KeepsTheLaws w →
     after ≡ run w DEFAULT_BOUND → after.exit ≡ Some e → GainsPart before now (summary_at number after e) → Rose m n →
     Answers (StartsMade number w) before now m n 4
-gives_summary_cut number w after e before now m n laws is ended part rose = record {
-  writes_the_answer = subst (λ l. GainsPart before now l) (summary_is number after e ended ∙ ap (summary number) is) part;
-  status_of_the_answer = inr (refl, run_status-small (run w DEFAULT_BOUND));
-  whole_text = λ small. absurd (omega arith);
-  whole_line = λ two. absurd (omega arith);
-  output_failure_has_cause = λ _. rose;
-  every_touch_is_held = laws.touches;
-  every_turn_changes_the_innermost_record_at_most = laws.nests;
-  nested_calls_return_in_order = laws.order;
-  every_nested_call_hands_over = laws.hands_over;
-}
+gives_summary_cut number w after e before now m n laws is ended part rose =
+    cut (StartsMade number w) before now m n laws (run_status-small (run w DEFAULT_BOUND))
+    (subst (λ l. GainsPart before now l) (summary_is number after e ended ∙ ap (summary number) is) part) rose
 
 -- the laws over rows of hosts, for the turns of one run
 abbrev EachDepth : Type 0

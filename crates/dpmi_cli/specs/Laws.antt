@@ -34,3 +34,10 @@ pub record ReturnsInOrder (w : HostWorld) : Type 0 where
 abbrev pub HandsOverWhatIsNested : HostWorld → Type 0
 HandsOverWhatIsNested w = (i j : ℕ) → (h : IsHandedOver (turns w) i j) →
     HandsOver (turns w i) (turns w (i + 1)) (turns w j) (turns w (j + 1)) h.innermost
+
+-- the laws that each run keeps
+pub record KeepsTheLaws (w : HostWorld) : Type 0 where
+  pub every_touch_is_held : TouchesWhatIsHeld w
+  pub every_turn_changes_the_innermost_record_at_most : NestsByOneRecord w
+  pub nested_calls_return_in_order : ReturnsInOrder w
+  pub every_nested_call_hands_over : HandsOverWhatIsNested w

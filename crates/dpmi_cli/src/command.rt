@@ -7,7 +7,7 @@ ghost use Rattle.dpmi_io.specs.Content.{Gains};
 ghost use Rattle.dpmi_cli.specs.Answer.{answer, exit_status, Verdict};
 ghost use Rattle.dpmi_cli.specs.Answer.Verdict.{Refuses, Starts, StartsMade};
 ghost use Rattle.dpmi_cli.specs.Causes.{NamedFailed, IsAbsent, HasVerdict, Answers};
-ghost use Rattle.dpmi_cli.specs.Laws.{TouchesWhatIsHeld, NestsByOneRecord, ReturnsInOrder, HandsOverWhatIsNested};
+ghost use Rattle.dpmi_cli.specs.Laws.{KeepsTheLaws};
 ghost use Rattle.dpmi_cli.specs.Load.{IsNew, IsReady};
 
 use crate::prepare::{Prepared, Reason, Stop, prepare};
@@ -43,11 +43,8 @@ fn status_of(exit: Exit) -> u8
 }
 
 // What holds of each run. It has nothing to do: its contract says it.
-fn every_run_nests_and_hands_over()
-    ensures touches { (w : HostWorld) → TouchesWhatIsHeld w }
-    ensures nests { (w : HostWorld) → IsReady w → NestsByOneRecord w }
-    ensures order { (w : HostWorld) → IsReady w → ReturnsInOrder w }
-    ensures hands_over { (w : HostWorld) → IsReady w → HandsOverWhatIsNested w }
+fn every_run_keeps_the_laws()
+    ensures { (w : HostWorld) → IsReady w → KeepsTheLaws w }
 {
     every_touch_of_a_run_is_held();
     every_turn_changes_the_innermost_record_at_most();
@@ -62,7 +59,7 @@ fn run_client<O: Sink>(host: &mut Host, bound: u32, out: &mut O) -> u8
     ensures status { result ≤ OUTPUT_FAILED }
     ensures no_file_failed { result ≢ FILE_FAILED }
 {
-    every_run_nests_and_hands_over();
+    every_run_keeps_the_laws();
     let exit = host.run(bound);
     match write_all_of(host, out) {
         Ok(()) => status_of(exit),
@@ -77,7 +74,7 @@ fn run_made_client<O: Sink>(host: &mut Host, number: u64, out: &mut O) -> u8
     ensures status { result ≤ OUTPUT_FAILED }
     ensures no_file_failed { result ≢ FILE_FAILED }
 {
-    every_run_nests_and_hands_over();
+    every_run_keeps_the_laws();
     let exit = host.run(DEFAULT_BOUND);
     match write_summary(number, host, exit, out) {
         Ok(()) => status_of(exit),
@@ -135,6 +132,10 @@ pub fn dpmi<F: Shelf, O: Sink>(alloc: Global, words: &[String], shelf: &mut F, o
         IfSome (F.files shelf.old) (λ files. IfSome (answer (map string_bytes words.now) files)
         (λ a. (result ≡ NO_MEMORY)
         ⊎ ((result ≡ a.status) × Gains (O.taken out.old) (O.taken out.new) a.text))) }
+    ensures ends_without_failure { (NamedFailed (map string_bytes words.now) (F.faults shelf.old) (F.faults shelf.new) (F.blamed shelf.new) → ⊥) →
+        (IsAbsent (map string_bytes words.now) (F.files shelf.old) → ⊥) →
+        (Rose (O.faults out.old) (O.faults out.new) → ⊥) →
+        (result ≤ REFUSED) ⊎ (result ≡ NO_MEMORY) }
     ensures wrong_words_are_refused { meaning (map string_bytes words.now) ≡ None →
         (result ≡ NO_MEMORY)
         ⊎ Answers (Refuses Reason.Words)

@@ -1,8 +1,14 @@
 // The command over files and an output in memory.
+ghost use Rattle.std.specs.Prelude.{◌≡◌, ◌≤◌, ◌⊎◌};
+
 use crate::command::dpmi;
-use dpmi_io::{MemShelf, MemSink};
+use crate::status::{NO_MEMORY, REFUSED};
+use dpmi_io::{MemShelf, MemSink, SureShelf, SureSink};
+use std::alloc::Global;
 use std::process::Abort;
 use std::test::Fail;
+
+mod clients;
 
 // The client that prints the letter `A`: MOV AH,02h; MOV DL,41h; INT 21h; MOV AX,4C00h; INT 21h.
 const ONE_LETTER: [u8; 43] = [
@@ -82,7 +88,7 @@ fn a_file_of_zeros_is_refused_by_its_length(rt: HostRuntime) -> Result<(), Fail>
 
 // The client of other code: in that client's header the bytes of the last page and SS, the paragraph after the code, are others.
 fn client(rt: &(impl Abort + AllocGlobal), code: &[u8]) -> Result<Vec<u8>, Fail> {
-    assert!(rt; code.len() <= 100);
+    assert!(rt; code.len() <= 200);
     let mut file = ONE_LETTER[..32].to_vec(rt.alloc())?;
     file.extend_from_slice(code)?;
     assert!(rt; file.len() >= 32);
@@ -179,9 +185,9 @@ fn each_header_word_of_ffff_has_its_answer(rt: HostRuntime) -> Result<(), Fail> 
 }
 
 // Clients that mean harm: one fills all memory from 00000h on, itself too; one jumps into read-only memory; stacks at 1, at 0 and in
-// read-only memory; vectors that lead to trap bytes, of the entry and of DOS calls. After the entry the rest of the code segment is run,
+// read-only memory; a byte written there; vectors that lead to trap bytes, of the return from a call, of the entry and of DOS calls. After the entry the rest of the code segment is run,
 // two bytes at a time, the exception comes at its limit, and its default handler ends the client.
-const HOSTILE: [(&[u8], u8, &str); 7] = [
+const HOSTILE: [(&[u8], u8, &str); 9] = [
     (
         b"\x31\xC0\x8E\xC0\x31\xFF\xB9\xFF\xFF\xF3\xAA",
         1,
@@ -206,6 +212,16 @@ const HOSTILE: [(&[u8], u8, &str); 7] = [
         b"\xB8\x00\xF0\x8E\xD0\xCD\x21",
         1,
         "console 0\n\nexit fault 0e code=00000007\nsteps 3\n",
+    ),
+    (
+        b"\xB8\x00\xF0\x8E\xD8\xA2\x00\x00",
+        1,
+        "console 0\n\nexit fault 0e code=00000007\nsteps 3\n",
+    ),
+    (
+        b"\xBA\x03\x01\xB8\x00\xF0\x8E\xD8\xB8\x21\x25\xCD\x21\xCD\x21",
+        1,
+        "console 0\n\nexit stray\nsteps 8\n",
     ),
     (
         b"\x31\xC0\x8E\xD8\xC7\x06\x80\x01\x00\x01\xC7\x06\x82\x01\x00\xF0\xCD\x60",
@@ -256,6 +272,38 @@ fn each_relocation_has_its_answer(rt: HostRuntime) -> Result<(), Fail> {
     for (offset, status, text) in [(0x0E, 0, LETTER), (0x0F, 2, "refused RelocTarget\n")] {
         file[0x1C] = offset;
         expect(&rt, &["run", "A.EXE"], &file, status, text)?;
+    }
+    Ok(())
+}
+
+// The file with the relocation 0000h:010Eh, and the client of the letter, cut to a length. A cut image is filled up with zeros, 32,768
+// instructions of two bytes; then there is no byte to fetch at 10000h.
+#[test]
+fn each_cut_file_has_its_answer(rt: HostRuntime) -> Result<(), Fail> {
+    let mut file = ONE_LETTER;
+    for (relocations, length, status, text) in [
+        (1, 0, 2, "refused ShortHeader\n"),
+        (1, 27, 2, "refused ShortHeader\n"),
+        (1, 28, 2, "refused RelocTable\n"),
+        (1, 31, 2, "refused RelocTable\n"),
+        (1, 43, 0, LETTER),
+        (
+            0,
+            28,
+            1,
+            "console 0\n\nexit fault 0d code=00000000\nsteps 32769\n",
+        ),
+        (
+            0,
+            32,
+            1,
+            "console 0\n\nexit fault 0d code=00000000\nsteps 32769\n",
+        ),
+    ] {
+        file[0x06] = relocations;
+        file[0x1C] = 0x0E * relocations;
+        file[0x1D] = relocations;
+        expect(&rt, &["run", "A.EXE"], &file[..length], status, text)?;
     }
     Ok(())
 }
@@ -378,9 +426,9 @@ const OPTIONS: [(&[&str], u8, &str, &str); 14] = [
         "",
     ),
     (
-        &["run", "A.EXE", "--bound", "1"],
+        &["run", "L.EXE", "--bound", "1"],
         1,
-        "console 0\n\ntrace 0 of 0\nreport\nexit bound\nsteps 1\nmode real\n",
+        "console 0\n\ntrace 0 of 0\nreport\nexit bound\nsteps 1\nmode real\ndepth 0\nregs eax=00000200 ebx=00000000 ecx=00000000 edx=00000000 esi=00000000 edi=00000000 ebp=00000000 esp=00000100 eip=00000002 fl=0202 cs=0074 ss=0075 ds=0064 es=0064 ",
         "",
     ),
     (
@@ -414,6 +462,7 @@ fn each_option_has_its_effect(rt: HostRuntime) -> Result<(), Fail> {
     shelf.add("A.EXE", &file)?;
     let file = client(&rt, &TWO_BLOCKS)?;
     shelf.add("P.EXE", &file)?;
+    shelf.add("L.EXE", &ONE_LETTER)?;
     shelf.add("K", &keys)?;
     keys.push(b'Y')?;
     shelf.add("LONG", &keys)?;
@@ -450,19 +499,23 @@ fn a_made_client_has_its_summary(rt: HostRuntime) -> Result<(), Fail> {
     Ok(())
 }
 
-// The calls are: the client's file is opened, read and read to its end; and so are the keystrokes.
+// The calls are: the client's file is opened, read and read to its end; and so are the keystrokes. No seventh is made.
 #[test]
 fn a_file_fails(rt: HostRuntime) -> Result<(), Fail> {
     let run = words(&rt, &["run", "A.EXE", "--keys-file", "K"])?;
-    let mut out = MemSink::new(rt.alloc(), 100, 1)?;
-    for call in 1..7 {
+    for call in 1..8 {
+        let mut out = MemSink::new(rt.alloc(), 1000, 100)?;
         let mut shelf = MemShelf::new(rt.alloc());
         shelf.add("A.EXE", &ONE_LETTER)?;
         shelf.add("K", b"Y")?;
         shelf.fail_at(call)?;
-        assert_eq!(rt; dpmi(rt.alloc(), run.as_slice(), &mut shelf, &mut out), 3);
+        let (status, written) = if call < 7 { (3, 0) } else { (0, 361) };
+        assert_eq!(rt;
+            dpmi(rt.alloc(), run.as_slice(), &mut shelf, &mut out),
+            status
+        );
+        assert_eq!(rt; out.bytes().len(), written);
     }
-    assert_eq!(rt; out.bytes(), b"".as_slice());
     Ok(())
 }
 
@@ -492,6 +545,32 @@ fn each_put_fails_in_turn(rt: HostRuntime) -> Result<(), Fail> {
         );
         assert_eq!(rt; out.bytes().len() as u64, count);
         assert!(rt; LETTER_TEXT.as_bytes().starts_with(out.bytes()));
+    }
+    Ok(())
+}
+
+// The command over files and an output that never fail.
+fn answer_surely(alloc: Global, words: &[String], shelf: &mut SureShelf, out: &mut SureSink) -> u8
+    ensures { (result ≤ REFUSED) ⊎ (result ≡ NO_MEMORY) }
+{
+    dpmi(alloc, words, shelf, out)
+}
+
+#[test]
+fn nothing_fails_where_nothing_can(rt: HostRuntime) -> Result<(), Fail> {
+    for (texts, status, count) in [
+        (["run", "A.EXE"].as_slice(), 0, 361),
+        (&["run", "B.EXE", "--keys-file", "K"], 0, 361),
+        (&["walk", "A.EXE"], 2, 14),
+    ] {
+        let given = words(&rt, texts)?;
+        let mut shelf = SureShelf::new(rt.alloc(), &ONE_LETTER)?;
+        let mut out = SureSink::new();
+        assert_eq!(rt;
+            answer_surely(rt.alloc(), given.as_slice(), &mut shelf, &mut out),
+            status
+        );
+        assert_eq!(rt; out.count(), count);
     }
     Ok(())
 }

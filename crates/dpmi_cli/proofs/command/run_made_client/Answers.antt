@@ -1,26 +1,10 @@
-use Rattle.dpmi_cli.proofs.RunAnswers.{Laws, gives_summary, gives_summary_cut}
+use Rattle.dpmi_cli.proofs.RunAnswers.{gives_summary, gives_summary_cut}
 use Rattle.dpmi_cli.proofs.command.run_made_client.Goals as goal
 
 pub returns-in-Ok-clause-answers : goal.returns-in-Ok-clause-answers
 returns-in-Ok-clause-answers g c =
-    let all = c.every_run_nests_and_hands_over.ensures in
-    let ready = c.requires in
-    let laws : Laws c.args.host.now.world = record {
-      touches = all.touches c.args.host.now.world;
-      nests = all.nests c.args.host.now.world ready;
-      order = all.order c.args.host.now.world ready;
-      hands_over = all.hands_over c.args.host.now.world ready;
-    } in
-    gives_summary c.args.number c.args.host.now.world c.run-exit.new.self.world c.run-exit.result _ _ _ _ _ laws c.run-exit.ensures.world c.run-exit.ensures.answer c.in-Ok.ensures.whole c.status_of.ensures
+    gives_summary c.args.number c.args.host.now.world c.run-exit.new.self.world c.run-exit.result _ _ _ _ _ (c.every_run_keeps_the_laws.ensures c.args.host.now.world c.requires) c.run-exit.ensures.world c.run-exit.ensures.answer c.in-Ok.ensures.whole c.status_of.ensures
 
 pub returns-in-Err-clause-answers : goal.returns-in-Err-clause-answers
 returns-in-Err-clause-answers g c =
-    let all = c.every_run_nests_and_hands_over.ensures in
-    let ready = c.requires in
-    let laws : Laws c.args.host.now.world = record {
-      touches = all.touches c.args.host.now.world;
-      nests = all.nests c.args.host.now.world ready;
-      order = all.order c.args.host.now.world ready;
-      hands_over = all.hands_over c.args.host.now.world ready;
-    } in
-    gives_summary_cut c.args.number c.args.host.now.world c.run-exit.new.self.world c.run-exit.result _ _ _ _ laws c.run-exit.ensures.world c.run-exit.ensures.answer c.in-Err.ensures.part c.in-Err.ensures.failed
+    gives_summary_cut c.args.number c.args.host.now.world c.run-exit.new.self.world c.run-exit.result _ _ _ _ (c.every_run_keeps_the_laws.ensures c.args.host.now.world c.requires) c.run-exit.ensures.world c.run-exit.ensures.answer c.in-Err.ensures.part c.in-Err.ensures.failed
