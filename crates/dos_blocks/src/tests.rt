@@ -1,50 +1,64 @@
 // Blocks that are given, resized and freed in a new machine, whose DOS memory is all free.
 use crate::{dos_alloc, dos_free, dos_resize, serve};
+use Dos::{Allocate, Free, Resize};
 use client_world::{Carry, Desc, DosEntry, DosRefusal, DosState, Kind, Mode, Origin, Regs, Width};
 use guest_space::Machine;
+use std::alloc::{AllocError, Global};
+use std::process::Abort;
 use std::test::Fail;
 
-#[test]
-fn blocks_are_given_resized_and_freed(rt: HostRuntime) -> Result<(), Fail> {
-    let mut m = Machine::new(rt.alloc(), 1)?;
-    assert_eq!(rt; dos_alloc(&mut m, 2, false), Ok(0x61));
-    assert_eq!(rt; dos_alloc(&mut m, 0x9F9C, false), Ok(0x64));
-    assert_eq!(rt; m.dos8(0x630), 0x5A);
-    assert_eq!(rt; dos_resize(&mut m, 0x64, 0x1000, false), Ok(()));
-    assert_eq!(rt;
-        dos_alloc(&mut m, 0xFFFF, false),
-        Err(DosRefusal::NoMemory { largest: 0x8F9B })
-    );
-    assert_eq!(rt; dos_alloc(&mut m, 0x1001, false), Ok(0x1065));
-
-    // The block before it is used, so it can't grow beyond what is free after it.
-    assert_eq!(rt;
-        dos_resize(&mut m, 0x64, 0x1001, false),
-        Err(DosRefusal::NoMemory { largest: 0x1000 })
-    );
-    assert_eq!(rt;
-        dos_free(&mut m, 0x1064, false),
-        Err(DosRefusal::WrongBlock)
-    );
-    assert_eq!(rt; dos_free(&mut m, 0x61, false), Ok(()));
-    assert_eq!(rt; dos_free(&mut m, 0x1065, false), Ok(()));
-    assert_eq!(rt; m.arena_len(), 3);
-    assert_eq!(rt; dos_free(&mut m, 0x64, false), Ok(()));
-    assert_eq!(rt; m.arena_len(), 1);
-    let whole = DosEntry {
-        at: 0x60,
-        paras: 0x9F9F,
-        state: DosState::Free,
-    };
-    assert_eq!(rt; m.arena(0), whole);
-    assert_eq!(rt; m.dos8(0x600), 0x5A);
-    Ok(())
+// A call of DOS, by its words.
+#[derive(Clone, Copy)]
+enum Dos {
+    Allocate(u16),
+    Resize(u16, u16),
+    Free(u16),
 }
 
-// EAX, EBX, ECX, EDX of a call, the carry that it returns, the registers after it, and the limits of the descriptors at 64 and 65. Two free
-// paragraphs are at segment 0061h. The first block after the program is at segment 1065h, and the free entry there has 8F9Bh paragraphs. The
-// block at 0061h gets the descriptor at 66, so the one at 1065h can't have three.
-const CALLS: [([u32; 4], Carry, [u32; 4], [Option<u32>; 2]); 14] = [
+// A call, what it answers, how many entries there are after it, and the header of the last one, which begins with 5Ah. The answer of a call
+// that succeeds is the segment of its block.
+type DosCall = (Dos, Result<u16, DosRefusal>, u16, u32);
+
+const GIVEN_AND_FREED: [DosCall; 10] = [
+    (Allocate(2), Ok(0x61), 2, 0x630),
+    (Allocate(0x9F9C), Ok(0x64), 2, 0x630),
+    (Resize(0x64, 0x1000), Ok(0x64), 3, 0x1_0640),
+    (
+        Allocate(0xFFFF),
+        Err(DosRefusal::NoMemory { largest: 0x8F9B }),
+        3,
+        0x1_0640,
+    ),
+    (Allocate(0x1001), Ok(0x1065), 4, 0x2_0660),
+    // The block before it is used, so it can't grow beyond what is free after it.
+    (
+        Resize(0x64, 0x1001),
+        Err(DosRefusal::NoMemory { largest: 0x1000 }),
+        4,
+        0x2_0660,
+    ),
+    (Free(0x1064), Err(DosRefusal::WrongBlock), 4, 0x2_0660),
+    (Free(0x61), Ok(0x61), 4, 0x2_0660),
+    (Free(0x1065), Ok(0x1065), 3, 0x1_0640),
+    (Free(0x64), Ok(0x64), 1, 0x600),
+];
+
+// The client's program, between two free paragraphs and the rest.
+const PROGRAM: [DosCall; 3] = [
+    (Allocate(2), Ok(0x61), 2, 0x630),
+    (Allocate(0x1000), Ok(0x64), 3, 0x1_0640),
+    (Free(0x61), Ok(0x61), 3, 0x1_0640),
+];
+
+// A program up to segment 1063h.
+const LARGE_PROGRAM: [DosCall; 1] = [(Allocate(0x1003), Ok(0x61), 2, 0x1_0640)];
+
+// EAX, EBX, ECX, EDX of a call, the carry that it returns, the registers after it, and the limits of the descriptors at 64 and 65.
+type Call = ([u32; 4], Carry, [u32; 4], [Option<u32>; 2]);
+
+// Two free paragraphs are at segment 0061h. The first block after the program is at segment 1065h, and the free entry there has 8F9Bh
+// paragraphs. The block at 0061h gets the descriptor at 66, so the one at 1065h can't have three.
+const CALLS: [Call; 14] = [
     (
         [0xAAAA_0100, 0xBBBB_FFFF, 7, 8],
         Carry::Set,
@@ -164,38 +178,105 @@ fn limit(m: &Machine, index: u16) -> Option<u32> {
     }
 }
 
-#[test]
+// The block of 1001h paragraphs at 1065h.
+const TWO_DESCRIPTORS: [Call; 1] = [(
+    [0x0100, 0x1001, 0, 0],
+    Carry::Clear,
+    [0x1065, 0x1001, 0, 0x0207],
+    [Some(0x1000F), Some(0xF)],
+)];
+
+fn answer_of(m: &mut Machine, call: Dos) -> Result<u16, DosRefusal> {
+    match call {
+        Allocate(paras) => dos_alloc(m, paras, false),
+        Resize(seg, paras) => match dos_resize(m, seg, paras, false) {
+            Ok(()) => Ok(seg),
+            Err(refusal) => Err(refusal),
+        },
+        Free(seg) => match dos_free(m, seg, false) {
+            Ok(()) => Ok(seg),
+            Err(refusal) => Err(refusal),
+        },
+    }
+}
+
+fn expect_dos_calls(rt: &impl Abort, m: &mut Machine, calls: &[DosCall]) {
+    for (number, (call, answer, entries, last)) in calls.iter().enumerate() {
+        assert_eq!(rt; answer_of(m, *call), *answer, "call {number} of DOS");
+        assert_eq!(rt;
+            m.arena_len(),
+            *entries,
+            "entries after call {number} of DOS"
+        );
+        assert!(rt; *last < 0x10_0000);
+        assert_eq!(rt;
+            m.dos8(*last),
+            0x5A,
+            "last header after call {number} of DOS"
+        );
+    }
+}
+
+fn expect_call(rt: &impl Abort, m: &mut Machine, call: &Call, number: usize) {
+    let (before, carry, after, limits) = *call;
+    m.set_regs(registers(before));
+    assert_eq!(rt; m.mode(), Mode::Protected);
+    assert_eq!(rt;
+        serve(m, (before[0] % 0x1_0000) as u16),
+        carry,
+        "call {number}"
+    );
+    assert_eq!(rt; m.regs(), registers(after), "call {number}");
+    assert_eq!(rt; [limit(m, 64), limit(m, 65)], limits, "call {number}");
+}
+
+// A machine after the entry of a client of 16 bits.
 #[tactic(auto, unfolding(host_memory::specs::Blank::blank_world))]
-fn blocks_have_a_descriptor_for_each_64_kb(rt: HostRuntime) -> Result<(), Fail> {
-    let mut m = Machine::new(rt.alloc(), 1)?;
+fn entered(alloc: Global) -> Result<Machine, AllocError> {
+    let mut m = Machine::new(alloc, 1)?;
     m.set_width(Width::Sixteen);
     m.set_mode(Mode::Protected);
-    assert_eq!(rt; dos_alloc(&mut m, 2, false), Ok(0x61));
-    assert_eq!(rt; dos_alloc(&mut m, 0x1000, false), Ok(0x64));
-    assert_eq!(rt; dos_free(&mut m, 0x61, false), Ok(()));
-    for (number, &(before, carry, after, limits)) in CALLS.iter().enumerate() {
-        m.set_regs(registers(before));
-        let ax = (before[0] % 0x1_0000) as u16;
-        assert_eq!(rt; m.mode(), Mode::Protected);
-        assert_eq!(rt; serve(&mut m, ax), carry, "call {number}");
-        assert_eq!(rt; m.regs(), registers(after), "call {number}");
-        assert_eq!(rt; limit(&m, 64), limits[0], "call {number}");
-        assert_eq!(rt; limit(&m, 65), limits[1], "call {number}");
+    Ok(m)
+}
+
+// Calls of DOS, and then calls of INT 31h.
+fn expect_calls(
+    rt: &impl Abort,
+    alloc: Global,
+    dos: &[DosCall],
+    calls: &[Call],
+) -> Result<Machine, AllocError> {
+    let mut m = entered(alloc)?;
+    expect_dos_calls(rt, &mut m, dos);
+    for (number, call) in calls.iter().enumerate() {
+        expect_call(rt, &mut m, call, number);
     }
+    Ok(m)
+}
+
+#[test]
+fn blocks_are_given_resized_and_freed(rt: HostRuntime) -> Result<(), Fail> {
+    let m = expect_calls(&rt, rt.alloc(), &GIVEN_AND_FREED, &[])?;
+    let whole = DosEntry {
+        at: 0x60,
+        paras: 0x9F9F,
+        state: DosState::Free,
+    };
+    assert!(rt; m.arena_len() == 1);
+    assert_eq!(rt; m.arena(0), whole);
+    Ok(())
+}
+
+#[test]
+fn blocks_have_a_descriptor_for_each_64_kb(rt: HostRuntime) -> Result<(), Fail> {
+    let m = expect_calls(&rt, rt.alloc(), &PROGRAM, &CALLS)?;
     assert_eq!(rt; m.arena_len(), 3);
     Ok(())
 }
 
 #[test]
-#[tactic(auto, unfolding(host_memory::specs::Blank::blank_world))]
 fn descriptors_are_64_kb_apart(rt: HostRuntime) -> Result<(), Fail> {
-    let mut m = Machine::new(rt.alloc(), 1)?;
-    m.set_width(Width::Sixteen);
-    m.set_mode(Mode::Protected);
-    assert_eq!(rt; dos_alloc(&mut m, 0x1003, false), Ok(0x61));
-    m.set_regs(registers([0x0100, 0x1001, 0, 0]));
-    assert_eq!(rt; m.mode(), Mode::Protected);
-    assert_eq!(rt; serve(&mut m, 0x0100), Carry::Clear);
+    let m = expect_calls(&rt, rt.alloc(), &LARGE_PROGRAM, &TWO_DESCRIPTORS)?;
     let origin = Origin::Dos(0x1065);
     let first = data(0x10650, 0x1000F);
     assert_eq!(rt; m.desc(64), Some((first, origin)));

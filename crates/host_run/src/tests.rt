@@ -1,30 +1,41 @@
 // Small clients: how they are loaded, how their runs end, and what they wrote and left.
-use crate::Host;
-use client_world::host_frames::DESCRIPTORS;
-use client_world::limits::{DEFAULT_PAGES, DEFAULT_TRACE};
-use client_world::{Carry, Exit, Flags, LoadFault, Mode, Regs, TraceLine, Width};
+use client_world::limits::DEFAULT_PAGES;
+use client_world::{Carry, Exit, LoadFault, Regs, TraceLine, Width};
+use guest_space::Machine;
+use runs::Register::{Cs, Ds, Ebx, Eip, Es, Esp, Fs, Gs, Ss};
+use runs::State::{AnyDescriptor, AnyHostByte, Bits, Flags, Protected};
+use runs::{Client, ENTER_32, ENTERED, REAL, file, loaded, put_word, run_all};
 use std::alloc::{AllocError, Global};
 use std::process::Abort;
 use std::test::Fail;
+
+// A client that is as another one but for some fields.
+macro_rules! client {
+    ($base:expr; $($field:ident: $value:expr),*) => {
+        Client {
+            $($field: $value,)*
+            ..$base
+        }
+    };
+}
+
+// The line of a service of INT 31h: its AX, and the carry.
+macro_rules! int31 {
+    ($ax:expr, $carry:ident) => {
+        TraceLine::Int31 {
+            ax: $ax,
+            carry: Carry::$carry,
+        }
+    };
+}
 
 mod callback_clients;
 mod calls;
 mod exceptions;
 mod memory;
+mod runs;
 mod services;
 mod switches;
-
-// A client's code, its keystrokes and the bound of its run; the exit, the turns and the console; the registers and the flags image.
-struct Case {
-    code: &'static [u8],
-    keys: &'static [u8],
-    bound: u32,
-    exit: Exit,
-    steps: u32,
-    console: &'static [u8],
-    regs: Regs,
-    flags: u16,
-}
 
 // The start of a client with 1 to 16 bytes: the prefix at 64h, the image 10h paragraphs after it, the stack a paragraph after that, with
 // the header's SP.
@@ -37,28 +48,20 @@ const START: Regs = Regs {
     ..Regs::ZERO
 };
 
-const PLAIN: Case = Case {
-    code: &[],
-    keys: &[],
-    bound: 100,
-    exit: Exit::Exited(0),
-    steps: 0,
-    console: &[],
-    regs: START,
-    flags: 0x0002,
-};
-
-// A case: its code, the registers that aren't those of the start, and what else isn't plain.
+// A client of real mode: its code, the registers that aren't those of the start, the flags image, and what else isn't plain.
 macro_rules! case {
-    ($code:expr, [$($register:ident: $value:expr),*] $(, $field:ident: $x:expr)*) => {
-        Case {
+    ($code:expr, [$($register:ident: $value:expr),*], $flags:expr $(, $field:ident: $x:expr)*) => {
+        Client {
             code: $code,
-            regs: Regs { $($register: $value,)* ..START },
+            whole: Some((Regs { $($register: $value,)* ..START }, $flags)),
             $($field: $x,)*
-            ..PLAIN
+            ..REAL
         }
     };
 }
+
+// MOV AX,4C00h and INT 21h: the client ends with code 0.
+const END: &[u8] = &[0xB8, 0x00, 0x4C, 0xCD, 0x21];
 
 const LETTER: &[u8] = &[
     0xB4, 0x02, 0xB2, 0x41, 0xCD, 0x21, 0xB8, 0x00, 0x4C, 0xCD, 0x21,
@@ -73,132 +76,93 @@ const TWO_KEYS: &[u8] = &[
 // Each software interrupt and each trap is a turn. At vector n the client is at F000h:n, with the flags, CS and IP on its stack, so that
 // SP is 100h - 6. The flags image is 2, with 1 for CF, 40h for ZF and 200h for IF, which is set at the start, cleared by an interrupt and
 // set again by its return.
-const CASES: [Case; 13] = [
-    // It writes the letter in DL and ends with AX = 4C00h; and the same after the first instruction, of two bytes, which makes AH 2.
-    case!(LETTER, [eax: 0x4C00, edx: 0x41, esp: 0xFA, eip: 0x21, cs: 0xF000], steps: 7, console: b"A"),
-    case!(LETTER, [eax: 0x200, eip: 2], bound: 1, exit: Exit::Bound, steps: 1, flags: 0x0202),
+static REAL_MODE: [Client; 13] = [
+    // It writes the letter in DL and ends with AX = 4C00h; it leaves two lines and nothing else. The same after the first instruction, of two
+    // bytes, which makes AH 2.
+    case!(&[LETTER], [eax: 0x4C00, edx: 0x41, esp: 0xFA, eip: 0x21, cs: 0xF000], 0x0002, steps: Some(7), console: b"A",
+        lines: Some(2), trace: &[(0, TraceLine::Int21(0x02)), (1, TraceLine::Int21(0x4C))],
+        state: &[(Protected, 0), (AnyDescriptor, 0), (AnyHostByte, 0)]),
+    case!(&[LETTER], [eax: 0x200, eip: 2], 0x0202, bound: 1, exit: Exit::Bound, steps: Some(1)),
     // It makes a key its code, once with a key, 58h, and once without.
-    case!(KEY, [eax: 0x4C58, esp: 0xFA, eip: 0x21, cs: 0xF000],
-        keys: &[0x58], bound: 6, exit: Exit::Exited(0x58), steps: 6, console: b"X"),
-    case!(KEY, [eax: 0x100, esp: 0xFA, eip: 0x21, cs: 0xF000], bound: 6, exit: Exit::NoKeys, steps: 3),
+    case!(&[KEY], [eax: 0x4C58, esp: 0xFA, eip: 0x21, cs: 0xF000], 0x0002,
+        keys: &[0x58], bound: 6, exit: Exit::Exited(0x58), steps: Some(6), console: b"X"),
+    case!(&[KEY], [eax: 0x100, esp: 0xFA, eip: 0x21, cs: 0xF000], 0x0002, bound: 6, exit: Exit::NoKeys, steps: Some(3)),
     // Without a key function 06h with DL = FFh makes AL 0, which was 55h, and sets ZF. So it is after its INT, at 7, and still where function
     // 01h ends the run.
-    case!(TWO_KEYS, [eax: 0x600, edx: 0xFF, eip: 7], bound: 4, exit: Exit::Bound, steps: 4, flags: 0x0242),
-    case!(TWO_KEYS, [eax: 0x100, edx: 0xFF, esp: 0xFA, eip: 0x21, cs: 0xF000], exit: Exit::NoKeys, steps: 7, flags: 0x0042),
+    case!(&[TWO_KEYS], [eax: 0x600, edx: 0xFF, eip: 7], 0x0242, bound: 4, exit: Exit::Bound, steps: Some(4)),
+    case!(&[TWO_KEYS], [eax: 0x100, edx: 0xFF, esp: 0xFA, eip: 0x21, cs: 0xF000], 0x0042, exit: Exit::NoKeys, steps: Some(7)),
     // Its block shrinks to 1000h paragraphs, 64h to 1063h. After the next header, 1064h, there are 8F9Bh up to 9FFFh: FFFFh are refused
     // with carry, AX = 8 and BX = 8F9Bh. The code ends at 14.
-    case!(&[0xBB, 0x00, 0x10, 0xB4, 0x4A, 0xCD, 0x21, 0xBB, 0xFF, 0xFF, 0xB4, 0x48, 0xCD, 0x21],
-        [eax: 8, ebx: 0x8F9B, eip: 14], bound: 8, exit: Exit::Bound, steps: 8, flags: 0x0203),
+    case!(&[&[0xBB, 0x00, 0x10, 0xB4, 0x4A, 0xCD, 0x21, 0xBB, 0xFF, 0xFF, 0xB4, 0x48, 0xCD, 0x21]],
+        [eax: 8, ebx: 0x8F9B, eip: 14], 0x0203, bound: 8, exit: Exit::Bound, steps: Some(8)),
     // INT 20h, and an interrupt that does nothing before it.
-    case!(&[0xCD, 0x60, 0xCD, 0x20], [esp: 0xFA, eip: 0x20, cs: 0xF000], steps: 4),
+    case!(&[&[0xCD, 0x60, 0xCD, 0x20]], [esp: 0xFA, eip: 0x20, cs: 0xF000], 0x0002, steps: Some(4)),
     // The host's entry is asked for, and then the client ends: AX was made 0, BX 1, CL 3 and DX 005Ah, and ES:DI is the entry, F000h:0100h.
-    case!(&[0xB8, 0x87, 0x16, 0xCD, 0x2F, 0xB4, 0x4C, 0xCD, 0x21],
-        [eax: 0x4C00, ebx: 1, ecx: 3, edx: 0x5A, edi: 0x100, es: 0xF000, esp: 0xFA, eip: 0x21, cs: 0xF000], steps: 6),
+    case!(&[&[0xB8, 0x87, 0x16, 0xCD, 0x2F, 0xB4, 0x4C, 0xCD, 0x21]],
+        [eax: 0x4C00, ebx: 1, ecx: 3, edx: 0x5A, edi: 0x100, es: 0xF000, esp: 0xFA, eip: 0x21, cs: 0xF000], 0x0002, steps: Some(6)),
     // A division by 0, whose vector ends the client; so does that of the coprocessor.
-    case!(&[0xB1, 0x00, 0xF6, 0xF1], [esp: 0xFA, cs: 0xF000], exit: Exit::Fault(0, 0), steps: 3),
-    case!(&[0xCD, 0x07], [esp: 0xFA, eip: 7, cs: 0xF000], exit: Exit::Fault(7, 0), steps: 2),
+    case!(&[&[0xB1, 0x00, 0xF6, 0xF1]], [esp: 0xFA, cs: 0xF000], 0x0002, exit: Exit::Fault(0, 0), steps: Some(3)),
+    case!(&[&[0xCD, 0x07]], [esp: 0xFA, eip: 7, cs: 0xF000], 0x0002, exit: Exit::Fault(7, 0), steps: Some(2)),
     // The raw switch to protected mode before the entry. Its far call has pushed CS and IP, 4 bytes.
-    case!(&[0x9A, 0x01, 0x01, 0x00, 0xF0], [esp: 0xFC, eip: 0x101, cs: 0xF000], exit: Exit::Stray, steps: 2, flags: 0x0202),
+    case!(&[&[0x9A, 0x01, 0x01, 0x00, 0xF0]], [esp: 0xFC, eip: 0x101, cs: 0xF000], 0x0202, exit: Exit::Stray, steps: Some(2)),
     // A client that goes in a circle.
-    case!(&[0xEB, 0xFE], [], bound: 1000, exit: Exit::Bound, steps: 1000, flags: 0x0202),
+    case!(&[&[0xEB, 0xFE]], [], 0x0202, bound: 1000, exit: Exit::Bound, steps: Some(1000)),
 ];
 
-// The header of a file: 2 paragraphs, 10h to FFFFh paragraphs after the image, SP = 100h. The words of the pages and SS come from the code.
-const HEADER: [u8; 32] = [
-    b'M', b'Z', 0, 0, 0, 0, 0, 0, 2, 0, 0x10, 0, 0xFF, 0xFF, // to the maximum
-    0, 0, 0, 1, 0, 0, 0, 0, 0, 0, 0x1C, 0, 0, 0, // SS, SP, the checksum, IP, CS, the relocation table
-    0, 0, 0, 0,
+// Clients that enter protected mode and end: nine turns up to the entry's, then the move, INT 21h and its vector.
+static PROTECTED: [Client; 4] = [
+    // At the vector its frame lies on the entry's stack: 100h less 4 bytes of the pushed pointer, less 6.
+    client!(ENTERED; code: &[END], steps: Some(12), lines: Some(3),
+        trace: &[(0, TraceLine::Int2f(0x1687)), (1, TraceLine::Entry(Width::Sixteen)), (2, TraceLine::Int21(0x4C))],
+        registers: &[(Cs, 0x0087), (Eip, 0x221), (Ss, 0x020F), (Esp, 0xF6), (Ds, 0x0217), (Es, 0x021F), (Fs, 0), (Gs, 0)],
+        state: &[(Protected, 1), (Flags, 0x0246)]),
+    // A client of 32 bits pushes doublewords: its frame has 12 bytes. Its stack and its data have the size of 32 bits.
+    client!(ENTERED; enter: &ENTER_32, code: &[END], steps: Some(12), trace: &[(1, TraceLine::Entry(Width::ThirtyTwo))],
+        registers: &[(Cs, 0x0087), (Eip, 0x221), (Ss, 0x020F), (Esp, 0xF0)],
+        state: &[(Bits(17), 32), (Bits(64), 16), (Bits(65), 32), (Bits(66), 32), (Bits(67), 16), (Bits(68), 16)]),
+    // No descriptors are refused; 1FBBh fill the table from index 69 on; then one more is refused.
+    client!(ENTERED;
+        code: &[
+            b"\xB8\x00\x00\x31\xC9\xCD\x31",
+            b"\xB9\xBB\x1F\xCD\x31\x89\xC3",
+            b"\xB8\x00\x00\xB9\x01\x00\xCD\x31",
+            END,
+        ],
+        trace: &[(2, int31!(0, Set)), (3, int31!(0, Clear)), (4, int31!(0, Set))],
+        registers: &[(Ebx, 0x022F)]),
+    // AX = 1686h returns AX = 0. Function 0000h with CX = 0 sets carry: the jump on carry is taken, over HLT, and the client ends.
+    client!(ENTERED;
+        code: &[b"\xB8\x86\x16\xCD\x2F\x89\xC1\xCD\x31\x72\x01\xF4", b"\xB5\x4C\x89\xC8\xCD\x21"],
+        trace: &[(2, TraceLine::Int2f(0x1686)), (3, int31!(0, Set))]),
 ];
-
-// Puts a word into a header.
-fn put_word(rt: &impl Abort, file: &mut [u8], at: usize, word: u16) {
-    assert!(rt; at < 31 && file.len() >= 32);
-    let [low, high] = word.to_le_bytes();
-    file[at] = low;
-    file[at + 1] = high;
-}
-
-// The file of a client: the bytes of the last page, the pages, and a stack in the first paragraph after the code.
-fn file(rt: &impl Abort, alloc: Global, code: &[u8]) -> Result<Vec<u8>, AllocError> {
-    assert!(rt; code.len() <= 480);
-    let size = HEADER.len() + code.len();
-    let mut file = HEADER.to_vec(alloc)?;
-    file.extend_from_slice(code)?;
-    put_word(rt, &mut file, 0x02, (size % 512) as u16);
-    put_word(rt, &mut file, 0x04, size.div_ceil(512) as u16);
-    put_word(rt, &mut file, 0x0E, code.len().div_ceil(16) as u16);
-    Ok(file)
-}
-
-// A host into which a file was loaded, with all else as it is where nothing is said.
-#[tactic(auto, unfolding(host_memory::specs::Blank::blank_world))]
-fn loaded(
-    rt: &impl Abort,
-    alloc: Global,
-    file: &[u8],
-    keys: &[u8],
-) -> Result<(Host, Result<(), LoadFault>), AllocError> {
-    assert!(rt; keys.len() <= 100);
-    let mut host = Host::new(alloc, DEFAULT_PAGES, keys, DEFAULT_TRACE)?;
-    let answer = host.load(file);
-    Ok((host, answer))
-}
-
-// Runs a case, and compares its end and what it leaves.
-fn run(rt: &impl Abort, alloc: Global, case: &Case) -> Result<Host, AllocError> {
-    assert!(rt; case.bound <= 1000);
-    let code = case.code;
-    let file = file(rt, alloc, code)?;
-    let (mut host, answer) = loaded(rt, alloc, &file, case.keys)?;
-    assert_eq!(rt; answer, Ok(()));
-    assert_eq!(rt; host.steps(), 0);
-    assert_eq!(rt; host.run(case.bound), case.exit, "exit of {code:?}");
-    assert_eq!(rt; host.exit(), Some(case.exit), "exit of {code:?}");
-    assert_eq!(rt; host.steps(), case.steps, "turns of {code:?}");
-    assert_eq!(rt; host.console(), case.console, "console of {code:?}");
-    let regs = host.machine().regs();
-    let image = regs.flags.image(host.machine().vif());
-    let regs = Regs {
-        flags: Flags::CLEAR,
-        ..regs
-    };
-    assert_eq!(rt; regs, case.regs, "registers of {code:?}");
-    assert_eq!(rt; image, case.flags, "flags of {code:?}");
-    Ok(host)
-}
 
 #[test]
 fn clients_run_to_their_ends(rt: HostRuntime) -> Result<(), Fail> {
-    for case in &CASES {
-        let _host = run(&rt, rt.alloc(), case)?;
-    }
+    run_all(&rt, rt.alloc(), &REAL_MODE)?;
     Ok(())
 }
 
 #[test]
-fn a_letter_leaves_two_lines_and_nothing_else(rt: HostRuntime) -> Result<(), Fail> {
-    let host = run(&rt, rt.alloc(), &CASES[0])?;
-    assert_eq!(rt; host.lines(), 2);
-    assert_eq!(rt; host.line(0), Some(TraceLine::Int21(0x02)));
-    assert_eq!(rt; host.line(1), Some(TraceLine::Int21(0x4C)));
-    assert_eq!(rt; host.line(2), None);
-
-    let machine = host.machine();
-    assert_eq!(rt; machine.mode(), Mode::Real);
-    for index in 0..DESCRIPTORS as u16 {
-        assert!(rt; machine.desc(index).is_none(), "descriptor {index}");
-    }
-    // The records of calls and the rows of memory blocks are frames 256 + 52 and 256 + 53, and zeros where there is none.
-    let ram = machine.ram();
-    assert!(rt; ram.len() >= 310 * 4096);
-    for at in 308 * 4096..310 * 4096 {
-        assert_eq!(rt; ram.get8(at), 0, "byte {at}");
-    }
+fn clients_enter_protected_mode(rt: HostRuntime) -> Result<(), Fail> {
+    run_all(&rt, rt.alloc(), &PROTECTED)?;
     Ok(())
 }
 
-// Loads a client's file with other words in its header, by their places, and compares the answer. Where it is loaded, the image, which begins
-// at 740h, and words of memory are compared too.
+// The image, which begins at 740h, and some words of memory.
+fn expect_memory(rt: &impl Abort, m: &Machine, code: &[u8], memory: &[(u32, u16)]) {
+    assert!(rt; code.len() <= 480);
+    for (i, byte) in code.iter().enumerate() {
+        let at = 0x740 + i as u32;
+        assert_eq!(rt; m.dos8(at), *byte, "byte {at}");
+    }
+    for (at, word) in memory {
+        assert!(rt; *at < 0x1000);
+        assert_eq!(rt; m.dos16(*at), *word, "word {at}");
+    }
+}
+
+// Loads a client's file with other words in its header, by their places, and compares the answer. Where it is loaded, the memory
+// is compared too.
 fn expect_load(
     rt: &impl Abort,
     alloc: Global,
@@ -211,24 +175,12 @@ fn expect_load(
     for (at, word) in header {
         put_word(rt, &mut file, *at, *word);
     }
-    let (host, loaded) = loaded(rt, alloc, &file, &[])?;
+    let (host, loaded) = loaded(rt, alloc, DEFAULT_PAGES, &[], &file)?;
     assert_eq!(rt; loaded, answer, "answer to {header:?}");
     if answer.is_err() {
         return Ok(());
     }
-    assert!(rt; code.len() <= 480);
-    for (i, byte) in code.iter().enumerate() {
-        let at = 0x740 + i as u32;
-        assert_eq!(rt; host.machine().dos8(at), *byte, "byte {at} with {header:?}");
-    }
-    for (at, word) in memory {
-        assert!(rt; *at < 0x1000);
-        assert_eq!(rt;
-            host.machine().dos16(*at),
-            *word,
-            "word {at} with {header:?}"
-        );
-    }
+    expect_memory(rt, host.machine(), code, memory);
     Ok(())
 }
 
@@ -260,124 +212,5 @@ fn a_program_has_33_paragraphs(rt: HostRuntime) -> Result<(), Fail> {
         let memory = [(0x633, 33), (0x642, 0x85), (0x84E, last), (0x853, 0x9F7A)];
         expect_load(&rt, rt.alloc(), LETTER, &header, answer, &memory)?;
     }
-    Ok(())
-}
-
-// Asks INT 2Fh for the entry, puts its address on the stack, and calls it for a client of 16 bits.
-const ENTER_16: [u8; 14] = [
-    0xB8, 0x87, 0x16, 0xCD, 0x2F, 0x06, 0x57, 0x89, 0xE5, 0x31, 0xC0, 0xFF, 0x5E, 0x00,
-];
-
-// The same for a client of 32 bits: AX is 1.
-const ENTER_32: [u8; 15] = [
-    0xB8, 0x87, 0x16, 0xCD, 0x2F, 0x06, 0x57, 0x89, 0xE5, 0xB8, 0x01, 0x00, 0xFF, 0x5E, 0x00,
-];
-
-// Loads a client that enters protected mode and then runs some code.
-fn entered_by(
-    rt: &impl Abort,
-    alloc: Global,
-    enter: &[u8],
-    code: &[u8],
-) -> Result<Host, AllocError> {
-    assert!(rt; enter.len() <= 40 && code.len() <= 400);
-    let mut whole = enter.to_vec(alloc)?;
-    whole.extend_from_slice(code)?;
-    let file = file(rt, alloc, &whole)?;
-    let (host, answer) = loaded(rt, alloc, &file, &[])?;
-    assert_eq!(rt; answer, Ok(()));
-    Ok(host)
-}
-
-// Runs a host that has made no turn.
-fn run_out(rt: &impl Abort, host: &mut Host) -> Exit {
-    assert_eq!(rt; host.steps(), 0);
-    host.run(100)
-}
-
-fn entered(rt: &impl Abort, alloc: Global, code: &[u8]) -> Result<Host, AllocError> {
-    entered_by(rt, alloc, &ENTER_16, code)
-}
-
-// A client of 32 bits pushes doublewords: its frame has 12 bytes.
-#[test]
-fn a_wide_client_enters_and_ends(rt: HostRuntime) -> Result<(), Fail> {
-    let mut host = entered_by(&rt, rt.alloc(), &ENTER_32, &[0xB8, 0x00, 0x4C, 0xCD, 0x21])?;
-    assert_eq!(rt; run_out(&rt, &mut host), Exit::Exited(0));
-    assert_eq!(rt; host.steps(), 12);
-    assert_eq!(rt; host.line(1), Some(TraceLine::Entry(Width::ThirtyTwo)));
-    let r = host.machine().regs();
-    assert_eq!(rt; (r.cs, r.eip, r.ss, r.esp), (0x0087, 0x221, 0x020F, 0xF0));
-    for (index, wide) in [
-        (17, true),
-        (64, false),
-        (65, true),
-        (66, true),
-        (67, false),
-        (68, false),
-    ] {
-        let size = match host.machine().desc(index) {
-            Some((d, _)) => Some(d.size),
-            None => None,
-        };
-        assert_eq!(rt; size, Some(wide), "descriptor {index}");
-    }
-    Ok(())
-}
-
-// No descriptors are refused; 1FBBh fill the table from index 69 on; then one more is refused.
-#[test]
-fn descriptors_run_out(rt: HostRuntime) -> Result<(), Fail> {
-    let code = [
-        0xB8, 0x00, 0x00, 0x31, 0xC9, 0xCD, 0x31, 0xB9, 0xBB, 0x1F, 0xCD, 0x31, 0x89, 0xC3, 0xB8,
-        0x00, 0x00, 0xB9, 0x01, 0x00, 0xCD, 0x31, 0xB8, 0x00, 0x4C, 0xCD, 0x21,
-    ];
-    let mut host = entered(&rt, rt.alloc(), &code)?;
-    assert_eq!(rt; run_out(&rt, &mut host), Exit::Exited(0));
-    for (i, carry) in [(2, Carry::Set), (3, Carry::Clear), (4, Carry::Set)] {
-        assert_eq!(rt;
-            host.line(i),
-            Some(TraceLine::Int31 { ax: 0, carry }),
-            "line {i}"
-        );
-    }
-    assert_eq!(rt; host.machine().regs().ebx, 0x022F);
-    Ok(())
-}
-
-// A client that enters protected mode and ends with AX = 4C00h: nine turns up to the entry's, then the move, INT 21h and its vector. At the
-// vector its frame lies on the entry's stack: 100h less 4 bytes of the pushed pointer, less 6.
-#[test]
-fn a_client_enters_and_ends(rt: HostRuntime) -> Result<(), Fail> {
-    let mut host = entered(&rt, rt.alloc(), &[0xB8, 0x00, 0x4C, 0xCD, 0x21])?;
-    assert_eq!(rt; run_out(&rt, &mut host), Exit::Exited(0));
-    assert_eq!(rt; host.steps(), 12);
-    assert!(rt; host.console().is_empty());
-    assert_eq!(rt; host.lines(), 3);
-    assert_eq!(rt; host.line(0), Some(TraceLine::Int2f(0x1687)));
-    assert_eq!(rt; host.line(1), Some(TraceLine::Entry(Width::Sixteen)));
-    assert_eq!(rt; host.line(2), Some(TraceLine::Int21(0x4C)));
-    let machine = host.machine();
-    assert_eq!(rt; machine.mode(), Mode::Protected);
-    let r = machine.regs();
-    assert_eq!(rt; (r.cs, r.eip, r.ss, r.esp), (0x0087, 0x221, 0x020F, 0xF6));
-    assert_eq!(rt; (r.ds, r.es, r.fs, r.gs), (0x0217, 0x021F, 0, 0));
-    assert_eq!(rt; r.flags.image(machine.vif()), 0x0246);
-    Ok(())
-}
-
-// AX = 1686h returns AX = 0. Function 0000h with CX = 0 sets carry: the jump on carry is taken, over HLT, and the client ends.
-#[test]
-fn services_answer_in_the_popped_flags(rt: HostRuntime) -> Result<(), Fail> {
-    let code = [
-        0xB8, 0x86, 0x16, 0xCD, 0x2F, 0x89, 0xC1, 0xCD, 0x31, 0x72, 0x01, 0xF4, 0xB5, 0x4C, 0x89,
-        0xC8, 0xCD, 0x21,
-    ];
-    let mut host = entered(&rt, rt.alloc(), &code)?;
-    assert_eq!(rt; run_out(&rt, &mut host), Exit::Exited(0));
-    assert_eq!(rt; host.line(2), Some(TraceLine::Int2f(0x1686)));
-    let ax = 0;
-    let carry = Carry::Set;
-    assert_eq!(rt; host.line(3), Some(TraceLine::Int31 { ax, carry }));
     Ok(())
 }

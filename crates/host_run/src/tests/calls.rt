@@ -1,11 +1,8 @@
 // Calls of real mode in a run: reflected interrupts and functions 0300h to 0302h.
-use super::exceptions::nested;
-use super::{ENTER_16, entered, entered_by, file, loaded, run_out};
-use crate::Host;
+use super::runs::Register::Eip;
+use super::runs::State::Depth;
+use super::runs::{Client, ENTERED, Nested, REAL, run_all};
 use client_world::{Call, Exit, Flags, Regs, TraceLine, What};
-use mode_stack::depth;
-use std::alloc::{AllocError, Global};
-use std::process::Abort;
 use std::test::Fail;
 
 // Gives back the memory past 1000h paragraphs, and enters as a client of 32 bits.
@@ -14,289 +11,50 @@ const SHRINK_AND_ENTER_32: [u8; 22] = [
     0xB8, 0x01, 0x00, 0xFF, 0x5E, 0x00,
 ];
 
-// A line on a nested call: whether it was entered, the depth, and what it was.
-pub(super) type Nested = (bool, u8, What);
+const REFLECTION: What = What::Call(Call::Reflect(0x21));
 
-const REFLECTED: [Nested; 2] = [
-    (true, 0, What::Call(Call::Reflect(0x21))),
-    (false, 0, What::Call(Call::Reflect(0x21))),
-];
+const ENTER_FAR: Nested = (true, 0, What::Call(Call::Far));
 
-const FAR: [Nested; 2] = [
-    (true, 0, What::Call(Call::Far)),
-    (false, 0, What::Call(Call::Far)),
-];
+const LEAVE_FAR: Nested = (false, 0, What::Call(Call::Far));
 
-const INT_21: [Nested; 2] = [
-    (true, 0, What::Call(Call::Int(0x21))),
-    (false, 0, What::Call(Call::Int(0x21))),
-];
+const ENTER_21: Nested = (true, 0, What::Call(Call::Int(0x21)));
 
-const TWICE_21: [Nested; 4] = [
-    (true, 0, What::Call(Call::Int(0x21))),
-    (false, 0, What::Call(Call::Int(0x21))),
-    (true, 0, What::Call(Call::Int(0x21))),
-    (false, 0, What::Call(Call::Int(0x21))),
-];
+const LEAVE_21: Nested = (false, 0, What::Call(Call::Int(0x21)));
 
-// How a client enters and what it runs then; its exit, its console, and its lines on nested calls. A client ends with AL = FFh where its
-// last call is refused.
-#[derive(Drop)]
-pub(super) struct Calling {
-    pub(super) enter: &'static [u8],
-    pub(super) code: &'static [u8],
-    pub(super) exit: Exit,
-    pub(super) console: &'static [u8],
-    pub(super) nested: &'static [Nested],
-}
+// A client that calls real mode, and two whose last call is one of function 0300h for INT 21h: it is made, or it is refused.
+const CALLS: Client = Client {
+    bound: 100_000,
+    ..ENTERED
+};
 
-const CALLING: [Calling; 17] = [
-    // It prints the 5Ah that function 0400h gives in AL: INT 21h is reflected.
-    Calling {
-        enter: &ENTER_16,
-        code: &[
-            0xB8, 0x00, 0x04, 0xCD, 0x31, 0x88, 0xC2, 0xB4, 0x02, 0xCD, 0x21, 0xB8, 0x00, 0x4C,
-            0xCD, 0x21,
-        ],
-        exit: Exit::Exited(0),
-        console: b"Z",
-        nested: &REFLECTED,
-    },
-    // A client of 32 bits: it shrinks its program, enters, fills a block of 256 KB through a flat descriptor, and prints by two calls of
-    // function 0300h.
-    Calling {
-        enter: &SHRINK_AND_ENTER_32,
-        code: &[
-            0xB8, 0x01, 0x05, 0xBB, 0x04, 0x00, 0x31, 0xC9, 0xCD, 0x31, 0x89, 0xCD, 0xB8, 0x00,
-            0x00, 0xB9, 0x01, 0x00, 0xCD, 0x31, 0x89, 0xC3, 0xB8, 0x07, 0x00, 0x31, 0xC9, 0x31,
-            0xD2, 0xCD, 0x31, 0xB8, 0x08, 0x00, 0xB9, 0xFF, 0xFF, 0xBA, 0xFF, 0xFF, 0xCD, 0x31,
-            0x8E, 0xC3, 0x66, 0xBF, 0x00, 0x00, 0x40, 0x00, 0x66, 0xB9, 0x00, 0x00, 0x01, 0x00,
-            0x66, 0xB8, 0x04, 0x03, 0x02, 0x01, 0x67, 0x66, 0xF3, 0xAB, 0x1E, 0x07, 0x66, 0xBF,
-            0x00, 0x10, 0x00, 0x00, 0x67, 0xC7, 0x47, 0x1C, 0x00, 0x02, 0x67, 0xC6, 0x47, 0x14,
-            0x4F, 0xB8, 0x00, 0x03, 0xBB, 0x21, 0x00, 0x31, 0xC9, 0xCD, 0x31, 0x67, 0xC6, 0x47,
-            0x14, 0x4B, 0xB8, 0x00, 0x03, 0xCD, 0x31, 0xB8, 0x00, 0x4C, 0xCD, 0x21,
-        ],
-        exit: Exit::Exited(0),
-        console: b"OK",
-        nested: &TWICE_21,
-    },
-    // A procedure that it calls by function 0301h calls the entry again: that is refused with carry set in the structure's flags.
-    Calling {
-        enter: &ENTER_16,
-        code: &[
-            0x1E, 0x07, 0xBF, 0x00, 0x10, 0xC7, 0x45, 0x2A, 0x2B, 0x00, 0xC7, 0x45, 0x2C, 0x74,
-            0x00, 0x31, 0xC9, 0xB8, 0x01, 0x03, 0xCD, 0x31, 0x8A, 0x45, 0x20, 0xB4, 0x4C, 0xCD,
-            0x21, 0xB8, 0x00, 0x00, 0x9A, 0x00, 0x01, 0x00, 0xF0, 0xCB,
-        ],
-        exit: Exit::Exited(3),
-        console: b"",
-        nested: &FAR,
-    },
-    // A procedure that changes every segment register: ES and DS in the structure are those that it left.
-    Calling {
-        enter: &ENTER_16,
-        code: &[
-            0x1E, 0x07, 0xBF, 0x00, 0x10, 0xC7, 0x45, 0x2A, 0x2E, 0x00, 0xC7, 0x45, 0x2C, 0x74,
-            0x00, 0x31, 0xC9, 0xB8, 0x01, 0x03, 0xCD, 0x31, 0x8A, 0x45, 0x22, 0x2A, 0x45, 0x24,
-            0xB4, 0x4C, 0xCD, 0x21, 0x5B, 0x59, 0xB8, 0x34, 0x12, 0x8E, 0xC0, 0xB8, 0x33, 0x12,
-            0x8E, 0xD8, 0x8E, 0xE0, 0x8E, 0xE8, 0x8E, 0xD0, 0xBC, 0x80, 0x00, 0x51, 0x53, 0xCB,
-        ],
-        exit: Exit::Exited(1),
-        console: b"",
-        nested: &FAR,
-    },
-    // 200 words are passed; 201 and FFFFh are refused.
-    Calling {
-        enter: &ENTER_16,
-        code: &[
-            0x1E, 0x07, 0xBF, 0x00, 0x10, 0xC7, 0x45, 0x1C, 0x00, 0x30, 0x81, 0xEC, 0x90, 0x00,
-            0xB9, 0xC8, 0x00, 0xB8, 0x00, 0x03, 0xBB, 0x21, 0x00, 0xCD, 0x31, 0x18, 0xC0, 0xB4,
-            0x4C, 0xCD, 0x21,
-        ],
-        exit: Exit::Exited(0),
-        console: b"",
-        nested: &INT_21,
-    },
-    Calling {
-        enter: &ENTER_16,
-        code: &[
-            0x1E, 0x07, 0xBF, 0x00, 0x10, 0xC7, 0x45, 0x1C, 0x00, 0x30, 0x81, 0xEC, 0x90, 0x00,
-            0xB9, 0xC9, 0x00, 0xB8, 0x00, 0x03, 0xBB, 0x21, 0x00, 0xCD, 0x31, 0x18, 0xC0, 0xB4,
-            0x4C, 0xCD, 0x21,
-        ],
-        exit: Exit::Exited(0xFF),
-        console: b"",
-        nested: &[],
-    },
-    Calling {
-        enter: &ENTER_16,
-        code: &[
-            0x1E, 0x07, 0xBF, 0x00, 0x10, 0xC7, 0x45, 0x1C, 0x00, 0x30, 0x81, 0xEC, 0x90, 0x00,
-            0xB9, 0xFF, 0xFF, 0xB8, 0x00, 0x03, 0xBB, 0x21, 0x00, 0xCD, 0x31, 0x18, 0xC0, 0xB4,
-            0x4C, 0xCD, 0x21,
-        ],
-        exit: Exit::Exited(0xFF),
-        console: b"",
-        nested: &[],
-    },
-    // A structure at the last 32h bytes of its segment, and one byte further.
-    Calling {
-        enter: &ENTER_16,
-        code: &[
-            0x1E, 0x07, 0xBF, 0xCE, 0xFF, 0xC7, 0x45, 0x1C, 0x00, 0x30, 0xB9, 0x00, 0x00, 0xB8,
-            0x00, 0x03, 0xBB, 0x21, 0x00, 0xCD, 0x31, 0x18, 0xC0, 0xB4, 0x4C, 0xCD, 0x21,
-        ],
-        exit: Exit::Exited(0),
-        console: b"",
-        nested: &INT_21,
-    },
-    Calling {
-        enter: &ENTER_16,
-        code: &[
-            0x1E, 0x07, 0xBF, 0xCF, 0xFF, 0xC7, 0x45, 0x1C, 0x00, 0x30, 0xB9, 0x00, 0x00, 0xB8,
-            0x00, 0x03, 0xBB, 0x21, 0x00, 0xCD, 0x31, 0x18, 0xC0, 0xB4, 0x4C, 0xCD, 0x21,
-        ],
-        exit: Exit::Exited(0xFF),
-        console: b"",
-        nested: &[],
-    },
-    // A structure in read-only memory.
-    Calling {
-        enter: &ENTER_16,
-        code: &[
-            0xB8, 0x02, 0x00, 0xBB, 0x00, 0xF0, 0xCD, 0x31, 0x8E, 0xC0, 0x31, 0xFF, 0x31, 0xC9,
-            0xB8, 0x00, 0x03, 0xBB, 0x21, 0x00, 0xCD, 0x31, 0x18, 0xC0, 0xB4, 0x4C, 0xCD, 0x21,
-        ],
-        exit: Exit::Exited(0xFF),
-        console: b"",
-        nested: &[],
-    },
-    // A stack at 0:0 is the host's; others at SP 0, 1 and FFFFh, in read-only memory, past 1 MB.
-    Calling {
-        enter: &ENTER_16,
-        code: &[
-            0x1E, 0x07, 0xBF, 0x00, 0x10, 0xC7, 0x45, 0x1C, 0x00, 0x30, 0xC7, 0x45, 0x30, 0x00,
-            0x00, 0xC7, 0x45, 0x2E, 0x00, 0x00, 0xB9, 0x00, 0x00, 0xB8, 0x00, 0x03, 0xBB, 0x21,
-            0x00, 0xCD, 0x31, 0x18, 0xC0, 0xB4, 0x4C, 0xCD, 0x21,
-        ],
-        exit: Exit::Exited(0),
-        console: b"",
-        nested: &INT_21,
-    },
-    Calling {
-        enter: &ENTER_16,
-        code: &[
-            0x1E, 0x07, 0xBF, 0x00, 0x10, 0xC7, 0x45, 0x1C, 0x00, 0x30, 0xC7, 0x45, 0x30, 0x00,
-            0x80, 0xC7, 0x45, 0x2E, 0x00, 0x00, 0xB9, 0x00, 0x00, 0xB8, 0x00, 0x03, 0xBB, 0x21,
-            0x00, 0xCD, 0x31, 0x18, 0xC0, 0xB4, 0x4C, 0xCD, 0x21,
-        ],
-        exit: Exit::Exited(0),
-        console: b"",
-        nested: &INT_21,
-    },
-    Calling {
-        enter: &ENTER_16,
-        code: &[
-            0x1E, 0x07, 0xBF, 0x00, 0x10, 0xC7, 0x45, 0x1C, 0x00, 0x30, 0xC7, 0x45, 0x30, 0x00,
-            0x80, 0xC7, 0x45, 0x2E, 0x01, 0x00, 0xB9, 0x00, 0x00, 0xB8, 0x00, 0x03, 0xBB, 0x21,
-            0x00, 0xCD, 0x31, 0x18, 0xC0, 0xB4, 0x4C, 0xCD, 0x21,
-        ],
-        exit: Exit::Exited(0xFF),
-        console: b"",
-        nested: &[],
-    },
-    Calling {
-        enter: &ENTER_16,
-        code: &[
-            0x1E, 0x07, 0xBF, 0x00, 0x10, 0xC7, 0x45, 0x1C, 0x00, 0x30, 0xC7, 0x45, 0x30, 0x00,
-            0x80, 0xC7, 0x45, 0x2E, 0xFF, 0xFF, 0xB9, 0x00, 0x00, 0xB8, 0x00, 0x03, 0xBB, 0x21,
-            0x00, 0xCD, 0x31, 0x18, 0xC0, 0xB4, 0x4C, 0xCD, 0x21,
-        ],
-        exit: Exit::Exited(0),
-        console: b"",
-        nested: &INT_21,
-    },
-    Calling {
-        enter: &ENTER_16,
-        code: &[
-            0x1E, 0x07, 0xBF, 0x00, 0x10, 0xC7, 0x45, 0x1C, 0x00, 0x30, 0xC7, 0x45, 0x30, 0x00,
-            0xF0, 0xC7, 0x45, 0x2E, 0x00, 0x01, 0xB9, 0x00, 0x00, 0xB8, 0x00, 0x03, 0xBB, 0x21,
-            0x00, 0xCD, 0x31, 0x18, 0xC0, 0xB4, 0x4C, 0xCD, 0x21,
-        ],
-        exit: Exit::Exited(0xFF),
-        console: b"",
-        nested: &[],
-    },
-    Calling {
-        enter: &ENTER_16,
-        code: &[
-            0x1E, 0x07, 0xBF, 0x00, 0x10, 0xC7, 0x45, 0x1C, 0x00, 0x30, 0xC7, 0x45, 0x30, 0xFF,
-            0xFF, 0xC7, 0x45, 0x2E, 0x20, 0x00, 0xB9, 0x00, 0x00, 0xB8, 0x00, 0x03, 0xBB, 0x21,
-            0x00, 0xCD, 0x31, 0x18, 0xC0, 0xB4, 0x4C, 0xCD, 0x21,
-        ],
-        exit: Exit::Exited(0),
-        console: b"",
-        nested: &INT_21,
-    },
-    // A stack that lies over the structure.
-    Calling {
-        enter: &ENTER_16,
-        code: &[
-            0x1E, 0x07, 0xBF, 0x00, 0x10, 0xC7, 0x45, 0x1C, 0x00, 0x30, 0xC7, 0x45, 0x30, 0x64,
-            0x01, 0xC7, 0x45, 0x2E, 0x34, 0x00, 0xB9, 0x00, 0x00, 0xB8, 0x00, 0x03, 0xBB, 0x21,
-            0x00, 0xCD, 0x31, 0x18, 0xC0, 0xB4, 0x4C, 0xCD, 0x21,
-        ],
-        exit: Exit::Exited(0),
-        console: b"",
-        nested: &INT_21,
-    },
-];
+const CALLED: Client = Client {
+    nested: Some(&[ENTER_21, LEAVE_21]),
+    ..CALLS
+};
 
-// The next line on a nested call from a line on, and the number of the line after it.
-fn next_nested(host: &Host, from: u32) -> Option<(u32, Nested)> {
-    for i in from..host.kept() {
-        if let Some((entered, depth, what, _, _, _)) = nested(host.line(i)) {
-            return Some((i + 1, (entered, depth, what)));
-        }
-    }
-    None
-}
+const REFUSED: Client = Client {
+    exit: Exit::Exited(0xFF),
+    nested: Some(&[]),
+    ..CALLS
+};
 
-// The lines on nested calls are these, and no others.
-pub(super) fn expect_nested(rt: &impl Abort, host: &Host, lines: &[Nested], client: usize) {
-    let mut from = 0;
-    for line in lines {
-        let found = next_nested(host, from);
-        assert_eq!(rt; found.map(|(_, line)| line), Some(*line), "client {client}");
-        from = match found {
-            Some((after, _)) => after,
-            None => from,
-        };
-    }
-    assert_eq!(rt; next_nested(host, from), None, "client {client}");
-}
+// ES:DI is a call structure, at 1000h of the client's data.
+const STRUCTURE: &[u8] = b"\x1E\x07\xBF\x00\x10";
 
-// Runs some clients, and compares how each ends.
-pub(super) fn run_clients(
-    rt: &impl Abort,
-    alloc: Global,
-    clients: &[Calling],
-) -> Result<(), AllocError> {
-    for (number, case) in clients.iter().enumerate() {
-        let mut host = entered_by(rt, alloc, case.enter, case.code)?;
-        assert_eq!(rt; host.steps(), 0);
-        assert_eq!(rt; host.run(100_000), case.exit, "client {number}");
-        assert_eq!(rt; host.console(), case.console, "client {number}");
-        expect_nested(rt, &host, case.nested, number);
-    }
-    Ok(())
-}
+// AX in the structure is 3000h: DOS's function that returns its version.
+const VERSION: &[u8] = b"\xC7\x45\x1C\x00\x30";
 
-#[test]
-fn clients_call_real_mode(rt: HostRuntime) -> Result<(), Fail> {
-    run_clients(&rt, rt.alloc(), &CALLING)?;
-    Ok(())
-}
+// Room for 72 words more on the client's stack.
+const ROOM: &[u8] = b"\x81\xEC\x90\x00";
+
+// CX, the number of words, is 0.
+const NO_WORDS: &[u8] = b"\xB9\x00\x00";
+
+// Function 0300h for INT 21h. The client ends with AL = FFh where it is refused, and else with 0.
+const CALL_21: &[u8] = b"\xB8\x00\x03\xBB\x21\x00\xCD\x31\x18\xC0\xB4\x4C\xCD\x21";
+
+// Function 0301h without words.
+const CALL_FAR: &[u8] = b"\x31\xC9\xB8\x01\x03\xCD\x31";
 
 // At DOS's handler of real mode the client's general registers and flags are there; SP is 400h less a frame of six bytes.
 const AT_HANDLER: Regs = Regs {
@@ -318,102 +76,114 @@ const AT_HANDLER: Regs = Regs {
     ..Regs::ZERO
 };
 
-#[test]
-fn a_reflection_shows_its_registers(rt: HostRuntime) -> Result<(), Fail> {
-    let mut host = entered(&rt, rt.alloc(), CALLING[0].code)?;
-    assert_eq!(rt; run_out(&rt, &mut host), Exit::Exited(0));
-    assert_eq!(rt; (host.steps(), host.lines()), (21, 7));
-    let what = What::Call(Call::Reflect(0x21));
-    assert_eq!(rt;
-        host.line(3),
-        Some(TraceLine::Enter {
-            depth: 0,
-            what,
-            regs: AT_HANDLER,
-            vif: false,
-        })
-    );
-    assert_eq!(rt; host.line(4), Some(TraceLine::Int21(2)));
-    let regs = Regs {
-        esp: 0x400,
-        eip: 0x103,
-        ..AT_HANDLER
-    };
-    assert_eq!(rt;
-        host.line(5),
-        Some(TraceLine::Leave {
-            depth: 0,
-            what,
-            regs,
-            vif: true,
-        })
-    );
-    Ok(())
-}
+const AFTER_HANDLER: Regs = Regs {
+    esp: 0x400,
+    eip: 0x103,
+    ..AT_HANDLER
+};
 
-// The handler of exception 0Dh prints B by INT 21h, adds 1 to IP in the frame, past HLT, and returns.
-#[test]
-fn a_handler_of_an_exception_calls_dos(rt: HostRuntime) -> Result<(), Fail> {
-    let code = [
-        0xB8, 0x03, 0x02, 0xB3, 0x0D, 0x8C, 0xC9, 0xBA, 0x20, 0x00, 0xCD, 0x31, 0xF4, 0xB8, 0x00,
-        0x4C, 0xCD, 0x21, 0xB4, 0x02, 0xB2, 0x42, 0xCD, 0x21, 0x89, 0xE5, 0xFF, 0x46, 0x06, 0xCB,
-    ];
-    let mut host = entered(&rt, rt.alloc(), &code)?;
-    assert_eq!(rt; run_out(&rt, &mut host), Exit::Exited(0));
-    assert_eq!(rt; host.console(), b"B".as_slice());
-    let what = What::Call(Call::Reflect(0x21));
-    let lines = [
-        (true, 0, What::Exc(13)),
-        (true, 1, what),
-        (false, 1, what),
-        (false, 0, What::Exc(13)),
-    ];
-    expect_nested(&rt, &host, &lines, 0);
-    Ok(())
-}
+// A handler of exception 0Dh raises it again until it has run 16 times; what comes then is at depth 16.
+const TO_THE_DEPTH: &[u8] =
+    b"\xB8\x03\x02\xB3\x0D\x8C\xC9\xBA\x20\x00\xCD\x31\x1E\x07\xBF\x00\x10\xF4\xFE\x45\x40\x80\x7D\x40\x10\x74\x01\xF4";
 
-// A handler of exception 0Dh that raises it again, up to depth 16. Then a reflection ends the run, and a call of function 0300h is refused.
-const TO_THE_DEPTH: [u8; 28] = [
-    0xB8, 0x03, 0x02, 0xB3, 0x0D, 0x8C, 0xC9, 0xBA, 0x20, 0x00, 0xCD, 0x31, 0x1E, 0x07, 0xBF, 0x00,
-    0x10, 0xF4, 0xFE, 0x45, 0x40, 0x80, 0x7D, 0x40, 0x10, 0x74, 0x01, 0xF4,
+static CLIENTS: [Client; 9] = [
+    // It prints the 5Ah that function 0400h gives in AL: INT 21h is reflected.
+    client!(CALLS; code: &[b"\xB8\x00\x04\xCD\x31\x88\xC2\xB4\x02\xCD\x21\xB8\x00\x4C\xCD\x21"], steps: Some(21), lines: Some(7),
+        console: b"Z",
+        trace: &[
+            (3, TraceLine::Enter { depth: 0, what: REFLECTION, regs: AT_HANDLER, vif: false }),
+            (4, TraceLine::Int21(2)),
+            (5, TraceLine::Leave { depth: 0, what: REFLECTION, regs: AFTER_HANDLER, vif: true }),
+        ],
+        nested: Some(&[(true, 0, REFLECTION), (false, 0, REFLECTION)])),
+    // A client of 32 bits: it shrinks its program, enters, fills a block of 256 KB through a flat descriptor, and prints by two calls of
+    // function 0300h.
+    client!(CALLS; enter: &SHRINK_AND_ENTER_32,
+        code: &[
+            b"\xB8\x01\x05\xBB\x04\x00\x31\xC9\xCD\x31\x89\xCD",
+            b"\xB8\x00\x00\xB9\x01\x00\xCD\x31\x89\xC3",
+            b"\xB8\x07\x00\x31\xC9\x31\xD2\xCD\x31\xB8\x08\x00\xB9\xFF\xFF\xBA\xFF\xFF\xCD\x31",
+            b"\x8E\xC3\x66\xBF\x00\x00\x40\x00\x66\xB9\x00\x00\x01\x00",
+            b"\x66\xB8\x04\x03\x02\x01\x67\x66\xF3\xAB",
+            b"\x1E\x07\x66\xBF\x00\x10\x00\x00\x67\xC7\x47\x1C\x00\x02",
+            b"\x67\xC6\x47\x14\x4F",
+            b"\xB8\x00\x03\xBB\x21\x00\x31\xC9\xCD\x31",
+            b"\x67\xC6\x47\x14\x4B\xB8\x00\x03\xCD\x31",
+            b"\xB8\x00\x4C\xCD\x21",
+        ],
+        console: b"OK", nested: Some(&[ENTER_21, LEAVE_21, ENTER_21, LEAVE_21])),
+    // A procedure that it calls by function 0301h calls the entry again: that is refused with carry set in the structure's flags.
+    client!(CALLS;
+        code: &[
+            STRUCTURE,
+            b"\xC7\x45\x2A\x2B\x00\xC7\x45\x2C\x74\x00",
+            CALL_FAR,
+            b"\x8A\x45\x20\xB4\x4C\xCD\x21\xB8\x00\x00\x9A\x00\x01\x00\xF0\xCB",
+        ],
+        exit: Exit::Exited(3), nested: Some(&[ENTER_FAR, LEAVE_FAR])),
+    // A procedure that changes every segment register: ES and DS in the structure are those that it left.
+    client!(CALLS;
+        code: &[
+            STRUCTURE,
+            b"\xC7\x45\x2A\x2E\x00\xC7\x45\x2C\x74\x00",
+            CALL_FAR,
+            b"\x8A\x45\x22\x2A\x45\x24\xB4\x4C\xCD\x21\x5B\x59\xB8\x34\x12\x8E\xC0\xB8\x33\x12\x8E\xD8\x8E\xE0\x8E\xE8\x8E\xD0\xBC\x80\x00\x51\x53\xCB",
+        ],
+        exit: Exit::Exited(1), nested: Some(&[ENTER_FAR, LEAVE_FAR])),
+    // The handler of exception 0Dh prints B by INT 21h, adds 1 to IP in the frame, past HLT, and returns.
+    client!(CALLS;
+        code: &[
+            b"\xB8\x03\x02\xB3\x0D\x8C\xC9\xBA\x20\x00\xCD\x31",
+            b"\xF4\xB8\x00\x4C\xCD\x21",
+            b"\xB4\x02\xB2\x42\xCD\x21\x89\xE5\xFF\x46\x06\xCB",
+        ],
+        console: b"B", nested: Some(&[(true, 0, What::Exc(13)), (true, 1, REFLECTION), (false, 1, REFLECTION), (false, 0, What::Exc(13))])),
+    // A handler of exception 0Dh that raises it again, up to depth 16. Then a reflection ends the run, and a call of function 0300h is
+    // refused.
+    client!(CALLS; code: &[TO_THE_DEPTH, b"\xCD\x60"], bound: 1000, exit: Exit::Deep, registers: &[(Eip, 0x260)], state: &[(Depth, 16)]),
+    client!(CALLS; code: &[TO_THE_DEPTH, b"\xB8\x00\x03\xBB\x21\x00\x31\xC9\xCD\x31\x18\xC0\xB4\x4C\xCD\x21"], bound: 1000,
+        exit: Exit::Exited(0xFF), registers: &[(Eip, 0x221)], state: &[(Depth, 16)]),
+    // A procedure that never returns, and a jump to the trap of the return where nothing was called.
+    client!(CALLS;
+        code: &[
+            b"\x1E\x07\xBF\x00\x10",
+            b"\xC7\x45\x2A\x2E\x00\xC7\x45\x2C\x74\x00\xB9\x00\x00",
+            b"\xB8\x01\x03\xBB\x21\x00\xCD\x31\x18\xC0\xB4\x4C\xCD\x21\xEB\xFE",
+        ],
+        bound: 100, exit: Exit::Bound, nested: Some(&[ENTER_FAR])),
+    client!(REAL; code: &[b"\xEA\x03\x01\x00\xF0"], exit: Exit::Stray),
+];
+
+// Calls of function 0300h with words, structures and stacks that are the client's own.
+static ARGUMENTS: [Client; 13] = [
+    // 200 words are passed; 201 and FFFFh are refused.
+    client!(CALLED; code: &[STRUCTURE, VERSION, ROOM, b"\xB9\xC8\x00", CALL_21]),
+    client!(REFUSED; code: &[STRUCTURE, VERSION, ROOM, b"\xB9\xC9\x00", CALL_21]),
+    client!(REFUSED; code: &[STRUCTURE, VERSION, ROOM, b"\xB9\xFF\xFF", CALL_21]),
+    // A structure at the last 32h bytes of its segment, and one byte further.
+    client!(CALLED; code: &[b"\x1E\x07\xBF\xCE\xFF", VERSION, NO_WORDS, CALL_21]),
+    client!(REFUSED; code: &[b"\x1E\x07\xBF\xCF\xFF", VERSION, NO_WORDS, CALL_21]),
+    // A structure in read-only memory.
+    client!(REFUSED; code: &[b"\xB8\x02\x00\xBB\x00\xF0\xCD\x31\x8E\xC0\x31\xFF\x31\xC9", CALL_21]),
+    // A stack at 0:0 is the host's; others at SP 0, 1 and FFFFh, in read-only memory, past 1 MB.
+    client!(CALLED; code: &[STRUCTURE, VERSION, b"\xC7\x45\x30\x00\x00\xC7\x45\x2E\x00\x00", NO_WORDS, CALL_21]),
+    client!(CALLED; code: &[STRUCTURE, VERSION, b"\xC7\x45\x30\x00\x80\xC7\x45\x2E\x00\x00", NO_WORDS, CALL_21]),
+    client!(REFUSED; code: &[STRUCTURE, VERSION, b"\xC7\x45\x30\x00\x80\xC7\x45\x2E\x01\x00", NO_WORDS, CALL_21]),
+    client!(CALLED; code: &[STRUCTURE, VERSION, b"\xC7\x45\x30\x00\x80\xC7\x45\x2E\xFF\xFF", NO_WORDS, CALL_21]),
+    client!(REFUSED; code: &[STRUCTURE, VERSION, b"\xC7\x45\x30\x00\xF0\xC7\x45\x2E\x00\x01", NO_WORDS, CALL_21]),
+    client!(CALLED; code: &[STRUCTURE, VERSION, b"\xC7\x45\x30\xFF\xFF\xC7\x45\x2E\x20\x00", NO_WORDS, CALL_21]),
+    // A stack that lies over the structure.
+    client!(CALLED; code: &[STRUCTURE, VERSION, b"\xC7\x45\x30\x64\x01\xC7\x45\x2E\x34\x00", NO_WORDS, CALL_21]),
 ];
 
 #[test]
-fn the_greatest_depth_is_16(rt: HostRuntime) -> Result<(), Fail> {
-    let interrupt: &[u8] = &[0xCD, 0x60];
-    let call: &[u8] = &[
-        0xB8, 0x00, 0x03, 0xBB, 0x21, 0x00, 0x31, 0xC9, 0xCD, 0x31, 0x18, 0xC0, 0xB4, 0x4C, 0xCD,
-        0x21,
-    ];
-    for (tail, exit, ip) in [
-        (interrupt, Exit::Deep, 0x260),
-        (call, Exit::Exited(0xFF), 0x221),
-    ] {
-        let mut code = TO_THE_DEPTH.to_vec(rt.alloc())?;
-        code.extend_from_slice(tail)?;
-        let mut host = entered(&rt, rt.alloc(), &code)?;
-        assert_eq!(rt; host.steps(), 0);
-        assert_eq!(rt; host.run(1000), exit);
-        assert_eq!(rt; host.machine().regs().eip, ip);
-        assert_eq!(rt; depth(host.machine()), 16);
-    }
+fn clients_call_real_mode(rt: HostRuntime) -> Result<(), Fail> {
+    run_all(&rt, rt.alloc(), &CLIENTS)?;
     Ok(())
 }
 
-// A procedure that never returns, and a jump to the trap of the return where nothing was called.
 #[test]
-fn procedures_that_do_not_return(rt: HostRuntime) -> Result<(), Fail> {
-    let code = [
-        0x1E, 0x07, 0xBF, 0x00, 0x10, 0xC7, 0x45, 0x2A, 0x2E, 0x00, 0xC7, 0x45, 0x2C, 0x74, 0x00,
-        0xB9, 0x00, 0x00, 0xB8, 0x01, 0x03, 0xBB, 0x21, 0x00, 0xCD, 0x31, 0x18, 0xC0, 0xB4, 0x4C,
-        0xCD, 0x21, 0xEB, 0xFE,
-    ];
-    let mut host = entered(&rt, rt.alloc(), &code)?;
-    assert_eq!(rt; run_out(&rt, &mut host), Exit::Bound);
-    expect_nested(&rt, &host, &FAR[..1], 0);
-    let file = file(&rt, rt.alloc(), &[0xEA, 0x03, 0x01, 0x00, 0xF0])?;
-    let (mut host, answer) = loaded(&rt, rt.alloc(), &file, &[])?;
-    assert_eq!(rt; answer, Ok(()));
-    assert_eq!(rt; run_out(&rt, &mut host), Exit::Stray);
+fn words_structures_and_stacks_are_checked(rt: HostRuntime) -> Result<(), Fail> {
+    run_all(&rt, rt.alloc(), &ARGUMENTS)?;
     Ok(())
 }

@@ -1,29 +1,90 @@
 // Clients that get, resize, lock and free memory: memory blocks, and DOS memory with descriptors.
-use super::{ENTER_16, entered, file, run_out};
+use super::runs::Register::{Ebx, Ecx, Edi, Edx, Esi};
+use super::runs::State::{Base, Bits, DosBlock, Doubleword, Limit};
+use super::runs::{Client, ENTER_16, ENTERED, Register, State, expect_state, run_all, started};
 use crate::Host;
-use client_world::limits::{DEFAULT_PAGES, DEFAULT_TRACE};
-use client_world::{Carry, Exit, Origin, TraceLine};
+use client_world::limits::DEFAULT_PAGES;
+use client_world::{Carry, Exit, Regs, TraceLine};
 use std::alloc::{AllocError, Global};
 use std::process::Abort;
 use std::test::Fail;
 
-// Loads a client with a page budget: some code of real mode, the entry to protected mode as a client of 16 bits, and its code there.
-#[tactic(auto, unfolding(host_memory::specs::Blank::blank_world))]
-fn client(
-    rt: &impl Abort,
-    alloc: Global,
-    pages: u32,
-    real: &[u8],
-    code: &[u8],
-) -> Result<Host, AllocError> {
-    assert!(rt; 0 < pages && pages <= 4096 && real.len() <= 40 && code.len() <= 420);
-    let mut whole = real.to_vec(alloc)?;
-    whole.extend_from_slice(&ENTER_16)?;
-    whole.extend_from_slice(code)?;
-    let file = file(rt, alloc, &whole)?;
-    let mut host = Host::new(alloc, pages, &[], DEFAULT_TRACE)?;
-    assert_eq!(rt; host.load(&file), Ok(()));
-    Ok(host)
+// A block of two pages, and a descriptor of 64 KB from its first byte on, whose selector, 022Fh, is in BX and DS. SI:DI is the handle.
+const IN_A_BLOCK: &[u8] =
+    b"\xB8\x01\x05\x31\xDB\xB9\x00\x20\xCD\x31\xB8\x00\x00\xB9\x01\x00\xCD\x31\x89\xC3\xB8\x07\x00\xB9\x40\x00\x31\xD2\xCD\x31\xB8\x08\x00\x31\xC9\xBA\xFF\xFF\xCD\x31\x8E\xDB";
+
+// What a client then does with the block, and how it ends. The page is absent, so that the code of exception 0Eh is 4 for a read and a fetch
+// and 6 for a write.
+macro_rules! harm {
+    ($code:expr; $exit:expr) => {
+        client!(ENTERED; code: &[IN_A_BLOCK, $code], exit: $exit)
+    };
+}
+
+static HARM: [Client; 10] = [
+    // Its data is the block that it frees: it reads the first byte, the last one, and writes.
+    harm!(b"\xB8\x02\x05\xCD\x31\xA0\x00\x00"; Exit::Fault(14, 4)),
+    harm!(b"\xB8\x02\x05\xCD\x31\xA0\xFF\x1F"; Exit::Fault(14, 4)),
+    harm!(b"\xB8\x02\x05\xCD\x31\xC6\x06\x00\x00\x41"; Exit::Fault(14, 6)),
+    // Its stack is: it pushes, and pops.
+    harm!(b"\x8E\xD3\xBC\x00\x08\xB8\x02\x05\xCD\x31\x50"; Exit::Fault(14, 6)),
+    harm!(b"\x8E\xD3\xBC\x00\x08\xB8\x02\x05\xCD\x31\x58"; Exit::Fault(14, 4)),
+    // Its code is: it writes MOV AX,0502h and INT 31h, makes the descriptor one of code, and jumps there.
+    harm!(b"\xC7\x06\x00\x00\xB8\x02\xC7\x06\x02\x00\x05\xCD\xC7\x06\x04\x00\x31\x90\xB8\x09\x00\xB9\xFA\x00\xCD\x31\xEA\x00\x00\x2F\x02"; Exit::Fault(14, 4)),
+    // It reads past the block, in a page that it gave back, and where the block was before it moved.
+    harm!(b"\xA0\x00\x20"; Exit::Fault(14, 4)),
+    harm!(b"\xB8\x03\x05\x31\xDB\xB9\x00\x10\xCD\x31\xA0\x00\x10"; Exit::Fault(14, 4)),
+    harm!(b"\xB8\x01\x05\x31\xDB\xB9\x01\x00\xCD\x31\xB8\x03\x05\x31\xDB\xB9\x00\x30\xBF\x01\x00\xCD\x31\xA0\x00\x00"; Exit::Fault(14, 4)),
+    // The page that it kept is there still.
+    harm!(b"\xB8\x03\x05\x31\xDB\xB9\x00\x10\xCD\x31\xA0\xFF\x0F\xB4\x4C\xCD\x21"; Exit::Exited(0)),
+];
+
+// The lowest block, at 00400000h in BX:CX, with the handle 1 in SI:DI.
+const LOWEST: &[(Register, u32)] = &[(Ebx, 0x40), (Ecx, 0), (Esi, 0), (Edi, 1)];
+
+static BLOCKS: [Client; 3] = [
+    // Function 0400h leaves DX = 0870h. Function 0501h with BX:CX = 1 gets the lowest page, 00400000h, with the lowest handle, 1. Function 0800h
+    // sets carry and changes nothing.
+    client!(ENTERED;
+        code: &[b"\xB8\x00\x04\xCD\x31", b"\x31\xDB\xB9\x01\x00\xB8\x01\x05\xCD\x31", b"\xB8\x00\x08\xCD\x31", b"\xB8\x00\x4C\xCD\x21"],
+        trace: &[(2, int31!(0x0400, Clear)), (3, int31!(0x0501, Clear)), (4, int31!(0x0800, Set))],
+        registers: &[(Ebx, 0x40), (Ecx, 0), (Edx, 0x0870), (Esi, 0), (Edi, 1)]),
+    // With 16 pages a block of 65,536 bytes takes all. The client writes to its first and last byte; a block of 1 byte is refused. It frees the
+    // block and gets it again, and its exit code is the two bytes, which are 0 then.
+    client!(ENTERED;
+        code: &[
+            b"\xB8\x01\x05\xBB\x01\x00\x31\xC9\xCD\x31",
+            b"\xB8\x00\x00\xB9\x01\x00\xCD\x31\x89\xC3",
+            b"\xB8\x07\x00\xB9\x40\x00\x31\xD2\xCD\x31\xB8\x08\x00\x31\xC9\xBA\xFF\xFF\xCD\x31\x8E\xDB",
+            b"\xC6\x06\x00\x00\x5A\xC6\x06\xFF\xFF\x5A",
+            b"\xB8\x01\x05\x31\xDB\xB9\x01\x00\xCD\x31",
+            b"\xB8\x02\x05\xCD\x31",
+            b"\xB8\x01\x05\xBB\x01\x00\x31\xC9\xCD\x31",
+            b"\xA0\x00\x00\x0A\x06\xFF\xFF\xB4\x4C\xCD\x21",
+        ],
+        pages: 16,
+        trace: &[(2, int31!(0x0501, Clear)), (6, int31!(0x0501, Set)), (7, int31!(0x0502, Clear)), (8, int31!(0x0501, Clear))],
+        registers: LOWEST),
+    // With a block of 64 pages, two of them locked, function 0500h writes its table into the prefix, from 80h on: 640h + 80h.
+    client!(ENTERED;
+        code: &[
+            b"\xB8\x01\x05\xBB\x04\x00\x31\xC9\xCD\x31",
+            b"\xB8\x00\x06\xBF\x00\x20\xCD\x31",
+            b"\xB8\x00\x05\xBF\x80\x00\xCD\x31",
+            b"\xB8\x00\x4C\xCD\x21",
+        ],
+        state: &[
+            (Doubleword(0x6C0), 0x003C_0000), (Doubleword(0x6C4), 0x3C0), (Doubleword(0x6C8), 0x3C0), (Doubleword(0x6CC), 0x4000),
+            (Doubleword(0x6D0), 0x3FE), (Doubleword(0x6D4), 0x3C0), (Doubleword(0x6D8), 0x400), (Doubleword(0x6DC), 0x3FC0),
+            (Doubleword(0x6E0), 0), (Doubleword(0x6E4), 0xFFFF_FFFF), (Doubleword(0x6E8), 0xFFFF_FFFF), (Doubleword(0x6EC), 0xFFFF_FFFF),
+        ]),
+];
+
+#[test]
+fn clients_get_and_free_memory(rt: HostRuntime) -> Result<(), Fail> {
+    run_all(&rt, rt.alloc(), &BLOCKS)?;
+    run_all(&rt, rt.alloc(), &HARM)?;
+    Ok(())
 }
 
 // AX, BX, CX, DX, SI and DI.
@@ -35,102 +96,27 @@ type Row = (Words, bool, Words);
 // A call on memory blocks: AX, BX, CX, SI and DI, and the last four after it, or none where it is refused and all registers stay.
 type BlockCall = ([u16; 5], Option<[u16; 4]>);
 
-fn row_of(call: &BlockCall) -> Row {
-    let ([ax, bx, cx, si, di], after) = *call;
-    let [bx_after, cx_after, si_after, di_after] = after.unwrap_or([bx, cx, si, di]);
-    (
-        [ax, bx, cx, 0, si, di],
-        after.is_none(),
-        [ax, bx_after, cx_after, 0, si_after, di_after],
-    )
-}
-
-// Six moves and INT 31h: eight turns with that of the vector.
-fn add_call(code: &mut Vec<u8>, call: Words) -> Result<(), AllocError> {
-    let [ax, bx, cx, dx, si, di] = call;
-    for (opcode, word) in [
-        (0xB8, ax),
-        (0xBB, bx),
-        (0xB9, cx),
-        (0xBA, dx),
-        (0xBE, si),
-        (0xBF, di),
-    ] {
-        let [low, high] = word.to_le_bytes();
-        code.extend_from_slice(&[opcode, low, high])?;
-    }
-    code.extend_from_slice(&[0xCD, 0x31])
-}
-
-// Makes turns of a client that goes on.
-fn make_turns(rt: &impl Abort, host: &mut Host, turns: u32) {
-    for _ in 0..turns {
-        assert!(rt; host.steps() < 1_000_000);
-        assert_eq!(rt; host.turn(), Ok(()));
-    }
-}
-
-// Code that runs before the calls of a table, and the turns that it takes.
-#[derive(Clone, Copy)]
-struct Before {
+// A client that makes calls of INT 31h one after another, and the state after them. Before them some code runs in real mode, then the entry to
+// protected mode as a client of 16 bits, and some code there, in so many turns.
+struct Calls {
     real: &'static [u8],
     real_turns: u32,
     code: &'static [u8],
     turns: u32,
+    blocks: &'static [BlockCall],
+    rows: &'static [&'static [Row]],
+    state: &'static [(State, u32)],
 }
 
-const NOTHING: Before = Before {
+const PLAIN: Calls = Calls {
     real: &[],
     real_turns: 0,
     code: &[],
     turns: 0,
+    blocks: &[],
+    rows: &[],
+    state: &[],
 };
-
-// Runs a client that makes the calls one after another, and compares what comes of each. The entry takes nine turns.
-fn expect_rows(
-    rt: &impl Abort,
-    alloc: Global,
-    before: &Before,
-    rows: &[Row],
-) -> Result<Host, AllocError> {
-    let mut code = before.code.to_vec(alloc)?;
-    for (call, _, _) in rows {
-        add_call(&mut code, *call)?;
-    }
-    let mut host = client(rt, alloc, DEFAULT_PAGES, before.real, &code)?;
-    make_turns(rt, &mut host, before.real_turns);
-    make_turns(rt, &mut host, 9);
-    make_turns(rt, &mut host, before.turns);
-    for (number, (call, carry, after)) in rows.iter().enumerate() {
-        make_turns(rt, &mut host, 8);
-        let r = host.machine().regs();
-        assert_eq!(rt; r.flags.cf, *carry, "carry of call {number}: {call:?}");
-        let registers = [r.eax, r.ebx, r.ecx, r.edx, r.esi, r.edi];
-        for (place, register) in registers.iter().enumerate() {
-            let wanted = u32::from(after[place]);
-            assert_eq!(rt;
-                *register,
-                wanted,
-                "register {place} of call {number}: {call:?}"
-            );
-        }
-    }
-    Ok(host)
-}
-
-fn expect_calls(
-    rt: &impl Abort,
-    alloc: Global,
-    before: &Before,
-    calls: &[BlockCall],
-) -> Result<(), AllocError> {
-    let mut rows = Vec::new(alloc);
-    for call in calls {
-        rows.push(row_of(call))?;
-    }
-    let _host = expect_rows(rt, alloc, before, &rows)?;
-    Ok(())
-}
 
 // Sizes of 0, 1 and FFFFFFFFh bytes, and handles that aren't held: 0, 1 before it is given, 256, 257, FFFFFFFFh, and 1 with a high half.
 const SIZES: [BlockCall; 20] = [
@@ -218,23 +204,11 @@ const LOCKS: [BlockCall; 17] = [
     ([0x0703, 0xFFFF, 0xFFFF, 0, 0], Some([0xFFFF, 0xFFFF, 0, 0])),
 ];
 
-#[test]
-fn hostile_calls_on_blocks_end_as_written(rt: HostRuntime) -> Result<(), Fail> {
-    expect_calls(&rt, rt.alloc(), &NOTHING, &SIZES)?;
-    expect_calls(&rt, rt.alloc(), &NOTHING, &BETWEEN)?;
-    expect_calls(&rt, rt.alloc(), &NOTHING, &REFUSED_LOCKS)?;
-    expect_calls(&rt, rt.alloc(), &NOTHING, &LOCKS)?;
-    Ok(())
-}
-
 // A loop makes 256 blocks of a page each, with BP as its counter.
-const ALL_HANDLES: Before = Before {
-    code: &[
-        0xBD, 0x00, 0x01, 0xB8, 0x01, 0x05, 0x31, 0xDB, 0xB9, 0x01, 0x00, 0xCD, 0x31, 0x4D, 0x75,
-        0xF3,
-    ],
+const ALL_HANDLES: Calls = Calls {
+    code: b"\xBD\x00\x01\xB8\x01\x05\x31\xDB\xB9\x01\x00\xCD\x31\x4D\x75\xF3",
     turns: 1 + 256 * 7,
-    ..NOTHING
+    ..PLAIN
 };
 
 // There are pages for one more, and no handle. Block 256 is the last: at page 255, 004FF000h.
@@ -251,15 +225,10 @@ const AFTER_ALL_HANDLES: [BlockCall; 6] = [
 ];
 
 // A block of a page, and 4,369 rounds in which its first byte is locked 15 times: 65,535 locks.
-const ALL_LOCKS: Before = Before {
-    code: &[
-        0xB8, 0x01, 0x05, 0x31, 0xDB, 0xB9, 0x01, 0x00, 0xCD, 0x31, 0xB8, 0x00, 0x06, 0xBD, 0x11,
-        0x11, 0xCD, 0x31, 0xCD, 0x31, 0xCD, 0x31, 0xCD, 0x31, 0xCD, 0x31, 0xCD, 0x31, 0xCD, 0x31,
-        0xCD, 0x31, 0xCD, 0x31, 0xCD, 0x31, 0xCD, 0x31, 0xCD, 0x31, 0xCD, 0x31, 0xCD, 0x31, 0xCD,
-        0x31, 0x4D, 0x75, 0xDF,
-    ],
+const ALL_LOCKS: Calls = Calls {
+    code: b"\xB8\x01\x05\x31\xDB\xB9\x01\x00\xCD\x31\xB8\x00\x06\xBD\x11\x11\xCD\x31\xCD\x31\xCD\x31\xCD\x31\xCD\x31\xCD\x31\xCD\x31\xCD\x31\xCD\x31\xCD\x31\xCD\x31\xCD\x31\xCD\x31\xCD\x31\xCD\x31\x4D\x75\xDF",
     turns: 7 + 4_369 * (15 * 2 + 2),
-    ..NOTHING
+    ..PLAIN
 };
 
 const AFTER_ALL_LOCKS: [BlockCall; 4] = [
@@ -269,151 +238,17 @@ const AFTER_ALL_LOCKS: [BlockCall; 4] = [
     ([0x0600, 0x40, 0, 0, 1], None),
 ];
 
-#[test]
-fn handles_and_lock_counts_end(rt: HostRuntime) -> Result<(), Fail> {
-    expect_calls(&rt, rt.alloc(), &ALL_HANDLES, &AFTER_ALL_HANDLES)?;
-    expect_calls(&rt, rt.alloc(), &ALL_LOCKS, &AFTER_ALL_LOCKS)?;
-    Ok(())
-}
-
-// A block of two pages, and a descriptor of 64 KB from its first byte on, whose selector, 022Fh, is in BX and DS. SI:DI is the handle.
-const IN_A_BLOCK: [u8; 42] = [
-    0xB8, 0x01, 0x05, 0x31, 0xDB, 0xB9, 0x00, 0x20, 0xCD, 0x31, 0xB8, 0x00, 0x00, 0xB9, 0x01, 0x00,
-    0xCD, 0x31, 0x89, 0xC3, 0xB8, 0x07, 0x00, 0xB9, 0x40, 0x00, 0x31, 0xD2, 0xCD, 0x31, 0xB8, 0x08,
-    0x00, 0x31, 0xC9, 0xBA, 0xFF, 0xFF, 0xCD, 0x31, 0x8E, 0xDB,
-];
-
-// What a client then does with the block, and how it ends. The page is absent, so that the code of exception 0Eh is 4 for a read and a fetch
-// and 6 for a write.
-const HARM: [(&[u8], Exit); 10] = [
-    // Its data is the block that it frees: it reads the first byte, the last one, and writes.
-    (b"\xB8\x02\x05\xCD\x31\xA0\x00\x00", Exit::Fault(14, 4)),
-    (b"\xB8\x02\x05\xCD\x31\xA0\xFF\x1F", Exit::Fault(14, 4)),
-    (
-        b"\xB8\x02\x05\xCD\x31\xC6\x06\x00\x00\x41",
-        Exit::Fault(14, 6),
-    ),
-    // Its stack is: it pushes, and pops.
-    (
-        b"\x8E\xD3\xBC\x00\x08\xB8\x02\x05\xCD\x31\x50",
-        Exit::Fault(14, 6),
-    ),
-    (
-        b"\x8E\xD3\xBC\x00\x08\xB8\x02\x05\xCD\x31\x58",
-        Exit::Fault(14, 4),
-    ),
-    // Its code is: it writes MOV AX,0502h and INT 31h, makes the descriptor one of code, and jumps there.
-    (
-        b"\xC7\x06\x00\x00\xB8\x02\xC7\x06\x02\x00\x05\xCD\xC7\x06\x04\x00\x31\x90\xB8\x09\x00\xB9\xFA\x00\xCD\x31\xEA\x00\x00\x2F\x02",
-        Exit::Fault(14, 4),
-    ),
-    // It reads past the block, in a page that it gave back, and where the block was before it moved.
-    (b"\xA0\x00\x20", Exit::Fault(14, 4)),
-    (
-        b"\xB8\x03\x05\x31\xDB\xB9\x00\x10\xCD\x31\xA0\x00\x10",
-        Exit::Fault(14, 4),
-    ),
-    (
-        b"\xB8\x01\x05\x31\xDB\xB9\x01\x00\xCD\x31\xB8\x03\x05\x31\xDB\xB9\x00\x30\xBF\x01\x00\xCD\x31\xA0\x00\x00",
-        Exit::Fault(14, 4),
-    ),
-    // The page that it kept is there still.
-    (
-        b"\xB8\x03\x05\x31\xDB\xB9\x00\x10\xCD\x31\xA0\xFF\x0F\xB4\x4C\xCD\x21",
-        Exit::Exited(0),
-    ),
-];
-
-#[test]
-fn clients_that_free_what_they_use_end_as_written(rt: HostRuntime) -> Result<(), Fail> {
-    for (code, exit) in HARM {
-        let mut whole = IN_A_BLOCK.to_vec(rt.alloc())?;
-        whole.extend_from_slice(code)?;
-        assert!(rt; whole.len() <= 400);
-        let mut host = entered(&rt, rt.alloc(), &whole)?;
-        assert_eq!(rt; run_out(&rt, &mut host), exit, "exit with {code:?}");
-    }
-    Ok(())
-}
-
-// With 16 pages a block of 65,536 bytes takes all. The client writes to its first and last byte; a block of 1 byte is refused. It frees the
-// block and gets it again, and its exit code is the two bytes, which are 0 then.
-#[test]
-fn a_freed_block_comes_back_as_zeros(rt: HostRuntime) -> Result<(), Fail> {
-    let code = [
-        0xB8, 0x01, 0x05, 0xBB, 0x01, 0x00, 0x31, 0xC9, 0xCD, 0x31, 0xB8, 0x00, 0x00, 0xB9, 0x01,
-        0x00, 0xCD, 0x31, 0x89, 0xC3, 0xB8, 0x07, 0x00, 0xB9, 0x40, 0x00, 0x31, 0xD2, 0xCD, 0x31,
-        0xB8, 0x08, 0x00, 0x31, 0xC9, 0xBA, 0xFF, 0xFF, 0xCD, 0x31, 0x8E, 0xDB, 0xC6, 0x06, 0x00,
-        0x00, 0x5A, 0xC6, 0x06, 0xFF, 0xFF, 0x5A, 0xB8, 0x01, 0x05, 0x31, 0xDB, 0xB9, 0x01, 0x00,
-        0xCD, 0x31, 0xB8, 0x02, 0x05, 0xCD, 0x31, 0xB8, 0x01, 0x05, 0xBB, 0x01, 0x00, 0x31, 0xC9,
-        0xCD, 0x31, 0xA0, 0x00, 0x00, 0x0A, 0x06, 0xFF, 0xFF, 0xB4, 0x4C, 0xCD, 0x21,
-    ];
-    let mut host = client(&rt, rt.alloc(), 16, &[], &code)?;
-    assert_eq!(rt; run_out(&rt, &mut host), Exit::Exited(0));
-    for (i, ax, carry) in [
-        (2, 0x0501, Carry::Clear),
-        (6, 0x0501, Carry::Set),
-        (7, 0x0502, Carry::Clear),
-        (8, 0x0501, Carry::Clear),
-    ] {
-        assert_eq!(rt;
-            host.line(i),
-            Some(TraceLine::Int31 { ax, carry }),
-            "line {i}"
-        );
-    }
-    let r = host.machine().regs();
-    assert_eq!(rt; (r.ebx, r.ecx, r.esi, r.edi), (0x40, 0, 0, 1));
-    Ok(())
-}
-
-// With a block of 64 pages, two of them locked, function 0500h writes its table into the prefix, from 80h on: 640h + 80h.
-#[test]
-fn the_table_of_free_memory_is_written(rt: HostRuntime) -> Result<(), Fail> {
-    let code = [
-        0xB8, 0x01, 0x05, 0xBB, 0x04, 0x00, 0x31, 0xC9, 0xCD, 0x31, 0xB8, 0x00, 0x06, 0xBF, 0x00,
-        0x20, 0xCD, 0x31, 0xB8, 0x00, 0x05, 0xBF, 0x80, 0x00, 0xCD, 0x31, 0xB8, 0x00, 0x4C, 0xCD,
-        0x21,
-    ];
-    let mut host = entered(&rt, rt.alloc(), &code)?;
-    assert_eq!(rt; run_out(&rt, &mut host), Exit::Exited(0));
-    let table: [u32; 12] = [
-        0x003C_0000,
-        0x3C0,
-        0x3C0,
-        0x4000,
-        0x3FE,
-        0x3C0,
-        0x400,
-        0x3FC0,
-        0,
-        0xFFFF_FFFF,
-        0xFFFF_FFFF,
-        0xFFFF_FFFF,
-    ];
-    for (place, number) in table.iter().enumerate() {
-        let at = 0x6C0 + 4 * place as u32;
-        assert!(rt; at < 0x1000);
-        let m = host.machine();
-        let found = u32::from(m.dos16(at)) + 0x1_0000 * u32::from(m.dos16(at + 2));
-        assert_eq!(rt; found, *number, "number {place}");
-    }
-    Ok(())
-}
-
 // In real mode the program's block shrinks to 1000h paragraphs, and FFFFh are refused: AX = 8 and BX = 8F9Bh, the largest free size.
-const SHRUNK: Before = Before {
-    real: &[
-        0xBB, 0x00, 0x10, 0xB4, 0x4A, 0xCD, 0x21, 0xBB, 0xFF, 0xFF, 0xB4, 0x48, 0xCD, 0x21,
-    ],
+const SHRUNK: Calls = Calls {
+    real: b"\xBB\x00\x10\xB4\x4A\xCD\x21\xBB\xFF\xFF\xB4\x48\xCD\x21",
     real_turns: 8,
-    ..NOTHING
+    ..PLAIN
 };
 
 // 1001h paragraphs at 1065h have two descriptors, 69 and 70. Function 0000h takes all others, 1FB9h, and then there is none for a further
 // block: the largest free size is reported all the same. The same for one that grows and needs a third. Another selector than the first
 // names no block. A block that shrinks gives a descriptor back, and one that is freed gives back all.
-const DOS_ROWS: [Row; 13] = [
+const FIRST_DOS_ROWS: [Row; 3] = [
     ([0x0100, 0, 3, 4, 5, 6], true, [8, 0x8F9B, 3, 4, 5, 6]),
     ([0x0100, 0xFFFF, 3, 4, 5, 6], true, [8, 0x8F9B, 3, 4, 5, 6]),
     (
@@ -421,6 +256,9 @@ const DOS_ROWS: [Row; 13] = [
         false,
         [0x1065, 0x1001, 3, 0x022F, 5, 6],
     ),
+];
+
+const LATER_DOS_ROWS: [Row; 10] = [
     ([0, 0, 0x1FB9, 4, 5, 6], false, [0x023F, 0, 0x1FB9, 4, 5, 6]),
     ([0x0100, 1, 3, 4, 5, 6], true, [8, 0x7F99, 3, 4, 5, 6]),
     (
@@ -453,45 +291,168 @@ const DOS_ROWS: [Row; 13] = [
     ([0x0101, 2, 3, 0x022F, 5, 6], true, [9, 2, 3, 0x022F, 5, 6]),
 ];
 
-#[test]
-fn dos_memory_has_descriptors(rt: HostRuntime) -> Result<(), Fail> {
-    let host = expect_rows(&rt, rt.alloc(), &SHRUNK, &DOS_ROWS[0..3])?;
-    for (index, base, limit) in [(69, 0x1_0650, 0x1_000F), (70, 0x2_0650, 0xF)] {
-        let Some((d, origin)) = host.machine().desc(index) else {
-            return Err("a descriptor is missing".into());
-        };
-        assert_eq!(rt; (d.base, d.limit), (base, limit), "descriptor {index}");
-        assert_eq!(rt; origin, Origin::Dos(0x1065));
+static LIMITS: [Calls; 2] = [
+    Calls {
+        blocks: &AFTER_ALL_HANDLES,
+        ..ALL_HANDLES
+    },
+    Calls {
+        blocks: &AFTER_ALL_LOCKS,
+        ..ALL_LOCKS
+    },
+];
+
+static CALLS: [Calls; 6] = [
+    Calls {
+        blocks: &SIZES,
+        ..PLAIN
+    },
+    Calls {
+        blocks: &BETWEEN,
+        ..PLAIN
+    },
+    Calls {
+        blocks: &REFUSED_LOCKS,
+        ..PLAIN
+    },
+    Calls {
+        blocks: &LOCKS,
+        ..PLAIN
+    },
+    // After the first three of the calls on DOS memory the two descriptors of the block at 1065h are held.
+    Calls {
+        rows: &[&FIRST_DOS_ROWS],
+        state: &[
+            (Base(69), 0x1_0650),
+            (Limit(69), 0x1_000F),
+            (DosBlock(69), 0x1065),
+            (Base(70), 0x2_0650),
+            (Limit(70), 0xF),
+            (DosBlock(70), 0x1065),
+            (Bits(71), 0),
+        ],
+        ..SHRUNK
+    },
+    Calls {
+        rows: &[&FIRST_DOS_ROWS, &LATER_DOS_ROWS],
+        state: &[(Bits(69), 0)],
+        ..SHRUNK
+    },
+];
+
+fn row_of(call: &BlockCall) -> Row {
+    let ([ax, bx, cx, si, di], after) = *call;
+    let [bx_after, cx_after, si_after, di_after] = after.unwrap_or([bx, cx, si, di]);
+    (
+        [ax, bx, cx, 0, si, di],
+        after.is_none(),
+        [ax, bx_after, cx_after, 0, si_after, di_after],
+    )
+}
+
+// The calls, of both kinds.
+fn rows_of(alloc: Global, calls: &Calls) -> Result<Vec<Row>, AllocError> {
+    let mut rows = Vec::new(alloc);
+    for some in calls.rows {
+        rows.extend_from_slice(some)?;
     }
-    assert!(rt; host.machine().desc(71).is_none());
-    let host = expect_rows(&rt, rt.alloc(), &SHRUNK, &DOS_ROWS)?;
-    assert!(rt; host.machine().desc(69).is_none());
+    for call in calls.blocks {
+        rows.push(row_of(call))?;
+    }
+    Ok(rows)
+}
+
+// Six moves and INT 31h: eight turns with that of the vector.
+fn add_call(code: &mut Vec<u8>, call: Words) -> Result<(), AllocError> {
+    let [ax, bx, cx, dx, si, di] = call;
+    for (opcode, word) in [
+        (0xB8, ax),
+        (0xBB, bx),
+        (0xB9, cx),
+        (0xBA, dx),
+        (0xBE, si),
+        (0xBF, di),
+    ] {
+        let [low, high] = word.to_le_bytes();
+        code.extend_from_slice(&[opcode, low, high])?;
+    }
+    code.extend_from_slice(b"\xCD\x31")
+}
+
+// Makes turns of a client that goes on.
+fn make_turns(rt: &impl Abort, host: &mut Host, turns: u32) {
+    for _ in 0..turns {
+        assert!(rt; host.steps() < 1_000_000);
+        assert_eq!(rt; host.turn(), Ok(()));
+    }
+}
+
+// The whole code of a client.
+fn code_of(alloc: Global, calls: &Calls, rows: &[Row]) -> Result<Vec<u8>, AllocError> {
+    let mut code = calls.real.to_vec(alloc)?;
+    code.extend_from_slice(&ENTER_16)?;
+    code.extend_from_slice(calls.code)?;
+    for (call, _, _) in rows {
+        add_call(&mut code, *call)?;
+    }
+    Ok(code)
+}
+
+// Compares what comes of a call.
+fn expect_row(rt: &impl Abort, r: &Regs, row: &Row, number: usize) {
+    let (call, carry, after) = row;
+    assert_eq!(rt; r.flags.cf, *carry, "carry of call {number}: {call:?}");
+    let registers = [r.eax, r.ebx, r.ecx, r.edx, r.esi, r.edi];
+    for (place, register) in registers.iter().enumerate() {
+        assert_eq!(rt;
+            *register,
+            u32::from(after[place]),
+            "register {place} of call {number}: {call:?}"
+        );
+    }
+}
+
+// Makes the turns of each call, eight, and compares what comes of it.
+fn expect_rows(rt: &impl Abort, host: &mut Host, rows: &[Row]) {
+    for (number, row) in rows.iter().enumerate() {
+        make_turns(rt, host, 8);
+        expect_row(rt, host.machine().registers(), row, number);
+    }
+}
+
+// Runs a client up to its calls, and compares what comes of each. The entry takes nine turns.
+fn run_calls(
+    rt: &impl Abort,
+    alloc: Global,
+    calls: &Calls,
+    number: usize,
+) -> Result<(), AllocError> {
+    let rows = rows_of(alloc, calls)?;
+    let code = code_of(alloc, calls, &rows)?;
+    let mut host = started(rt, alloc, DEFAULT_PAGES, &[], &code)?;
+    make_turns(rt, &mut host, calls.real_turns);
+    make_turns(rt, &mut host, 9);
+    make_turns(rt, &mut host, calls.turns);
+    expect_rows(rt, &mut host, &rows);
+    expect_state(rt, host.machine(), calls.state, number);
     Ok(())
 }
 
-// Function 0400h leaves DX = 0870h. Function 0501h with BX:CX = 1 gets the lowest page, 00400000h, with the lowest handle, 1. Function 0800h
-// sets carry and changes nothing.
-#[test]
-fn a_client_gets_a_block(rt: HostRuntime) -> Result<(), Fail> {
-    let code = [
-        0xB8, 0x00, 0x04, 0xCD, 0x31, 0x31, 0xDB, 0xB9, 0x01, 0x00, 0xB8, 0x01, 0x05, 0xCD, 0x31,
-        0xB8, 0x00, 0x08, 0xCD, 0x31, 0xB8, 0x00, 0x4C, 0xCD, 0x21,
-    ];
-    let mut host = entered(&rt, rt.alloc(), &code)?;
-    assert_eq!(rt; run_out(&rt, &mut host), Exit::Exited(0));
-    for (i, ax, carry) in [
-        (2, 0x0400, Carry::Clear),
-        (3, 0x0501, Carry::Clear),
-        (4, 0x0800, Carry::Set),
-    ] {
-        assert_eq!(rt;
-            host.line(i),
-            Some(TraceLine::Int31 { ax, carry }),
-            "line {i}"
-        );
+fn run_all_calls(rt: &impl Abort, alloc: Global, clients: &[Calls]) -> Result<(), AllocError> {
+    for (number, calls) in clients.iter().enumerate() {
+        run_calls(rt, alloc, calls, number)?;
     }
-    let r = host.machine().regs();
-    assert_eq!(rt; (r.ebx, r.ecx, r.esi, r.edi), (0x40, 0, 0, 1));
-    assert_eq!(rt; r.edx % 0x1_0000, 0x0870);
+    Ok(())
+}
+
+#[test]
+fn calls_on_memory_return_what_their_rows_say(rt: HostRuntime) -> Result<(), Fail> {
+    run_all_calls(&rt, rt.alloc(), &CALLS)?;
+    Ok(())
+}
+
+#[test]
+fn handles_and_lock_counts_end(rt: HostRuntime) -> Result<(), Fail> {
+    run_all_calls(&rt, rt.alloc(), &LIMITS)?;
     Ok(())
 }

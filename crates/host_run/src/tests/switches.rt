@@ -1,182 +1,130 @@
 // The raw mode switches, and the calls that save and restore the state.
-use super::calls::{Nested, expect_nested};
-use super::{entered, file, loaded, run_out};
+use super::runs::Register::{Cs, Ds, Ebx, Ecx, Edi, Eip, Es, Esi, Fs, Gs, Ss};
+use super::runs::State::Depth;
+use super::runs::{Client, ENTERED, REAL, Register, run_all};
 use client_world::{Call, Exit, TraceLine, What};
-use mode_stack::depth;
 use std::test::Fail;
 
 // A client of 16 bits switches to real mode with DS, ES, SS:SP and CS:IP in AX, CX, DX:BX and SI:DI, by a jump to 0087h:0320h.
-const TO_REAL: [u8; 23] = [
-    0xB8, 0x64, 0x00, 0xB9, 0x64, 0x00, 0xBA, 0x00, 0x80, 0xBB, 0x00, 0x01, 0xBE, 0x74, 0x00, 0xBF,
-    0x25, 0x00, 0xEA, 0x20, 0x03, 0x87, 0x00,
+const TO_REAL: &[u8] =
+    b"\xB8\x64\x00\xB9\x64\x00\xBA\x00\x80\xBB\x00\x01\xBE\x74\x00\xBF\x25\x00\xEA\x20\x03\x87\x00";
+
+// A jump to the trap of the switch to protected mode, F000h:0101h.
+const TO_PROTECTED: &[u8] = b"\xEA\x01\x01\x00\xF0";
+
+// CS:IP, F000h:0103h, is the trap of the return of a call of real mode.
+const AT_THE_RETURN: &[(Register, u32)] = &[(Cs, 0xF000), (Eip, 0x103)];
+
+// A switch to protected mode that can't be made leaves the machine at the trap, with the line of the switch to real mode as the last one.
+const REFUSED: Client = Client {
+    exit: Exit::BadSwitch,
+    lines: Some(3),
+    registers: &[(Cs, 0xF000), (Eip, 0x101), (Ss, 0x8000)],
+    ..ENTERED
+};
+
+static SWITCHES: [Client; 11] = [
+    // It prints R in real mode, and switches back by a jump to F000h:0101h, to the selector 0204h of its code, which becomes 0207h; it ends
+    // with that.
+    client!(ENTERED;
+        code: &[
+            TO_REAL,
+            b"\xB4\x02\xB2\x52\xCD\x21",
+            b"\xB8\x17\x02\xB9\x17\x02\xBA\x0F\x02\xBB\xFC\x00",
+            b"\xBE\x04\x02\xBF\x42\x00",
+            TO_PROTECTED,
+            b"\x8C\xC8\xB4\x4C\xCD\x21",
+        ],
+        exit: Exit::Exited(7), console: b"R", trace: &[(2, TraceLine::ToReal), (4, TraceLine::ToProtected)],
+        registers: &[(Ds, 0x217), (Es, 0x217), (Fs, 0), (Gs, 0)]),
+    // Inside a call of function 0301h the procedure switches to protected mode and back, and returns: the call ends as without the switches.
+    client!(ENTERED;
+        code: &[
+            b"\x1E\x07\xBF\x00\x10\xC7\x45\x2A\x2A\x00\xC7\x45\x2C\x74\x00",
+            b"\x31\xC9\xB8\x01\x03\xCD\x31\x18\xC0\xB4\x4C\xCD\x21",
+            b"\xB8\x17\x02\xB9\x17\x02\xBA\x0F\x02\xBB\x80\x00",
+            b"\xBE\x04\x02\xBF\x41\x00",
+            TO_PROTECTED,
+            b"\xB8\x00\x00\xB9\x00\x00\xBA\x00\xE0\xBB\xFC\x03",
+            b"\xBE\x74\x00\xBF\x58\x00\xEA\x20\x03\x87\x00\xCB",
+        ],
+        nested: Some(&[(true, 0, What::Call(Call::Far)), (false, 0, What::Call(Call::Far))]),
+        trace: &[(4, TraceLine::ToProtected), (5, TraceLine::ToReal)], registers: &[(Ds, 0x217), (Es, 0x217), (Ss, 0x20F), (Edi, 0x1000)]),
+    // Back from real mode with a selector that isn't held in DS and in ES, null and level 0 in SS, null and data in CS.
+    client!(REFUSED; code: &[TO_REAL, b"\xB8\x2F\x02\xB9\x17\x02\xBA\x0F\x02\xBB\xFC\x00", b"\xBE\x04\x02\xBF\x3C\x00", TO_PROTECTED]),
+    client!(REFUSED; code: &[TO_REAL, b"\xB8\x17\x02\xB9\x2F\x02\xBA\x0F\x02\xBB\xFC\x00", b"\xBE\x04\x02\xBF\x3C\x00", TO_PROTECTED]),
+    client!(REFUSED; code: &[TO_REAL, b"\xB8\x17\x02\xB9\x17\x02\xBA\x00\x00\xBB\xFC\x00", b"\xBE\x04\x02\xBF\x3C\x00", TO_PROTECTED]),
+    client!(REFUSED; code: &[TO_REAL, b"\xB8\x17\x02\xB9\x17\x02\xBA\x0C\x02\xBB\xFC\x00", b"\xBE\x04\x02\xBF\x3C\x00", TO_PROTECTED]),
+    client!(REFUSED; code: &[TO_REAL, b"\xB8\x17\x02\xB9\x17\x02\xBA\x0F\x02\xBB\xFC\x00", b"\xBE\x00\x00\xBF\x3C\x00", TO_PROTECTED]),
+    client!(REFUSED; code: &[TO_REAL, b"\xB8\x17\x02\xB9\x17\x02\xBA\x0F\x02\xBB\xFC\x00", b"\xBE\x0F\x02\xBF\x3C\x00", TO_PROTECTED]),
+    // Before the entry there is no protected mode.
+    client!(REAL; code: &[TO_PROTECTED], exit: Exit::Stray),
+    // To the last byte of the megabyte, FFFFh:000Fh, HLT, and to the one after it, which shows the first: ADD [BX+SI],AL, of two bytes, is
+    // turn 18.
+    client!(ENTERED; code: &[b"\xB8\x64\x00\xB9\x64\x00\xBA\x00\x80\xBB\x00\x01", b"\xBE\xFF\xFF\xBF\x0F\x00\xEA\x20\x03\x87\x00"],
+        bound: 18, exit: Exit::Fault(0x0D, 0), steps: Some(18), registers: &[(Cs, 0xFFFF), (Eip, 0x0F)]),
+    client!(ENTERED; code: &[b"\xB8\x64\x00\xB9\x64\x00\xBA\x00\x80\xBB\x00\x01", b"\xBE\xFF\xFF\xBF\x10\x00\xEA\x20\x03\x87\x00"],
+        bound: 18, exit: Exit::Bound, steps: Some(18), registers: &[(Cs, 0xFFFF), (Eip, 0x12)]),
 ];
 
-// It prints R there, and switches back by a jump to F000h:0101h, to the selector 0204h of its code, which becomes 0207h; it ends with that.
+// Returns of procedures that mean harm, whose runs end at the trap of the return.
+static RETURNS: [Client; 3] = [
+    // A procedure that frees the descriptor of its own structure.
+    client!(ENTERED;
+        code: &[
+            b"\xB8\x00\x00\xB9\x01\x00\xCD\x31\x89\xC3\xB8\x07\x00\x31\xC9\xBA\x00\x20\xCD\x31\xB8\x08\x00\xBA\xFF\xFF\xCD\x31",
+            b"\x8E\xC3\x31\xFF\x26\xC7\x45\x2A\x3F\x00\x26\xC7\x45\x2C\x74\x00\xB8\x01\x03\xCD\x31",
+            b"\xB8\x17\x02\xB9\x17\x02\xBA\x0F\x02\xBB\x80\x00\xBE\x04\x02\xBF\x56\x00",
+            TO_PROTECTED,
+            b"\xB8\x01\x00\xBB\x2F\x02\xCD\x31",
+            b"\xB8\x00\x00\xB9\x00\x00\xBA\x00\xE0\xBB\xFC\x03\xBE\x74\x00\xBF\x75\x00\xEA\x20\x03\x87\x00\xCB",
+        ],
+        exit: Exit::LostStructure, state: &[(Depth, 1)], registers: AT_THE_RETURN),
+    // One that returns inside the handler of an exception that it raised.
+    client!(ENTERED;
+        code: &[
+            b"\xB8\x03\x02\xB3\x0D\x8C\xC9\xBA\x48\x00\xCD\x31",
+            b"\x1E\x07\xBF\x00\x10\xC7\x45\x2A\x30\x00\xC7\x45\x2C\x74\x00\x31\xC9\xB8\x01\x03\xCD\x31",
+            b"\xB8\x17\x02\xB9\x17\x02\xBA\x0F\x02\xBB\x80\x00\xBE\x04\x02\xBF\x47\x00",
+            TO_PROTECTED,
+            b"\xF4",
+            b"\xB8\x00\x00\xB9\x00\x00\xBA\x00\xE0\xBB\xFC\x03\xBE\x74\x00\xBF\x5F\x00\xEA\x20\x03\x87\x00\xCB",
+        ],
+        exit: Exit::Stray, state: &[(Depth, 2)], registers: AT_THE_RETURN),
+    // A client that jumps to the trap of the return again after it.
+    client!(ENTERED;
+        code: &[
+            b"\x1E\x07\xBF\x00\x10\xC7\x45\x2A\x2F\x00\xC7\x45\x2C\x74\x00\x31\xC9\xB8\x01\x03\xCD\x31",
+            b"\xBE\x00\xF0\xBF\x03\x01\xEA\x20\x03\x87\x00\xCB",
+        ],
+        exit: Exit::Stray, state: &[(Depth, 0)], registers: AT_THE_RETURN),
+];
+
+static ADDRESSES: [Client; 3] = [
+    // The call that saves the state of protected mode, at 0087h:0321h, returns.
+    client!(ENTERED; code: &[b"\x9A\x21\x03\x87\x00\xB8\x05\x4C\xCD\x21"], exit: Exit::Exited(5)),
+    // Functions 0305h and 0306h give the addresses in BX:CX and SI:DI. The exit code is AL: 0305h returns in AX how many bytes the state has,
+    // 0, and 0306h leaves AX.
+    client!(ENTERED; code: &[b"\xB8\x05\x03\xCD\x31\xB4\x4C\xCD\x21"],
+        registers: &[(Ebx, 0xF000), (Ecx, 0x102), (Esi, 0x87), (Edi, 0x321)]),
+    client!(ENTERED; code: &[b"\xB8\x06\x03\xCD\x31\xB4\x4C\xCD\x21"], exit: Exit::Exited(6),
+        registers: &[(Ebx, 0xF000), (Ecx, 0x101), (Esi, 0x87), (Edi, 0x320)]),
+];
+
 #[test]
-fn a_client_switches_and_back(rt: HostRuntime) -> Result<(), Fail> {
-    let mut code = TO_REAL.to_vec(rt.alloc())?;
-    code.extend_from_slice(&[
-        0xB4, 0x02, 0xB2, 0x52, 0xCD, 0x21, 0xB8, 0x17, 0x02, 0xB9, 0x17, 0x02, 0xBA, 0x0F, 0x02,
-        0xBB, 0xFC, 0x00, 0xBE, 0x04, 0x02, 0xBF, 0x42, 0x00, 0xEA, 0x01, 0x01, 0x00, 0xF0, 0x8C,
-        0xC8, 0xB4, 0x4C, 0xCD, 0x21,
-    ])?;
-    let mut host = entered(&rt, rt.alloc(), &code)?;
-    assert_eq!(rt; run_out(&rt, &mut host), Exit::Exited(7));
-    assert_eq!(rt; host.console(), b"R".as_slice());
-    assert_eq!(rt; host.line(2), Some(TraceLine::ToReal));
-    assert_eq!(rt; host.line(4), Some(TraceLine::ToProtected));
-    let r = host.machine().regs();
-    assert_eq!(rt; (r.ds, r.es, r.fs, r.gs), (0x217, 0x217, 0, 0));
+fn clients_switch_modes(rt: HostRuntime) -> Result<(), Fail> {
+    run_all(&rt, rt.alloc(), &SWITCHES)?;
     Ok(())
 }
-
-// Inside a call of function 0301h the procedure switches to protected mode and back, and returns: the call ends as without the switches.
-#[test]
-fn a_procedure_switches_and_back(rt: HostRuntime) -> Result<(), Fail> {
-    let code = [
-        0x1E, 0x07, 0xBF, 0x00, 0x10, 0xC7, 0x45, 0x2A, 0x2A, 0x00, 0xC7, 0x45, 0x2C, 0x74, 0x00,
-        0x31, 0xC9, 0xB8, 0x01, 0x03, 0xCD, 0x31, 0x18, 0xC0, 0xB4, 0x4C, 0xCD, 0x21, 0xB8, 0x17,
-        0x02, 0xB9, 0x17, 0x02, 0xBA, 0x0F, 0x02, 0xBB, 0x80, 0x00, 0xBE, 0x04, 0x02, 0xBF, 0x41,
-        0x00, 0xEA, 0x01, 0x01, 0x00, 0xF0, 0xB8, 0x00, 0x00, 0xB9, 0x00, 0x00, 0xBA, 0x00, 0xE0,
-        0xBB, 0xFC, 0x03, 0xBE, 0x74, 0x00, 0xBF, 0x58, 0x00, 0xEA, 0x20, 0x03, 0x87, 0x00, 0xCB,
-    ];
-    let mut host = entered(&rt, rt.alloc(), &code)?;
-    assert_eq!(rt; run_out(&rt, &mut host), Exit::Exited(0));
-    let nested: [Nested; 2] = [
-        (true, 0, What::Call(Call::Far)),
-        (false, 0, What::Call(Call::Far)),
-    ];
-    expect_nested(&rt, &host, &nested, 0);
-    assert_eq!(rt; host.line(4), Some(TraceLine::ToProtected));
-    assert_eq!(rt; host.line(5), Some(TraceLine::ToReal));
-    let r = host.machine().regs();
-    assert_eq!(rt; (r.ds, r.es, r.ss, r.edi), (0x217, 0x217, 0x20F, 0x1000));
-    Ok(())
-}
-
-// Back from real mode with a selector that isn't held in DS and in ES, null and level 0 in SS, null and data in CS.
-const BAD: [[u8; 23]; 6] = [
-    [
-        0xB8, 0x2F, 0x02, 0xB9, 0x17, 0x02, 0xBA, 0x0F, 0x02, 0xBB, 0xFC, 0x00, 0xBE, 0x04, 0x02,
-        0xBF, 0x3C, 0x00, 0xEA, 0x01, 0x01, 0x00, 0xF0,
-    ],
-    [
-        0xB8, 0x17, 0x02, 0xB9, 0x2F, 0x02, 0xBA, 0x0F, 0x02, 0xBB, 0xFC, 0x00, 0xBE, 0x04, 0x02,
-        0xBF, 0x3C, 0x00, 0xEA, 0x01, 0x01, 0x00, 0xF0,
-    ],
-    [
-        0xB8, 0x17, 0x02, 0xB9, 0x17, 0x02, 0xBA, 0x00, 0x00, 0xBB, 0xFC, 0x00, 0xBE, 0x04, 0x02,
-        0xBF, 0x3C, 0x00, 0xEA, 0x01, 0x01, 0x00, 0xF0,
-    ],
-    [
-        0xB8, 0x17, 0x02, 0xB9, 0x17, 0x02, 0xBA, 0x0C, 0x02, 0xBB, 0xFC, 0x00, 0xBE, 0x04, 0x02,
-        0xBF, 0x3C, 0x00, 0xEA, 0x01, 0x01, 0x00, 0xF0,
-    ],
-    [
-        0xB8, 0x17, 0x02, 0xB9, 0x17, 0x02, 0xBA, 0x0F, 0x02, 0xBB, 0xFC, 0x00, 0xBE, 0x00, 0x00,
-        0xBF, 0x3C, 0x00, 0xEA, 0x01, 0x01, 0x00, 0xF0,
-    ],
-    [
-        0xB8, 0x17, 0x02, 0xB9, 0x17, 0x02, 0xBA, 0x0F, 0x02, 0xBB, 0xFC, 0x00, 0xBE, 0x0F, 0x02,
-        0xBF, 0x3C, 0x00, 0xEA, 0x01, 0x01, 0x00, 0xF0,
-    ],
-];
-
-// A switch that can't be made leaves the machine at the trap. Before the entry there is no protected mode.
-#[test]
-fn hostile_switches_end_as_written(rt: HostRuntime) -> Result<(), Fail> {
-    for (number, back) in BAD.iter().enumerate() {
-        let mut code = TO_REAL.to_vec(rt.alloc())?;
-        code.extend_from_slice(back)?;
-        let mut host = entered(&rt, rt.alloc(), &code)?;
-        assert_eq!(rt; run_out(&rt, &mut host), Exit::BadSwitch, "switch {number}");
-        assert_eq!(rt; host.lines(), 3, "switch {number}");
-        let r = host.machine().regs();
-        assert_eq!(rt;
-            (r.cs, r.eip, r.ss),
-            (0xF000, 0x101, 0x8000),
-            "switch {number}"
-        );
-    }
-    let file = file(&rt, rt.alloc(), &[0xEA, 0x01, 0x01, 0x00, 0xF0])?;
-    let (mut host, answer) = loaded(&rt, rt.alloc(), &file, &[])?;
-    assert_eq!(rt; answer, Ok(()));
-    assert_eq!(rt; run_out(&rt, &mut host), Exit::Stray);
-    // To the last byte of the megabyte, HLT, and to the one after it, which shows the first: ADD [BX+SI],AL, of two bytes, is turn 18.
-    for (ip, exit, after) in [
-        (0x0F, Exit::Fault(0x0D, 0), 0x0F),
-        (0x10, Exit::Bound, 0x12),
-    ] {
-        let mut code = TO_REAL;
-        code[13..18].copy_from_slice(&[0xFF, 0xFF, 0xBF, ip, 0]);
-        let mut host = entered(&rt, rt.alloc(), &code)?;
-        assert_eq!(rt; host.steps(), 0);
-        assert_eq!(rt; host.run(18), exit);
-        let r = host.machine().regs();
-        assert_eq!(rt; (host.steps(), r.cs, r.eip), (18, 0xFFFF, after));
-    }
-    Ok(())
-}
-
-// A procedure that frees the descriptor of its own structure, one that returns inside the handler of an exception that it raised, and a client
-// that jumps to the trap of the return again after it.
-const LOST: &[u8] = &[
-    0xB8, 0x00, 0x00, 0xB9, 0x01, 0x00, 0xCD, 0x31, 0x89, 0xC3, 0xB8, 0x07, 0x00, 0x31, 0xC9, 0xBA,
-    0x00, 0x20, 0xCD, 0x31, 0xB8, 0x08, 0x00, 0xBA, 0xFF, 0xFF, 0xCD, 0x31, 0x8E, 0xC3, 0x31, 0xFF,
-    0x26, 0xC7, 0x45, 0x2A, 0x3F, 0x00, 0x26, 0xC7, 0x45, 0x2C, 0x74, 0x00, 0xB8, 0x01, 0x03, 0xCD,
-    0x31, 0xB8, 0x17, 0x02, 0xB9, 0x17, 0x02, 0xBA, 0x0F, 0x02, 0xBB, 0x80, 0x00, 0xBE, 0x04, 0x02,
-    0xBF, 0x56, 0x00, 0xEA, 0x01, 0x01, 0x00, 0xF0, 0xB8, 0x01, 0x00, 0xBB, 0x2F, 0x02, 0xCD, 0x31,
-    0xB8, 0x00, 0x00, 0xB9, 0x00, 0x00, 0xBA, 0x00, 0xE0, 0xBB, 0xFC, 0x03, 0xBE, 0x74, 0x00, 0xBF,
-    0x75, 0x00, 0xEA, 0x20, 0x03, 0x87, 0x00, 0xCB,
-];
-
-const AT_ANOTHER_DEPTH: &[u8] = &[
-    0xB8, 0x03, 0x02, 0xB3, 0x0D, 0x8C, 0xC9, 0xBA, 0x48, 0x00, 0xCD, 0x31, 0x1E, 0x07, 0xBF, 0x00,
-    0x10, 0xC7, 0x45, 0x2A, 0x30, 0x00, 0xC7, 0x45, 0x2C, 0x74, 0x00, 0x31, 0xC9, 0xB8, 0x01, 0x03,
-    0xCD, 0x31, 0xB8, 0x17, 0x02, 0xB9, 0x17, 0x02, 0xBA, 0x0F, 0x02, 0xBB, 0x80, 0x00, 0xBE, 0x04,
-    0x02, 0xBF, 0x47, 0x00, 0xEA, 0x01, 0x01, 0x00, 0xF0, 0xF4, 0xB8, 0x00, 0x00, 0xB9, 0x00, 0x00,
-    0xBA, 0x00, 0xE0, 0xBB, 0xFC, 0x03, 0xBE, 0x74, 0x00, 0xBF, 0x5F, 0x00, 0xEA, 0x20, 0x03, 0x87,
-    0x00, 0xCB,
-];
-
-const TWICE: &[u8] = &[
-    0x1E, 0x07, 0xBF, 0x00, 0x10, 0xC7, 0x45, 0x2A, 0x2F, 0x00, 0xC7, 0x45, 0x2C, 0x74, 0x00, 0x31,
-    0xC9, 0xB8, 0x01, 0x03, 0xCD, 0x31, 0xBE, 0x00, 0xF0, 0xBF, 0x03, 0x01, 0xEA, 0x20, 0x03, 0x87,
-    0x00, 0xCB,
-];
 
 #[test]
 fn hostile_returns_end_as_written(rt: HostRuntime) -> Result<(), Fail> {
-    for (code, exit, nested_calls) in [
-        (LOST, Exit::LostStructure, 1),
-        (AT_ANOTHER_DEPTH, Exit::Stray, 2),
-        (TWICE, Exit::Stray, 0),
-    ] {
-        let mut host = entered(&rt, rt.alloc(), code)?;
-        assert_eq!(rt; run_out(&rt, &mut host), exit);
-        assert_eq!(rt; depth(host.machine()), nested_calls);
-        let r = host.machine().regs();
-        assert_eq!(rt; (r.cs, r.eip), (0xF000, 0x103));
-    }
+    run_all(&rt, rt.alloc(), &RETURNS)?;
     Ok(())
 }
 
-// The call that saves the state of protected mode, at 0087h:0321h, returns. Functions 0305h and 0306h give the addresses.
 #[test]
-fn the_state_is_saved_and_addresses_are_given(rt: HostRuntime) -> Result<(), Fail> {
-    let call = [0x9A, 0x21, 0x03, 0x87, 0x00, 0xB8, 0x05, 0x4C, 0xCD, 0x21];
-    let mut host = entered(&rt, rt.alloc(), &call)?;
-    assert_eq!(rt; run_out(&rt, &mut host), Exit::Exited(5));
-    for (function, real, protected) in [(5, 0x102, 0x321), (6, 0x101, 0x320)] {
-        let code = [0xB8, function, 0x03, 0xCD, 0x31, 0xB4, 0x4C, 0xCD, 0x21];
-        let mut host = entered(&rt, rt.alloc(), &code)?;
-        let end = if function == 5 { 0 } else { 6 };
-        assert_eq!(rt; run_out(&rt, &mut host), Exit::Exited(end));
-        let r = host.machine().regs();
-        assert_eq!(rt;
-            (r.ebx, r.ecx, r.esi, r.edi),
-            (0xF000, real, 0x87, protected)
-        );
-    }
+fn addresses_are_given(rt: HostRuntime) -> Result<(), Fail> {
+    run_all(&rt, rt.alloc(), &ADDRESSES)?;
     Ok(())
 }
