@@ -1,16 +1,17 @@
-; Memory, calls and the stack: 6 times 65,536 calls of a procedure with a frame, which adds two arguments to a variable.
+; Memory, calls and the stack: 6 times 65,535 calls of a procedure with a frame, which adds two arguments to a variable.
 ;   nasm -f bin -I ../clients/ procedures.asm -o procedures.exe
 %include "exe.inc"
     mov ax, cs
     mov ds, ax
+%include "mode.inc"
     mov word [rounds - code], 6
 outer:
-    xor cx, cx
+    mov cx, 65535
 inner:
     push cx
     push word [rounds - code]
     call accumulate
-    add sp, 4
+    add sp, 2 + W
     inc word [count - code]
     loop inner
     dec word [rounds - code]
@@ -24,9 +25,9 @@ accumulate:
     mov bp, sp
     push si
     mov si, total - code
-    mov ax, [bp+4]
+    mov ax, [bp + 2*W]
     add [si], ax
-    mov eax, [bp+4]
+    mov eax, [bp + 2*W]
     add [si+2], eax
     pop si
     pop bp

@@ -1,8 +1,9 @@
-; Register arithmetic and loops: 20 times 65,536 rounds of seven instructions.   nasm -f bin -I ../clients/ registers.asm -o registers.exe
+; Register arithmetic and loops: 20 times 65,535 rounds of seven instructions.   nasm -f bin -I ../clients/ registers.asm -o registers.exe
 %include "exe.inc"
+%include "mode.inc"
     mov dx, 20
 outer:
-    xor cx, cx
+    mov cx, 65535
 inner:
     add ax, bx
     xor bx, cx

@@ -1,17 +1,29 @@
 ; Strings with REP and prefixes: 40 rounds of copies, fills, searches and comparisons over 32 KB, by bytes, words and doublewords.
 ;   nasm -f bin -I ../clients/ strings.asm -o strings.exe
 %include "exe.inc"
+%include "mode.inc"
+%ifdef WIDTH
+    mov bx, 3000h
+    mov ax, 2                   ; a descriptor of the segment in BX
+    int 31h
+    mov es, ax
+    mov bx, 2000h
+    mov ax, 2
+    int 31h
+    mov ds, ax
+%else
     mov ax, 2000h
     mov ds, ax
     mov ax, 3000h
     mov es, ax
+%endif
     cld
     mov dx, 40
 again:
     mov eax, 41424344h
     xor di, di
     mov cx, 2000h
-    rep stosd                   ; with an operand-size prefix
+    rep stosd                   ; with an operand-size prefix in code of 16 bits
     xor si, si
     xor di, di
     mov cx, 8000h
@@ -31,7 +43,7 @@ again:
     xor esi, esi
     mov ecx, 2000h
 next:
-    a32 lodsw                   ; with an address-size prefix
+    a32 lodsw                   ; with an address-size prefix in code of 16 bits
     add bx, ax
     a32 loop next
     dec dx
