@@ -74,7 +74,7 @@ impl Ram {
         requires { at < length self.now }
         ensures { result ≡ slice_index self.now at }
     {
-        unsafe { *self.block.add(at as usize) }
+        self.byte_at(at as usize)
     }
 
     /// The word at an address, least byte first.
@@ -82,9 +82,7 @@ impl Ram {
         requires { at + 1 < length self.now }
         ensures { result ≡ word_of self.now at }
     {
-        // The bytes are so few that their addresses fit.
-        let _ = &self.frames;
-        u16::from(self.get8(at)) + 0x100 * u16::from(self.get8(at + 1))
+        self.word_at(at as usize)
     }
 
     /// The doubleword at an address, least byte first.
@@ -93,8 +91,8 @@ impl Ram {
         requires { at + 3 < length self.now }
         ensures { result ≡ dword self.now at }
     {
-        let _ = &self.frames;
-        u32::from(self.get16(at)) + 0x1_0000 * u32::from(self.get16(at + 2))
+        let from = at as usize;
+        u32::from(self.word_at(from)) + 0x1_0000 * u32::from(self.word_at(from + 2))
     }
 
     /// The N bytes from an address on.
@@ -102,10 +100,10 @@ impl Ram {
         requires { at + N ≤ length self.now }
         ensures { result ≡ region self.now at N }
     {
-        let _ = &self.frames;
+        let from = at as usize;
         let mut run = [0; N];
         for i in 0..N {
-            run[i] = self.get8(at + i as u32);
+            run[i] = self.byte_at(from + i);
         }
         run
     }
@@ -201,6 +199,27 @@ impl Ram {
             unsafe { *place.add(i) = v };
             i += 1;
         }
+    }
+
+    // The byte at an address as wide as a pointer: sums of such addresses need no cast, so neighbouring
+    // bytes become one load.
+    #[inline(always)]
+    fn byte_at(&self, at: usize) -> u8
+        requires { at < length self.now }
+        ensures { result ≡ slice_index self.now at }
+    {
+        unsafe { *self.block.add(at) }
+    }
+
+    // The word at such an address, least byte first.
+    #[inline(always)]
+    fn word_at(&self, at: usize) -> u16
+        requires { at + 1 < length self.now }
+        ensures { result ≡ word_of self.now at }
+    {
+        // The bytes are so few that their addresses fit.
+        let _ = &self.frames;
+        u16::from(self.byte_at(at)) + 0x100 * u16::from(self.byte_at(at + 1))
     }
 
     // From the first byte on: the bytes that are still to be copied aren't overwritten.

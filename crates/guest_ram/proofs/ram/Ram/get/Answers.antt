@@ -20,8 +20,8 @@ loop-i-init g c = (length-replicate g.row.N 0, sym (no_bytes c.args.self.now c.a
 
 pub loop-i-preserved : goal.loop-i-preserved
 loop-i-preserved g c = (
-  length-set c.loop-i.run c.loop-i.i c.get8.result ∙ c.loop-i.invariant.0,
-  taken c.args.self.now c.loop-i.run c.args.at c.loop-i.i c.get8.result c.loop-i.invariant.1 c.get8.ensures (omega (arith, c.loop-i.invariant.0)) (omega arith),
+  length-set c.loop-i.run c.loop-i.i c.byte_at.result ∙ c.loop-i.invariant.0,
+  taken c.args.self.now c.loop-i.run c.args.at c.loop-i.i c.byte_at.result c.loop-i.invariant.1 c.byte_at.ensures (omega (arith, c.loop-i.invariant.0)) (omega arith),
 )
 
 pub returns : goal.returns

@@ -1,6 +1,6 @@
--- `get8` loads one byte of the block, which a `&` to the memory shows.
-use Rattle.guest_ram.proofs.Steps.{ℕ, List, [], ◌∷◌, refl, sym, ap, w8, proved, ftrue, flft, named, vint, fact, tables, ‵, raw, ◌⊛◌, at_ret, ◌$◌, ◌∵◌, !, qed, done, move, keep, drop, use1, split, join, fsplit, fjoin, fpick, feq_i, feq_l, rewrite, suffices, frame, enter, of_opd, un, bin, load, look, stop, fld, first, blocks, exec, returns, alloc_all, pass_all, free_all, look_at, get, through, sets, env, u8, yes, uint_vals, uint_Tells, plain, nothing, heard, Stays, walk_of, says, stay_dropped, Goes-dropped, ends_at}
-use Rattle.std.proofs.Common.{subst, length, get_or, ◌<◌, ◌+◌, ◌^◌, w32, arith}
+-- `byte_at` loads one byte of the block, which a `&` to the memory shows.
+use Rattle.guest_ram.proofs.Steps.{ℕ, List, [], ◌∷◌, refl, sym, ap, w8, proved, ftrue, flft, named, vint, fact, tables, ‵, raw, ◌⊛◌, at_ret, ◌$◌, ◌∵◌, !, qed, done, move, keep, drop, use1, split, join, fsplit, fjoin, fpick, feq_i, feq_l, rewrite, suffices, frame, enter, of_opd, bin, load, look, stop, fld, first, blocks, exec, returns, alloc_all, pass_all, free_all, look_at, get, through, sets, env, u8, yes, uint_vals, uint_Tells, plain, nothing, heard, Stays, walk_of, says, stay_dropped, Goes-dropped, ends_at}
+use Rattle.std.proofs.Common.{subst, length, get_or, ◌<◌, ◌+◌, ◌^◌, w32, w64}
 use mir.Val.{Val, vptr}
 use base.Fml.{fhide}
 use types.ByLocal.{sets_last}
@@ -8,14 +8,13 @@ use types.Kit.{flt_l, flt_i}
 use denote.Opens.{shr_dup, unhide, hide}
 use denote.Ref.{ShrRef, shr_vals, shr_Tells}
 use denote.Memory.{cell_at, hidden_shr}
-use denote.Builtin.{u32}
+use denote.Builtin.{usize}
 use denote.Triple.Walked.{stay_none_ref, Goes-none_ref}
 use Rattle.std.proofs.Words.{pointer_in, pointer_out}
-use Rattle.guest_ram.specs.contracts.ram.Ram.get8 as f
-use Rattle.guest_ram.proofs.ram.Ram.get8.Statement.{statement}
-use Rattle.guest_ram.proofs.ram.Ram.get8.Code as code
+use Rattle.guest_ram.specs.contracts.ram.Ram.byte_at as f
+use Rattle.guest_ram.proofs.ram.Ram.byte_at.Statement.{statement}
+use Rattle.guest_ram.proofs.ram.Ram.byte_at.Code as code
 use Rattle.guest_ram.specs.contracts.ram.Ram.{the_row as R}
-use Rattle.guest_ram.specs.contracts.ram.Ram.TheInside.{the_row as F}
 use Rattle.guest_ram.specs.contracts.ram.Ram.TheInside as IN
 use Rattle.guest_ram.specs.declared.ram.Ram.TheInside.{Inside}
 use Rattle.guest_ram.proofs.ram.Ram.TheLaws.{the_row_laws}
@@ -49,20 +48,20 @@ abbrev fields : Inside → Words.Denot
 fields d = to IN.the_type d
 
 abbrev stayed : Stays f.ended.signature.params f.ended.kept
-stayed = (stay_none_ref (0 ∷ []) tt (plain (λ _. R)) yes, (stay_dropped (plain (λ _. u32)) yes, tt))
+stayed = (stay_none_ref (0 ∷ []) tt (plain (λ _. R)) yes, (stay_dropped (plain (λ _. usize)) yes, tt))
 
 shows_ptr : {M : Type 1} {𝓤 : Ura M} (𝓛 : Logic 𝓤) (κ : Lft) (b o : ℕ) (d : Inside) → ent 𝓤 (sem 𝓛 (hidden_shr Words κ (fields d) b o)) (sep 𝓤 (sem 𝓛 (hidden_shr RawPtr κ d.block b (o + 0))) (sem 𝓛 (hidden_shr Words κ (fields d) b o)))
 shows_ptr 𝓛 κ b o d = qed 𝓛 (‵ (hidden_shr Words κ (fields d) b o) ∷ []) ∵ shr_dup ! Words Wlaws (fields d) b o κ $ unhide ! $ fsplit ! $ fsplit ! $ hide ! $ keep ! (0 ∷ 3 ∷ []) $ done !
 
-pub get8_spec : {M : Type 1} → statement M
-get8_spec 𝓤 𝓛 𝓜 𝓡 wired =
+pub byte_at_spec : {M : Type 1} → statement M
+byte_at_spec 𝓤 𝓛 𝓜 𝓡 wired =
     let c = f.clauses 𝓛 𝓜.mem 𝓡.returns in let W = walk_of 𝓛 f.ended stayed c in let 𝓣 = tables 𝓤 𝓛.H 𝓜 𝓡 𝓡.env in
-    proved 𝓛 f.ended stayed c 𝓜 𝓡 (Goes-none_ref 𝓛 1 (0 ∷ []) tt (plain (λ _. R)) yes, (Goes-dropped 𝓛 1 (plain (λ _. u32)) yes (λ κs x w. refl), tt))
+    proved 𝓛 f.ended stayed c 𝓜 𝓡 (Goes-none_ref 𝓛 1 (0 ∷ []) tt (plain (λ _. R)) yes, (Goes-dropped 𝓛 1 (plain (λ _. usize)) yes (λ κs x w. refl), tt))
     f.Key.name code.function (code.unfolded 𝓤 𝓛.H 𝓜 𝓡 wired)
-    (λ κs. (shr_vals, (uint_vals w32, tt))) (λ κs. (shr_Tells (named 0) κs.0 R, (uint_Tells w32, tt))) (λ κs qs bounds a _ are.
+    (λ κs. (shr_vals, (uint_vals w64, tt))) (λ κs. (shr_Tells (named 0) κs.0 R, (uint_Tells w64, tt))) (λ κs qs bounds a _ are.
     let κ = κs.0 in let b = a.0.ref_ptr.0 in let o = a.0.ref_ptr.1 in let h : List ℕ = a.0.now in let i : ℕ = a.1.0 in let vs = shr_vals a.0 in
-    let y : W.Ghost = ((κs, qs, bounds, a, (vs, (uint_vals w32 i, tt))), tt) in
-    qed 𝓛 (((‵ (flft κs.0 qs.0) ⊛ ‵ ftrue) ⊛ ‵ ((ShrRef (named 0) κs.0 R).own_val a.0 vs) ⊛ ‵ ((u32).own_val i (uint_vals w32 i)) ⊛ ‵ ftrue) ∷ raw (fact 𝓤 (i < length h)) ∷ []) ∵
+    let y : W.Ghost = ((κs, qs, bounds, a, (vs, (uint_vals w64 i, tt))), tt) in
+    qed 𝓛 (((‵ (flft κs.0 qs.0) ⊛ ‵ ftrue) ⊛ ‵ ((ShrRef (named 0) κs.0 R).own_val a.0 vs) ⊛ ‵ ((usize).own_val i (uint_vals w64 i)) ⊛ ‵ ftrue) ∷ raw (fact 𝓤 (i < length h)) ∷ []) ∵
     split ! $ split ! $ move ! (3 ∷ []) $ heard ! _ (λ inside. move ! (2 ∷ []) $ split ! $ keep ! (0 ∷ 2 ∷ []) $
     enter ! _ _ _ _ _ $ alloc_all ! (λ l. pass_all ! refl ((tt, tt), ((tt, record { fits = are.1.0.1 }), tt)) $
     fsplit ! $ drop ! $ shr_dup ! R laws h b o κ $ unhide ! $ fpick ! (λ x. fsplit ! $ hide ! $
@@ -78,8 +77,6 @@ get8_spec 𝓤 𝓛 𝓜 𝓡 wired =
     sets ! (of_opd ! (load ! (through ! refl (fld ! refl (stop !))) (look ! 1 refl))) refl (tt, tt) $
     pointer_out ! tt x.0.block inb b (o + 0) $
     -- [the token; the fields'; the byte's; ..]
-    let wide : i < 2 ^ 64 = omega arith in
-    sets ! (un ! (get ! refl) (record { fits = wide })) refl (tt, record { fits = wide }) $
     sets ! (bin ! (get ! refl) (get ! refl) tt) refl (tt, tt) $
     move ! (2 ∷ 0 ∷ []) $ looks ! tt u8 (uint_Copied 𝓛 w8).opens (get_or xs i 0) B (i + O) (λ q1 ws. move ! (1 ∷ []) $ fsplit ! $ feq_l ! (λ e. flt_l ! (λ fn.
     rewrite ! 0 (λ (us : List Val). ‵ (cell_at q1 (u8).mir us B (i + O))) e refl $
