@@ -1,19 +1,18 @@
 -- One instruction of the client: twice, as what the grammar says of the code bytes, and as what reading them from left to right gives.
 -- Source: 80386 Programmer's Reference Manual, ch. 9 and 17; which of several exceptions is raised, and that an instruction of more than 15
 -- bytes is a general protection fault with code 0 before its next byte is fetched, is own.
-use Rattle.std.specs.Prelude.{◌≡◌, ◌<◌, ℕ, ◌+◌, ◌%◌, ◌^◌, Bool, false, List, ◌++◌, length, Ok, Err, nat_eq, if◌then◌else◌}
+use Rattle.std.specs.Prelude.{◌≡◌, ◌<◌, ℕ, ◌+◌, ◌%◌, ◌^◌, Bool, List, ◌++◌, length, Ok, Err, nat_eq, if◌then◌else◌}
 use Rattle.std.specs.declared.result.Result.{Result}
 use Rattle.client_world.specs.declared.faults.Event.{Event}
 use Rattle.client_world.specs.declared.faults.Event.TheVariants.{Fault as fault}
 use Rattle.client_world.specs.declared.faults.Fault.{Fault}
 use Rattle.client_world.specs.declared.faults.TheConstants.{GENERAL_PROTECTION, INVALID_OPCODE}
-use Rattle.client_world.specs.declared.registers.Mode.TheVariants.{Real, Protected}
 use Rattle.client_world.specs.Access.{fault_with}
-use Rattle.client_world.specs.Selector.{row_of_selector}
 use Rattle.client_world.specs.World.{World}
 use Rattle.exec_core.specs.Dispatch.{is_core, core_row}
 use Rattle.exec_flow.specs.Dispatch.{flow_row}
 use Rattle.guest_space.specs.Code.{code_byte, code_from, code_room}
+use Rattle.guest_space.specs.SegmentRows.{is_big}
 use Rattle.host_memory.specs.View.{MachineView}
 use Rattle.insn_decode.specs.declared.decoding.Decoded.{Decoded}
 use Rattle.insn_decode.specs.declared.decoding.Decoded.TheVariants.{Whole, More, Invalid}
@@ -22,11 +21,10 @@ use Rattle.insn_forms.specs.declared.insn.Insn.{Insn}
 use Rattle.insn_forms.specs.Grammar.{Encoding, HasEncoding, BeginsEncoding}
 use Rattle.insn_plan.specs.Act.{Act}
 use Rattle.insn_plan.specs.Plan.{planned, carried_out}
-use Rattle.insn_plan.specs.Stack.{has_size_bit}
 
 -- operands and addresses have 32 bits where nothing else is said: the code segment has D = 1
 unfoldable pub has_big_code : World → Bool
-has_big_code w = elim w.mode [ Real ↦ false | Protected ↦ has_size_bit (row_of_selector w.descriptors w.regs.cs) ]
+has_big_code w = is_big w.mode w.descriptors w.regs.cs
 
 -- the code bytes from CS:EIP on: 15 of them, or those before the first that can't be fetched
 abbrev pub code : World → List ℕ

@@ -8,7 +8,7 @@ ghost use Rattle.cpu_step.specs.Step.{behind, client_row, client_step, code, exe
 use arrayvec::ArrayVec;
 use client_world::faults::{GENERAL_PROTECTION, INVALID_OPCODE};
 use client_world::memory_map::PARAGRAPH_SIZE;
-use client_world::{CodeWords, Event, Fault, Mode, SegReg};
+use client_world::{CodeWords, Event, Fault, SegReg};
 use exec_core::{is_core, run_core};
 use exec_flow::run_flow;
 use guest_space::Machine;
@@ -23,13 +23,7 @@ use insn_plan::offset_of;
 pub fn has_big_code(m: &Machine) -> bool
     ensures { result ≡ has_big_code m.now.world }
 {
-    match m.mode() {
-        Mode::Real => false,
-        Mode::Protected => match m.desc_of(m.registers().cs) {
-            None => false,
-            Some((d, _)) => d.size,
-        },
-    }
+    m.is_big(SegReg::Cs)
 }
 
 /// Moves EIP past an instruction of `len` bytes, modulo 2^32.

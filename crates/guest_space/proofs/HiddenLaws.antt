@@ -30,6 +30,7 @@ use Rattle.host_memory.proofs.RowWrites.{rows_are}
 use Rattle.guest_space.specs.declared.hidden_parts.Hidden.{Hidden}
 use Rattle.guest_space.specs.HiddenParts.{part_in_row, real_part, part_of_selector, found, all_found, number, is_data_with, base_within}
 use Rattle.guest_space.specs.Machines.{Processor, held_world}
+use Rattle.guest_space.specs.SegmentRows.{base_of_row, first_byte, has_size_bit, is_big}
 use Rattle.guest_space.specs.Transfer.{with_places}
 use Rattle.guest_space.proofs.MemoryAlone.{other_places}
 
@@ -131,6 +132,34 @@ pub base_by_row : (mode : Mode) (r : Regs) (rows : List Row) (seg : SegReg) (off
 unfolding part_of_selector segment_base
 base_by_row Real r rows seg offset n write e = absurd (subst IsNothing (sym e) tt)
 base_by_row Protected r rows seg offset n write e = refl
+
+-- what a part says of its segment, the row says
+said_in_row : (seg : SegReg) (row : Row) (part : Hidden) → part_in_row seg row ≡ Some part →
+    (part.size ≡ has_size_bit row) × (part.base ≡ base_of_row row)
+said_in_row seg None part e = absurd (subst IsNothing e tt)
+said_in_row seg (Some r) part e =
+    let p = peel (not (suits_register seg r.0.kind)) (not r.0.present) (part_of r.0) part e in
+    (ap (λ (k : Hidden). k.size) (sym p.1.1), ap (λ (k : Hidden). k.base) (sym p.1.1))
+
+said_unless_null : (seg : SegReg) (row : Row) (null : Bool) (part : Hidden) → (if null then None else part_in_row seg row) ≡ Some part →
+    (part.size ≡ has_size_bit row) × (part.base ≡ base_of_row row)
+said_unless_null seg row true part e = absurd (subst IsNothing e tt)
+said_unless_null seg row false part e = said_in_row seg row part e
+
+pub said_by_part : (mode : Mode) (r : Regs) (rows : List Row) (seg : SegReg) (part : Hidden) → found mode r rows seg ≡ Some part →
+    (part.size ≡ is_big mode rows (selector r seg)) × (part.base ≡ first_byte mode rows (selector r seg))
+unfolding part_of_selector
+said_by_part Real r rows seg part e =
+    let p = ap (or_else part) (sym e) in (ap (λ (k : Hidden). k.size) p, ap (λ (k : Hidden). k.base) p)
+said_by_part Protected r rows seg part e = said_unless_null seg (row_of_selector rows (selector r seg)) (is_null (selector r seg)) part e
+
+-- where there is no part, the row alone says it
+pub said_by_row : (mode : Mode) (r : Regs) (rows : List Row) (seg : SegReg) → found mode r rows seg ≡ None →
+    let row = row_of_selector rows (selector r seg) in
+    (has_size_bit row ≡ is_big mode rows (selector r seg)) × (base_of_row row ≡ first_byte mode rows (selector r seg))
+unfolding part_of_selector
+said_by_row Real r rows seg e = absurd (subst IsNothing (sym e) tt)
+said_by_row Protected r rows seg e = (refl, refl)
 
 -- the part at a register's number
 pub at_number : (mode : Mode) (r : Regs) (rows : List Row) (seg : SegReg) (or : Option Hidden) →

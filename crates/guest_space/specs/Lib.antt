@@ -9,6 +9,7 @@ pub mod Machines
 pub mod Pending
 pub mod Records
 pub mod Registers
+pub mod SegmentRows
 pub mod Transfer
 pub mod VectorLists
 pub mod WriteRuns

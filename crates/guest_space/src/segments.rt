@@ -2,7 +2,10 @@
 ghost use Rattle.std.specs.Prelude.{◌≡◌, IfSome, Ok};
 ghost use Rattle.client_world.specs.Access.{fault_with, stack_or, suits_register, base_in_row, protected_base, segment_base};
 ghost use Rattle.client_world.specs.Selector.{FitsRow};
+ghost use Rattle.client_world.specs.Segments.{selector};
+ghost use Rattle.client_world.specs.Selector.{row_of_selector};
 ghost use Rattle.guest_space.specs.HiddenParts.{found};
+ghost use Rattle.guest_space.specs.SegmentRows.{base_of_row, first_byte, has_size_bit, is_big};
 
 use crate::hidden_parts::{Hidden, number};
 use crate::machine::Machine;
@@ -121,6 +124,54 @@ impl Machine {
             Some(part) => part.base_within(seg, off, n, write),
             // In real mode there is a part; what is wrong with a selector of protected mode, the table says.
             None => self.protected_base(seg, self.registers().selector(seg), off, n, write),
+        }
+    }
+
+    // Whether the row of a selector has its bit D or B set.
+    #[inline(never)]
+    fn has_size_bit(&self, sel: u16) -> bool
+        ensures { result ≡ has_size_bit (row_of_selector self.now.world.descriptors sel) }
+    {
+        match self.desc_of(sel) {
+            None => false,
+            Some((d, _)) => d.size,
+        }
+    }
+
+    /// Whether the segment in a register has 32 bits: its bit D or B is 1.
+    /// Source: 80386 Programmer's Reference Manual, ch. 16, "How the 80386 Implements 16-Bit and 32-Bit Features".
+    #[inline(always)]
+    pub fn is_big(&self, seg: SegReg) -> bool
+        ensures { result ≡ is_big self.now.world.mode self.now.world.descriptors (selector self.now.world.regs seg) }
+    {
+        match self.part(seg) {
+            Some(part) => part.size,
+            // In real mode there is a part.
+            None => self.has_size_bit(self.registers().selector(seg)),
+        }
+    }
+
+    // The base in the row of a selector.
+    #[inline(never)]
+    fn base_of_row(&self, sel: u16) -> u32
+        ensures { result ≡ base_of_row (row_of_selector self.now.world.descriptors sel) }
+    {
+        match self.desc_of(sel) {
+            None => 0,
+            Some((d, _)) => d.base,
+        }
+    }
+
+    /// The linear address of the first byte of the segment in a register, whether the segment may be used or not; 0 where protected mode
+    /// has no row for it.
+    #[inline(always)]
+    pub fn first_byte(&self, seg: SegReg) -> u32
+        ensures { result ≡ first_byte self.now.world.mode self.now.world.descriptors (selector self.now.world.regs seg) }
+    {
+        match self.part(seg) {
+            Some(part) => part.base,
+            // In real mode there is a part.
+            None => self.base_of_row(self.registers().selector(seg)),
         }
     }
 }

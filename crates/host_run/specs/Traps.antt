@@ -7,9 +7,9 @@ use Rattle.client_world.specs.declared.registers.Mode.{Mode}
 use Rattle.client_world.specs.declared.registers.Mode.TheVariants.{Real, Protected}
 use Rattle.client_world.specs.declared.traps.TheConstants.{REAL_VECTOR_TRAPS, ENTRY_TRAP, SWITCH_TO_PROTECTED_TRAP, REAL_STATE_TRAP, CALL_RETURN_TRAP, CALLBACK_TRAPS, PROTECTED_VECTOR_TRAPS, EXCEPTION_TRAPS, SWITCH_TO_REAL_TRAP, PROTECTED_STATE_TRAP, EXCEPTION_RETURN_TRAP, CALLBACK_RETURN_TRAP}
 use Rattle.client_world.specs.Access.{linear, linear_address}
-use Rattle.client_world.specs.Selector.{Row, row_of_selector}
 use Rattle.client_world.specs.World.{World}
 use Rattle.guest_space.specs.Code.{code_byte}
+use Rattle.guest_space.specs.SegmentRows.{first_byte}
 use Rattle.host_run.specs.declared.traps.Trap.{Trap}
 use Rattle.host_run.specs.declared.traps.Trap.TheVariants.{RealVector, Entry, ToProtected, RealState, CallReturn, Callback, ProtectedVector, ExceptionHandler, ToReal, ProtectedState, ExceptionReturn, CallbackReturn, NoTrap}
 
@@ -43,15 +43,10 @@ abbrev pub trap_at : Mode → ℕ → Trap
 trap_at Real at = real_trap_at at
 trap_at Protected at = protected_trap_at at
 
--- the base of a row's segment
-abbrev pub base_of_row : Row → ℕ
-base_of_row None = 0
-base_of_row (Some row) = row.0.base
-
 -- the linear address of CS:EIP, by the mode: in protected mode it counts modulo 2^32
 abbrev pub address_in : Mode → World → ℕ
 address_in Real w = linear_address w.regs.cs w.regs.eip
-address_in Protected w = linear (base_of_row (row_of_selector w.descriptors w.regs.cs) + w.regs.eip)
+address_in Protected w = linear (first_byte Protected w.descriptors w.regs.cs + w.regs.eip)
 
 abbrev pub code_address : World → ℕ
 code_address w = address_in w.mode w

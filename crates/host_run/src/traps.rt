@@ -1,10 +1,9 @@
 // The trap bytes.
 ghost use Rattle.std.specs.Prelude.{◌≡◌};
-ghost use Rattle.host_run.specs.Traps.{address_in, base_of_row, code_address, is_among, protected_trap_at, real_trap_at, current_trap, trap_at};
-ghost use Rattle.client_world.specs.Selector.{row_of_selector};
+ghost use Rattle.host_run.specs.Traps.{address_in, code_address, is_among, protected_trap_at, real_trap_at, current_trap, trap_at};
 ghost use Rattle.client_world.specs.declared.registers.Mode.TheVariants.{Protected as protected};
 
-use client_world::Mode;
+use client_world::{Mode, SegReg};
 use client_world::limits::{CALLBACKS, EXCEPTION_VECTORS, INTERRUPT_VECTORS};
 use client_world::memory_map::{PARAGRAPH_SIZE, ROM_START};
 use client_world::traps::{
@@ -106,22 +105,13 @@ fn trap_at(mode: Mode, at: u64) -> Trap
     }
 }
 
-// The base of the segment in CS.
-fn code_base(m: &Machine) -> u32
-    ensures { result ≡ base_of_row (row_of_selector m.now.world.descriptors m.now.world.regs.cs) }
-{
-    match m.desc_of(m.registers().cs) {
-        None => 0,
-        Some((d, _)) => d.base,
-    }
-}
-
 // The linear address of CS:EIP in protected mode.
-#[inline(never)]
+#[inline(always)]
 fn protected_code_address(m: &Machine) -> u64
+    requires { m.now.world.mode ≡ protected }
     ensures { result ≡ address_in protected m.now.world }
 {
-    u64::from(code_base(m).wrapping_add(m.registers().eip))
+    u64::from(m.first_byte(SegReg::Cs).wrapping_add(m.registers().eip))
 }
 
 // The linear address of CS:EIP.

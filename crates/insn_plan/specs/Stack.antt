@@ -1,26 +1,20 @@
 -- The stack: the stack pointer is ESP where the segment in SS has B = 1, else SP; the other half stays.
 -- Source: 80386 Programmer's Reference Manual, ch. 2, "Stack Implementation", and ch. 17, PUSH and POP.
-use Rattle.std.specs.Prelude.{ℕ, ◌+◌, ◌-◌, ◌*◌, ◌^◌, Bool, false, if◌then◌else◌, None, Some, List, [], ◌∷◌, ◌++◌}
-use Rattle.client_world.specs.declared.registers.Mode.TheVariants.{Real, Protected}
+use Rattle.std.specs.Prelude.{ℕ, ◌+◌, ◌-◌, ◌*◌, ◌^◌, Bool, if◌then◌else◌, List, [], ◌∷◌, ◌++◌}
 use Rattle.client_world.specs.declared.registers.Regs.{Regs}
 use Rattle.client_world.specs.declared.segments.SegReg.TheVariants.{Ss}
 use Rattle.client_world.specs.Registers.{with_low_half}
-use Rattle.client_world.specs.Selector.{Row, row_of_selector}
 use Rattle.client_world.specs.World.{World}
 use Rattle.guest_space.specs.declared.pending.Write.{Write}
 use Rattle.guest_space.specs.Pending.{byte_count}
+use Rattle.guest_space.specs.SegmentRows.{is_big}
 use Rattle.insn_plan.specs.Act.{Input, From, Pending, with_regs}
 use Rattle.insn_plan.specs.Operands.{and_write}
 use Rattle.insn_plan.specs.Registers.{cut_address}
 
--- the segment has B = 1
-abbrev pub has_size_bit : Row → Bool
-has_size_bit None = false
-has_size_bit (Some row) = row.0.size
-
 -- the stack pointer is ESP
 unfoldable pub has_big_stack : World → Bool
-has_big_stack w = elim w.mode [ Real ↦ false | Protected ↦ has_size_bit (row_of_selector w.descriptors w.regs.ss) ]
+has_big_stack w = is_big w.mode w.descriptors w.regs.ss
 
 -- ESP with another stack pointer in it: where that is SP, the upper half is kept
 abbrev pub with_pointer : Bool → ℕ → ℕ → ℕ

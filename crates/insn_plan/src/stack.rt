@@ -21,7 +21,7 @@ use crate::operands::write_number;
 use crate::read::{doubleword, read_width, word};
 use crate::registers::cut_address;
 use client_world::general::ESP;
-use client_world::{Event, Mode, Regs, SegReg};
+use client_world::{Event, Regs, SegReg};
 use guest_space::{Machine, Write, byte_count};
 
 /// Whether the stack pointer is ESP: the segment in SS has B = 1.
@@ -31,13 +31,7 @@ use guest_space::{Machine, Write, byte_count};
 pub fn has_big_stack(m: &Machine) -> bool
     ensures { result ≡ has_big_stack m.now.world }
 {
-    match m.mode() {
-        Mode::Real => false,
-        Mode::Protected => match m.desc_of(m.registers().ss) {
-            None => false,
-            Some((d, _)) => d.size,
-        },
-    }
+    m.is_big(SegReg::Ss)
 }
 
 /// ESP with another stack pointer in it, where it is known whether that is ESP or SP; with SP the upper half is kept.
