@@ -47,9 +47,9 @@ abbrev pub open_result : MemShelfState → List ℕ → Result (Unit {0}) ShelfF
 open_result s name =
     if is_listed s.plan then Err Failed else (if map.contains_key s.files name then Ok tt else Err Missing)
 
--- how many bytes a read gives that does not fail, into a buffer of that length
-abbrev pub read_count : MemShelfState → ℕ → ℕ
-read_count s len = min len (length (unwrap_or (shelf_left s) []))
+-- how many of the bytes left a read gives that does not fail, into a buffer of that length
+abbrev pub read_count : Option (List ℕ) → ℕ → ℕ
+read_count left len = min len (length (unwrap_or left []))
 
 -- the shelf after the file of that name was opened
 abbrev pub after_open : MemShelfState → List ℕ → MemShelfState

@@ -1,5 +1,5 @@
 -- A shelf and a sink in memory that never fail. Source: own.
-use Rattle.std.specs.Prelude.{ℕ, List, [], ◌+◌, drop, length, min, unwrap_or, Some}
+use Rattle.std.specs.Prelude.{ℕ, List, ◌+◌, drop, min, Some}
 use Rattle.std.specs.Option.{option_map}
 use Rattle.std.specs.declared.option.Option.{Option}
 use Rattle.dpmi_io.specs.Causes.{greatest}
@@ -17,10 +17,6 @@ sure_left s = option_map (λ o. drop o.at s.bytes) s.current
 -- the shelf with the file open under that name
 abbrev pub after_sure_open : SureShelfState → List ℕ → SureShelfState
 after_sure_open s name = record s { current = Some (record { name = name; at = 0 }) }
-
--- how many bytes a read gives into a buffer of that length
-abbrev pub sure_count : SureShelfState → ℕ → ℕ
-sure_count s len = min len (length (unwrap_or (sure_left s) []))
 
 -- the shelf after n bytes of the open file were given
 abbrev pub after_sure_read : SureShelfState → ℕ → SureShelfState

@@ -97,7 +97,7 @@ impl Shelf for MemShelf {
         requires opened { IsSome (shelf_open self.old) }
         requires room { 0 < length buf.old }
         ensures fails { IsErr result ↔ IsTrue (is_listed self.old.plan) }
-        ensures count { IfOk result (λ n. n ≡ read_count self.old (length buf.old)) }
+        ensures count { IfOk result (λ n. n ≡ read_count (shelf_left self.old) (length buf.old)) }
         ensures after { IfOk result (λ n. self.new ≡ after_read self.old n) }
         ensures after_failed { OnErr result (self.new ≡ after_failure self.old (shelf_open self.old)) }
         ensures rest { IfOk result (λ n. drop n buf.new ≡ drop n buf.old) }

@@ -41,7 +41,8 @@ impl SureShelf {
 impl Shelf for SureShelf {
     ghost use Rattle.std.specs.Option.{option_map};
     ghost use Rattle.dpmi_io.specs.Content.{Gives};
-    ghost use Rattle.dpmi_io.specs.SureShelf.{sure_left, sure_count, after_sure_open, after_sure_read};
+    ghost use Rattle.dpmi_io.specs.MemShelf.{read_count};
+    ghost use Rattle.dpmi_io.specs.SureShelf.{sure_left, after_sure_open, after_sure_read};
 
     ghost open_name = { λ s. option_map (λ o. o.name) s.current };
 
@@ -65,7 +66,7 @@ impl Shelf for SureShelf {
         requires opened { IsSome (option_map (λ o. o.name) self.old.current) }
         requires room { 0 < length buf.old }
         ensures ok { IsOk result }
-        ensures count { IfOk result (λ n. n ≡ sure_count self.old (length buf.old)) }
+        ensures count { IfOk result (λ n. n ≡ read_count (sure_left self.old) (length buf.old)) }
         ensures after { IfOk result (λ n. self.new ≡ after_sure_read self.old n) }
         ensures rest { IfOk result (λ n. drop n buf.new ≡ drop n buf.old) }
 
