@@ -2,12 +2,8 @@
 ghost use Rattle.std.specs.Prelude.{◌<◌};
 
 use crate::serve;
-use client_world::{
-    Carry, Desc, Fault, Kind, Mode, Origin, Regs, SegReg, Width,
-    a_plain_descriptor_keeps_a_world_sound,
-};
+use client_world::{Carry, Mode, Regs, Width};
 use guest_space::Machine;
-use std::alloc::{AllocError, Global};
 use std::test::Fail;
 
 // AX, EBX, ECX, ESI, EDI of a call, and the last four after it, or none where it is refused.
@@ -186,92 +182,6 @@ fn the_table_gives_what_is_free(rt: HostRuntime) -> Result<(), Fail> {
         for (place, &wanted) in table.iter().enumerate() {
             assert_eq!(rt; number(&m, place as u32), wanted, "number {place}");
         }
-    }
-    Ok(())
-}
-
-// Writable data from address 0 on, up to FFFFFFFFh, and its selector.
-const FLAT: Desc = Desc {
-    base: 0,
-    limit: 0xF_FFFF,
-    gran: true,
-    size: true,
-    avl: false,
-    present: true,
-    kind: Kind::Data {
-        writable: true,
-        down: false,
-    },
-};
-
-const FLAT_INDEX: u16 = 69;
-
-const FLAT_SELECTOR: u16 = 0x22F;
-
-// A machine in protected mode with a budget of 8 pages and that descriptor.
-#[tactic(auto, unfolding(host_memory::specs::Blank::blank_world))]
-fn flat_machine(alloc: Global) -> Result<Machine, AllocError> {
-    let mut m = Machine::new(alloc, 8)?;
-    m.set_width(Width::Sixteen);
-    m.set_mode(Mode::Protected);
-    m.soundness();
-    a_plain_descriptor_keeps_a_world_sound();
-    m.set_desc(FLAT_INDEX, Some((FLAT, Origin::Own)));
-    Ok(m)
-}
-
-// Makes calls with that selector in DS, and returns whether each is served.
-fn are_served(m: &mut Machine, calls: &[[u32; 5]]) -> bool {
-    for &call in calls.iter() {
-        let mut r = registers(call);
-        r.ds = FLAT_SELECTOR;
-        m.set_regs(r);
-        if m.mode() == Mode::Real {
-            return false;
-        }
-        if serve(m, (call[0] % 0x1_0000) as u16) == Carry::Set {
-            return false;
-        }
-    }
-    true
-}
-
-// The linear address of the first of the 8 pages.
-const FIRST: u32 = 0x40_0000;
-
-// Blocks of 4 and 4 pages are made.
-const MADE: [[u32; 5]; 2] = [[0x0501, 0, 0x4000, 0, 0], [0x0501, 0, 0x4000, 0, 0]];
-
-// The second shrinks to 1 page and grows to 8.
-const SIZED: [[u32; 5]; 2] = [[0x0503, 0, 0x1000, 0, 2], [0x0503, 0, 0x8000, 0, 2]];
-
-#[test]
-fn a_block_that_grows_keeps_its_bytes(rt: HostRuntime) -> Result<(), Fail> {
-    let mut m = flat_machine(rt.alloc())?;
-    assert!(rt; are_served(&mut m, &MADE));
-    for page in 0..8 {
-        let at = FIRST + 0x1000 * page;
-        assert_eq!(rt; m.write(SegReg::Ds, at, [0xA5; 8]), Ok(()));
-        assert_eq!(rt; m.write(SegReg::Ds, at + 0xFF8, [0x5A; 8]), Ok(()));
-    }
-
-    // The first is freed: its pages fault at once.
-    assert!(rt; are_served(&mut m, &[[0x0502, 0, 0, 0, 1]]));
-    let absent = Fault {
-        number: 0x0E,
-        code: 4,
-    };
-    assert_eq!(rt; m.read::<1>(SegReg::Ds, FIRST), Err(absent));
-
-    // The second keeps its first page, and the pages that it gets are zero, whatever their frames held.
-    assert!(rt; are_served(&mut m, &SIZED));
-    let second = FIRST + 0x4000;
-    assert_eq!(rt; m.block(2), Some((second, 8)));
-    for page in 0..8 {
-        let at = second + 0x1000 * page;
-        let (first, last) = if page == 0 { (0xA5, 0x5A) } else { (0, 0) };
-        assert_eq!(rt; m.read(SegReg::Ds, at), Ok([first; 8]));
-        assert_eq!(rt; m.read(SegReg::Ds, at + 0xFF8), Ok([last; 8]));
     }
     Ok(())
 }

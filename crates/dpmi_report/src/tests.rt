@@ -1,70 +1,8 @@
-// The text of small runs.
-ghost use Rattle.std.specs.Prelude.{◌≡◌, IfOk, Some};
-
+// Lines of the text.
 use crate::lines::{block_line, descriptor_line};
 use crate::trace::event_line;
-use crate::{write_run, write_state, write_summary};
-use client_world::{Call, Carry, Desc, Exit, Kind, Origin, Regs, TraceLine, What, Width};
-use dpmi_io::MemSink;
-use host_run::Host;
-use std::process::Abort;
+use client_world::{Call, Carry, Desc, Kind, Origin, Regs, TraceLine, What, Width};
 use std::test::Fail;
-
-// The client that prints the letter `A`: MOV AH,02h; MOV DL,41h; INT 21h; MOV AX,4C00h; INT 21h.
-const ONE_LETTER: [u8; 43] = [
-    0x4D, 0x5A, 0x2B, 0x00, 0x01, 0x00, 0x00, 0x00, 0x02, 0x00, 0x10, 0x00, 0xFF, 0xFF, 0x01, 0x00,
-    0x00, 0x01, 0x00, 0x00, 0x00, 0x00, 0x00, 0x00, 0x1C, 0x00, 0x00, 0x00, 0x00, 0x00, 0x00, 0x00,
-    0xB4, 0x02, 0xB2, 0x41, 0xCD, 0x21, 0xB8, 0x00, 0x4C, 0xCD, 0x21,
-];
-
-const RUN_TEXT: &str =
-    "console 1\nA\ntrace 2 of 2\nint21 02\nint21 4c\nreport\nexit exited 0\nsteps 7\n";
-
-const STATE_TEXT: &str =
-    "mode real\ndepth 0\nregs eax=00004c00 ebx=00000000 ecx=00000000 edx=00000041 esi=00000000 edi=00000000 ebp=00000000 esp=000000fa eip=00000021 fl=0002 cs=f000 ss=0075 ds=0064 es=0064 fs=0000 gs=0000\ndescs 0\n";
-
-// The bytes of `A`, by the digest of FIPS 180-4.
-const SUMMARY_TEXT: &str =
-    "soak 18446744073709551615\nexit exited 0\nsteps 7\nservices 0 carries 0\nconsole 1 sha256=559aead08264d5795d3909718cdd05abd49572e84fe55590eef31a88a08fdffd\ndos sha256=";
-
-// That client after its run, and its exit.
-#[tactic(auto, unfolding(host_memory::specs::Blank::blank_world))]
-fn ended(rt: &impl AllocGlobal) -> Result<(Host, Exit), Fail>
-    ensures { IfOk result (λ end. end.0.world.exit ≡ Some end.1) }
-{
-    let mut host = Host::new(rt.alloc(), 16, b"", 10)?;
-    let _ = host.load(&ONE_LETTER);
-    let exit = host.run(100);
-    Ok((host, exit))
-}
-
-#[test]
-fn a_run_has_its_text(rt: HostRuntime) -> Result<(), Fail> {
-    let (host, exit) = ended(&rt)?;
-    let mut out = MemSink::new(rt.alloc(), 1000, 7)?;
-    assert!(rt; write_run(&host, exit, &mut out).is_ok());
-    assert_eq!(rt; out.bytes(), RUN_TEXT.as_bytes());
-    Ok(())
-}
-
-#[test]
-fn a_state_has_its_text(rt: HostRuntime) -> Result<(), Fail> {
-    let (host, _) = ended(&rt)?;
-    let mut out = MemSink::new(rt.alloc(), 1000, 1000)?;
-    assert!(rt; write_state(host.machine(), &mut out).is_ok());
-    assert_eq!(rt; out.bytes(), STATE_TEXT.as_bytes());
-    Ok(())
-}
-
-#[test]
-fn a_summary_has_its_text(rt: HostRuntime) -> Result<(), Fail> {
-    let (host, exit) = ended(&rt)?;
-    let mut out = MemSink::new(rt.alloc(), 1000, 1000)?;
-    assert!(rt; write_summary(u64::MAX, &host, exit, &mut out).is_ok());
-    assert_eq!(rt; out.bytes().len(), SUMMARY_TEXT.len() + 65);
-    assert!(rt; out.bytes().starts_with(SUMMARY_TEXT.as_bytes()));
-    Ok(())
-}
 
 // Events and their lines.
 const EVENTS: [(TraceLine, &str); 11] = [
