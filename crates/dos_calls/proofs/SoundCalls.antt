@@ -17,7 +17,7 @@ use Rattle.dos_blocks.proofs.SoundBlocks.{sound_allocated, sound_freed, sound_re
 use Rattle.guest_ram.specs.Bytes.{AreBytes, word_of}
 use Rattle.host_memory.specs.Vectors.{word_bytes}
 use Rattle.dos_calls.specs.Calls as calls
-use Rattle.dos_calls.specs.Calls.{CallResult, CallState, served, ended, printed, with_al, with_error, without_carry, with_key, poll_key, with_line, line_read, line_of, keys_read, bad_handle, memory_refused, memory_given, memory_changed, no_memory, wrong_block, bad_function, dos_call}
+use Rattle.dos_calls.specs.Calls.{CallResult, CallState, served, ended, printed, with_al, with_error, without_carry, poll_key, with_line, line_read, line_of, keys_read, bad_handle, memory_refused, memory_given, memory_changed, no_memory, wrong_block, bad_function, dos_call}
 use Rattle.dos_calls.specs.DosBytes.{byte_at, address_at, with_dos_bytes_at}
 use Rattle.dos_calls.specs.Multiplex.{with_entry, multiplex_call}
 use Rattle.dos_calls.proofs.ByteLists.{no_bytes, more_bytes, bytes_behind, bytes_append, bytes_take, bytes_drop, length-taken, bytes_word, bytes_read, bytes_text, LineOfBytes, bytes_line}

@@ -1,11 +1,9 @@
 -- The bytes and the locks of a memory block.
-use Rattle.std.proofs.Common.{arith, ◌≡◌, ◌≢◌, ◌≤◌, ◌<◌, ◌+◌, ◌-◌, ◌*◌, ◌/◌, ◌%◌, ◌⊎◌, inl, inr, ℕ, zero, suc, Bool, cond, true, false, List, [], ◌∷◌, length, take, get_or, slice_index_or, refl, sym, ◌∙◌, ap, subst, add-one, Option, None, Some, nat_lt}
-use Rattle.std.specs.Prelude.{count_by, is_some, slice_index}
+use Rattle.std.proofs.Common.{arith, ◌≡◌, ◌≤◌, ◌<◌, ◌+◌, ◌-◌, ◌*◌, ◌⊎◌, inl, inr, ℕ, zero, suc, true, false, List, [], ◌∷◌, length, slice_index_or, refl, ◌∙◌, ap, add-one, Option, None, Some}
+use Rattle.std.specs.Prelude.{is_some, slice_index}
 use Rattle.std.proofs.lemmas.Bool.{and_from, and_left, and_right, le-leb, le-ltb, lt-leb, lt-ltb}
-use Rattle.std.proofs.lemmas.List.Sums.{count_by_more_yes, count_by_more_no}
 use Rattle.client_world.specs.declared.host_frames.TheConstants.{PAGE_SIZE}
-use Rattle.client_world.specs.declared.limits.TheConstants.{MAX_BLOCKS}
-use Rattle.client_world.specs.declared.memory_map.TheConstants.{BLOCK_REGION, BLOCK_REGION_END}
+use Rattle.client_world.specs.declared.memory_map.TheConstants.{BLOCK_REGION_END}
 use Rattle.client_world.specs.declared.place.Place.TheVariants.{Block}
 use Rattle.client_world.specs.Access.{HasByte, bytes_of_block, block_place, covers, place_in}
 use Rattle.client_world.specs.Soundness.{SoundBlocks, IsBlock}

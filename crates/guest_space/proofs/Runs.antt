@@ -10,7 +10,7 @@ use Rattle.client_world.specs.declared.faults.PageFault.{PageFault}
 use Rattle.client_world.specs.declared.place.Place.{Place}
 use Rattle.client_world.specs.declared.place.Place.TheVariants.{Nothing}
 use Rattle.client_world.specs.declared.host_frames.TheConstants.{PAGE_SIZE, PAGE_DIRECTORY}
-use Rattle.client_world.specs.Access.{place_in, place_of, may_touch, is_present, page_fault, byte_of, bytes_of, linear, places_from, first_forbidden, touched_places}
+use Rattle.client_world.specs.Access.{place_in, place_of, may_touch, is_present, page_fault, byte_of, bytes_of, linear, places_from, first_forbidden}
 use Rattle.client_world.specs.World.{World, MemoryBlock}
 use Rattle.client_world.proofs.PlaceLaws.{length-places_from, places_from-at, first_forbidden-none, first_forbidden-none_where_allowed}
 use Rattle.client_world.proofs.SoundWrites.{length-bytes_of, at_bytes_of}

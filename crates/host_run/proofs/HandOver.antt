@@ -1,6 +1,6 @@
 -- Two matched turns hand over what the start and the return of a call or of an exception do, since the record of the first is that of the
 -- second.
-use Rattle.std.proofs.Common.{◌≡◌, ◌∙◌, ℕ, ◌+◌, List, [], ◌∷◌, ◌++◌, ap, refl, sym, subst}
+use Rattle.std.proofs.Common.{◌≡◌, ◌∙◌, ℕ, ◌+◌, List, [], ◌∷◌, ◌++◌, ap, sym, subst}
 use Rattle.std.proofs.lemmas.List.{same_from_push}
 use Rattle.client_world.specs.declared.calls.Call.{Call}
 use Rattle.client_world.specs.declared.calls.Call.TheVariants.{Int, Far, Iret, Reflect}

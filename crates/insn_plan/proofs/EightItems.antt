@@ -5,7 +5,7 @@ use Rattle.client_world.specs.declared.segments.SegReg.TheVariants.{Ss}
 use Rattle.client_world.specs.World.{World}
 use Rattle.guest_space.specs.Pending.{byte_count}
 use Rattle.guest_space.specs.Transfer.{read_result}
-use Rattle.insn_plan.specs.Act.{From, number_of, number_read, value_of}
+use Rattle.insn_plan.specs.Act.{number_of, number_read, value_of}
 use Rattle.insn_plan.specs.Registers.{cut_address}
 use Rattle.insn_plan.specs.Stack.{has_big_stack, stack_item}
 

@@ -1,5 +1,5 @@
 -- What a client instruction writes it touches, and every place that it or its software interrupt writes is the client's.
-use Rattle.std.proofs.Common.{◌≡◌, ℕ, true, List, [], ◌∷◌, ◌++◌, slice_index_or, refl, ap, sym, subst, Option, None, Some, Result, Ok, Err}
+use Rattle.std.proofs.Common.{◌≡◌, ℕ, true, List, [], ◌∷◌, ◌++◌, slice_index_or, refl, ap, subst, Option, None, Some, Result, Ok, Err}
 use Rattle.std.specs.Prelude.{All, Contains}
 use Rattle.std.proofs.lemmas.List.{get_or_default}
 use Rattle.std.proofs.lemmas.List.Elements.{All-append, All-contains_itself, All-nil, All-weaker, Contains-append_right}
@@ -24,7 +24,7 @@ use Rattle.insn_decode.specs.declared.decoding.Decoded.{Decoded}
 use Rattle.insn_decode.specs.declared.decoding.Decoded.TheVariants.{Whole, More, Invalid}
 use Rattle.insn_decode.specs.Decode.{decoded}
 use Rattle.insn_forms.specs.declared.insn.Insn.{Insn}
-use Rattle.insn_plan.specs.Act.{Act, Pending}
+use Rattle.insn_plan.specs.Act.{Pending}
 use Rattle.insn_plan.specs.Plan.{after_commit, carried_out, planned, with_state}
 use Rattle.protected_faults.specs.StepMemory.{interrupt_places, written_by, written_of, written_places}
 

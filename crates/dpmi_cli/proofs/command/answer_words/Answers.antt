@@ -1,4 +1,4 @@
-use Rattle.std.proofs.Common.{map, string_bytes, subst, sym}
+use Rattle.std.proofs.Common.{map, string_bytes}
 use Rattle.dpmi_cli.proofs.Complete.{answers_prepared}
 use Rattle.dpmi_cli.proofs.command.answer_words.Goals as goal
 

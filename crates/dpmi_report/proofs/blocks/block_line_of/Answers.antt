@@ -1,5 +1,5 @@
 use Rattle.std.proofs.Common.{arith}
-use Rattle.dpmi_report.proofs.BlockBytes.{page_below, bytes_length}
+use Rattle.dpmi_report.proofs.BlockBytes.{page_below}
 use Rattle.dpmi_report.proofs.blocks.block_line_of.Goals as goal
 
 pub block_digest-digest-requires-clause-few : goal.block_digest-digest-requires-clause-few

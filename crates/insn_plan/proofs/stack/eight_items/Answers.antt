@@ -1,4 +1,4 @@
-use Rattle.std.proofs.Common.{◌≡◌, ℕ, Bool, [], ◌∙◌, ap, refl, arith}
+use Rattle.std.proofs.Common.{ℕ, Bool, [], ◌∙◌, ap, refl, arith}
 use Rattle.client_world.specs.declared.registers.Regs.{Regs}
 use Rattle.insn_plan.specs.Registers.{cut_address}
 use Rattle.insn_plan.specs.Stack.{has_big_stack}
