@@ -66,6 +66,19 @@ pub fn check_transfer(m: &Machine, sel: u16, off: u32, ret: bool) -> Result<(), 
     }
 }
 
+/// Whether a near transfer may go to an offset. Source: as above.
+#[inline(always)]
+pub(crate) fn check_near(m: &Machine, off: u32) -> Result<(), Fault>
+    ensures { MatchResult result (λ _. transfer_fault m.now.world m.now.world.regs.cs off false ≡ None)
+        (λ fault. transfer_fault m.now.world m.now.world.regs.cs off false ≡ Some fault) }
+{
+    if m.is_near_target(off) {
+        Ok(())
+    } else {
+        check_transfer(m, m.registers().cs, off, false)
+    }
+}
+
 // The near transfer itself, or the fault of a target outside the code segment's limit, which changes nothing.
 #[inline(always)]
 fn near_transfer(m: &mut Machine, i: &Insn, ip: u64) -> Result<(), Fault>
@@ -78,7 +91,7 @@ fn near_transfer(m: &mut Machine, i: &Insn, ip: u64) -> Result<(), Fault>
         × (m.new ≡ m.old)) }
 {
     let eip = at_operand_size(i, ip);
-    check_transfer(m, m.registers().cs, eip, false)?;
+    check_near(m, eip)?;
     m.set_eip(eip);
     Ok(())
 }
@@ -153,7 +166,7 @@ pub(crate) fn call(m: &mut Machine, i: &Insn) -> Result<(), Event>
 {
     let ip = target(m, i)?;
     let eip = at_operand_size(i, ip);
-    check_transfer(m, m.registers().cs, eip, false)?;
+    check_near(m, eip)?;
     push_item(m, i.width, m.registers().eip)?;
     m.set_eip(eip);
     Ok(())

@@ -31,6 +31,7 @@ pub mod KeptAccess
 pub mod MachineLaws
 pub mod Machines
 pub mod MemoryAlone
+pub mod NearTargets
 pub mod OnlyWritten
 pub mod OwnParts
 pub mod Parts

@@ -1,7 +1,8 @@
 // Where an access through a segment begins, and how it is refused before any page is asked.
-ghost use Rattle.std.specs.Prelude.{◌≡◌, IfSome, Ok};
+ghost use Rattle.std.specs.Prelude.{◌≡◌, IfSome, IsTrue, None, Ok, false};
 ghost use Rattle.client_world.specs.Access.{fault_with, stack_or, suits_register, base_in_row, protected_base, segment_base};
 ghost use Rattle.client_world.specs.Selector.{FitsRow};
+ghost use Rattle.client_world.specs.Loading.{transfer_fault};
 ghost use Rattle.client_world.specs.Segments.{selector};
 ghost use Rattle.client_world.specs.Selector.{row_of_selector};
 ghost use Rattle.guest_space.specs.HiddenParts.{found};
@@ -172,6 +173,18 @@ impl Machine {
             Some(part) => part.base,
             // In real mode there is a part.
             None => self.base_of_row(self.registers().selector(seg)),
+        }
+    }
+
+    /// Whether a quick look at the hidden part of CS shows that a near transfer may go to an offset: one byte may be fetched there.
+    /// `false` says nothing.
+    #[inline(always)]
+    pub fn is_near_target(&self, off: u32) -> bool
+        ensures { IsTrue result → transfer_fault self.now.world self.now.world.regs.cs off false ≡ None }
+    {
+        match self.quick_base(SegReg::Cs, off, 1, false) {
+            Some(_) => true,
+            None => false,
         }
     }
 }
