@@ -10,8 +10,6 @@ mod gaps;
 mod laws;
 mod pages;
 mod regions;
-#[cfg(test)]
-mod tests;
 
 pub use dispatch::serve;
 pub use laws::{

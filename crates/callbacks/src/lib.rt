@@ -10,8 +10,6 @@ mod laws;
 mod leaving;
 mod real_stack;
 mod services;
-#[cfg(test)]
-mod tests;
 
 pub use dispatch::serve;
 pub use entering::enter;

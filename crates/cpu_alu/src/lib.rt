@@ -12,8 +12,6 @@ mod quotients;
 mod results;
 mod shifts;
 mod sums;
-#[cfg(test)]
-mod tests;
 
 pub use decimal::{aaa, aad, aam, aas, daa, das};
 pub use double_shifts::{shld, shrd};

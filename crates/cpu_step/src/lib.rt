@@ -5,8 +5,6 @@
 
 mod laws;
 mod steps;
-#[cfg(test)]
-mod tests;
 
 pub use laws::{a_step_has_one_outcome, every_step_is_sound, every_touched_place_is_held};
 pub use steps::{has_big_code, move_behind, step, step_with_memo};

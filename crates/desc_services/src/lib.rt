@@ -12,8 +12,6 @@ mod packed;
 mod runs;
 mod segment;
 mod selector;
-#[cfg(test)]
-mod tests;
 
 pub use dispatch::serve;
 pub use laws::{

@@ -12,8 +12,6 @@ mod neighbours;
 mod resizing;
 mod selectors;
 mod services;
-#[cfg(test)]
-mod tests;
 
 pub use allocating::dos_alloc;
 pub use freeing::dos_free;

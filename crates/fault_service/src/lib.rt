@@ -9,8 +9,6 @@ mod exceptions;
 mod interrupts;
 mod laws;
 mod returns;
-#[cfg(test)]
-mod tests;
 
 pub use exceptions::deliver;
 pub use interrupts::soft_int;

@@ -15,8 +15,6 @@ mod laws;
 mod protected;
 mod serving;
 mod switches;
-#[cfg(test)]
-mod tests;
 mod trace;
 mod traps;
 mod vectors;

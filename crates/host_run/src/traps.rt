@@ -3,7 +3,6 @@ ghost use Rattle.std.specs.Prelude.{◌≡◌};
 ghost use Rattle.host_run.specs.Traps.{address_in, code_address, is_among, protected_trap_at, real_trap_at, current_trap, trap_at};
 ghost use Rattle.client_world.specs.declared.registers.Mode.TheVariants.{Protected as protected};
 
-use client_world::{Mode, SegReg};
 use client_world::limits::{CALLBACKS, EXCEPTION_VECTORS, INTERRUPT_VECTORS};
 use client_world::memory_map::{PARAGRAPH_SIZE, ROM_START};
 use client_world::traps::{
@@ -11,6 +10,7 @@ use client_world::traps::{
     EXCEPTION_TRAPS, PROTECTED_STATE_TRAP, PROTECTED_VECTOR_TRAPS, REAL_STATE_TRAP,
     REAL_VECTOR_TRAPS, SWITCH_TO_PROTECTED_TRAP, SWITCH_TO_REAL_TRAP,
 };
+use client_world::{Mode, SegReg};
 use guest_space::Machine;
 
 /// The trap byte of the mode at CS:EIP, or none. Source: own.

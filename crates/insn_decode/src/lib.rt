@@ -12,8 +12,6 @@ mod number;
 mod operand;
 mod reading;
 mod stop;
-#[cfg(test)]
-mod tests;
 
 pub use decoding::{Decoded, decode};
 pub use laws::{an_encoding_is_of_one_instruction, reading_is_the_grammar};

@@ -9,8 +9,6 @@ mod maps;
 mod pieces;
 mod rows;
 mod table;
-#[cfg(test)]
-mod tests;
 
 pub use insn::{Insn, MemForm, Op, Operand, Rep};
 pub use laws::every_instruction_is_well_formed;

@@ -7,8 +7,6 @@ mod entering;
 mod far_frames;
 mod laws;
 mod switches;
-#[cfg(test)]
-mod tests;
 
 pub use entering::{asked_width, entry, with_carry};
 pub use far_frames::pop_far;

@@ -13,8 +13,6 @@ mod prefix;
 mod reasons;
 mod registers;
 mod relocations;
-#[cfg(test)]
-mod tests;
 mod writing;
 
 pub use laws::every_start_is_sound;

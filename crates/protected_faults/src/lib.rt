@@ -8,8 +8,6 @@ mod delivery;
 mod frame;
 mod laws;
 mod returning;
-#[cfg(test)]
-mod tests;
 
 pub use by_mode::{deliver_by_mode, every_delivery_is_sound};
 pub use delivery::deliver;

@@ -11,8 +11,6 @@ mod real_stack;
 mod reflecting;
 mod returning;
 mod structure;
-#[cfg(test)]
-mod tests;
 
 pub use calling::begin;
 pub use laws::{

@@ -6,8 +6,6 @@
 mod dispatch;
 mod laws;
 mod state;
-#[cfg(test)]
-mod tests;
 mod vectors;
 
 pub use dispatch::serve;

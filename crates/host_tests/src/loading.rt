@@ -1,7 +1,7 @@
 // A file, what it loads, and why others aren't loaded.
-use crate::load;
 use client_world::LoadFault;
 use guest_space::Machine;
+use mz_loader::load;
 use std::alloc::{AllocError, Global};
 use std::test::Fail;
 

@@ -1,7 +1,7 @@
 // Blocks that are given, resized and freed in a new machine, whose DOS memory is all free.
-use crate::{dos_alloc, dos_free, dos_resize, serve};
 use Dos::{Allocate, Free, Resize};
 use client_world::{Carry, Desc, DosEntry, DosRefusal, DosState, Kind, Mode, Origin, Regs, Width};
+use dos_blocks::{dos_alloc, dos_free, dos_resize, serve};
 use guest_space::Machine;
 use std::alloc::{AllocError, Global};
 use std::process::Abort;

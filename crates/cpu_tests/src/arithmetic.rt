@@ -1,26 +1,10 @@
 // Worked rows. The values come from the manual's rules by hand, and from a processor of the family where it defines them.
-use crate::*;
+use crate::letters::flags;
 use client_world::Flags;
+use cpu_alu::*;
 use cpu_values::{Word, cut};
 
 const CLEAR: Flags = Flags::CLEAR;
-
-// The flags that the letters O, S, Z, A, P and C name.
-fn flags(letters: &[u8]) -> Flags {
-    let mut f = CLEAR;
-    for letter in letters {
-        match *letter {
-            b'O' => f.of = true,
-            b'S' => f.sf = true,
-            b'Z' => f.zf = true,
-            b'A' => f.af = true,
-            b'P' => f.pf = true,
-            b'C' => f.cf = true,
-            _ => {}
-        }
-    }
-    f
-}
 
 fn byte(v: u64) -> Word<8> {
     cut::<8>(v)

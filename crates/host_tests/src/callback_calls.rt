@@ -1,5 +1,5 @@
 // Worked allocations, calls, exits and returns. The values come from the rules by hand.
-use crate::{enter, leave, serve};
+use callbacks::{enter, leave, serve};
 use client_world::{Carry, Exit, FarPtr, Flags, Mode, Record, Regs, Width};
 use guest_space::Machine;
 use mode_stack::{depth, push};

@@ -1,7 +1,7 @@
 // Rows of the manual's opcode map.
-use crate::Form::{self, Cl, Eb, Empty, Ev, Ew, Gv, Ib, Is, Iw, Jb, M, ModRm, Sw};
-use crate::OpMap::{One, Two};
-use crate::{Op, Row, row_of};
+use insn_forms::Form::{self, Cl, Eb, Empty, Ev, Ew, Gv, Ib, Is, Iw, Jb, M, ModRm, Sw};
+use insn_forms::OpMap::{One, Two};
+use insn_forms::{Op, Row, row_of};
 
 // The row of an operation.
 fn row(op: Op, first: Form, second: Form, third: Form) -> Row {

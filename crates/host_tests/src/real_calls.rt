@@ -1,12 +1,11 @@
 // Worked calls, reflections, returns and refusals. The values come from the rules by hand.
-use crate::returning::is_reflection;
-use crate::{begin, end, reflect};
 use client_world::{Begun, Call, Exit, Flags, Mode, Regs, Width};
 use guest_space::Machine;
 use mode_stack::depth;
 use std::alloc::{AllocError, Global};
 use std::process::Abort;
 use std::test::Fail;
+use translation::{begin, end, reflect};
 
 // The client runs at 0087h:0010h. Its structure is at 008Fh:0100h, which is E4100h, and its stack at 008Fh:7800h, which is EB800h.
 const CLIENT: Regs = Regs {
@@ -149,7 +148,7 @@ fn calls_start_with_their_structure(rt: HostRuntime) -> Result<(), Fail> {
         let mut m = entered(rt.alloc(), Width::Sixteen, CLIENT)?;
         put_structure(&mut m, case.image, case.stack.0, case.stack.1);
         assert_eq!(rt; m.mode(), Mode::Protected);
-        assert!(rt; !is_reflection(case.call));
+        assert!(rt; !matches!(case.call, Call::Reflect(_)));
         assert_eq!(rt; begin(&mut m, case.call), Begun::Run);
         let r = m.regs();
         assert_eq!(rt; (r.cs, r.eip), case.start);

@@ -1,6 +1,6 @@
 // Worked interrupts, exceptions and returns of real mode. The values come from the manual's rules by hand.
-use crate::{can_pop_iret, deliver, pop_iret, soft_int};
 use client_world::{Exit, Fault, Flags, Mode, Regs};
+use fault_service::{can_pop_iret, deliver, pop_iret, soft_int};
 use guest_space::Machine;
 use std::process::Abort;
 use std::test::Fail;

@@ -1,7 +1,7 @@
 // Worked calls, one after another on one machine with a budget of 8 pages: what each returns, and the registers after it.
 ghost use Rattle.std.specs.Prelude.{◌<◌};
 
-use crate::serve;
+use block_services::serve;
 use client_world::{Carry, Mode, Regs, Width};
 use guest_space::Machine;
 use std::test::Fail;

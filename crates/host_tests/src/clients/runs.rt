@@ -1,9 +1,9 @@
 // Runs of clients in tables: each row is a client's code and what must come of its run.
-use crate::Host;
 use client_world::host_frames::DESCRIPTORS;
 use client_world::limits::{DEFAULT_PAGES, DEFAULT_TRACE};
 use client_world::{Desc, Exit, LoadFault, Mode, Origin, Regs, TraceLine, What};
 use guest_space::Machine;
+use host_run::Host;
 use mode_stack::depth;
 use std::alloc::{AllocError, Global};
 use std::process::Abort;

@@ -1,7 +1,7 @@
 // Worked entries and far returns. The values come from the rules by hand.
-use crate::{entry, pop_far};
 use client_world::{Carry, Desc, Exit, Kind, Mode, Origin, Regs, Width};
 use guest_space::Machine;
+use mode_gates::{entry, pop_far};
 use std::process::Abort;
 use std::test::Fail;
 

@@ -1,8 +1,8 @@
 // An exception at each width, the return from it, and the exits.
-use crate::{back, deliver};
 use client_world::{Exit, Fault, Flags, Mode, Record, Regs, Width};
 use guest_space::Machine;
 use mode_stack::{depth, top};
+use protected_faults::{back, deliver};
 use std::alloc::{AllocError, Global};
 use std::process::Abort;
 use std::test::Fail;

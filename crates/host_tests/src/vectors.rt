@@ -1,9 +1,9 @@
 // Worked calls, one after another on one machine: what each returns, and the registers after it.
-use crate::serve;
 use client_world::{Carry, Mode, Regs, Width};
 use guest_space::Machine;
 use std::process::Abort;
 use std::test::Fail;
+use vector_services::serve;
 
 // EAX, EBX, ECX, EDX of a call, and the same after it, or none where it is refused. 0087h is the selector of index 16, the host's code; 008Fh
 // is that of index 17, its stacks. At the start real vector n is F000h:n, protected-mode vector n 0087h:0200h+n, exception

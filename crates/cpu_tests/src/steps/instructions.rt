@@ -2,8 +2,9 @@
 ghost use Rattle.std.specs.Prelude.{◌≡◌};
 ghost use Rattle.insn_forms.specs.Kinds.{has_good_number, is_width};
 
+use crate::letters::flags;
 use cases::*;
-use client_world::{Event, Flags, Regs, SegReg};
+use client_world::{Event, Regs, SegReg};
 use exec_core::{is_core, run_core};
 use guest_space::Machine;
 use insn_forms::{Insn, Op};
@@ -16,24 +17,6 @@ use steps::{ALL_OR_NOTHING, PUSHED_AND_POPPED, REPEATED, Step};
 mod cases;
 mod rows;
 mod steps;
-
-// The flags that the letters O, D, S, Z, A, P and C name.
-fn flags(letters: &[u8]) -> Flags {
-    let mut f = Flags::CLEAR;
-    for letter in letters {
-        match *letter {
-            b'O' => f.of = true,
-            b'D' => f.df = true,
-            b'S' => f.sf = true,
-            b'Z' => f.zf = true,
-            b'A' => f.af = true,
-            b'P' => f.pf = true,
-            b'C' => f.cf = true,
-            _ => {}
-        }
-    }
-    f
-}
 
 // What an executing crate takes for granted of an instruction.
 fn has_width(i: &Insn) -> bool

@@ -2,9 +2,9 @@
 use super::runs::Register::{Ebx, Ecx, Edi, Edx, Esi};
 use super::runs::State::{Base, Bits, DosBlock, Doubleword, Limit};
 use super::runs::{Client, ENTER_16, ENTERED, Register, State, expect_state, run_all, started};
-use crate::Host;
 use client_world::limits::DEFAULT_PAGES;
 use client_world::{Carry, Exit, Regs, TraceLine};
+use host_run::Host;
 use std::alloc::{AllocError, Global};
 use std::process::Abort;
 use std::test::Fail;

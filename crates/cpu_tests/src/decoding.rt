@@ -1,8 +1,8 @@
 // Bytes and what they begin with, by the manual and an independent disassembler.
-use crate::{Decoded, decode};
 use arrayvec::ArrayVec;
 use client_world::FarPtr;
 use client_world::SegReg::{self, Ds, Es, Fs, Gs, Ss};
+use insn_decode::{Decoded, decode};
 use insn_forms::{Insn, MemForm, Op, Operand, Rep};
 
 // What the first 15 of the bytes are decoded to.

@@ -1,0 +1,15 @@
+//! Worked rows of the processor: its arithmetic, the opcode map, decoding, and steps.
+//! It holds nothing but tests, over the public calls of `cpu_alu`, `insn_forms`, `insn_decode`, `exec_core` and `cpu_step`: a crate with tests
+//! of its own is proved once more with them.
+#![tactic(auto)]
+
+#[cfg(test)]
+mod arithmetic;
+#[cfg(test)]
+mod decoding;
+#[cfg(test)]
+mod letters;
+#[cfg(test)]
+mod opcodes;
+#[cfg(test)]
+mod steps;
