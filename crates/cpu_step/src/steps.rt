@@ -7,7 +7,6 @@ ghost use Rattle.cpu_step.specs.Step.{behind, client_row, client_step, code, exe
 
 use arrayvec::ArrayVec;
 use client_world::faults::{GENERAL_PROTECTION, INVALID_OPCODE};
-use client_world::memory_map::PARAGRAPH_SIZE;
 use client_world::{CodeWords, Event, Fault, SegReg};
 use exec_core::{is_core, run_core};
 use exec_flow::run_flow;
@@ -104,11 +103,10 @@ pub fn step(m: &mut Machine) -> Result<(), Event>
     }
 }
 
-// The address by which a memo keeps the next instruction: the one that CS:EIP is in real mode.
+// The address by which a memo keeps the next instruction: the linear address of CS:EIP.
 #[inline(always)]
 fn code_key(m: &Machine) -> u32 {
-    let r = m.registers();
-    (PARAGRAPH_SIZE * u32::from(r.cs)).wrapping_add(r.eip)
+    m.first_byte(SegReg::Cs).wrapping_add(m.registers().eip)
 }
 
 // Notes the page of an operand, if it is in memory.

@@ -1,11 +1,11 @@
 -- The answers of decode, and the two laws of the grammar.
-use Rattle.std.proofs.Common.{◌≡◌, ℕ, suc, ◌-◌, ◌<◌, ◌≤◌, Bool, List, [], ◌∷◌, ◌++◌, length, take, get_or, Ok, Err, refl, sym, ap, subst, ◌∙◌, append_assoc, arith, length-append, ◌⊎◌, inl, inr}
+use Rattle.std.proofs.Common.{◌≡◌, ℕ, zero, suc, ◌-◌, ◌<◌, ◌≤◌, Bool, List, [], ◌∷◌, ◌++◌, length, take, get_or, Ok, Err, refl, sym, ap, subst, ◌∙◌, append_assoc, arith, length-append, ◌⊎◌, inl, inr}
 use Rattle.std.proofs.lemmas.List.{append-nil, take_at}
 use Rattle.insn_decode.specs.declared.stop.Stop.TheVariants as stops
 use Rattle.insn_forms.specs.declared.insn.Insn.{Insn}
 use Rattle.insn_decode.specs.declared.decoding.Decoded.TheVariants.{Whole, More, Invalid}
 use Rattle.insn_forms.specs.Grammar.{AllBytes, Encoding, HasEncoding, BeginsEncoding}
-use Rattle.insn_decode.specs.Reading.{Read, insn_at}
+use Rattle.insn_decode.specs.Reading.{Read, head_at, insn_at}
 use Rattle.insn_decode.specs.Decode.{answer_of, decoded}
 use Rattle.insn_decode.proofs.LawfulReaders.{ok_is, ok_not_err, bytes_append}
 use Rattle.insn_decode.proofs.InsnReaders.{insn_reads}
@@ -53,6 +53,12 @@ pub no_longer : (big : Bool) (a b : Insn) (bytes tail : List ℕ) → Encoding b
 no_longer big a b bytes tail s t =
     ap (λ (p : Insn × List ℕ). p.1)
     (ok_is (a, tail) (b, []) (sym (is_read big a bytes tail s) ∙ all_read big b (bytes ++ tail) t))
+
+-- the bytes of an instruction are one at least
+pub has_a_byte : (big : Bool) (insn : Insn) (len : ℕ) (bytes : List ℕ) → Encoding big insn (take len bytes) → 0 < len
+unfolding insn_at head_at
+has_a_byte big insn zero bytes s = absurd (ok_not_err (insn, []) stops.More (sym (all_read big insn [] s)))
+has_a_byte big insn (suc n) bytes s = omega arith
 
 -- ---- the answers
 

@@ -1,8 +1,9 @@
 // Instructions that were decoded before.
-ghost use Rattle.std.specs.Prelude.{◌≡◌, IfSome, IsTrue, take};
+ghost use Rattle.std.specs.Prelude.{◌≡◌, ◌<◌, IfSome, IsTrue, length, take};
 ghost use Rattle.client_world.specs.CodeWords.{code_bytes};
 ghost use Rattle.insn_decode.specs.Decode.{decoded};
 ghost use Rattle.insn_decode.specs.declared.decoding.Decoded.TheVariants.{Whole};
+ghost use Rattle.insn_decode.specs.declared.memo.TheConstants.{PLACES};
 ghost use Rattle.insn_forms.specs.Kinds.{IsWellFormed};
 
 use crate::decoding::{Decoded, decode};
@@ -27,6 +28,7 @@ pub struct Entry {
     pub len: u8,
     ghost decoded: { decoded big (code_bytes words) ≡ Whole insn len },
     ghost well_formed: { IsWellFormed insn },
+    ghost some: { 0 < len },
 }
 
 /// A memo of decoded instructions. Each entry is what `decode` returns for the bytes that are beside it, so that none is ever out of
@@ -34,18 +36,21 @@ pub struct Entry {
 #[derive(Drop)]
 pub struct Memo {
     entries: Vec<Option<Entry>>,
+    ghost long: { length entries.items ≡ PLACES },
 }
 
 // Whether code bytes agree in the first `len` of them.
 #[inline(always)]
 fn has_same_start(a: CodeWords, b: CodeWords, len: u8) -> bool
+    requires { 0 < len }
     ensures { IsTrue result → take len (code_bytes a) ≡ take len (code_bytes b) }
 {
-    if len == 0 || len > WORD_BYTES {
+    if len > WORD_BYTES {
         return a.low == b.low && a.high == b.high;
     }
     let unused = 8 * (WORD_BYTES - len);
-    a.low << unused == b.low << unused
+    // The low bits of two words are the same where those of their difference are 0. This takes one shift.
+    a.low.wrapping_sub(b.low) << unused == 0
 }
 
 impl Entry {
@@ -88,8 +93,8 @@ impl Memo {
         ensures decoded { IfSome result (λ e. decoded big (code_bytes words) ≡ Whole e.now.insn e.now.len) }
         ensures well_formed { IfSome result (λ e. IsWellFormed e.now.insn) }
     {
-        match self.entries.get(key as usize % PLACES) {
-            Some(Some(entry)) if entry.is_of(words, big) => Some(entry),
+        match &self.entries[key as usize % PLACES] {
+            Some(entry) if entry.is_of(words, big) => Some(entry),
             _ => None,
         }
     }
@@ -98,11 +103,8 @@ impl Memo {
     /// is kept.
     #[inline(never)]
     pub fn learn(&mut self, key: u32, words: CodeWords, big: bool) {
-        let at = key as usize % PLACES;
-        if at < self.entries.len() {
-            if let Some(entry) = Entry::new(words, big) {
-                self.entries[at] = Some(entry);
-            }
+        if let Some(entry) = Entry::new(words, big) {
+            self.entries[key as usize % PLACES] = Some(entry);
         }
     }
 }

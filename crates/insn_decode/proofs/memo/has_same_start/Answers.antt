@@ -1,6 +1,12 @@
-use Rattle.std.proofs.Common.{arith}
-use Rattle.insn_decode.proofs.SameStart.{same_start, by_test}
+use Rattle.std.proofs.Common.{◌-◌, ◌*◌, ◌^◌, ◌≤◌, arith, rules}
+use Rattle.insn_decode.proofs.SameStart.{same_start, same_after_shift, by_test}
 use Rattle.insn_decode.proofs.memo.has_same_start.Goals as goal
 
 pub returns : goal.returns
-returns c = λ same. same_start c.args.a c.args.b c.args.len (omega (arith, c.if-len-eq0.false)) (omega (arith, c.if-len-gt-WORD_BYTES.false)) (by_test _ _ same)
+returns c = λ same.
+    let a = c.args.a in
+    let b = c.args.b in
+    let len = c.args.len in
+    let fits : b.low ≤ 2 ^ 64 = search rules in
+    same_start a b len c.requires (omega (arith, c.if-len-gt-WORD_BYTES.false))
+    (same_after_shift a.low b.low (2 ^ (8 * (8 - len))) (2 ^ 64) fits (by_test _ _ same))
