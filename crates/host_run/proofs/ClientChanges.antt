@@ -70,4 +70,4 @@ pub changes_or_ends : (old new : HostView) (r : Result (Unit {0}) Exit) (o : Out
     OnOk r (client_turn (machine_view old) ≡ Ok (machine_view new)) →
     ChangesOnly (client_footprint old.world.machine) old.bytes new.bytes
 changes_or_ends old new (Ok x) o laws comes is = client_changes (machine_view old) (machine_view new) laws is
-changes_or_ends old new (Err exit) o laws comes is = kept (client_footprint old.world.machine) old.bytes new.bytes comes.1.1
+changes_or_ends old new (Err exit) o laws comes is = kept (client_footprint old.world.machine) old.bytes new.bytes comes.2.1

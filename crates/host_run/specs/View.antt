@@ -16,8 +16,9 @@ abbrev pub machine_view : HostView → MachineView
 machine_view h = record { world = h.world.machine; bytes = h.bytes }
 
 -- the result of some work in a turn, and the host after it, are what was expected: the run goes on; or it ends, and the memory is as it was.
--- It counts no turn
+-- It counts no turn and sets no exit
 abbrev pub ComesTo : HostView → HostView → Result (Unit {0}) Exit → Outcome → Type 0
 ComesTo old new result expected =
     (new.world.steps ≡ old.world.steps)
+    × (new.world.exit ≡ old.world.exit)
     × MatchResult result (λ _. expected ≡ goes_on new.world) (λ exit. (expected ≡ ends new.world exit) × (new.bytes ≡ old.bytes))

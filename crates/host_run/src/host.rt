@@ -1,5 +1,5 @@
 // The host and its turns.
-ghost use Rattle.std.specs.Prelude.{◌≡◌, ◌≤◌, ◌<◌, ◌+◌, ◌*◌, IfOk, OnOk, IfErr, IfSome, Ok, Err, Some, None, length, vec_capacity};
+ghost use Rattle.std.specs.Prelude.{◌≡◌, ◌≢◌, ◌≤◌, ◌<◌, ◌+◌, ◌*◌, IfOk, OnOk, IfErr, IfSome, Ok, Err, Some, None, length, vec_capacity};
 ghost use Rattle.client_world.specs.declared.limits.TheConstants.{CONSOLE_ROOM, MAX_STEPS};
 ghost use Rattle.client_world.specs.Soundness.{IsSound};
 ghost use Rattle.fault_service.specs.Worlds.{world_interrupt};
@@ -9,6 +9,7 @@ ghost use Rattle.protected_faults.specs.ByMode.{delivery};
 ghost use Rattle.host_run.specs.Footprint.{ChangesOnly, after_client_interrupt, client_footprint, client_turn, trap_footprint, turn_footprint, work_footprint};
 ghost use Rattle.host_run.specs.Run.{run};
 ghost use Rattle.host_run.specs.Start.{blank, IsBlank, started_host};
+ghost use Rattle.host_run.specs.declared.traps.Trap.TheVariants.{NoTrap};
 ghost use Rattle.host_run.specs.Traps.{current_trap};
 ghost use Rattle.host_run.specs.View.{ComesTo, HostView, machine_view};
 ghost use Rattle.host_run.specs.Turn.{delivered, after_interrupt, stepped, trapped, work, turn};
@@ -152,10 +153,7 @@ impl Host {
         }
         self.steps += 1;
         match self.work() {
-            Ok(()) => {
-                self.exit = None;
-                Ok(())
-            }
+            Ok(()) => Ok(()),
             Err(exit) => {
                 self.exit = Some(exit);
                 Err(exit)
@@ -237,10 +235,11 @@ impl Host {
         self.step_client()
     }
 
-    // What a turn does at a trap, or where there is none.
-    #[inline(always)]
+    // What a turn does at a trap.
+    #[inline(never)]
     fn serve_trap(&mut self, t: Trap) -> Result<(), Exit>
         requires trap { t ≡ current_trap self.old.world.machine }
+        requires some { t ≢ NoTrap }
         requires room { self.old.world.lines + 2 ≤ 2 * self.old.world.steps }
         ensures host { ComesTo self.old self.new result (trapped self.old.world t) }
         ensures bytes { ChangesOnly (trap_footprint self.old.world.machine t) self.old.bytes self.new.bytes }
@@ -257,7 +256,7 @@ impl Host {
             Trap::ToReal => self.switch_to_real(),
             Trap::ExceptionReturn => self.return_from_exception(),
             Trap::CallbackReturn => self.return_from_callback(),
-            Trap::NoTrap => self.run_client(),
+            Trap::NoTrap => unreachable!(),
         }
     }
 
@@ -269,7 +268,9 @@ impl Host {
         ensures host { ComesTo self.old self.new result (work self.old.world) }
         ensures bytes { ChangesOnly (work_footprint self.old.world.machine) self.old.bytes self.new.bytes }
     {
-        let t = current_trap(&self.machine);
-        self.serve_trap(t)
+        match current_trap(&self.machine) {
+            Trap::NoTrap => self.run_client(),
+            t => self.serve_trap(t),
+        }
     }
 }

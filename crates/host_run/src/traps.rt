@@ -4,7 +4,7 @@ ghost use Rattle.host_run.specs.Traps.{address_in, code_address, is_among, prote
 ghost use Rattle.client_world.specs.declared.registers.Mode.TheVariants.{Protected as protected};
 
 use client_world::limits::{CALLBACKS, EXCEPTION_VECTORS, INTERRUPT_VECTORS};
-use client_world::memory_map::{PARAGRAPH_SIZE, ROM_START};
+use client_world::memory_map::{DOS_SIZE, PARAGRAPH_SIZE, ROM_START};
 use client_world::traps::{
     CALL_RETURN_TRAP, CALLBACK_RETURN_TRAP, CALLBACK_TRAPS, ENTRY_TRAP, EXCEPTION_RETURN_TRAP,
     EXCEPTION_TRAPS, PROTECTED_STATE_TRAP, PROTECTED_VECTOR_TRAPS, REAL_STATE_TRAP,
@@ -127,29 +127,32 @@ fn code_address(m: &Machine) -> u64
     }
 }
 
-// The trap of CS:EIP, which has this linear address.
+// The trap of CS:EIP, from its linear address.
 #[inline(never)]
 #[tactic(auto, unfolding(crate::specs::Traps::current_trap, crate::specs::Traps::code_linear))]
-fn trap_in_rom(m: &Machine, at: u64) -> Trap
-    requires { at ≡ code_address m.now.world }
+fn trap_in_rom(m: &Machine) -> Trap
     ensures { result ≡ current_trap m.now.world }
 {
+    let at = code_address(m);
     match m.fetch(0) {
         Ok(_) => trap_at(m.mode(), at),
         Err(_) => Trap::NoTrap,
     }
 }
 
-/// The trap of CS:EIP. Below read-only memory there is none, and nothing is fetched.
+/// The trap of CS:EIP. Where the first byte of CS and EIP add up to an address outside read-only memory there is none, and nothing is fetched:
+/// that sum is then the linear address in either mode.
 #[inline(always)]
-#[tactic(auto, using(crate::proofs::NoTraps::none_below))]
+#[tactic(auto, using(crate::proofs::NoTraps::none_below, crate::proofs::NoTraps::none_above))]
 pub(crate) fn current_trap(m: &Machine) -> Trap
     ensures { result ≡ current_trap m.now.world }
 {
-    let at = code_address(m);
+    let at = u64::from(m.first_byte(SegReg::Cs)) + u64::from(m.registers().eip);
     if at < u64::from(ROM_START) {
         Trap::NoTrap
+    } else if u64::from(DOS_SIZE) <= at && at <= u64::from(u32::MAX) {
+        Trap::NoTrap
     } else {
-        trap_in_rom(m, at)
+        trap_in_rom(m)
     }
 }
