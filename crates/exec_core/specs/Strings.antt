@@ -27,11 +27,17 @@ is_repeated reps.Repne = true
 abbrev pub is_over : World → Insn → Bool
 is_over w i = is_repeated i.rep && nat_eq (counter w i) 0
 
+-- how far a string register moves, modulo 2^32: by the bytes of the element, or back by them where DF is set
+abbrev pub element_distance : World → Insn → ℕ
+element_distance w i = if w.regs.flags.df then 2 ^ 32 - byte_count i.width else byte_count i.width
+
+-- a register so much further, at the address size
+abbrev pub moved_address : Bool → ℕ → ℕ → ℕ
+moved_address addr32 at distance = with_address addr32 at (cut_address addr32 (at + distance))
+
 -- a string register after the element, or before it where DF is set
 abbrev pub next_element : World → Insn → ℕ → ℕ
-next_element w i at =
-    with_address i.addr32 at
-    (cut_address i.addr32 (if w.regs.flags.df then at + 2 ^ 32 - byte_count i.width else at + byte_count i.width))
+next_element w i at = moved_address i.addr32 at (element_distance w i)
 
 abbrev pub with_source_next : World → Insn → Regs → Regs
 with_source_next w i r = record r { esi = next_element w i w.regs.esi }

@@ -1,9 +1,10 @@
 // Strings. One step is one element.
-ghost use Rattle.std.specs.Prelude.{◌≡◌, IsTrue};
+ghost use Rattle.std.specs.Prelude.{◌≡◌, IsTrue, false};
 ghost use Rattle.exec_core.specs.Strings.{
   is_repeated,
   is_over,
-  next_element,
+  element_distance,
+  moved_address,
   with_source_next,
   with_destination_next,
   repeated,
@@ -25,7 +26,8 @@ use client_world::{Event, Flags, SegReg};
 use guest_space::{Machine, byte_count};
 use insn_forms::{Insn, Rep};
 use insn_plan::{
-    counter, cut_address, put_register, read_width, register, with_address, write_number,
+    copy_quickly, counter, cut_address, put_register, read_width, register, with_address,
+    write_number,
 };
 
 // Whether there is a repeat prefix.
@@ -47,17 +49,25 @@ fn is_over(m: &Machine, i: &Insn) -> bool
     is_repeated(i.rep) && counter(m, i) == 0
 }
 
+// How far a string register moves, modulo 2^32: by the bytes of the element, or back by them where DF is set.
+#[inline(always)]
+fn element_distance(m: &Machine, i: &Insn) -> u32
+    ensures { result ≡ element_distance m.now.world i.now }
+{
+    let size = u32::from(byte_count(i.width));
+    if m.registers().flags.df {
+        u32::MAX - size + 1
+    } else {
+        size
+    }
+}
+
 // A string register after the element, or before it where DF is set.
 #[inline(always)]
-fn next_element(m: &Machine, i: &Insn, at: u32) -> u32
-    ensures { result ≡ next_element m.now.world i.now at }
+fn next_element(i: &Insn, at: u32, distance: u32) -> u32
+    ensures { result ≡ moved_address i.now.addr32 at distance }
 {
-    let size = u64::from(byte_count(i.width));
-    let moved = if m.registers().flags.df {
-        u64::from(at) + 0x1_0000_0000 - size
-    } else {
-        u64::from(at) + size
-    };
+    let moved = u64::from(at) + u64::from(distance);
     with_address(i.addr32, at, cut_address(i.addr32, moved))
 }
 
@@ -83,7 +93,7 @@ fn destination_offset(m: &Machine, i: &Insn) -> u32
 fn move_source(m: &mut Machine, i: &Insn)
     ensures { m.new ≡ with_registers (with_source_next m.old.world i.now m.old.world.regs) m.old }
 {
-    let esi = next_element(m, i, m.registers().esi);
+    let esi = next_element(i, m.registers().esi, element_distance(m, i));
     m.set_general(ESI, esi);
 }
 
@@ -93,7 +103,20 @@ fn move_source(m: &mut Machine, i: &Insn)
 fn move_destination(m: &mut Machine, i: &Insn)
     ensures { m.new ≡ with_registers (with_destination_next m.old.world i.now m.old.world.regs) m.old }
 {
-    let edi = next_element(m, i, m.registers().edi);
+    let edi = next_element(i, m.registers().edi, element_distance(m, i));
+    m.set_general(EDI, edi);
+}
+
+// Moves both to the next element.
+#[inline(always)]
+#[tactic(auto, unfolding(client_world::specs::General::with_general))]
+fn move_both(m: &mut Machine, i: &Insn)
+    ensures { m.new ≡ with_registers (with_source_next m.old.world i.now (with_destination_next m.old.world i.now m.old.world.regs)) m.old }
+{
+    let distance = element_distance(m, i);
+    let esi = next_element(i, m.registers().esi, distance);
+    let edi = next_element(i, m.registers().edi, distance);
+    m.set_general(ESI, esi);
     m.set_general(EDI, edi);
 }
 
@@ -136,10 +159,30 @@ pub(crate) fn movs(m: &mut Machine, i: &Insn, len: u8) -> Result<(), Event>
     if is_over(m, i) {
         return Ok(());
     }
+    let source = (i.seg, source_offset(m, i));
+    let destination = (SegReg::Es, destination_offset(m, i));
+    match copy_quickly(m, i.width, source, destination) {
+        Some(_) => {
+            move_both(m, i);
+            count_element(m, i, len, true);
+            Ok(())
+        }
+        None => movs_by_tables(m, i, len),
+    }
+}
+
+// The same, where the tables have to be asked; the pages of both elements are noted.
+#[inline(never)]
+#[tactic(auto, unfolding(crate::specs::Strings::movs, insn_plan::specs::Plan::carried_out, insn_plan::specs::Plan::after_commit, guest_space::specs::Pending::first_refusal, guest_space::specs::Pending::all_written))]
+fn movs_by_tables(m: &mut Machine, i: &Insn, len: u8) -> Result<(), Event>
+    requires { is_over m.old.world i.now ≡ false }
+    ensures { CarriesOut m.old m.new result (movs m.old.world i.now len) }
+{
+    m.warm(i.seg, source_offset(m, i));
+    m.warm(SegReg::Es, destination_offset(m, i));
     let v = read_width(m, i.seg, source_offset(m, i), byte_count(i.width))?;
     write_number(m, SegReg::Es, destination_offset(m, i), i.width, v)?;
-    move_source(m, i);
-    move_destination(m, i);
+    move_both(m, i);
     count_element(m, i, len, true);
     Ok(())
 }
@@ -159,8 +202,7 @@ pub(crate) fn cmps(m: &mut Machine, i: &Insn, len: u8) -> Result<(), Event>
     let a = read_width(m, i.seg, source_offset(m, i), size)?;
     let b = read_width(m, SegReg::Es, destination_offset(m, i), size)?;
     let flags = difference_flags(i.width, a, b, m.registers().flags);
-    move_source(m, i);
-    move_destination(m, i);
+    move_both(m, i);
     count_element(m, i, len, goes_on_while(i.rep, flags));
     m.set_flags(flags);
     Ok(())

@@ -36,6 +36,7 @@ pub mod OnlyWritten
 pub mod OwnParts
 pub mod Parts
 pub mod Puts
+pub mod QuickLooks
 pub mod ReadRuns
 pub mod ReadBack
 pub mod RecordLists

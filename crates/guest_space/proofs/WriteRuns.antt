@@ -94,7 +94,7 @@ write_in_run k v seg low high n at x machine run end small lies =
     (subst (λ (o : ℕ). IsRun v seg o (byte_count x.width) (at + (x.off - low))) offset part))
 
 -- none of the writes has a fault
-run_not_refused : (k : Processor) (v : MachineView) (seg : SegReg) (low n at : ℕ) → IsMachine k v → IsRun v seg low n at → access_fault v.world seg low n true ≡ None
+pub run_not_refused : (k : Processor) (v : MachineView) (seg : SegReg) (low n at : ℕ) → IsMachine k v → IsRun v seg low n at → access_fault v.world seg low n true ≡ None
 run_not_refused k v seg low n at machine run =
     refusal_linear v.world seg low n run.base true run.allowed
     ∙ no_fault v.world (linear (run.base + low)) n true

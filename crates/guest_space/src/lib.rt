@@ -17,6 +17,7 @@ mod loading;
 mod machine;
 mod memory;
 mod pending;
+mod quick;
 mod read_runs;
 mod records;
 mod segments;

@@ -1,5 +1,5 @@
 // Reading and writing through the page tables, and through segment registers.
-ghost use Rattle.std.specs.Prelude.{ℕ, slice_index, ◌≡◌, ◌≤◌, ◌<◌, ◌+◌, ◌%◌, OnOk, IfErr, MatchResult, nat_le, Ok, Err, None, Some, true, false, length, [], ◌∷◌};
+ghost use Rattle.std.specs.Prelude.{ℕ, slice_index, ◌≡◌, ◌≤◌, ◌<◌, ◌+◌, ◌%◌, OnOk, IfErr, IfSome, MatchResult, nat_le, Ok, Err, None, Some, true, false, length, [], ◌∷◌};
 ghost use Rattle.client_world.specs.declared.host_frames.TheConstants.{PAGE_SIZE};
 ghost use Rattle.client_world.specs.Access.{access, byte_of, bytes_of, may_touch, page_fault, place_of, places_from};
 ghost use Rattle.host_memory.specs.View.{OnlyAt};
@@ -46,16 +46,28 @@ impl Machine {
         let _pages = self.pages;
     }
 
+    /// Where the byte of a linear address lies in the memory, where the cache has its page, for a write as one that may be written;
+    /// `None` says nothing.
+    #[inline(always)]
+    pub(crate) fn noted_address(&self, lin: u32, write: bool) -> Option<u32>
+        ensures { IfSome result (λ at. translated self.now lin write ≡ Ok at) }
+    {
+        let entry = &self.cache[cache_place(lin)];
+        if entry.serves(lin, write) {
+            Some(PAGE_SIZE * entry.frame + lin % PAGE_SIZE)
+        } else {
+            None
+        }
+    }
+
     /// Where the byte of a linear address lies in the memory, or the page fault of its access.
     #[inline(always)]
     pub(crate) fn translate(&self, lin: u32, write: bool) -> Result<u32, Fault>
         ensures { result ≡ translated self.now lin write }
     {
-        let entry = &self.cache[cache_place(lin)];
-        if entry.serves(lin, write) {
-            Ok(PAGE_SIZE * entry.frame + lin % PAGE_SIZE)
-        } else {
-            self.walk_to(lin, write)
+        match self.noted_address(lin, write) {
+            Some(at) => Ok(at),
+            None => self.walk_to(lin, write),
         }
     }
 

@@ -70,7 +70,13 @@ impl Machine {
 
     // Puts N bytes at an offset of a segment register, whose address in the memory is known.
     #[inline(always)]
-    fn put_run<const N: usize>(&mut self, seg: SegReg, off: u32, at: u32, bytes: &[u8; N])
+    pub(crate) fn put_run<const N: usize>(
+        &mut self,
+        seg: SegReg,
+        off: u32,
+        at: u32,
+        bytes: &[u8; N],
+    )
         requires some { 0 < N }
         requires run { IsRun self.old seg off N at }
         ensures bytes { self.new ≡ stored self.old seg off N bytes.now }

@@ -14,7 +14,7 @@ mod stack;
 pub use conditions::condition;
 pub use loop_counter::{counter, with_address};
 pub use next::{MAX_WRITES, Next};
-pub use operands::{put_operand, put_register, put_with_flags, source, write_number};
+pub use operands::{copy_quickly, put_operand, put_register, put_with_flags, source, write_number};
 pub use read::{read_number, read_width};
 pub use registers::{cut_address, offset_of, register, set_register};
 pub use stack::{

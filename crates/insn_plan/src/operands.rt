@@ -1,5 +1,5 @@
 // Operands, read and written at once.
-ghost use Rattle.std.specs.Prelude.{◌≡◌, OnOk, IfErr};
+ghost use Rattle.std.specs.Prelude.{◌≡◌, OnOk, IfErr, IfSome, IfNone, Ok};
 ghost use Rattle.guest_space.specs.Pending.{byte_count};
 ghost use Rattle.guest_space.specs.Registers.{with_registers};
 ghost use Rattle.insn_plan.specs.Act.{From, unchanged, value_of, with_flags};
@@ -8,7 +8,7 @@ ghost use Rattle.insn_plan.specs.Plan.{Follows, after_commit};
 ghost use Rattle.insn_plan.specs.Registers.{offset_of, with_register};
 ghost use Rattle.insn_plan.specs.Written.{IsRefused, IsWritten};
 
-use crate::read::read_width;
+use crate::read::{read_quickly, read_width};
 use crate::registers::{offset_of, register};
 use client_world::{Event, Flags, SegReg};
 use cpu_values::{put8, put16};
@@ -83,6 +83,31 @@ pub fn write_number(
         value,
     })?;
     Ok(())
+}
+
+/// Copies a number of a width from an offset of a segment register to one of another, where a quick look shows that both may be accessed, and
+/// returns it; `None` says nothing, and changes nothing. The registers and the virtual interrupt flag stay.
+#[inline(always)]
+#[tactic(auto, using(crate::proofs::WrittenState::made))]
+pub fn copy_quickly(
+    m: &mut Machine,
+    width: u8,
+    source: (SegReg, u32),
+    destination: (SegReg, u32),
+) -> Option<u32>
+    ensures read { IfSome result (λ v. value_of m.old.world (From source.0 source.1 (byte_count width)) ≡ Ok v) }
+    ensures written { IfSome result (λ v.
+        IsWritten (record { seg = destination.0; off = destination.1; width = width; value = v }) m.old m.new) }
+    ensures kept { IfNone result (m.new ≡ m.old) }
+{
+    let value = read_quickly(m, source.0, source.1, width)?;
+    let is_made = m.write_one_quickly(&Write {
+        seg: destination.0,
+        width,
+        off: destination.1,
+        value,
+    });
+    if is_made { Some(value) } else { None }
 }
 
 // Puts a number into memory, and sets the flags.

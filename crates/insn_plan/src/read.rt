@@ -1,6 +1,6 @@
 // Numbers read from memory.
-ghost use Rattle.std.specs.Prelude.{◌≡◌};
-ghost use Rattle.guest_space.specs.Pending.{IsCountOfWidth};
+ghost use Rattle.std.specs.Prelude.{◌≡◌, IfSome, Ok};
+ghost use Rattle.guest_space.specs.Pending.{IsCountOfWidth, byte_count};
 ghost use Rattle.insn_plan.specs.Act.{From, IsCount, value_of, number_of};
 
 use client_world::{Event, SegReg};
@@ -61,6 +61,19 @@ pub fn read_width(m: &Machine, seg: SegReg, off: u32, count: u8) -> Result<u32, 
         1 => Ok(byte(m.read::<1>(seg, off)?)),
         2 => Ok(word(m.read::<2>(seg, off)?)),
         _ => Ok(doubleword(m.read::<4>(seg, off)?)),
+    }
+}
+
+// The number of a width at an offset of a segment register, where a quick look shows it; `None` says nothing.
+#[inline(always)]
+#[tactic(auto, unfolding(crate::specs::Act::value_of))]
+pub(crate) fn read_quickly(m: &Machine, seg: SegReg, off: u32, width: u8) -> Option<u32>
+    ensures { IfSome result (λ v. value_of m.now.world (From seg off (byte_count width)) ≡ Ok v) }
+{
+    match width {
+        8 => Some(byte(m.read_quickly(seg, off)?)),
+        16 => Some(word(m.read_quickly(seg, off)?)),
+        _ => Some(doubleword(m.read_quickly(seg, off)?)),
     }
 }
 
