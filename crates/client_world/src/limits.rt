@@ -10,7 +10,7 @@ pub const DEFAULT_BOUND: u32 = 10_000_000;
 pub const CONSOLE_ROOM: u32 = 0x10_0000;
 
 /// The most pages, of 4096 bytes, that a client's memory blocks may take together.
-pub const MAX_PAGES: u32 = 4096;
+pub const MAX_PAGES: u32 = 16_384;
 
 /// The pages of a budget, where no other number is given.
 pub const DEFAULT_PAGES: u32 = 1024;
@@ -28,10 +28,10 @@ pub const DEFAULT_TRACE: u32 = 1_000;
 pub const MAX_FILE: u32 = 4_194_304;
 
 /// The greatest depth: the most records of calls, callbacks and exceptions at a time.
-pub const GREATEST_DEPTH: u32 = 16;
+pub const GREATEST_DEPTH: u32 = 32;
 
 /// The most memory blocks that a client holds at a time; their handles are 1 to this.
-pub const MAX_BLOCKS: u32 = 256;
+pub const MAX_BLOCKS: u32 = 512;
 
 /// The greatest lock count of a page.
 pub const GREATEST_LOCK_COUNT: u32 = 65_535;

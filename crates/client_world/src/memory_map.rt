@@ -1,7 +1,7 @@
 //! The memory map of the client: linear addresses in bytes, segments in paragraphs. Source: own.
 
 use crate::host_frames::{BUDGET_FRAMES, PAGE_DIRECTORY, PAGE_SIZE};
-use crate::limits::GREATEST_DEPTH;
+use crate::limits::{GREATEST_DEPTH, MAX_PAGES};
 
 /// The bytes of a paragraph, in which segments are counted.
 pub const PARAGRAPH_SIZE: u32 = 16;
@@ -30,8 +30,8 @@ pub const IMAGE_SEGMENT: u16 = 0x74;
 /// The linear address at which the client's image is loaded.
 pub const IMAGE_START: u32 = 0x740;
 
-/// The first of the host's real-mode stacks, one for each depth.
-pub const REAL_STACKS: u32 = 0xE_0000;
+/// The first of the host's real-mode stacks, one for each depth. The protected-mode stacks follow them.
+pub const REAL_STACKS: u32 = PROTECTED_STACKS - GREATEST_DEPTH * REAL_STACK_SIZE;
 
 /// The segment of the host's real-mode stacks.
 pub const REAL_STACK_SEGMENT: u16 = (REAL_STACKS / PARAGRAPH_SIZE) as u16;
@@ -39,8 +39,8 @@ pub const REAL_STACK_SEGMENT: u16 = (REAL_STACKS / PARAGRAPH_SIZE) as u16;
 /// The bytes of a real-mode stack of the host.
 pub const REAL_STACK_SIZE: u32 = 0x400;
 
-/// The first of the host's protected-mode stacks, one for each depth.
-pub const PROTECTED_STACKS: u32 = REAL_STACKS + GREATEST_DEPTH * REAL_STACK_SIZE;
+/// The first of the host's protected-mode stacks, one for each depth. They end where read-only memory begins.
+pub const PROTECTED_STACKS: u32 = ROM_START - GREATEST_DEPTH * PROTECTED_STACK_SIZE;
 
 /// The bytes of a protected-mode stack of the host.
 pub const PROTECTED_STACK_SIZE: u32 = 0x800;
@@ -66,8 +66,8 @@ pub const BLOCK_REGION: u32 = 0x40_0000;
 /// The end of where memory blocks lie.
 pub const BLOCK_REGION_END: u32 = BLOCK_REGION + BLOCK_REGION_PAGES * PAGE_SIZE;
 
-/// The pages of where memory blocks lie.
-pub const BLOCK_REGION_PAGES: u32 = 0x4000;
+/// The pages of where memory blocks lie: four times what blocks may take together.
+pub const BLOCK_REGION_PAGES: u32 = 4 * MAX_PAGES;
 
 /// Where the host's own frames lie, which no client may touch.
 pub const HOST_WINDOW: u32 = 0xC000_0000;

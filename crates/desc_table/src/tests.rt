@@ -92,16 +92,16 @@ fn rows_are_set_and_found(rt: HostRuntime) -> Result<(), Fail> {
     assert_eq!(rt; free_run(&ram, 2), Some(65));
     assert_eq!(rt; free_run(&ram, 3), Some(68));
 
-    // Row 64 is at 113400h; its descriptor, then the code of its origin and its segment.
-    assert_eq!(rt; ram.get8(0x113400), 0xFF);
-    assert_eq!(rt; ram.get8(0x113405), 0xFB);
-    assert_eq!(rt; ram.get16(0x113408), 5);
-    assert_eq!(rt; ram.get16(0x11340A), 0x1234);
-    assert_eq!(rt; ram.get16(0x11340C), 0);
+    // Row 64 is at 143400h; its descriptor, then the code of its origin and its segment.
+    assert_eq!(rt; ram.get8(0x143400), 0xFF);
+    assert_eq!(rt; ram.get8(0x143405), 0xFB);
+    assert_eq!(rt; ram.get16(0x143408), 5);
+    assert_eq!(rt; ram.get16(0x14340A), 0x1234);
+    assert_eq!(rt; ram.get16(0x14340C), 0);
 
     set(&mut ram, 64, None);
     assert_eq!(rt; look(&ram, 64), None);
     assert_eq!(rt; look(&ram, 67), Some((FLAT, Origin::Own)));
-    assert_eq!(rt; ram.get16(0x11340A), 0);
+    assert_eq!(rt; ram.get16(0x14340A), 0);
     Ok(())
 }

@@ -337,7 +337,7 @@ const WRONG_WORDS: [&[&str]; 49] = [
     &["run", "A.EXE", "--bound=1", "--bound=1"],
     &["run", "A.EXE", "--pages"],
     &["run", "A.EXE", "--pages", "0"],
-    &["run", "A.EXE", "--pages=4097"],
+    &["run", "A.EXE", "--pages=16385"],
     &["run", "A.EXE", "--pages", "ten"],
     &["run", "A.EXE", "--pages", "1", "--pages", "1"],
     &["run", "--trace", "A.EXE"],

@@ -76,7 +76,7 @@ run_is_small k v seg low n at machine run some =
     omega arith
 
 -- a write with its bytes in the run, at its offset and the shift of the run
-count_some : (width : ℕ) → 0 < byte_count width
+pub count_some : (width : ℕ) → 0 < byte_count width
 count_some width = grind (arith, nat_tests)
 
 pub write_in_run : (k : Processor) (v : MachineView) (seg : SegReg) (low high n at : ℕ) (x : Write) → IsMachine k v → IsRun v seg low n at → low + n ≡ high →

@@ -48,7 +48,7 @@ fn parts(
 fn a_machine_keeps_nothing_but_its_memory_and_the_processor(rt: HostRuntime) -> Result<(), Fail> {
     let machine = Machine::new(rt.alloc(), 1)?;
     let (ram, pages, regs, mode, width, vif, hidden, cache) = parts(&machine);
-    assert_eq!(rt; ram.len(), 1_638_400);
+    assert_eq!(rt; ram.len(), 1_949_696);
     assert_eq!(rt; pages, 1);
     assert_eq!(rt; regs, Regs::ZERO);
     assert_eq!(rt; mode, Mode::Real);
@@ -94,7 +94,7 @@ fn flat_machine(alloc: Global) -> Result<Machine, AllocError> {
 #[test]
 fn accesses_in_protected_mode(rt: HostRuntime) -> Result<(), Fail> {
     let mut machine = flat_machine(rt.alloc())?;
-    assert_eq!(rt; machine.ram().len(), 1_638_400);
+    assert_eq!(rt; machine.ram().len(), 1_949_696);
     assert_eq!(rt; machine.load_seg(SegReg::Ds, 0x22F), Ok(()));
     let mut regs = machine.regs();
     regs.fs = 0x237;

@@ -156,7 +156,7 @@ fn fill_protected_vectors(ram: &mut Ram)
     }
 }
 
-/// The memory of a new machine whose blocks may take `pages` pages together, 1 to 4096.
+/// The memory of a new machine whose blocks may take `pages` pages together, 1 to `MAX_PAGES`.
 pub fn blank_memory(alloc: Global, pages: u32) -> Result<Ram, AllocError>
     requires some { 0 < pages }
     requires few { pages ≤ MAX_PAGES }

@@ -25,11 +25,11 @@ const DOUBLEWORDS: [(u32, u32); 34] = [
     (0xE_FFFC, 0),
     (0xF_0000, 0xF4F4_F4F4),
     (0xF_FFFC, 0xF4F4_F4F4),
-    // Directory entries 0, 1, 16, 17 and 768.
+    // Directory entries 0, 1, 64, 65 and 768.
     (0x10_0000, 0x10_1067),
     (0x10_0004, 0x10_3067),
-    (0x10_0040, 0x11_2067),
-    (0x10_0044, 0),
+    (0x10_0100, 0x14_2067),
+    (0x10_0104, 0),
     (0x10_0C00, 0x10_2063),
     // Pages EFh, F0h, 100h, 10Fh and 110h of the first 4 MB.
     (0x10_13BC, 0xE_F067),
@@ -37,33 +37,33 @@ const DOUBLEWORDS: [(u32, u32); 34] = [
     (0x10_1400, 0x67),
     (0x10_143C, 0xF067),
     (0x10_1440, 0),
-    // Pages 0, 142 and 143 of the window.
+    // Pages 0, 218 and 219 of the window.
     (0x10_2000, 0x10_0063),
-    (0x10_2238, 0x18_E063),
-    (0x10_223C, 0),
+    (0x10_2368, 0x1D_A063),
+    (0x10_236C, 0),
     // The first and the last page of the block region.
     (0x10_3000, 0),
-    (0x11_2FFC, 0),
+    (0x14_2FFC, 0),
     // The protected vector 31h, the exception vector 0, and what follows exception vector 31.
-    (0x13_3188, 0x231),
-    (0x13_318C, 0x87),
-    (0x13_3800, 0x300),
-    (0x13_3804, 0x87),
-    (0x13_3900, 0),
+    (0x16_3188, 0x231),
+    (0x16_318C, 0x87),
+    (0x16_3800, 0x300),
+    (0x16_3804, 0x87),
+    (0x16_3900, 0),
     // The head of the list of free frames, what follows it, and the only frame of the budget.
-    (0x13_3B10, 0x18F),
-    (0x13_3B14, 0),
-    (0x18_F000, 0),
+    (0x16_3B10, 0x1DB),
+    (0x16_3B14, 0),
+    (0x1D_B000, 0),
     // The list of DOS memory.
-    (0x13_E000, 0x9F9F_0060),
-    (0x13_E004, 1),
-    (0x13_E008, 0),
+    (0x18_7000, 0x9F9F_0060),
+    (0x18_7004, 1),
+    (0x18_7008, 0),
 ];
 
 #[test]
 fn a_new_memory_has_these_bytes(rt: HostRuntime) -> Result<(), Fail> {
     let ram = blank_memory(rt.alloc(), 1)?;
-    assert_eq!(rt; ram.len(), 1_638_400);
+    assert_eq!(rt; ram.len(), 1_949_696);
     for (at, want) in DOUBLEWORDS {
         assert_eq!(rt; word(&ram, at), Some(want));
     }

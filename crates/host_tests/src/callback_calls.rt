@@ -1,5 +1,7 @@
 // Worked allocations, calls, exits and returns. The values come from the rules by hand.
 use callbacks::{enter, leave, serve};
+use client_world::limits::GREATEST_DEPTH;
+use client_world::memory_map::PROTECTED_STACKS;
 use client_world::{Carry, Exit, FarPtr, Flags, Mode, Record, Regs, Width};
 use guest_space::Machine;
 use mode_stack::{depth, push};
@@ -7,8 +9,7 @@ use std::alloc::{AllocError, Global};
 use std::process::Abort;
 use std::test::Fail;
 
-// A machine of that width in protected mode. 0087h is the selector of the host's code, and 008Fh that of its stacks, which are at E4000h with
-// limit 7FFFh.
+// A machine of that width in protected mode. 0087h is the selector of the host's code, and 008Fh that of its stacks, whose limit is FFFFh.
 #[tactic(auto, unfolding(host_memory::specs::Blank::blank_world))]
 fn entered(alloc: Global, width: Width) -> Result<Machine, AllocError> {
     let mut m = Machine::new(alloc, 1)?;
@@ -80,7 +81,7 @@ fn callbacks_are_allocated_and_freed(rt: HostRuntime) -> Result<(), Fail> {
     Ok(())
 }
 
-// The procedure is at 0087h:0200h, and the structure at 008Fh:0100h, which is E4100h.
+// The procedure is at 0087h:0200h, and the structure at 008Fh:0100h.
 const PROCEDURE: FarPtr = FarPtr {
     sel: 0x87,
     off: 0x200,
@@ -160,9 +161,13 @@ fn a_callback_gets_its_callers_registers(rt: HostRuntime) -> Result<(), Fail> {
         }
     );
     assert_eq!(rt; (m.mode(), m.vif(), depth(&m)), (Mode::Protected, false, 1));
-    assert_eq!(rt; words_from(&m, 0xE_4100), HELD);
+    assert_eq!(rt; words_from(&m, PROTECTED_STACKS + 0x100), HELD);
     assert_eq!(rt;
-        [m.dos16(0xE_47FA), m.dos16(0xE_47FC), m.dos16(0xE_47FE)],
+        [
+            m.dos16(PROTECTED_STACKS + 0x7FA),
+            m.dos16(PROTECTED_STACKS + 0x7FC),
+            m.dos16(PROTECTED_STACKS + 0x7FE),
+        ],
         [0x323, 0x87, 0x243]
     );
     assert_eq!(rt;
@@ -194,7 +199,7 @@ const ENTERED: [Entered; 7] = [
     ((0x107, 0), (0x87, 0), 0x2000, Err(Exit::BadFrame)),
     ((0x87, 0x1_0000), (0x8F, 0), 0x2000, Err(Exit::BadFrame)),
     ((0x87, 0), (0x87, 0), 0x2000, Err(Exit::LostStructure)),
-    ((0x87, 0), (0x8F, 0x7FCF), 0x2000, Err(Exit::LostStructure)),
+    ((0x87, 0), (0x8F, 0xFFCF), 0x2000, Err(Exit::LostStructure)),
     ((0x87, 0), (0x107, 0xFFCF), 0x2000, Err(Exit::LostStructure)),
     ((0x87, 0), (0x107, 0), 0xF000, Err(Exit::LostStructure)),
     ((0x87, 0), (0x107, 0xFFCE), 0x2000, Ok(())),
@@ -236,7 +241,7 @@ fn exits_of_callbacks(rt: HostRuntime) -> Result<(), Fail> {
 fn callbacks_end_at_the_greatest_depth(rt: HostRuntime) -> Result<(), Fail> {
     let mut m = entered(rt.alloc(), Width::Sixteen)?;
     let exception = Record::Exc { number: 6, code: 0 };
-    for _ in 0..16 {
+    for _ in 0..GREATEST_DEPTH {
         if m.width().is_some() {
             assert!(rt; push(&mut m, &exception).is_ok());
         }
@@ -250,6 +255,6 @@ fn callbacks_end_at_the_greatest_depth(rt: HostRuntime) -> Result<(), Fail> {
     assert_eq!(rt; enter(&mut m, 5), Err(Exit::Deep));
     assert_eq!(rt; m.mode(), Mode::Real);
     assert_eq!(rt; enter(&mut m, 4), Err(Exit::Stray));
-    assert_eq!(rt; depth(&m), 16);
+    assert_eq!(rt; u32::from(depth(&m)), GREATEST_DEPTH);
     Ok(())
 }

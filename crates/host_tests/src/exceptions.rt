@@ -1,4 +1,6 @@
 // An exception at each width, the return from it, and the exits.
+use client_world::limits::GREATEST_DEPTH;
+use client_world::memory_map::PROTECTED_STACKS;
 use client_world::{Exit, Fault, Flags, Mode, Record, Regs, Width};
 use guest_space::Machine;
 use mode_stack::{depth, top};
@@ -58,14 +60,14 @@ fn a_frame_of_words_is_delivered_and_returns(rt: HostRuntime) -> Result<(), Fail
     assert_eq!(rt; (r.cs, r.eip, r.ss, r.esp), (0x87, 0x30D, 0x8F, 0x7F0));
     assert_eq!(rt; m.vif(), false);
     let words = [
-        m.dos16(0xE_47F0),
-        m.dos16(0xE_47F2),
-        m.dos16(0xE_47F4),
-        m.dos16(0xE_47F6),
-        m.dos16(0xE_47F8),
-        m.dos16(0xE_47FA),
-        m.dos16(0xE_47FC),
-        m.dos16(0xE_47FE),
+        m.dos16(PROTECTED_STACKS + 0x7F0),
+        m.dos16(PROTECTED_STACKS + 0x7F2),
+        m.dos16(PROTECTED_STACKS + 0x7F4),
+        m.dos16(PROTECTED_STACKS + 0x7F6),
+        m.dos16(PROTECTED_STACKS + 0x7F8),
+        m.dos16(PROTECTED_STACKS + 0x7FA),
+        m.dos16(PROTECTED_STACKS + 0x7FC),
+        m.dos16(PROTECTED_STACKS + 0x7FE),
     ];
     assert_eq!(rt;
         words,
@@ -97,21 +99,21 @@ fn a_frame_of_doublewords_is_delivered_and_returns(rt: HostRuntime) -> Result<()
     let mut m = entered(rt.alloc(), Width::ThirtyTwo)?;
     assert_eq!(rt; fail(&mut m, &rt), Ok(()));
     assert_eq!(rt; m.regs().esp, 0x7E0);
-    assert_eq!(rt; m.dos16(0xE_47E8), 0x5678);
-    assert_eq!(rt; m.dos16(0xE_47EA), 0x1234);
+    assert_eq!(rt; m.dos16(PROTECTED_STACKS + 0x7E8), 0x5678);
+    assert_eq!(rt; m.dos16(PROTECTED_STACKS + 0x7EA), 0x1234);
     assert_eq!(rt; finish(&mut m, 4), Ok(()));
     assert_eq!(rt; m.regs(), CLIENT);
     Ok(())
 }
 
 #[test]
-fn the_depth_ends_at_sixteen(rt: HostRuntime) -> Result<(), Fail> {
+fn exceptions_end_at_the_greatest_depth(rt: HostRuntime) -> Result<(), Fail> {
     let mut m = entered(rt.alloc(), Width::Sixteen)?;
-    for _ in 0..16 {
+    for _ in 0..GREATEST_DEPTH {
         assert_eq!(rt; fail(&mut m, &rt), Ok(()));
     }
-    assert_eq!(rt; m.regs().esp, 0x7FF0);
+    assert_eq!(rt; m.regs().esp, 0xFFF0);
     assert_eq!(rt; fail(&mut m, &rt), Err(Exit::Deep));
-    assert_eq!(rt; depth(&m), 16);
+    assert_eq!(rt; u32::from(depth(&m)), GREATEST_DEPTH);
     Ok(())
 }

@@ -59,7 +59,7 @@ fn present(base: u32, limit: u32, size: bool, code: bool) -> Desc {
 fn expect_entered(rt: &impl Abort, m: &Machine, wide: bool) {
     let rows = [
         (16, present(0xF_0000, 0xFFFF, false, true), Origin::Host),
-        (17, present(0xE_4000, 0x7FFF, wide, false), Origin::Host),
+        (17, present(0xE_0000, 0xFFFF, wide, false), Origin::Host),
         (64, present(0x1_2340, 0xFFFF, false, true), Origin::Entry),
         (65, present(0x1_0000, 0xFFFF, wide, false), Origin::Entry),
         (66, present(0x2_0000, 0xFFFF, wide, false), Origin::Entry),

@@ -2,6 +2,7 @@
 ghost use Rattle.std.specs.Prelude.{◌<◌};
 
 use block_services::serve;
+use client_world::memory_map::PROTECTED_STACKS;
 use client_world::{Carry, Mode, Regs, Width};
 use guest_space::Machine;
 use std::test::Fail;
@@ -97,10 +98,10 @@ fn calls_return_what_their_rows_say(rt: HostRuntime) -> Result<(), Fail> {
     Ok(())
 }
 
-// The numbers of the table of function 0500h at ES:DI, in the segment of the host's stacks, at 000E4000h.
+// The numbers of the table of function 0500h at ES:DI, at the start of the segment of the host's stacks.
 const STACKS: u16 = 0x008F;
 
-const TABLE: u32 = 0xE_4000;
+const TABLE: u32 = PROTECTED_STACKS;
 
 fn number(m: &Machine, place: u32) -> u32
     requires { place < 12 }
@@ -117,11 +118,11 @@ const TABLES: [([u32; 5], [u32; 12]); 3] = [
             0x8000,
             8,
             8,
-            0x4000,
+            0x1_0000,
             8,
             8,
             8,
-            0x4000,
+            0x1_0000,
             0,
             0xFFFF_FFFF,
             0xFFFF_FFFF,
@@ -134,11 +135,11 @@ const TABLES: [([u32; 5], [u32; 12]); 3] = [
             0x5000,
             5,
             5,
-            0x4000,
+            0x1_0000,
             8,
             5,
             8,
-            0x3FFD,
+            0xFFFD,
             0,
             0xFFFF_FFFF,
             0xFFFF_FFFF,
@@ -151,11 +152,11 @@ const TABLES: [([u32; 5], [u32; 12]); 3] = [
             0x5000,
             5,
             5,
-            0x4000,
+            0x1_0000,
             7,
             5,
             8,
-            0x3FFD,
+            0xFFFD,
             0,
             0xFFFF_FFFF,
             0xFFFF_FFFF,

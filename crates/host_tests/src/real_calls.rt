@@ -1,4 +1,6 @@
 // Worked calls, reflections, returns and refusals. The values come from the rules by hand.
+use client_world::limits::GREATEST_DEPTH;
+use client_world::memory_map::PROTECTED_STACKS;
 use client_world::{Begun, Call, Exit, Flags, Mode, Regs, Width};
 use guest_space::Machine;
 use mode_stack::depth;
@@ -7,7 +9,11 @@ use std::process::Abort;
 use std::test::Fail;
 use translation::{begin, end, reflect};
 
-// The client runs at 0087h:0010h. Its structure is at 008Fh:0100h, which is E4100h, and its stack at 008Fh:7800h, which is EB800h.
+// The client runs at 0087h:0010h. Its structure is at 008Fh:0100h, and its stack at 008Fh:7800h.
+const STRUCTURE: u32 = PROTECTED_STACKS + 0x100;
+
+const STACK: u32 = PROTECTED_STACKS + 0x7800;
+
 const CLIENT: Regs = Regs {
     eax: 0xABCD_0300,
     ecx: 2,
@@ -52,25 +58,25 @@ fn put_structure(m: &mut Machine, image: u16, ss: u16, sp: u16) {
     put(
         m,
         &[
-            (0xE_4100, 0x0D1D),
-            (0xE_4104, 0x051D),
-            (0xE_4108, 0x0B0D),
-            (0xE_4110, 0x0B1D),
-            (0xE_4114, 0x0D0D),
-            (0xE_4118, 0x0C1D),
-            (0xE_411C, 0x0A1D),
-            (0xE_411E, 0xFFFF),
-            (0xE_4120, image),
-            (0xE_4122, 0x2200),
-            (0xE_4124, 0x2400),
-            (0xE_4126, 0x2600),
-            (0xE_4128, 0x2800),
-            (0xE_412A, 0x5678),
-            (0xE_412C, 0x1234),
-            (0xE_412E, sp),
-            (0xE_4130, ss),
-            (0xEB800, 0x1111),
-            (0xEB802, 0x2222),
+            (STRUCTURE, 0x0D1D),
+            (STRUCTURE + 0x04, 0x051D),
+            (STRUCTURE + 0x08, 0x0B0D),
+            (STRUCTURE + 0x10, 0x0B1D),
+            (STRUCTURE + 0x14, 0x0D0D),
+            (STRUCTURE + 0x18, 0x0C1D),
+            (STRUCTURE + 0x1C, 0x0A1D),
+            (STRUCTURE + 0x1E, 0xFFFF),
+            (STRUCTURE + 0x20, image),
+            (STRUCTURE + 0x22, 0x2200),
+            (STRUCTURE + 0x24, 0x2400),
+            (STRUCTURE + 0x26, 0x2600),
+            (STRUCTURE + 0x28, 0x2800),
+            (STRUCTURE + 0x2A, 0x5678),
+            (STRUCTURE + 0x2C, 0x1234),
+            (STRUCTURE + 0x2E, sp),
+            (STRUCTURE + 0x30, ss),
+            (STACK, 0x1111),
+            (STACK + 2, 0x2222),
         ],
     );
 }
@@ -109,7 +115,7 @@ const STARTED: [Started; 4] = [
         image: 0x0245,
         stack: (0, 0),
         start: (0xF000, 0x21),
-        top: (0xE000, 0x3F6),
+        top: (0xD800, 0x3F6),
         words: [0x103, 0xF000, 0x245, 0x1111, 0x2222],
         vif: false,
     },
@@ -169,28 +175,28 @@ fn calls_start_with_their_structure(rt: HostRuntime) -> Result<(), Fail> {
 // The low words of the structure's doublewords, and its words.
 fn doublewords_of(m: &Machine) -> [u16; 8] {
     [
-        m.dos16(0xE_4100),
-        m.dos16(0xE_4104),
-        m.dos16(0xE_4108),
-        m.dos16(0xE_410C),
-        m.dos16(0xE_4110),
-        m.dos16(0xE_4114),
-        m.dos16(0xE_4118),
-        m.dos16(0xE_411C),
+        m.dos16(STRUCTURE),
+        m.dos16(STRUCTURE + 0x04),
+        m.dos16(STRUCTURE + 0x08),
+        m.dos16(STRUCTURE + 0x0C),
+        m.dos16(STRUCTURE + 0x10),
+        m.dos16(STRUCTURE + 0x14),
+        m.dos16(STRUCTURE + 0x18),
+        m.dos16(STRUCTURE + 0x1C),
     ]
 }
 
 fn words_of(m: &Machine) -> [u16; 9] {
     [
-        m.dos16(0xE_4120),
-        m.dos16(0xE_4122),
-        m.dos16(0xE_4124),
-        m.dos16(0xE_4126),
-        m.dos16(0xE_4128),
-        m.dos16(0xE_412A),
-        m.dos16(0xE_412C),
-        m.dos16(0xE_412E),
-        m.dos16(0xE_4130),
+        m.dos16(STRUCTURE + 0x20),
+        m.dos16(STRUCTURE + 0x22),
+        m.dos16(STRUCTURE + 0x24),
+        m.dos16(STRUCTURE + 0x26),
+        m.dos16(STRUCTURE + 0x28),
+        m.dos16(STRUCTURE + 0x2A),
+        m.dos16(STRUCTURE + 0x2C),
+        m.dos16(STRUCTURE + 0x2E),
+        m.dos16(STRUCTURE + 0x30),
     ]
 }
 
@@ -222,7 +228,7 @@ fn a_return_fills_the_structure(rt: HostRuntime) -> Result<(), Fail> {
     let mut m = entered(rt.alloc(), Width::ThirtyTwo, CLIENT)?;
     assert_eq!(rt; end(&mut m), Err(Exit::Stray));
     put_structure(&mut m, 0, 0xD000, 0x100);
-    m.set_dos8(0xE_410C, 0x77);
+    m.set_dos8(STRUCTURE + 0x0C, 0x77);
     assert_eq!(rt; m.mode(), Mode::Protected);
     assert_eq!(rt; begin(&mut m, Call::Far), Begun::Run);
     m.set_regs(LEFT);
@@ -270,7 +276,7 @@ const SERVED: Regs = Regs {
     esp: 0x3FA,
     eip: 0x21,
     cs: 0xF000,
-    ss: 0xE000,
+    ss: 0xD800,
     ds: 0,
     es: 0,
     fs: 0,
@@ -321,7 +327,7 @@ const REFUSED: [(Regs, u16, u16); 5] = [
     (Regs { es: 0, ..CLIENT }, 0xD000, 0x200),
     (
         Regs {
-            esp: 0x7FFD,
+            esp: 0xFFFD,
             ..CLIENT
         },
         0xD000,
@@ -347,7 +353,7 @@ fn calls_are_refused(rt: HostRuntime) -> Result<(), Fail> {
 fn calls_end_at_the_greatest_depth(rt: HostRuntime) -> Result<(), Fail> {
     let lost = Regs { cs: 0x17, ..CLIENT };
     let mut m = entered(rt.alloc(), Width::Sixteen, lost)?;
-    for _ in 0..16 {
+    for _ in 0..GREATEST_DEPTH {
         assert_eq!(rt; m.mode(), Mode::Protected);
         assert_eq!(rt; reflect(&mut m, 0x21), Ok(()));
         assert_eq!(rt; end(&mut m), Err(Exit::BadFrame));
@@ -358,6 +364,6 @@ fn calls_end_at_the_greatest_depth(rt: HostRuntime) -> Result<(), Fail> {
     assert_eq!(rt; m.mode(), Mode::Protected);
     assert_eq!(rt; reflect(&mut m, 0x21), Err(Exit::Deep));
     assert_eq!(rt; begin(&mut m, Call::Iret), Begun::Refused);
-    assert_eq!(rt; depth(&m), 16);
+    assert_eq!(rt; u32::from(depth(&m)), GREATEST_DEPTH);
     Ok(())
 }

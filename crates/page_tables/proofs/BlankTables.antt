@@ -1,7 +1,7 @@
 -- The tables of a memory in which one doubleword of the directory is, or none.
 use Rattle.std.proofs.Common.{◌≡◌, ◌≢◌, ℕ, ◌+◌, ◌*◌, ◌/◌, ◌<◌, ◌≤◌, inl, inr, List, length, get_or, true, false, refl, ap, ◌∙◌, arith, add-zero, get_or-set_other}
 use Rattle.std.proofs.lemmas.Bool.{cases_eq}
-use Rattle.client_world.specs.declared.host_frames.TheConstants.{TABLE_ENTRIES}
+use Rattle.client_world.specs.declared.host_frames.TheConstants.{BUDGET_FRAMES, PAGE_SIZE, TABLE_ENTRIES}
 use Rattle.guest_ram.specs.Bytes.{dword, dword_bytes, put}
 use Rattle.guest_ram.proofs.PutLaws.{put_away}
 use Rattle.page_tables.specs.Mapping.{HasTables, NamesTable, directory_word}
@@ -25,7 +25,7 @@ pub names_none : (b : List ℕ) (i : ℕ) → directory_word b i ≡ 0 → Names
 names_none b i e named = let absurdly : false ≡ true = rw e at named in cc
 
 -- a directory of which entry 0 alone isn't 0
-pub one_table : (b : List ℕ) → 1642496 ≤ length b → directory_word b 0 ≡ 0x101067 →
+pub one_table : (b : List ℕ) → PAGE_SIZE * BUDGET_FRAMES ≤ length b → directory_word b 0 ≡ 0x101067 →
     ((i : ℕ) → i < TABLE_ENTRIES → i ≢ 0 → directory_word b i ≡ 0) → HasTables b
 one_table b long first others = record {
   directory = omega arith;

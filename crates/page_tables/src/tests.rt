@@ -30,9 +30,9 @@ fn a_page_is_mapped_and_no_longer(rt: HostRuntime) -> Result<(), Fail> {
     let absent = Err(PageFault { present: false });
     assert_eq!(rt; walk(&ram, PAGE_DIRECTORY, PAGE, false), absent);
 
-    map(&mut ram, PAGE, 0x18F, false);
-    assert_eq!(rt; ram.get32(0x10_148C), 0x18_F065);
-    assert_eq!(rt; walk(&ram, PAGE_DIRECTORY, 0x12_3FFF, false), Ok(0x18_FFFF));
+    map(&mut ram, PAGE, 0x1DB, false);
+    assert_eq!(rt; ram.get32(0x10_148C), 0x1D_B065);
+    assert_eq!(rt; walk(&ram, PAGE_DIRECTORY, 0x12_3FFF, false), Ok(0x1D_BFFF));
     assert_eq!(rt;
         walk(&ram, PAGE_DIRECTORY, PAGE, true),
         Err(PageFault { present: true })
@@ -40,11 +40,11 @@ fn a_page_is_mapped_and_no_longer(rt: HostRuntime) -> Result<(), Fail> {
     assert_eq!(rt; walk(&ram, PAGE_DIRECTORY, 0x12_4000, false), absent);
     assert_eq!(rt; walk(&ram, PAGE_DIRECTORY, 0x40_0000, false), absent);
 
-    assert_eq!(rt; unmap(&mut ram, PAGE), 0x18F);
+    assert_eq!(rt; unmap(&mut ram, PAGE), 0x1DB);
     assert_eq!(rt; walk(&ram, PAGE_DIRECTORY, PAGE, false), absent);
-    map(&mut ram, PAGE, 0x190, true);
-    assert_eq!(rt; ram.get32(0x10_148C), 0x19_0067);
-    assert_eq!(rt; walk(&ram, PAGE_DIRECTORY, PAGE, true), Ok(0x19_0456));
+    map(&mut ram, PAGE, 0x1DC, true);
+    assert_eq!(rt; ram.get32(0x10_148C), 0x1D_C067);
+    assert_eq!(rt; walk(&ram, PAGE_DIRECTORY, PAGE, true), Ok(0x1D_C456));
     Ok(())
 }
 

@@ -19,6 +19,7 @@ use Rattle.guest_space.specs.Pending.{byte_count, number_bytes}
 use Rattle.guest_space.specs.Transfer.{read_result}
 use Rattle.guest_space.proofs.FarLaws.{part_is_read}
 use Rattle.guest_space.proofs.HostStacks.{stacks_at, stacks_loaded, stacks_reachable}
+use Rattle.guest_space.proofs.WriteRuns.{count_some}
 use Rattle.host_memory.specs.View.{MachineView}
 use Rattle.insn_plan.specs.Act.{Act, Input, Pending, Read, done, number_of, number_read, unless_fault, value_of}
 use Rattle.insn_plan.proofs.Settled.{carried_by}
@@ -61,6 +62,7 @@ item_is : (w : World) (bits offset : ℕ) (frame : List ℕ) (place at : ℕ) �
 item_is w bits offset frame place at h e within =
     let c = byte_count bits in
     let room = h.room in
+    let some = count_some bits in
     value_is w bits place (offset + at) (far_bytes w (stacks_at (offset + at)) c)
     (pointer_is w (c * place) (offset + 2 * c) h.esp (omega arith) ∙ e)
     (stacks_loaded w (offset + at) c h.sound h.mode h.ss h.width (omega arith))

@@ -2,6 +2,7 @@
 use Rattle.std.proofs.Common.{◌≡◌, ◌≢◌, ℕ, ◌<◌, false, length, refl, sym, subst, arith, Option, None, Some, Ok}
 use Rattle.client_world.specs.declared.calls.Call.{Call}
 use Rattle.client_world.specs.declared.calls.Call.TheVariants.{Reflect}
+use Rattle.client_world.specs.declared.limits.TheConstants.{GREATEST_DEPTH}
 use Rattle.client_world.specs.declared.registers.Mode.TheVariants.{Protected}
 use Rattle.client_world.specs.declared.registers.Regs.{Regs}
 use Rattle.client_world.specs.declared.registers.Width.{Width}
@@ -50,7 +51,7 @@ reflected_segments w n s =
     callee_segments (record w.regs { ds = 0; es = 0; fs = 0; gs = 0 }) (callee_start w (Reflect n) w.regs) (host_real_stack w) (length (reflection_words w n))
     (no_segments w.regs s.segments) (start_is_word w (Reflect n) w.regs s s.segments) (omega arith)
 
-sound_made : (w : World) (n : ℕ) → IsSound w → w.mode ≡ Protected → depth w < 16 → IsSound (after_reflection w n)
+sound_made : (w : World) (n : ℕ) → IsSound w → w.mode ≡ Protected → depth w < GREATEST_DEPTH → IsSound (after_reflection w n)
 unfolding after_reflection
 sound_made w n s mode room =
     sound_callee w (Reflect n) no_structure (reflection_regs w n) false (reflection_words w n) s (protected_by w.width w mode s.width) room

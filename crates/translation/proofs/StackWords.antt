@@ -2,7 +2,8 @@
 use Rattle.std.proofs.Common.{◌≡◌, ◌≢◌, ℕ, ◌+◌, ◌*◌, ◌/◌, ◌%◌, ◌<◌, Bool, true, false, ◌&&◌, not, List, [], ◌∷◌, ◌++◌, length, slice_index, slice_set, refl, ap, ◌∙◌, sym, arith, get_or-set_same, get_or-set_other, length-set}
 use Rattle.std.specs.Prelude.{nat_eq, nat_lt, if◌then◌else◌}
 use Rattle.std.proofs.lemmas.Bool.Decides.{nat_tests}
-use Rattle.client_world.specs.declared.memory_map.TheConstants.{DOS_SIZE, REAL_STACK_SEGMENT, ROM_START, SEGMENT_SIZE}
+use Rattle.client_world.specs.declared.limits.TheConstants.{GREATEST_DEPTH}
+use Rattle.client_world.specs.declared.memory_map.TheConstants.{DOS_SIZE, REAL_STACK_SEGMENT, REAL_STACK_SIZE, ROM_START, SEGMENT_SIZE}
 use Rattle.guest_space.specs.Dos.{with_dos_byte}
 use Rattle.translation.specs.RealStack.{are_writable_words, is_writable_word, next_word, real_address, stack_word, stack_words, with_word_at, with_words_at}
 
@@ -129,6 +130,6 @@ words_back dos segment offset (v ∷ vs) size few can small =
     ∙ ap (λ (xs : List ℕ). v ∷ xs) (words_back first segment (next_word offset) vs (word_size dos segment offset v ∙ size) (omega arith) puts.1 small.1)
 
 -- the host's stacks can be written
-pub low_word : (offset : ℕ) → offset < 0x8000 → is_writable_word REAL_STACK_SEGMENT offset ≡ true
+pub low_word : (offset : ℕ) → offset < GREATEST_DEPTH * REAL_STACK_SIZE → is_writable_word REAL_STACK_SEGMENT offset ≡ true
 unfolding is_writable_word
 low_word offset small = grind (arith, nat_tests)

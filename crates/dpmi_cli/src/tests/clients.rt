@@ -25,9 +25,10 @@ const CASES: [Case; 20] = [
         options: &[],
         status: 0,
         parts: &[
-            "console 1\nZ\ntrace 7 of 7\nint2f 1687\nentry 16\nint31 0400 ok\nenter 0 reflect 21 eax=0000025a ebx=00000001 ecx=00000003 edx=0000085a esi=00000000 edi=00000100 ebp=000000fc esp=000003fa eip=00000021 fl=0046 cs=f000 ss=e000 ds=0000 es=0000 fs=0000 gs=0000\nint21 02\nleave 0 reflect 21 eax=0000025a ebx=00000001 ecx=00000003 edx=0000085a esi=00000000 edi=00000100 ebp=000000fc esp=00000400 eip=00000103 fl=0246 cs=f000 ss=e000 ds=0000 es=0000 fs=0000 gs=0000\nint21 4c\nreport\nexit exited 0\nsteps 21\nmode protected\ndepth 0\n",
+            "console 1\nZ\ntrace 7 of 7\nint2f 1687\nentry 16\nint31 0400 ok\nenter 0 reflect 21 eax=0000025a ebx=00000001 ecx=00000003 edx=0000085a esi=00000000 edi=00000100 ebp=000000fc esp=000003fa eip=00000021 fl=0046 cs=f000 ss=d800 ds=0000 es=0000 fs=0000 gs=0000\nint21 02\nleave 0 reflect 21 eax=0000025a ebx=00000001 ecx=00000003 edx=0000085a esi=00000000 edi=00000100 ebp=000000fc esp=00000400 eip=00000103 fl=0246 cs=f000 ss=d800 ds=0000 es=0000 fs=0000 gs=0000\nint21 4c\nreport\nexit exited 0\nsteps 21\nmode protected\ndepth 0\n",
             "esp=000000f6 eip=00000221 fl=0246 cs=0087 ss=020f ds=0217 es=021f",
             "\ndescs 7\n",
+            "\ndesc 008f base=000e0000 limit=0000ffff access=f3 flags=0 origin=host\n",
         ],
     },
     // A flat client of 32 bits: it shrinks its program, enters, gets a block of 256 KB, fills it through a descriptor of all memory, and
@@ -269,7 +270,7 @@ const CASES: [Case; 20] = [
         status: 1,
         parts: &["\nexit loststructure\n", "\ndepth 1\n"],
     },
-    // Rounds of function 0301h and a callback: at depth 16 the next call is refused, and the client ends with FFh.
+    // Rounds of function 0301h and a callback: at depth 32 the next call is refused, and the client ends with FFh.
     Case {
         code: &[
             0xB8, 0x87, 0x16, 0xCD, 0x2F, 0x06, 0x57, 0x89, 0xE5, 0x31, 0xC0, 0xFF, 0x5E, 0x00,
@@ -283,13 +284,13 @@ const CASES: [Case; 20] = [
         options: &[],
         status: 0,
         parts: &[
-            "\nenter 15 back 0 ",
+            "\nenter 31 back 0 ",
             "\nint31 0301 carry\nint21 4c\n",
             "\nexit exited 255\n",
-            "\ndepth 16\n",
+            "\ndepth 32\n",
         ],
     },
-    // The same, begun by the handler of an exception: at depth 16, in real mode, the next callback ends the run.
+    // The same, begun by the handler of an exception: at depth 32, in real mode, the next callback ends the run.
     Case {
         code: &[
             0xB8, 0x87, 0x16, 0xCD, 0x2F, 0x06, 0x57, 0x89, 0xE5, 0x31, 0xC0, 0xFF, 0x5E, 0x00,
@@ -305,9 +306,9 @@ const CASES: [Case; 20] = [
         status: 1,
         parts: &[
             "\nenter 0 exc 0d ",
-            "\nenter 15 far ",
+            "\nenter 31 far ",
             "\nexit deep\n",
-            "\ndepth 16\n",
+            "\ndepth 32\n",
         ],
     },
     // A procedure of real mode switches to protected mode and back, and returns.
@@ -318,7 +319,7 @@ const CASES: [Case; 20] = [
             0x00, 0x31, 0xC9, 0xB8, 0x01, 0x03, 0xCD, 0x31, 0x18, 0xC0, 0xB4, 0x4C, 0xCD, 0x21,
             0xB8, 0x17, 0x02, 0xB9, 0x17, 0x02, 0xBA, 0x0F, 0x02, 0xBB, 0x80, 0x00, 0xBE, 0x04,
             0x02, 0xBF, 0x41, 0x00, 0xEA, 0x01, 0x01, 0x00, 0xF0, 0xB8, 0x00, 0x00, 0xB9, 0x00,
-            0x00, 0xBA, 0x00, 0xE0, 0xBB, 0xFC, 0x03, 0xBE, 0x74, 0x00, 0xBF, 0x58, 0x00, 0xEA,
+            0x00, 0xBA, 0x00, 0xD8, 0xBB, 0xFC, 0x03, 0xBE, 0x74, 0x00, 0xBF, 0x58, 0x00, 0xEA,
             0x20, 0x03, 0x87, 0x00, 0xCB,
         ],
         options: &[],

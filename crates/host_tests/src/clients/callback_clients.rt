@@ -102,7 +102,7 @@ static CLIENTS: [Client; 11] = [
     client!(CALLBACKS; code: &[b"\xEA\x23\x03\x87\x00"], exit: Exit::Stray),
     // A jump of real mode to a callback before the entry.
     client!(REAL; code: &[b"\xEA\x10\x01\x00\xF0"], exit: Exit::Stray, nested: Some(&[])),
-    // Rounds of function 0301h and a callback, each inside the one before: at depth 16 the next call is refused.
+    // Rounds of function 0301h and a callback, each inside the one before: at depth 32 the next call is refused.
     client!(CALLBACKS;
         code: &[
             b"\x1E\x07\x1E\x0E\x1F\xBE\x54\x00\xBF\x00\x11\xB8\x03\x03\xCD\x31\x1F\x89\x16\x00\x12\x89\x0E\x02\x12",
@@ -111,14 +111,18 @@ static CLIENTS: [Client; 11] = [
             b"\x31\xC9\xB8\x01\x03\xCD\x31\x18\xC0\xB4\x4C\xCD\x21",
             b"\x2E\xFF\x1E\x00\x11\xEB\xD1",
         ],
-        bound: 1000, exit: Exit::Exited(0xFF), state: &[(Depth, 16)],
+        bound: 1000, exit: Exit::Exited(0xFF), state: &[(Depth, 32)],
         nested: Some(&[
             (true, 0, FAR), (true, 1, BACK), (true, 2, FAR), (true, 3, BACK),
             (true, 4, FAR), (true, 5, BACK), (true, 6, FAR), (true, 7, BACK),
             (true, 8, FAR), (true, 9, BACK), (true, 10, FAR), (true, 11, BACK),
             (true, 12, FAR), (true, 13, BACK), (true, 14, FAR), (true, 15, BACK),
+            (true, 16, FAR), (true, 17, BACK), (true, 18, FAR), (true, 19, BACK),
+            (true, 20, FAR), (true, 21, BACK), (true, 22, FAR), (true, 23, BACK),
+            (true, 24, FAR), (true, 25, BACK), (true, 26, FAR), (true, 27, BACK),
+            (true, 28, FAR), (true, 29, BACK), (true, 30, FAR), (true, 31, BACK),
         ])),
-    // Where a handler of exception 0Dh starts the rounds, depth 16 is reached in real mode, and the next callback ends the run.
+    // Where a handler of exception 0Dh starts the rounds, depth 32 is reached in real mode, and the next callback ends the run.
     client!(CALLBACKS;
         code: &[
             b"\x1E\x07\x1E\x0E\x1F\xBE\x61\x00\xBF\x00\x11\xB8\x03\x03\xCD\x31\x1F\x89\x16\x00\x12\x89\x0E\x02\x12",
@@ -128,12 +132,16 @@ static CLIENTS: [Client; 11] = [
             b"\x31\xC9\xB8\x01\x03\xCD\x31\x18\xC0\xB4\x4C\xCD\x21",
             b"\x2E\xFF\x1E\x00\x11\xEB\xD1",
         ],
-        bound: 1000, exit: Exit::Deep, state: &[(Depth, 16)],
+        bound: 1000, exit: Exit::Deep, state: &[(Depth, 32)],
         nested: Some(&[
             (true, 0, What::Exc(13)), (true, 1, FAR), (true, 2, BACK), (true, 3, FAR),
             (true, 4, BACK), (true, 5, FAR), (true, 6, BACK), (true, 7, FAR),
             (true, 8, BACK), (true, 9, FAR), (true, 10, BACK), (true, 11, FAR),
             (true, 12, BACK), (true, 13, FAR), (true, 14, BACK), (true, 15, FAR),
+            (true, 16, BACK), (true, 17, FAR), (true, 18, BACK), (true, 19, FAR),
+            (true, 20, BACK), (true, 21, FAR), (true, 22, BACK), (true, 23, FAR),
+            (true, 24, BACK), (true, 25, FAR), (true, 26, BACK), (true, 27, FAR),
+            (true, 28, BACK), (true, 29, FAR), (true, 30, BACK), (true, 31, FAR),
         ])),
 ];
 

@@ -67,7 +67,7 @@ const AT_HANDLER: Regs = Regs {
     esp: 0x3FA,
     eip: 0x21,
     cs: 0xF000,
-    ss: 0xE000,
+    ss: 0xD800,
     flags: Flags {
         zf: true,
         pf: true,
@@ -82,9 +82,9 @@ const AFTER_HANDLER: Regs = Regs {
     ..AT_HANDLER
 };
 
-// A handler of exception 0Dh raises it again until it has run 16 times; what comes then is at depth 16.
+// A handler of exception 0Dh raises it again until it has run 32 times; what comes then is at depth 32.
 const TO_THE_DEPTH: &[u8] =
-    b"\xB8\x03\x02\xB3\x0D\x8C\xC9\xBA\x20\x00\xCD\x31\x1E\x07\xBF\x00\x10\xF4\xFE\x45\x40\x80\x7D\x40\x10\x74\x01\xF4";
+    b"\xB8\x03\x02\xB3\x0D\x8C\xC9\xBA\x20\x00\xCD\x31\x1E\x07\xBF\x00\x10\xF4\xFE\x45\x40\x80\x7D\x40\x20\x74\x01\xF4";
 
 static CLIENTS: [Client; 9] = [
     // It prints the 5Ah that function 0400h gives in AL: INT 21h is reflected.
@@ -138,11 +138,11 @@ static CLIENTS: [Client; 9] = [
             b"\xB4\x02\xB2\x42\xCD\x21\x89\xE5\xFF\x46\x06\xCB",
         ],
         console: b"B", nested: Some(&[(true, 0, What::Exc(13)), (true, 1, REFLECTION), (false, 1, REFLECTION), (false, 0, What::Exc(13))])),
-    // A handler of exception 0Dh that raises it again, up to depth 16. Then a reflection ends the run, and a call of function 0300h is
+    // A handler of exception 0Dh that raises it again, up to depth 32. Then a reflection ends the run, and a call of function 0300h is
     // refused.
-    client!(CALLS; code: &[TO_THE_DEPTH, b"\xCD\x60"], bound: 1000, exit: Exit::Deep, registers: &[(Eip, 0x260)], state: &[(Depth, 16)]),
+    client!(CALLS; code: &[TO_THE_DEPTH, b"\xCD\x60"], bound: 1000, exit: Exit::Deep, registers: &[(Eip, 0x260)], state: &[(Depth, 32)]),
     client!(CALLS; code: &[TO_THE_DEPTH, b"\xB8\x00\x03\xBB\x21\x00\x31\xC9\xCD\x31\x18\xC0\xB4\x4C\xCD\x21"], bound: 1000,
-        exit: Exit::Exited(0xFF), registers: &[(Eip, 0x221)], state: &[(Depth, 16)]),
+        exit: Exit::Exited(0xFF), registers: &[(Eip, 0x221)], state: &[(Depth, 32)]),
     // A procedure that never returns, and a jump to the trap of the return where nothing was called.
     client!(CALLS;
         code: &[

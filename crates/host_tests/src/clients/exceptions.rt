@@ -2,6 +2,7 @@
 use super::runs::Register::{Cs, Ecx, Edi, Eip, Esi, Esp, Ss};
 use super::runs::State::{Depth, Interrupts, Word};
 use super::runs::{Client, ENTER_32, ENTERED, run_all};
+use client_world::memory_map::PROTECTED_STACKS;
 use client_world::{Exit, TraceLine, What};
 use std::test::Fail;
 
@@ -31,7 +32,7 @@ static EXCEPTIONS: [Client; 4] = [
             b"\xB8\x08\x00\x31\xC9\xBA\x03\x00\xCD\x31\x8E\xC3\x31\xF6\x31\xFF\xB9\x08\x00\xF3\xA4",
         ],
         exit: Exit::Fault(13, 0), registers: &[(Ecx, 4), (Esi, 4), (Edi, 4)],
-        state: &[(Word(0xE_47F6), 0x34), (Word(0x8000), 0x20CD), (Word(0x8002), 0xA000), (Word(0x8004), 0)]),
+        state: &[(Word(PROTECTED_STACKS + 0x7F6), 0x34), (Word(0x8000), 0x20CD), (Word(0x8002), 0xA000), (Word(0x8004), 0)]),
 ];
 
 // The frame of the outermost exception is below 008Fh:0800h: of a client of 16 bits at 07F0h with IP at 07F6h, of one of 32 bits at 07E0h with
@@ -77,7 +78,7 @@ macro_rules! hostile {
 
 static HOSTILE: [Client; 15] = [
     // The handler raises the exception again, at each depth up to the greatest.
-    hostile!(HLT, HLT; Exit::Deep, 19, 16),
+    hostile!(HLT, HLT; Exit::Deep, 35, 32),
     // It puts another CS into the frame: null, one with privilege level 0, and one of data.
     hostile!(HLT, b"\x55\x89\xE5\xC7\x46\x0A\x00\x00\x5D\xCB"; Exit::BadFrame, 4, 1),
     hostile!(HLT, b"\x55\x89\xE5\xC7\x46\x0A\x04\x02\x5D\xCB"; Exit::BadFrame, 4, 1),

@@ -42,7 +42,7 @@ static HARM: [Client; 10] = [
 // The lowest block, at 00400000h in BX:CX, with the handle 1 in SI:DI.
 const LOWEST: &[(Register, u32)] = &[(Ebx, 0x40), (Ecx, 0), (Esi, 0), (Edi, 1)];
 
-static BLOCKS: [Client; 3] = [
+static BLOCKS: [Client; 4] = [
     // Function 0400h leaves DX = 0870h. Function 0501h with BX:CX = 1 gets the lowest page, 00400000h, with the lowest handle, 1. Function 0800h
     // sets carry and changes nothing.
     client!(ENTERED;
@@ -74,10 +74,13 @@ static BLOCKS: [Client; 3] = [
             b"\xB8\x00\x4C\xCD\x21",
         ],
         state: &[
-            (Doubleword(0x6C0), 0x003C_0000), (Doubleword(0x6C4), 0x3C0), (Doubleword(0x6C8), 0x3C0), (Doubleword(0x6CC), 0x4000),
-            (Doubleword(0x6D0), 0x3FE), (Doubleword(0x6D4), 0x3C0), (Doubleword(0x6D8), 0x400), (Doubleword(0x6DC), 0x3FC0),
+            (Doubleword(0x6C0), 0x003C_0000), (Doubleword(0x6C4), 0x3C0), (Doubleword(0x6C8), 0x3C0), (Doubleword(0x6CC), 0x1_0000),
+            (Doubleword(0x6D0), 0x3FE), (Doubleword(0x6D4), 0x3C0), (Doubleword(0x6D8), 0x400), (Doubleword(0x6DC), 0xFFC0),
             (Doubleword(0x6E0), 0), (Doubleword(0x6E4), 0xFFFF_FFFF), (Doubleword(0x6E8), 0xFFFF_FFFF), (Doubleword(0x6EC), 0xFFFF_FFFF),
         ]),
+    // With 16,384 pages a block of 04000000h bytes takes all.
+    client!(ENTERED; code: &[b"\xB8\x01\x05\xBB\x00\x04\x31\xC9\xCD\x31", b"\xB8\x00\x4C\xCD\x21"],
+        pages: 16_384, trace: &[(2, int31!(0x0501, Clear))], registers: LOWEST),
 ];
 
 #[test]
@@ -99,6 +102,7 @@ type BlockCall = ([u16; 5], Option<[u16; 4]>);
 // A client that makes calls of INT 31h one after another, and the state after them. Before them some code runs in real mode, then the entry to
 // protected mode as a client of 16 bits, and some code there, in so many turns.
 struct Calls {
+    pages: u32,
     real: &'static [u8],
     real_turns: u32,
     code: &'static [u8],
@@ -109,6 +113,7 @@ struct Calls {
 }
 
 const PLAIN: Calls = Calls {
+    pages: DEFAULT_PAGES,
     real: &[],
     real_turns: 0,
     code: &[],
@@ -118,7 +123,7 @@ const PLAIN: Calls = Calls {
     state: &[],
 };
 
-// Sizes of 0, 1 and FFFFFFFFh bytes, and handles that aren't held: 0, 1 before it is given, 256, 257, FFFFFFFFh, and 1 with a high half.
+// Sizes of 0, 1 and FFFFFFFFh bytes, and handles that aren't held: 0, 1 before it is given, 512, 513, FFFFFFFFh, and 1 with a high half.
 const SIZES: [BlockCall; 20] = [
     ([0x0502, 5, 6, 0, 1], None),
     ([0x0501, 0, 0, 3, 4], None),
@@ -128,13 +133,13 @@ const SIZES: [BlockCall; 20] = [
     ([0x0503, 0xFFFF, 0xFFFF, 0, 1], None),
     ([0x0503, 0, 1, 0, 1], Some([0x40, 0, 0, 1])),
     ([0x0503, 0, 1, 0, 0], None),
-    ([0x0503, 0, 1, 0, 0x100], None),
-    ([0x0503, 0, 1, 0, 0x101], None),
+    ([0x0503, 0, 1, 0, 0x200], None),
+    ([0x0503, 0, 1, 0, 0x201], None),
     ([0x0503, 0, 1, 0xFFFF, 0xFFFF], None),
     ([0x0503, 0, 1, 1, 1], None),
     ([0x0502, 5, 6, 0, 0], None),
-    ([0x0502, 5, 6, 0, 0x100], None),
-    ([0x0502, 5, 6, 0, 0x101], None),
+    ([0x0502, 5, 6, 0, 0x200], None),
+    ([0x0502, 5, 6, 0, 0x201], None),
     ([0x0502, 5, 6, 0xFFFF, 0xFFFF], None),
     ([0x0502, 5, 6, 1, 1], None),
     ([0x0502, 5, 6, 0, 1], Some([5, 6, 0, 1])),
@@ -204,24 +209,25 @@ const LOCKS: [BlockCall; 17] = [
     ([0x0703, 0xFFFF, 0xFFFF, 0, 0], Some([0xFFFF, 0xFFFF, 0, 0])),
 ];
 
-// A loop makes 256 blocks of a page each, with BP as its counter.
+// With 513 pages a loop makes 512 blocks of a page each, with BP as its counter.
 const ALL_HANDLES: Calls = Calls {
-    code: b"\xBD\x00\x01\xB8\x01\x05\x31\xDB\xB9\x01\x00\xCD\x31\x4D\x75\xF3",
-    turns: 1 + 256 * 7,
+    pages: 513,
+    code: b"\xBD\x00\x02\xB8\x01\x05\x31\xDB\xB9\x01\x00\xCD\x31\x4D\x75\xF3",
+    turns: 1 + 512 * 7,
     ..PLAIN
 };
 
-// There are pages for one more, and no handle. Block 256 is the last: at page 255, 004FF000h.
+// There is a page for one more, and no handle. Block 512 is the last: at page 511, 005FF000h.
 const AFTER_ALL_HANDLES: [BlockCall; 6] = [
     ([0x0501, 0, 1, 3, 4], None),
-    ([0x0502, 5, 6, 0, 0x101], None),
+    ([0x0502, 5, 6, 0, 0x201], None),
     (
-        [0x0503, 0, 0x1001, 0, 0x100],
-        Some([0x4F, 0xF000, 0, 0x100]),
+        [0x0503, 0, 0x1001, 0, 0x200],
+        Some([0x5F, 0xF000, 0, 0x200]),
     ),
-    ([0x0502, 5, 6, 0, 0x100], Some([5, 6, 0, 0x100])),
-    ([0x0502, 5, 6, 0, 0x100], None),
-    ([0x0501, 0, 1, 3, 4], Some([0x4F, 0xF000, 0, 0x100])),
+    ([0x0502, 5, 6, 0, 0x200], Some([5, 6, 0, 0x200])),
+    ([0x0502, 5, 6, 0, 0x200], None),
+    ([0x0501, 0, 1, 3, 4], Some([0x5F, 0xF000, 0, 0x200])),
 ];
 
 // A block of a page, and 4,369 rounds in which its first byte is locked 15 times: 65,535 locks.
@@ -429,7 +435,7 @@ fn run_calls(
 ) -> Result<(), AllocError> {
     let rows = rows_of(alloc, calls)?;
     let code = code_of(alloc, calls, &rows)?;
-    let mut host = started(rt, alloc, DEFAULT_PAGES, &[], &code)?;
+    let mut host = started(rt, alloc, calls.pages, &[], &code)?;
     make_turns(rt, &mut host, calls.real_turns);
     make_turns(rt, &mut host, 9);
     make_turns(rt, &mut host, calls.turns);

@@ -1,6 +1,6 @@
 // Runs of clients in tables: each row is a client's code and what must come of its run.
-use client_world::host_frames::DESCRIPTORS;
-use client_world::limits::{DEFAULT_PAGES, DEFAULT_TRACE};
+use client_world::host_frames::{DESCRIPTORS, LOCK_COUNTS, PAGE_SIZE, RECORDS};
+use client_world::limits::{DEFAULT_PAGES, DEFAULT_TRACE, MAX_PAGES};
 use client_world::{Desc, Exit, LoadFault, Mode, Origin, Regs, TraceLine, What};
 use guest_space::Machine;
 use host_run::Host;
@@ -148,7 +148,7 @@ pub(super) fn loaded(
     keys: &[u8],
     file: &[u8],
 ) -> Result<(Host, Result<(), LoadFault>), AllocError> {
-    assert!(rt; 0 < pages && pages <= 4096 && keys.len() <= 100);
+    assert!(rt; 0 < pages && pages <= MAX_PAGES && keys.len() <= 100);
     let mut host = Host::new(alloc, pages, keys, DEFAULT_TRACE)?;
     let answer = host.load(file);
     Ok((host, answer))
@@ -259,11 +259,11 @@ fn has_descriptors(m: &Machine) -> bool {
     false
 }
 
-// The records of calls and the rows of memory blocks are frames 256 + 52 and 256 + 53.
+// The records of calls and the rows of memory blocks lie side by side, before the lock counts.
 fn has_host_bytes(rt: &impl Abort, m: &Machine) -> bool {
     let ram = m.ram();
-    assert!(rt; ram.len() >= 310 * 4096);
-    for at in 308 * 4096..310 * 4096 {
+    assert!(rt; ram.len() >= LOCK_COUNTS * PAGE_SIZE);
+    for at in RECORDS * PAGE_SIZE..LOCK_COUNTS * PAGE_SIZE {
         if ram.get8(at) != 0 {
             return true;
         }
