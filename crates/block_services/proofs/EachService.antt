@@ -1,8 +1,7 @@
 -- What is true of each service is true of the one that is asked for.
 use Rattle.std.proofs.Common.{ℕ}
 use Rattle.client_world.specs.World.{World}
-use Rattle.service_rows.specs.Reasons.{Service}
-use Rattle.service_rows.specs.Rows.{unsupported}
+use Rattle.service_rows.specs.Reasons.{Service, unsupported}
 use Rattle.service_rows.proofs.AnswerLaws.{if_has}
 use Rattle.block_services.specs.Rows.{allocate_block, mark_pageable, block_function, discard_pages, relock_pages, free_block, free_memory_information, lock_pages, mark_paging_candidates, page_size, resize_block, unlock_pages}
 

@@ -1,8 +1,7 @@
 -- A service changes registers, memory and pageable pages alone.
 use Rattle.std.proofs.Common.{◌≡◌, ◌∙◌, ℕ, refl, sym, ap, Option, None, Some}
 use Rattle.client_world.specs.World.{World}
-use Rattle.service_rows.specs.Reasons.{Service, first_reason}
-use Rattle.service_rows.specs.Rows.{unsupported}
+use Rattle.service_rows.specs.Reasons.{Service, first_reason, unsupported}
 use Rattle.service_rows.proofs.AnswerLaws.{of_answer}
 use Rattle.guest_space.proofs.FarPuts.{other_far_put}
 use Rattle.client_world.specs.Services.{es_di}
@@ -47,4 +46,4 @@ kept_after ax w = of_each_service (λ (a : Service). Kept w a.after) w (record {
 
 pub kept_service : (ax : ℕ) (w : World) → Kept w (block_service ax w).world
 unfolding block_service
-kept_service ax w = of_answer (Kept w) (first_reason (block_function ax w).reasons) w (block_function ax w).after refl (λ e. kept_after ax w)
+kept_service ax w = of_answer (Kept w) (first_reason (block_function ax w).reasons) w (block_function ax w).after refl (λ n. refl) (λ e. kept_after ax w)

@@ -14,9 +14,8 @@ use Rattle.guest_ram.specs.Listed.{copies}
 use Rattle.guest_ram.proofs.ListedLaws.{at_copies, length-copies}
 use Rattle.guest_space.proofs.SoundLists.{IsSound-vectors}
 use Rattle.block_memory.proofs.SizedSound.{sound_blocks}
-use Rattle.service_rows.specs.Reasons.{Service, first_reason}
-use Rattle.service_rows.specs.Rows.{unsupported}
-use Rattle.service_rows.proofs.AnswerLaws.{no_reason, of_answer}
+use Rattle.service_rows.specs.Reasons.{Service, first_reason, unsupported}
+use Rattle.service_rows.proofs.AnswerLaws.{no_reason, of_answer, sound_ax}
 use Rattle.guest_space.proofs.FarPuts.{sound_far_put}
 use Rattle.service_rows.proofs.IndexLaws.{first_is}
 use Rattle.service_rows.proofs.WidthLaws.{protected_width}
@@ -172,4 +171,5 @@ sound_after ax w s width = of_each_service (λ (a : Service). first_reason a.rea
 pub sound_service : (ax : ℕ) (w : World) → IsSound w → w.mode ≡ Protected → IsSound (block_service ax w).world
 unfolding block_service
 sound_service ax w s protected =
-    of_answer IsSound (first_reason (block_function ax w).reasons) w (block_function ax w).after s (sound_after ax w s (protected_width w s protected))
+    of_answer IsSound (first_reason (block_function ax w).reasons) w (block_function ax w).after s (λ n. sound_ax w n s)
+    (sound_after ax w s (protected_width w s protected))

@@ -11,8 +11,7 @@ use Rattle.client_world.specs.World.{World, MemoryBlock, block_at, with_block_at
 use Rattle.block_memory.specs.BlockSizes.{base_of_held, fresh_block, sized_block}
 use Rattle.service_rows.specs.declared.refusal.Refusal.TheVariants.{InvalidAddress, InvalidValue, InvalidHandle, PhysicalMemoryUnavailable, LinearMemoryUnavailable, HandleUnavailable}
 use Rattle.guest_space.specs.Far.{far_put}
-use Rattle.service_rows.specs.Reasons.{Service, outcome}
-use Rattle.service_rows.specs.Rows.{unsupported}
+use Rattle.service_rows.specs.Reasons.{Service, family_outcome, unsupported}
 use Rattle.block_services.specs.declared.regions.Change.TheVariants.{Lock, Unlock, Discard}
 use Rattle.block_services.specs.declared.regions.Question.{Question}
 use Rattle.block_services.specs.declared.regions.Question.TheVariants.{IsOutside, IsNoBlock, IsLockedMost, IsUnlocked, IsAboveView, IsPageable, IsRelocked}
@@ -212,4 +211,4 @@ block_function ax w =
 
 -- the carry that INT 31h returns, and the world after it
 unfoldable pub block_service : ℕ → World → Served
-block_service ax w = outcome (block_function ax w) w
+block_service ax w = family_outcome (block_function ax w) w

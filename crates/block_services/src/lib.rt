@@ -1,5 +1,5 @@
 //! The services of INT 31h on memory blocks and their pages.
-//! It promises that each returns the carry and leaves the world of its definition, and that a refusal changes nothing.
+//! It promises that each returns the carry and leaves the world of its definition, and that a refusal changes AX alone.
 //! It uses the memory blocks of `guest_space` and `service_rows`.
 #![tactic(auto)]
 

@@ -9,11 +9,9 @@ use Rattle.client_world.specs.Soundness.{IsSound, HasSegments}
 use Rattle.client_world.specs.World.{World}
 use Rattle.client_world.proofs.SoundWrites.{IsSound-regs}
 use Rattle.guest_space.proofs.SoundLists.{IsSound-callbacks}
-use Rattle.service_rows.specs.Reasons.{Service, first_reason}
-use Rattle.service_rows.specs.Rows.{unsupported}
-use Rattle.service_rows.proofs.AnswerLaws.{if_has, of_answer}
+use Rattle.service_rows.specs.Reasons.{HasOtherAx, Service, first_reason, unsupported}
+use Rattle.service_rows.proofs.AnswerLaws.{if_has, of_answer, refused_by_family, sound_ax}
 use Rattle.service_rows.proofs.WidthLaws.{protected_width}
-use Rattle.translation.proofs.Begun.{refused_answer}
 use Rattle.callbacks.specs.HandOver.{LeftByService}
 use Rattle.callbacks.specs.Services.{addressed_slot, allocate_callback, callback_function, callback_service, ds_si, free_callback, free_slot, with_new_callback}
 
@@ -50,7 +48,7 @@ pub sound_serve : (w : World) (ax : ℕ) → IsSound w → w.mode ≡ Protected 
 unfolding callback_service
 sound_serve w ax s mode =
     let f = callback_function ax w in
-    of_answer IsSound (first_reason f.reasons) w f.after s (λ none. sound_function w ax s (protected_width w s mode))
+    of_answer IsSound (first_reason f.reasons) w f.after s (λ n. sound_ax w n s) (λ none. sound_function w ax s (protected_width w s mode))
 
 -- ---- what they leave
 
@@ -80,9 +78,9 @@ pub serve_left : (w : World) (ax : ℕ) → LeftByService w (callback_service ax
 unfolding callback_service
 serve_left w ax =
     let f = callback_function ax w in
-    of_answer (λ (u : World). LeftByService w u) (first_reason f.reasons) w f.after refl (λ none. function_left w ax)
+    of_answer (λ (u : World). LeftByService w u) (first_reason f.reasons) w f.after refl (λ n. refl) (λ none. function_left w ax)
 
-pub refused_world : (w : World) (ax : ℕ) → (callback_service ax w).carry ≡ Set → (callback_service ax w).world ≡ w
+pub refused_world : (w : World) (ax : ℕ) → (callback_service ax w).carry ≡ Set → HasOtherAx w (callback_service ax w).world
 unfolding callback_service
 refused_world w ax e =
-    let f = callback_function ax w in refused_answer (first_reason f.reasons) w f.after e
+    let f = callback_function ax w in refused_by_family (first_reason f.reasons) w f.after e

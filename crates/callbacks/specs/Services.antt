@@ -12,8 +12,8 @@ use Rattle.client_world.specs.World.{World}
 use Rattle.guest_space.specs.VectorLists.{callback_of_slot}
 use Rattle.service_rows.specs.declared.refusal.Refusal.TheVariants.{CallbackUnavailable, InvalidCallback, InvalidSelector}
 use Rattle.service_rows.specs.FirstIndex.{first_index}
-use Rattle.service_rows.specs.Reasons.{Service, outcome}
-use Rattle.service_rows.specs.Rows.{is_code_selector, unsupported}
+use Rattle.service_rows.specs.Reasons.{Service, family_outcome, unsupported}
+use Rattle.service_rows.specs.Rows.{is_code_selector}
 
 -- the address in real mode of the callback of a slot: the segment of read-only memory, and there the trap byte of the slot
 abbrev pub callback_offset : ℕ → ℕ
@@ -72,4 +72,4 @@ callback_function ax w =
 
 -- the carry that INT 31h returns, and the world after it
 unfoldable pub callback_service : ℕ → World → Served
-callback_service ax w = outcome (callback_function ax w) w
+callback_service ax w = family_outcome (callback_function ax w) w

@@ -8,10 +8,10 @@ ghost use Rattle.callbacks.specs.Services.{callback_function, callback_service};
 use crate::services::{allocate_callback, free_callback};
 use client_world::Carry;
 use guest_space::Machine;
-use service_rows::Refusal;
+use service_rows::{Refusal, refuse};
 
 // What the function of that number does, or why it refuses.
-#[tactic(auto, unfolding(crate::specs::Services::callback_function, service_rows::specs::Rows::unsupported))]
+#[tactic(auto, unfolding(crate::specs::Services::callback_function, service_rows::specs::Reasons::unsupported))]
 fn ask(m: &mut Machine, ax: u16) -> Result<(), Refusal>
     requires { m.old.world.width ≢ None }
     ensures { Does (callback_function ax m.old.world) result m.old m.new }
@@ -28,11 +28,12 @@ fn ask(m: &mut Machine, ax: u16) -> Result<(), Refusal>
 pub fn serve(m: &mut Machine, ax: u16) -> Carry
     requires { m.old.world.mode ≡ protected }
     ensures served { record { carry = result; world = m.new.world } ≡ callback_service ax m.old.world }
-    ensures same { result ≡ refused → m.new ≡ m.old }
+    ensures bytes { result ≡ refused → m.new.bytes ≡ m.old.bytes }
 {
     m.soundness();
     match ask(m, ax) {
         Ok(()) => Carry::Clear,
-        Err(_) => Carry::Set,
+        Err(Refusal::Unsupported) => Carry::Set,
+        Err(refusal) => refuse(m, refusal),
     }
 }

@@ -7,6 +7,7 @@ ghost use Rattle.client_world.specs.World.{World};
 ghost use Rattle.callbacks.specs.Callbacks.{enter_callback, leave_callback};
 ghost use Rattle.callbacks.specs.HandOver.{HasEntered, HasLeft, IsCallbackPopped, IsCallbackPushed, LeftByService, LeftForProcedure, LeftForReal};
 ghost use Rattle.callbacks.specs.Services.{callback_service};
+ghost use Rattle.service_rows.specs.Reasons.{HasOtherAx};
 
 /// A callback, its return and the services on callbacks lead from a sound world to a sound one.
 pub fn every_callback_is_sound()
@@ -15,12 +16,12 @@ pub fn every_callback_is_sound()
     ensures leave { (w u : World) → IsSound w → leave_callback w ≡ Ok u → IsSound u }
 {}
 
-/// The services change the registers and the callbacks alone, and nothing where they are refused. A callback changes the mode, the registers,
+/// The services change the registers and the callbacks alone, and where they are refused AX alone. A callback changes the mode, the registers,
 /// the virtual interrupt flag, the descriptors, the records and the client's memory alone, and its return the mode, the registers, the virtual
 /// interrupt flag and the records.
 pub fn every_callback_keeps_the_rest()
     ensures serve { (w : World) (ax : ℕ) → LeftByService w (callback_service ax w).world }
-    ensures refused { (w : World) (ax : ℕ) → (callback_service ax w).carry ≡ set → (callback_service ax w).world ≡ w }
+    ensures refused { (w : World) (ax : ℕ) → (callback_service ax w).carry ≡ set → HasOtherAx w (callback_service ax w).world }
     ensures enter { (w u : World) (slot : ℕ) → enter_callback w slot ≡ Ok u → LeftForProcedure w u }
     ensures leave { (w u : World) → leave_callback w ≡ Ok u → LeftForReal w u }
 {}

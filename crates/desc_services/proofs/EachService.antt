@@ -1,8 +1,7 @@
 -- What is true of each service is true of the service of every function number.
 use Rattle.std.proofs.Common.{ℕ}
 use Rattle.client_world.specs.World.{World}
-use Rattle.service_rows.specs.Reasons.{Service}
-use Rattle.service_rows.specs.Rows.{unsupported}
+use Rattle.service_rows.specs.Reasons.{Service, unsupported}
 use Rattle.service_rows.proofs.AnswerLaws.{if_has}
 use Rattle.desc_services.specs.Rows.{allocate_descriptors, free_descriptor, segment_to_descriptor, selector_increment, get_segment_base, set_segment_base, set_segment_limit, set_access_rights, create_alias, get_descriptor, set_descriptor, allocate_specific, descriptor_function}
 

@@ -6,9 +6,8 @@ use Rattle.client_world.specs.World.{World}
 use Rattle.guest_space.specs.Transfer.{HasOtherMemory}
 use Rattle.guest_space.proofs.FarPuts.{other_far_put}
 use Rattle.service_rows.specs.FreeRun.{first_free_run}
-use Rattle.service_rows.specs.Reasons.{Service, first_reason}
+use Rattle.service_rows.specs.Reasons.{Service, first_reason, unsupported}
 use Rattle.desc_services.specs.Rows.{with_new_alias, descriptor_function, free_descriptor, get_segment_base, get_descriptor, with_new_run, allocate_descriptors, create_alias, allocate_specific, segment_to_descriptor, with_segment, segment_index, with_new_segment, descriptor_service, set_segment_base, set_segment_limit, set_descriptor, set_access_rights, selector_increment}
-use Rattle.service_rows.specs.Rows.{unsupported}
 use Rattle.service_rows.proofs.AnswerLaws.{of_answer}
 use Rattle.desc_services.proofs.EachService.{of_each_service}
 
@@ -59,4 +58,4 @@ kept_after ax w = of_each_service (λ (s : Service). Kept w s.after) w (record {
 
 pub kept_service : (ax : ℕ) (w : World) → Kept w (descriptor_service ax w).world
 unfolding descriptor_service
-kept_service ax w = of_answer (Kept w) (first_reason (descriptor_function ax w).reasons) w (descriptor_function ax w).after refl (λ none. kept_after ax w)
+kept_service ax w = of_answer (Kept w) (first_reason (descriptor_function ax w).reasons) w (descriptor_function ax w).after refl (λ n. refl) (λ none. kept_after ax w)

@@ -18,10 +18,10 @@ use Rattle.client_world.proofs.SoundWrites.{IsSound-regs}
 use Rattle.desc_table.specs.Unpacked.{kind_of}
 use Rattle.guest_space.specs.Far.{far_bytes}
 use Rattle.service_rows.specs.FreeRun.{first_free_run}
-use Rattle.service_rows.specs.Reasons.{Service, first_reason}
+use Rattle.service_rows.specs.Reasons.{Service, first_reason, unsupported}
 use Rattle.desc_services.specs.Rows.{with_new_alias, alias_of, descriptor_function, free_descriptor, fresh, get_segment_base, get_descriptor, is_freeable_origin, is_freeable_row, limited, with_new_run, allocate_descriptors, create_alias, allocate_specific, segment_to_descriptor, packed_of, redescribed, with_segment, segment_index, with_new_segment, descriptor_service, set_segment_base, set_segment_limit, set_descriptor, set_access_rights, selector_increment, with_base, with_desc, with_limit, with_rights, with_row, with_run}
-use Rattle.service_rows.specs.Rows.{data_at, unsupported, with_ax}
-use Rattle.service_rows.proofs.AnswerLaws.{no_reason, of_answer}
+use Rattle.service_rows.specs.Rows.{data_at, with_ax}
+use Rattle.service_rows.proofs.AnswerLaws.{no_reason, of_answer, sound_ax}
 use Rattle.guest_space.proofs.FarPuts.{sound_far_put}
 use Rattle.desc_services.proofs.EachService.{of_each_service}
 use Rattle.desc_services.proofs.FarBytes.{far_bytes_are_bytes, packed_bytes, unpacked_fits}
@@ -42,9 +42,6 @@ sound_general w a c d s = IsSound-regs w (record w.regs { eax = a; ecx = c; edx 
   fs = s.segments.fs;
   gs = s.segments.gs;
 })
-
-sound_ax : (w : World) (v : ℕ) → IsSound w → IsSound (with_ax v w)
-sound_ax w v s = sound_general w _ w.regs.ecx w.regs.edx s
 
 -- ---- a descriptor with other fields
 
@@ -202,4 +199,5 @@ sound_after ax w s width = of_each_service (λ (a : Service). first_reason a.rea
 pub sound_service : (ax : ℕ) (w : World) → IsSound w → w.mode ≡ Protected → IsSound (descriptor_service ax w).world
 unfolding descriptor_service
 sound_service ax w s protected =
-    of_answer IsSound (first_reason (descriptor_function ax w).reasons) w (descriptor_function ax w).after s (sound_after ax w s (protected_width w s protected))
+    of_answer IsSound (first_reason (descriptor_function ax w).reasons) w (descriptor_function ax w).after s (λ n. sound_ax w n s)
+    (sound_after ax w s (protected_width w s protected))

@@ -16,8 +16,8 @@ use Rattle.guest_space.specs.Far.{far_bytes, far_put}
 use Rattle.service_rows.specs.declared.refusal.Refusal.TheVariants.{InvalidSelector, InvalidValue, InvalidAddress, DescriptorUnavailable}
 use Rattle.service_rows.specs.FirstIndex.{first_index}
 use Rattle.service_rows.specs.FreeRun.{first_free_run}
-use Rattle.service_rows.specs.Reasons.{Service, outcome}
-use Rattle.service_rows.specs.Rows.{data_at, unsupported, with_ax}
+use Rattle.service_rows.specs.Reasons.{Service, family_outcome, unsupported}
+use Rattle.service_rows.specs.Rows.{data_at, with_ax}
 
 -- the world with another row at an index
 abbrev pub with_row : ℕ → Row → World → World
@@ -264,4 +264,4 @@ descriptor_function ax w =
 
 -- the carry that INT 31h returns, and the world after it
 unfoldable pub descriptor_service : ℕ → World → Served
-descriptor_service ax w = outcome (descriptor_function ax w) w
+descriptor_service ax w = family_outcome (descriptor_function ax w) w

@@ -14,10 +14,10 @@ use crate::segment::segment_to_descriptor;
 use crate::selector::{get_segment_base, set_segment_base};
 use client_world::Carry;
 use guest_space::Machine;
-use service_rows::Refusal;
+use service_rows::{Refusal, refuse};
 
 // What the function of that number does, or why it refuses.
-#[tactic(auto, unfolding(crate::specs::Rows::descriptor_function, service_rows::specs::Rows::unsupported))]
+#[tactic(auto, unfolding(crate::specs::Rows::descriptor_function, service_rows::specs::Reasons::unsupported))]
 fn ask(m: &mut Machine, ax: u16) -> Result<(), Refusal>
     requires { m.old.world.width ≢ None }
     ensures { Does (descriptor_function ax m.old.world) result m.old m.new }
@@ -44,11 +44,12 @@ fn ask(m: &mut Machine, ax: u16) -> Result<(), Refusal>
 pub fn serve(m: &mut Machine, ax: u16) -> Carry
     requires { m.old.world.mode ≡ protected }
     ensures served { record { carry = result; world = m.new.world } ≡ descriptor_service ax m.old.world }
-    ensures same { result ≡ refused → m.new ≡ m.old }
+    ensures bytes { result ≡ refused → m.new.bytes ≡ m.old.bytes }
 {
     m.soundness();
     match ask(m, ax) {
         Ok(()) => Carry::Clear,
-        Err(_) => Carry::Set,
+        Err(Refusal::Unsupported) => Carry::Set,
+        Err(refusal) => refuse(m, refusal),
     }
 }

@@ -1,5 +1,5 @@
 //! The services of INT 31h on descriptors, 0000h to 000Dh.
-//! It promises that each returns the carry and leaves the world of its definition, and that a refusal changes nothing.
+//! It promises that each returns the carry and leaves the world of its definition, and that a refusal changes AX alone.
 //! It uses `guest_space` and the packing of `desc_table`.
 #![tactic(auto)]
 

@@ -6,17 +6,11 @@ use Rattle.client_world.specs.declared.memory_map.TheConstants.{ARENA_END}
 use Rattle.client_world.specs.DosMemory.{is_free, is_dpmi, Fills, IsArena}
 use Rattle.guest_space.specs.Arena.{spliced, NoneMade}
 use Rattle.dos_blocks.specs.Blocks.{nowhere, entry_of_place, block_state, split, is_of_kind, free_behind, possible, free_before, room_before, joined}
+use Rattle.dos_blocks.specs.Puts.{CanPut}
 use Rattle.dos_blocks.proofs.Founds.{HasFit, HasBlock}
 use Rattle.dos_blocks.proofs.NeighbourLaws.{free_plain, used_plain, take_one, behind_within, behind_fills, behind_plain, behind_right, possible_ends, is_before}
 use Rattle.dos_blocks.proofs.Splicing.{joined_next, arena-spliced}
 use Rattle.dos_blocks.proofs.Splits.{fills-split, joined-split, some-split, starts-split, plain-split}
-
--- what `arena_put` asks of entries in place of others
-pub record CanPut (es : List DosEntry) (place old : ℕ) (new : List DosEntry) : Type 0 where
-  pub within : place + old ≤ length es
-  pub old_plain : NoneMade (take old (drop place es))
-  pub new_plain : NoneMade new
-  pub sound : IsArena (spliced es place old new)
 
 -- they leave an arena, whatever they are
 pub record CanSplice (es : List DosEntry) (place old : ℕ) (new : List DosEntry) : Type 0 where
@@ -145,8 +139,3 @@ pub record HasRoom (es : List DosEntry) (place : ℕ) : Type 0 where
 
 pub has_room : (es : List DosEntry) (place : ℕ) → IsArena es → place < length es → HasRoom es place
 has_room es place arena small = record { before = (is_before es place arena small).fits; behind = possible_ends es place arena small }
-
--- the same of what a call has read
-pub can_put : (es : List DosEntry) (place at old n : ℕ) (new put : List DosEntry) → CanPut es place old new → at ≡ place → n ≡ old → put ≡ new →
-    CanPut es at n put
-can_put es place at old n new put can at_is n_is put_is = rw (at_is, n_is, put_is) can

@@ -7,5 +7,7 @@ pub mod Splits
 pub mod SoundBlocks
 pub mod SelectorLaws
 pub mod RunPuts
+pub mod BlockRuns
+pub mod OneStep
 pub mod ServiceLaws
 pub mod NamedLaws

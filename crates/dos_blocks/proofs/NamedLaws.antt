@@ -19,11 +19,12 @@ use Rattle.guest_space.specs.DosRuns.{dos_row, with_dos_rows}
 use Rattle.guest_space.proofs.DosRows.{dos_row_has, row_inside, row_outside}
 use Rattle.service_rows.specs.FreeRun.{first_free_run}
 use Rattle.service_rows.proofs.RunLaws.{free_run_of}
-use Rattle.dos_blocks.specs.Blocks.{Done, nowhere, entry_of_place, first_fit, place_of_block, split, starts_at}
+use Rattle.dos_blocks.specs.Blocks.{Done, nowhere, entry_of_place, first_fit, is_of_segment, place_of_block, run_of_block, segment_of_row, split, starts_at}
 use Rattle.dos_blocks.specs.Named.{HasNewBlock, LosesDescriptors, NamesBlock}
-use Rattle.dos_blocks.specs.Services.{allocate_dos_block, first_of_segment, free_dos_block, freed_with_run, given_at, is_of_segment, place_of_segment, place_of_selector, run_of_block, segment_of_row, segment_of_selector}
+use Rattle.dos_blocks.specs.Services.{allocate_dos_block, first_of_segment, free_dos_block, place_of_segment, place_of_selector, segment_of_selector}
 use Rattle.dos_blocks.proofs.Founds.{HasFit, and_right, found_fit, number}
 use Rattle.dos_blocks.proofs.NeighbourLaws.{entry_within}
+use Rattle.dos_blocks.proofs.OneStep.{freed_is, freed_with_run, given_at, given_is}
 use Rattle.dos_blocks.proofs.RunPuts.{has_within, later_after, no_descriptor}
 use Rattle.dos_blocks.proofs.SelectorLaws.{row_is, row_tells, selector_block}
 
@@ -227,7 +228,8 @@ pub new_block : (w : World) → IsSound w → (allocate_dos_block w).answer ≡ 
 unfolding allocate_dos_block
 new_block w s e = elim (cases_eq (bx w) 0) [
   | inl none ↦ absurd (refused_done _ _ (ap (λ (d : Done (Unit {0})). d.answer) (cond-true _ _ _ (eq-eqb (bx w) 0 none))) e)
-  | inr some ↦ (let given = cond-false _ _ _ (ne_eqb (bx w) 0 some) in
+  | inr some ↦ (let given = cond-false _ _ _ (ne_eqb (bx w) 0 some)
+      ∙ given_is w (bx w) (first_fit w.arena (bx w) 0) (first_free_run w.descriptors (descriptors_for (bx w))) refl refl in
       subst (λ (d : Done (Unit {0})). HasNewBlock d.world (bx w)) (sym given)
       (new_given w (bx w) (first_fit w.arena (bx w) 0) (first_free_run w.descriptors (descriptors_for (bx w))) s some (omega arith) refl refl
       (ap (λ (d : Done (Unit {0})). d.answer) (sym given) ∙ e)))
@@ -237,7 +239,9 @@ new_block w s e = elim (cases_eq (bx w) 0) [
 
 pub freed_answer : (w : World) (place : ℕ) → IsSound w → NamesBlock w (dx w) place → (free_dos_block w).answer ≡ Ok tt
 unfolding free_dos_block
-freed_answer w place s named = ap (λ (o : Option ℕ). (freed_with_run (index_of (dx w)) o w).answer) (named_found w (dx w) place s named)
+freed_answer w place s named =
+    ap (λ (d : Done (Unit {0})). d.answer) (freed_is w (dx w) s)
+    ∙ ap (λ (o : Option ℕ). (freed_with_run (index_of (dx w)) o w).answer) (named_found w (dx w) place s named)
 
 no_row : (segment j : ℕ) → dos_row segment 0 j ≡ None
 unfolding dos_row
@@ -252,7 +256,8 @@ freed_rows : (w : World) (place : ℕ) → IsSound w → NamesBlock w (dx w) pla
 unfolding free_dos_block with_entries
 freed_rows w place s named =
     let entry = entry_of_place w.arena place in
-    ap (λ (o : Option ℕ). (freed_with_run (index_of (dx w)) o w).world.descriptors) (named_found w (dx w) place s named)
+    ap (λ (d : Done (Unit {0})). d.world.descriptors) (freed_is w (dx w) s)
+    ∙ ap (λ (o : Option ℕ). (freed_with_run (index_of (dx w)) o w).world.descriptors) (named_found w (dx w) place s named)
     ∙ ap (with_dos_rows w.descriptors (run_of_block entry (index_of (dx w)) entry.paras 0)) (freed_count entry.paras)
 
 loses : (w v : World) (place : ℕ) → IsSound w → NamesBlock w (dx w) place →

@@ -13,17 +13,16 @@ use Rattle.client_world.specs.declared.dos_memory.DosState.TheVariants.{Dpmi}
 use Rattle.client_world.specs.declared.memory_map.TheConstants.{ARENA_START, ARENA_END}
 use Rattle.client_world.specs.DosMemory.{Fills, is_dpmi, is_free, block_segment}
 use Rattle.client_world.specs.FreeRuns.{IsFreeRunOf}
-use Rattle.client_world.specs.Selector.{Row, index_of, row_at_index}
+use Rattle.client_world.specs.Selector.{Row, row_at_index}
 use Rattle.client_world.specs.Soundness.{IsSound, HasOrigin, descriptors_for}
 use Rattle.client_world.specs.World.{World}
 use Rattle.guest_space.specs.DosRuns.{CanPutRun, block_alone, made_blocks}
 use Rattle.guest_space.proofs.Fills.{fills_at}
-use Rattle.dos_blocks.specs.Blocks.{nowhere, entry_of_place, free_before, free_behind, joined, possible, split}
-use Rattle.dos_blocks.specs.Services.{run_of_block}
+use Rattle.dos_blocks.specs.Blocks.{nowhere, entry_of_place, free_before, free_behind, joined, possible, run_of_block, split}
 use Rattle.dos_blocks.proofs.CallLaws.{splice_give, splice_resize, splice_free}
 use Rattle.dos_blocks.proofs.Founds.{HasFit}
 use Rattle.dos_blocks.proofs.NeighbourLaws.{behind_made, free_plain, is_before, take_one}
-use Rattle.dos_blocks.proofs.SelectorLaws.{HasSelectorBlock}
+use Rattle.dos_blocks.proofs.SelectorLaws.{HasBlockRun}
 
 -- ---- where entries are
 
@@ -108,20 +107,20 @@ can_give_run w n place first s width some fit from run =
 -- ---- 0101h
 
 -- a block's descriptors are in the table
-run_within : (w : World) (sel place : ℕ) → IsSound w → HasSelectorBlock w sel place →
-    index_of sel + descriptors_for (entry_of_place w.arena place).paras + (descriptors_for 0 - descriptors_for (entry_of_place w.arena place).paras) ≤ DESCRIPTORS
-run_within w sel place s block =
+run_within : (w : World) (first place : ℕ) → IsSound w → HasBlockRun w first place →
+    first + descriptors_for (entry_of_place w.arena place).paras + (descriptors_for 0 - descriptors_for (entry_of_place w.arena place).paras) ≤ DESCRIPTORS
+run_within w first place s block =
     let some = block.some in
     let count = descriptors_for (entry_of_place w.arena place).paras in
-    let last = index_of sel + count - 1 in
+    let last = first + count - 1 in
     let size = s.descriptors.indices in
     let inside = has_within w.descriptors last (Dos (block_segment (entry_of_place w.arena place))) (block.run.have last (omega arith) (omega arith)) in
     omega arith
 
-pub can_free_run : (w : World) (sel place : ℕ) → IsSound w → w.width ≢ None → HasSelectorBlock w sel place →
+pub can_free_run : (w : World) (first place : ℕ) → IsSound w → w.width ≢ None → HasBlockRun w first place →
     CanPutRun w (place - free_before w.arena place) (free_before w.arena place + (1 + free_behind w.arena place)) (joined w.arena place ∷ [])
-    (run_of_block (entry_of_place w.arena place) (index_of sel) (entry_of_place w.arena place).paras 0)
-can_free_run w sel place s width block =
+    (run_of_block (entry_of_place w.arena place) first (entry_of_place w.arena place).paras 0)
+can_free_run w first place s width block =
     let can = splice_free w.arena place s.arena block.small in
     record {
       width = width;
@@ -132,17 +131,17 @@ can_free_run w sel place s width block =
       new_block = refl;
       from = block.from;
       old_run = block.run;
-      added = record { within = run_within w sel place s block; free = λ index from to. absurd (omega arith) };
+      added = record { within = run_within w first place s block; free = λ index from to. absurd (omega arith) };
     }
 
 -- ---- 0102h
 
-pub can_resize_run : (w : World) (n sel place : ℕ) → IsSound w → w.width ≢ None → HasSelectorBlock w sel place → n ≢ 0 → n ≤ possible w.arena place →
-    IsFreeRunOf w.descriptors (index_of sel + descriptors_for (entry_of_place w.arena place).paras)
+pub can_resize_run : (w : World) (n first place : ℕ) → IsSound w → w.width ≢ None → HasBlockRun w first place → n ≢ 0 → n ≤ possible w.arena place →
+    IsFreeRunOf w.descriptors (first + descriptors_for (entry_of_place w.arena place).paras)
     (descriptors_for n - descriptors_for (entry_of_place w.arena place).paras) →
     CanPutRun w place (1 + free_behind w.arena place) (split Dpmi (entry_of_place w.arena place).at n (possible w.arena place))
-    (run_of_block (entry_of_place w.arena place) (index_of sel) (entry_of_place w.arena place).paras n)
-can_resize_run w n sel place s width block some room added =
+    (run_of_block (entry_of_place w.arena place) first (entry_of_place w.arena place).paras n)
+can_resize_run w n first place s width block some room added =
     let can = splice_resize w.arena true n place s.arena block.small room in
     record {
       width = width;
@@ -154,8 +153,3 @@ can_resize_run w n sel place s width block some room added =
       old_run = block.run;
       added = added;
     }
-
--- the same of what a call has read
-pub can_put_run : (w : World) (place at old n : ℕ) (new put : List DosEntry) (run given : DosRun) → CanPutRun w place old new run → at ≡ place → n ≡ old →
-    put ≡ new → given ≡ run → CanPutRun w at n put given
-can_put_run w place at old n new put run given can at_is n_is put_is run_is = rw (at_is, n_is, put_is, run_is) can

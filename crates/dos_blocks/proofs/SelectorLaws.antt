@@ -11,8 +11,8 @@ use Rattle.client_world.specs.Selector.{Row, index_of, is_local, row_at_index}
 use Rattle.client_world.specs.Soundness.{IsSound, HasOrigin, HasRun, IsRunOf, descriptors_for}
 use Rattle.client_world.specs.World.{World}
 use Rattle.service_rows.specs.FreeRun.{are_free, is_free_run}
-use Rattle.dos_blocks.specs.Blocks.{nowhere, entry_of_place}
-use Rattle.dos_blocks.specs.Services.{first_of_segment, is_of_segment, place_of_segment, place_of_selector, segment_of_origin, segment_of_row, segment_of_selector}
+use Rattle.dos_blocks.specs.Blocks.{nowhere, entry_of_place, is_of_segment, segment_of_origin, segment_of_row}
+use Rattle.dos_blocks.specs.Services.{first_of_segment, place_of_segment, place_of_selector, segment_of_selector}
 use Rattle.dos_blocks.proofs.Founds.{HasBlock, found_block, number}
 
 -- ---- the origin of a row
@@ -73,15 +73,16 @@ run_begins rows segment index first n is run =
 
 -- ---- the block of a selector
 
-pub record HasSelectorBlock (w : World) (sel place : ℕ) : Type 0 where
+-- the descriptors of the block at a place begin at an index
+pub record HasBlockRun (w : World) (first place : ℕ) : Type 0 where
   pub small : place < length w.arena
   pub made : is_dpmi (entry_of_place w.arena place).state ≡ true
-  pub from : FIRST_FREE_DESCRIPTOR ≤ index_of sel
-  pub run : IsRunOf w.descriptors (Dos (block_segment (entry_of_place w.arena place))) (index_of sel) (descriptors_for (entry_of_place w.arena place).paras)
+  pub from : FIRST_FREE_DESCRIPTOR ≤ first
+  pub run : IsRunOf w.descriptors (Dos (block_segment (entry_of_place w.arena place))) first (descriptors_for (entry_of_place w.arena place).paras)
   pub some : 0 < (entry_of_place w.arena place).paras
 
-block_of_segment : (w : World) (sel place segment : ℕ) → IsSound w → segment_of_selector w.descriptors sel ≡ Some segment → HasBlock true w.arena segment place →
-    HasSelectorBlock w sel place
+pub block_of_segment : (w : World) (sel place segment : ℕ) → IsSound w → segment_of_selector w.descriptors sel ≡ Some segment → HasBlock true w.arena segment place →
+    HasBlockRun w (index_of sel) place
 block_of_segment w sel place segment s found block =
     let entry = entry_of_place w.arena place in
     let h : HasRun w.descriptors entry = s.runs.runs place entry (slice_get-get_or w.arena place nowhere block.small) block.kind in
@@ -97,11 +98,11 @@ block_of_segment w sel place segment s found block =
     }
 
 selector_block_of : (w : World) (sel place : ℕ) (o : Option ℕ) → IsSound w → segment_of_selector w.descriptors sel ≡ o → place_of_segment w.arena o ≡ Some place →
-    HasSelectorBlock w sel place
+    HasBlockRun w (index_of sel) place
 selector_block_of w sel place None s found e = absurd (none-some place e)
 selector_block_of w sel place (Some segment) s found e = block_of_segment w sel place segment s found (found_block true w.arena segment place (sym e))
 
-pub selector_block : (w : World) (sel place : ℕ) → IsSound w → Some place ≡ place_of_selector w sel → HasSelectorBlock w sel place
+pub selector_block : (w : World) (sel place : ℕ) → IsSound w → Some place ≡ place_of_selector w sel → HasBlockRun w (index_of sel) place
 unfolding place_of_selector
 selector_block w sel place s e = selector_block_of w sel place (segment_of_selector w.descriptors sel) s refl (sym e)
 

@@ -1,5 +1,5 @@
 -- Every service on DOS memory leads from a sound world to a sound one, and changes registers, the megabyte, the arena and descriptors alone.
-use Rattle.std.proofs.Common.{◌≡◌, ◌≢◌, ℕ, ◌<◌, Bool, true, false, nat_eq, nat_le, nat_lt, if◌then◌else◌, inl, inr, List, length, refl, ap, sym, arith, Option, Some, None, Result, Ok, Err}
+use Rattle.std.proofs.Common.{◌≡◌, ◌≢◌, ℕ, ◌<◌, Bool, true, false, nat_eq, nat_le, nat_lt, if◌then◌else◌, inl, inr, List, length, refl, ap, sym, subst, arith, Option, Some, None, Result, Ok, Err}
 use Rattle.std.proofs.lemmas.Bool.{cases_eq, and_parts, eq-eqb, ne_eqb, leb-true, ltb-true}
 use Rattle.client_world.specs.declared.dos_memory.DosEntry.{DosEntry}
 use Rattle.client_world.specs.declared.dos_memory.DosRefusal.{DosRefusal}
@@ -17,11 +17,12 @@ use Rattle.guest_space.proofs.DosRunsSound.{IsSound-run}
 use Rattle.service_rows.specs.FreeRun.{first_free_run}
 use Rattle.service_rows.proofs.RunLaws.{free_run_of, run_of_test}
 use Rattle.service_rows.proofs.WidthLaws.{protected_width}
-use Rattle.dos_blocks.specs.Blocks.{Done, entry_of_place, first_fit, possible}
-use Rattle.dos_blocks.specs.Services.{allocate_dos_block, reported, can_have, dos_service, free_dos_block, freed_with_run, given_at, place_of_selector, resize_dos_block, resized_with_run, run_of_block, with_refusal}
+use Rattle.dos_blocks.specs.Blocks.{Done, entry_of_place, first_fit, freed, freed_at, place_of_block, possible, resized, resized_at, run_of_block}
+use Rattle.dos_blocks.specs.Services.{allocate_dos_block, reported, can_have, dos_service, free_dos_block, freed_named, given_from, place_of_selector, resize_dos_block, resized_from, resized_named, segment_of_selector, with_refusal}
 use Rattle.dos_blocks.proofs.Founds.{found_fit}
 use Rattle.dos_blocks.proofs.NeighbourLaws.{entry_within}
 use Rattle.dos_blocks.proofs.RunPuts.{can_free_run, can_give_run, can_resize_run}
+use Rattle.dos_blocks.proofs.OneStep.{freed_is, freed_with_run, given_at, given_is, resized_is, resized_with_run}
 use Rattle.dos_blocks.proofs.SelectorLaws.{selector_block}
 
 -- ---- choices
@@ -88,7 +89,9 @@ unfolding allocate_dos_block
 sound_allocate w s width = elim (cases_eq (bx w) 0) [
   | inl none ↦ rw (eq-eqb (bx w) 0 none) s
   | inr some ↦ rw (ne_eqb (bx w) 0 some)
-      (sound_given w (bx w) (first_fit w.arena (bx w) 0) (first_free_run w.descriptors (descriptors_for (bx w))) s width some (omega arith) refl refl)
+      (subst (λ (d : Done (Unit {0})). IsSound d.world)
+      (sym (given_is w (bx w) (first_fit w.arena (bx w) 0) (first_free_run w.descriptors (descriptors_for (bx w))) refl refl))
+      (sound_given w (bx w) (first_fit w.arena (bx w) 0) (first_free_run w.descriptors (descriptors_for (bx w))) s width some (omega arith) refl refl))
 ]
 
 sound_freed : (w : World) (sel : ℕ) (o : Option ℕ) → IsSound w → w.width ≢ None → place_of_selector w sel ≡ o →
@@ -96,11 +99,11 @@ sound_freed : (w : World) (sel : ℕ) (o : Option ℕ) → IsSound w → w.width
 sound_freed w sel None s width e = s
 sound_freed w sel (Some place) s width e =
     let block = selector_block w sel place s (sym e) in
-    sound_put w place _ _ (index_of sel) _ 0 _ s block.small (omega arith) (can_free_run w sel place s width block)
+    sound_put w place _ _ (index_of sel) _ 0 _ s block.small (omega arith) (can_free_run w (index_of sel) place s width block)
 
 sound_free : (w : World) → IsSound w → w.width ≢ None → IsSound (free_dos_block w).world
 unfolding free_dos_block
-sound_free w s width = sound_freed w (dx w) (place_of_selector w (dx w)) s width refl
+sound_free w s width = subst (λ (d : Done (Unit {0})). IsSound d.world) (sym (freed_is w (dx w) s)) (sound_freed w (dx w) (place_of_selector w (dx w)) s width refl)
 
 sound_resized : (w : World) (n sel : ℕ) (o : Option ℕ) → IsSound w → w.width ≢ None → n < 0x10000 → place_of_selector w sel ≡ o →
     IsSound (resized_with_run n (index_of sel) o w).world
@@ -112,13 +115,15 @@ sound_resized w n sel (Some place) s width small e =
     let rest = and_parts (nat_le n (possible w.arena place)) _ parts.1 in
     let some = ltb-true 0 n parts.0 in
     sound_put w place place _ (index_of sel) _ n _ s block.small small
-    (can_resize_run w n sel place s width block (λ none. omega arith) (leb-true n (possible w.arena place) rest.0)
+    (can_resize_run w n (index_of sel) place s width block (λ none. omega arith) (leb-true n (possible w.arena place) rest.0)
     (run_of_test w.descriptors _ _ rest.1))))
     (λ left. s)
 
 sound_resize : (w : World) → IsSound w → w.width ≢ None → IsSound (resize_dos_block w).world
 unfolding resize_dos_block
-sound_resize w s width = sound_resized w (bx w) (dx w) (place_of_selector w (dx w)) s width (omega arith) refl
+sound_resize w s width =
+    subst (λ (d : Done (Unit {0})). IsSound d.world) (sym (resized_is w (bx w) (dx w) s))
+    (sound_resized w (bx w) (dx w) (place_of_selector w (dx w)) s width (omega arith) refl)
 
 pub sound_service : (ax : ℕ) (w : World) → IsSound w → w.mode ≡ Protected → IsSound (dos_service ax w).world
 sound_service ax w s protected =
@@ -151,24 +156,42 @@ kept_given w n (Some place) (Some first) = refl
 kept_allocate : (w : World) → Kept w (allocate_dos_block w).world
 unfolding allocate_dos_block
 kept_allocate w = of_choice (λ (d : Done (Unit {0})). Kept w d.world) (nat_eq (bx w) 0) _ _ (λ none. refl)
-    (λ some. kept_given w (bx w) (first_fit w.arena (bx w) 0) (first_free_run w.descriptors (descriptors_for (bx w))))
+    (λ some. subst (λ (d : Done (Unit {0})). Kept w d.world)
+    (sym (given_is w (bx w) (first_fit w.arena (bx w) 0) (first_free_run w.descriptors (descriptors_for (bx w))) refl refl))
+    (kept_given w (bx w) (first_fit w.arena (bx w) 0) (first_free_run w.descriptors (descriptors_for (bx w)))))
 
-kept_freed : (w : World) (first : ℕ) (o : Option ℕ) → Kept w (freed_with_run first o w).world
-kept_freed w first None = refl
-kept_freed w first (Some place) = kept_put w _ _ _ _
+kept_freed : (w : World) (segment : ℕ) (o : Option ℕ) → Kept w (freed_at w true segment o).world
+kept_freed w segment None = refl
+kept_freed w segment (Some place) = kept_put w _ _ _ _
+
+kept_freed_named : (w : World) (o : Option ℕ) → Kept w (freed_named o w).world
+unfolding freed
+kept_freed_named w None = refl
+kept_freed_named w (Some segment) = kept_freed w segment (place_of_block true w.arena segment 0)
 
 kept_free : (w : World) → Kept w (free_dos_block w).world
 unfolding free_dos_block
-kept_free w = kept_freed w (index_of (dx w)) (place_of_selector w (dx w))
+kept_free w = kept_freed_named w (segment_of_selector w.descriptors (dx w))
 
-kept_resized : (w : World) (n first : ℕ) (o : Option ℕ) → Kept w (resized_with_run n first o w).world
-kept_resized w n first None = refl
-kept_resized w n first (Some place) =
-    of_choice (λ (d : Done (Unit {0})). Kept w d.world) (can_have w n first place) _ _ (λ can. kept_put w _ _ _ _) (λ left. refl)
+kept_resized_at : (w : World) (segment n : ℕ) (o : Option ℕ) → Kept w (resized_at w true segment n o).world
+kept_resized_at w segment n None = refl
+kept_resized_at w segment n (Some place) =
+    of_choice (λ (d : Done (Unit {0})). Kept w d.world) (nat_le n (possible w.arena place)) _ _ (λ can. kept_put w _ _ _ _) (λ left. refl)
+
+kept_resized : (w : World) (n first segment : ℕ) (o : Option ℕ) → Kept w (resized_named n first segment o w).world
+unfolding resized
+kept_resized w n first segment None = refl
+kept_resized w n first segment (Some place) =
+    of_choice (λ (d : Done (Unit {0})). Kept w d.world) (can_have w n first place) _ _
+    (λ can. kept_resized_at w segment n (place_of_block true w.arena segment 0)) (λ left. refl)
+
+kept_resized_from : (w : World) (n first : ℕ) (o : Option ℕ) → Kept w (resized_from n first o w).world
+kept_resized_from w n first None = refl
+kept_resized_from w n first (Some segment) = kept_resized w n first segment (place_of_block true w.arena segment 0)
 
 kept_resize : (w : World) → Kept w (resize_dos_block w).world
 unfolding resize_dos_block
-kept_resize w = kept_resized w (bx w) (index_of (dx w)) (place_of_selector w (dx w))
+kept_resize w = kept_resized_from w (bx w) (index_of (dx w)) (segment_of_selector w.descriptors (dx w))
 
 pub kept_service : (ax : ℕ) (w : World) → Kept w (dos_service ax w).world
 kept_service ax w = of_each_service (Kept w) ax w refl (kept_reported w (allocate_dos_block w) (kept_allocate w)) (kept_reported w (free_dos_block w) (kept_free w))

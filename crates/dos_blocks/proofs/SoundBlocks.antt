@@ -8,7 +8,8 @@ use Rattle.client_world.specs.World.{World}
 use Rattle.guest_space.specs.Arena.{with_entries}
 use Rattle.guest_space.proofs.ArenaWrites.{IsSound-entries}
 use Rattle.dos_blocks.specs.Blocks.{Done, first_fit, place_of_block, entry_of_place, block_state, split, free_behind, possible, allocated_at, allocated, resized_at, resized, freed_at, freed}
-use Rattle.dos_blocks.proofs.CallLaws.{CanPut, can_give, can_resize, can_free}
+use Rattle.dos_blocks.specs.Puts.{CanPut}
+use Rattle.dos_blocks.proofs.CallLaws.{can_give, can_resize, can_free}
 use Rattle.dos_blocks.proofs.Founds.{found_fit, found_block}
 
 sound_put : (w : World) (place old : ℕ) (new : List DosEntry) → IsSound w → CanPut w.arena place old new → IsSound (with_entries w place old new)
@@ -31,7 +32,7 @@ sound_if : (c : Bool) (one other : Done (Unit {0})) → (c ≡ true → IsSound 
 sound_if true one other s t = s refl
 sound_if false one other s t = t
 
-sound_where_found : (w : World) (segment n : ℕ) (o : Option ℕ) → place_of_block false w.arena segment 0 ≡ o → IsSound w → IsSound (resized_at w false n o).world
+sound_where_found : (w : World) (segment n : ℕ) (o : Option ℕ) → place_of_block false w.arena segment 0 ≡ o → IsSound w → IsSound (resized_at w false segment n o).world
 sound_where_found w segment n None e s = s
 sound_where_found w segment n (Some place) e s =
     let es = w.arena in
@@ -47,7 +48,7 @@ sound_resized w segment n s = sound_where_found w segment n (place_of_block fals
 
 -- freed
 
-sound_where_freed : (w : World) (segment : ℕ) (o : Option ℕ) → place_of_block false w.arena segment 0 ≡ o → IsSound w → IsSound (freed_at w o).world
+sound_where_freed : (w : World) (segment : ℕ) (o : Option ℕ) → place_of_block false w.arena segment 0 ≡ o → IsSound w → IsSound (freed_at w false segment o).world
 sound_where_freed w segment None e s = s
 sound_where_freed w segment (Some place) e s =
     sound_put w _ _ _ s (can_free w.arena false segment place refl s.arena (found_block false w.arena segment place (sym e)))

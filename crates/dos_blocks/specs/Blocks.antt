@@ -1,16 +1,26 @@
--- Blocks of DOS memory: which is given, resized or freed, and what becomes of the arena.
+-- Blocks of DOS memory: which is given, resized or freed, and what becomes of the arena. A block of INT 31h function 0100h has descriptors, which
+-- are made, changed and freed with it.
 -- Source: MS-DOS functions 48h, 49h and 4Ah; the first fit, that neighbouring free entries are always joined, and that a refusal changes nothing are own.
-use Rattle.std.specs.Prelude.{ℕ, ◌+◌, ◌-◌, Bool, true, false, ◌&&◌, nat_eq, nat_le, max, if◌then◌else◌, List, [], ◌∷◌, Some, None, Ok, Err, slice_index_or}
+use Rattle.std.specs.Prelude.{ℕ, ◌≡◌, ◌≢◌, ◌≤◌, ◌+◌, ◌-◌, Bool, true, false, ◌&&◌, nat_eq, nat_le, max, if◌then◌else◌, List, [], ◌∷◌, Some, None, Ok, Err, slice_index_or}
 use Rattle.std.specs.declared.option.Option.{Option}
 use Rattle.std.specs.declared.result.Result.{Result}
+use Rattle.client_world.specs.declared.descriptors.Origin.{Origin}
+use Rattle.client_world.specs.declared.descriptors.Origin.TheVariants.{Own, Low, Entry, Psp, Segment, Dos, Host}
 use Rattle.client_world.specs.declared.dos_memory.DosEntry.{DosEntry}
 use Rattle.client_world.specs.declared.dos_memory.DosRefusal.{DosRefusal}
 use Rattle.client_world.specs.declared.dos_memory.DosRefusal.TheVariants.{NoMemory, WrongBlock}
+use Rattle.client_world.specs.declared.dos_memory.DosRun.{DosRun}
 use Rattle.client_world.specs.declared.dos_memory.DosState.{DosState}
 use Rattle.client_world.specs.declared.dos_memory.DosState.TheVariants.{Free, Used, Dpmi}
+use Rattle.client_world.specs.declared.host_frames.TheConstants.{DESCRIPTORS}
 use Rattle.client_world.specs.DosMemory.{is_free, is_dpmi, block_segment}
+use Rattle.client_world.specs.Selector.{Row, row_at_index}
+use Rattle.client_world.specs.Soundness.{descriptors_for}
 use Rattle.client_world.specs.World.{World}
 use Rattle.guest_space.specs.Arena.{with_entries}
+use Rattle.guest_space.specs.DosRuns.{with_entries_and_run}
+use Rattle.service_rows.specs.FirstIndex.{first_index}
+use Rattle.service_rows.specs.FreeRun.{first_free_run, is_free_run}
 
 -- what a call returns, and the world after it
 pub record Done (A : Type 0) : Type 0 where
@@ -27,6 +37,53 @@ entry_of_place entries place = slice_index_or entries place nowhere
 -- the state of a block that a DOS call makes, or INT 31h function 0100h
 abbrev pub block_state : Bool → DosState
 block_state for_dpmi = if for_dpmi then Dpmi else Used
+
+-- ---- the descriptors of a block of function 0100h
+
+-- the run of the block at a place, and of as many paragraphs before and after
+abbrev pub run_of_block : DosEntry → ℕ → ℕ → ℕ → DosRun
+run_of_block entry first before after = record { seg = block_segment entry; first = first; before = before; after = after }
+
+-- the world with other entries in place of some, and for a block of function 0100h with its run of descriptors
+abbrev pub with_block : Bool → World → ℕ → ℕ → List DosEntry → DosRun → World
+with_block false w place old new run = with_entries w place old new
+with_block true w place old new run = with_entries_and_run w place old new run
+
+abbrev pub index_or_zero : Option ℕ → ℕ
+index_or_zero None = 0
+index_or_zero (Some index) = index
+
+-- the first descriptor of a block of n paragraphs that is made; a block of a DOS call has none
+abbrev pub new_descriptor : Bool → List Row → ℕ → ℕ
+new_descriptor false rows n = 0
+new_descriptor true rows n = index_or_zero (first_free_run rows (descriptors_for n))
+
+-- the segment of the block to which a descriptor belongs
+abbrev pub segment_of_origin : Origin → Option ℕ
+segment_of_origin Own = None
+segment_of_origin Low = None
+segment_of_origin Entry = None
+segment_of_origin Psp = None
+segment_of_origin (Segment segment) = None
+segment_of_origin (Dos segment) = Some segment
+segment_of_origin Host = None
+
+abbrev pub segment_of_row : Row → Option ℕ
+segment_of_row None = None
+segment_of_row (Some row) = segment_of_origin row.1
+
+-- it is that segment
+abbrev pub is_of_segment : Option ℕ → ℕ → Bool
+is_of_segment None segment = false
+is_of_segment (Some own) segment = nat_eq own segment
+
+-- the first descriptor of the block at a segment, where it has one
+unfoldable pub descriptor_of_block : List Row → ℕ → Option ℕ
+descriptor_of_block rows segment = first_index (λ index. is_of_segment (segment_of_row (row_at_index rows index)) segment) 0 DESCRIPTORS
+
+abbrev pub first_descriptor : Bool → List Row → ℕ → ℕ
+first_descriptor false rows segment = 0
+first_descriptor true rows segment = index_or_zero (descriptor_of_block rows segment)
 
 -- ---- giving
 
@@ -58,8 +115,9 @@ abbrev pub allocated_at : World → Bool → ℕ → Option ℕ → Done ℕ
 allocated_at w for_dpmi n None = record { answer = Err (NoMemory (largest w.arena)); world = w }
 allocated_at w for_dpmi n (Some place) = record {
   answer = Ok (block_segment (entry_of_place w.arena place));
-  world = with_entries w place 1
-      (split (block_state for_dpmi) (entry_of_place w.arena place).at n (entry_of_place w.arena place).paras);
+  world = with_block for_dpmi w place 1
+      (split (block_state for_dpmi) (entry_of_place w.arena place).at n (entry_of_place w.arena place).paras)
+      (run_of_block (entry_of_place w.arena place) (new_descriptor for_dpmi w.descriptors n) 0 n);
 }
 
 -- n paragraphs are given: the first entry that fits, and the segment of its block is returned
@@ -101,19 +159,25 @@ possible entries place = (entry_of_place entries place).paras + room_behind entr
 
 -- ---- resizing
 
-abbrev pub resized_at : World → Bool → ℕ → Option ℕ → Done (Unit {0})
-resized_at w for_dpmi n None = record { answer = Err WrongBlock; world = w }
-resized_at w for_dpmi n (Some place) =
+-- the descriptors that a run adds are free
+abbrev pub has_room_to_grow : List Row → DosRun → Bool
+has_room_to_grow rows run =
+    is_free_run rows (run.first + descriptors_for run.before) (descriptors_for run.after - descriptors_for run.before)
+
+abbrev pub resized_at : World → Bool → ℕ → ℕ → Option ℕ → Done (Unit {0})
+resized_at w for_dpmi segment n None = record { answer = Err WrongBlock; world = w }
+resized_at w for_dpmi segment n (Some place) =
     if nat_le n (possible w.arena place) then record {
       answer = Ok tt;
-      world = with_entries w place (1 + free_behind w.arena place)
-          (split (block_state for_dpmi) (entry_of_place w.arena place).at n (possible w.arena place));
+      world = with_block for_dpmi w place (1 + free_behind w.arena place)
+          (split (block_state for_dpmi) (entry_of_place w.arena place).at n (possible w.arena place))
+          (run_of_block (entry_of_place w.arena place) (first_descriptor for_dpmi w.descriptors segment) (entry_of_place w.arena place).paras n);
     }
     else record { answer = Err (NoMemory (possible w.arena place)); world = w }
 
 -- the block gets n paragraphs where it is. This writes the headers also where it has as many already
 unfoldable pub resized : World → Bool → ℕ → ℕ → Done (Unit {0})
-resized w for_dpmi segment n = resized_at w for_dpmi n (place_of_block for_dpmi w.arena segment 0)
+resized w for_dpmi segment n = resized_at w for_dpmi segment n (place_of_block for_dpmi w.arena segment 0)
 
 -- ---- freeing
 
@@ -133,14 +197,31 @@ joined entries place = record {
   state = Free;
 }
 
-abbrev pub freed_at : World → Option ℕ → Done (Unit {0})
-freed_at w None = record { answer = Err WrongBlock; world = w }
-freed_at w (Some place) = record {
+abbrev pub freed_at : World → Bool → ℕ → Option ℕ → Done (Unit {0})
+freed_at w for_dpmi segment None = record { answer = Err WrongBlock; world = w }
+freed_at w for_dpmi segment (Some place) = record {
   answer = Ok tt;
-  world = with_entries w (place - free_before w.arena place)
-      (free_before w.arena place + (1 + free_behind w.arena place)) (joined w.arena place ∷ []);
+  world = with_block for_dpmi w (place - free_before w.arena place)
+      (free_before w.arena place + (1 + free_behind w.arena place)) (joined w.arena place ∷ [])
+      (run_of_block (entry_of_place w.arena place) (first_descriptor for_dpmi w.descriptors segment) (entry_of_place w.arena place).paras 0);
 }
 
 -- the block becomes free
 unfoldable pub freed : World → Bool → ℕ → Done (Unit {0})
-freed w for_dpmi segment = freed_at w (place_of_block for_dpmi w.arena segment 0)
+freed w for_dpmi segment = freed_at w for_dpmi segment (place_of_block for_dpmi w.arena segment 0)
+
+-- ---- what the calls ask of a block of function 0100h
+
+-- there is a width, the size isn't 0, and where an entry has room there is a run of descriptors
+pub record CanAllocate (w : World) (n : ℕ) : Type 0 where
+  pub width : w.width ≢ None
+  pub some : n ≢ 0
+  pub free : first_fit w.arena n 0 ≢ None → first_free_run w.descriptors (descriptors_for n) ≢ None
+
+-- there is a width, the size isn't 0, and where the block can have it the descriptors that are added are free
+pub record CanResize (w : World) (segment n : ℕ) : Type 0 where
+  pub width : w.width ≢ None
+  pub some : n ≢ 0
+  pub free : (place : ℕ) → place_of_block true w.arena segment 0 ≡ Some place → n ≤ possible w.arena place →
+      has_room_to_grow w.descriptors (run_of_block (entry_of_place w.arena place) (first_descriptor true w.descriptors segment) (entry_of_place w.arena place).paras n)
+      ≡ true

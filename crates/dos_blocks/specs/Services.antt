@@ -3,24 +3,18 @@
 -- block, and what BX reports where descriptors are missing, is own.
 use Rattle.std.specs.Prelude.{ℕ, ◌+◌, ◌-◌, Bool, true, false, ◌&&◌, [], ◌∷◌, None, Some, Ok, Err, nat_eq, nat_le, nat_lt, if◌then◌else◌, List}
 use Rattle.std.specs.declared.option.Option.{Option}
-use Rattle.client_world.specs.declared.descriptors.Origin.{Origin}
-use Rattle.client_world.specs.declared.descriptors.Origin.TheVariants.{Own, Low, Entry, Psp, Segment, Dos, Host}
 use Rattle.client_world.specs.declared.dos_memory.DosEntry.{DosEntry}
 use Rattle.client_world.specs.declared.dos_memory.DosRefusal.{DosRefusal}
 use Rattle.client_world.specs.declared.dos_memory.DosRefusal.TheVariants.{NoMemory, WrongBlock}
-use Rattle.client_world.specs.declared.dos_memory.DosRun.{DosRun}
-use Rattle.client_world.specs.declared.dos_memory.DosState.TheVariants.{Dpmi}
 use Rattle.client_world.specs.declared.services.Carry.TheVariants.{Clear, Set}
-use Rattle.client_world.specs.DosMemory.{block_segment}
 use Rattle.client_world.specs.Registers.{with_low_half}
 use Rattle.client_world.specs.Selector.{Row, index_of, is_local, row_at_index, selector_of}
 use Rattle.client_world.specs.Services.{Served, bx, dx}
 use Rattle.client_world.specs.Soundness.{descriptors_for}
 use Rattle.client_world.specs.World.{World}
-use Rattle.guest_space.specs.DosRuns.{with_entries_and_run}
 use Rattle.service_rows.specs.Rows.{with_ax}
-use Rattle.service_rows.specs.FreeRun.{first_free_run, is_free_run}
-use Rattle.dos_blocks.specs.Blocks.{Done, entry_of_place, first_fit, free_before, free_behind, joined, largest, place_of_block, possible, split}
+use Rattle.service_rows.specs.FreeRun.{first_free_run}
+use Rattle.dos_blocks.specs.Blocks.{Done, allocated, entry_of_place, freed, has_room_to_grow, is_of_segment, largest, place_of_block, possible, resized, run_of_block, segment_of_row}
 
 abbrev pub with_bx : ℕ → World → World
 with_bx v w = record w { regs = record w.regs { ebx = with_low_half w.regs.ebx v } }
@@ -30,47 +24,24 @@ with_dx v w = record w { regs = record w.regs { edx = with_low_half w.regs.edx v
 
 -- ---- 0100h
 
--- the run of the block at a place, and of as many paragraphs before and after
-abbrev pub run_of_block : DosEntry → ℕ → ℕ → ℕ → DosRun
-run_of_block entry first before after = record { seg = block_segment entry; first = first; before = before; after = after }
+-- the block that the call made, with its segment in AX and the selector of its first descriptor in DX
+abbrev pub with_selector : ℕ → Done ℕ → Done (Unit {0})
+with_selector first done = elim done.answer [
+  | Ok segment ↦ record { answer = Ok tt; world = with_dx (selector_of first) (with_ax segment done.world) }
+  | Err refusal ↦ record { answer = Err refusal; world = done.world }
+]
 
--- a block at a place, and its descriptors from an index on
-abbrev pub given_at : ℕ → Option ℕ → Option ℕ → World → Done (Unit {0})
-given_at n None first w = record { answer = Err (NoMemory (largest w.arena)); world = w }
-given_at n (Some place) None w = record { answer = Err (NoMemory (largest w.arena)); world = w }
-given_at n (Some place) (Some first) w = record {
-  answer = Ok tt;
-  world = with_dx (selector_of first) (with_ax (block_segment (entry_of_place w.arena place))
-      (with_entries_and_run w place 1 (split Dpmi (entry_of_place w.arena place).at n (entry_of_place w.arena place).paras)
-      (run_of_block (entry_of_place w.arena place) first 0 n)));
-}
+abbrev pub given_from : ℕ → Option ℕ → World → Done (Unit {0})
+given_from n None w = record { answer = Err (NoMemory (largest w.arena)); world = w }
+given_from n (Some first) w = with_selector first (allocated w true n)
 
 -- 0100h (allocate DOS memory block): a block of BX paragraphs; AX is its segment, and DX the first of its descriptors' selectors
 unfoldable pub allocate_dos_block : World → Done (Unit {0})
 allocate_dos_block w =
     if nat_eq (bx w) 0 then record { answer = Err (NoMemory (largest w.arena)); world = w } else
-    given_at (bx w) (first_fit w.arena (bx w) 0) (first_free_run w.descriptors (descriptors_for (bx w))) w
+    given_from (bx w) (first_free_run w.descriptors (descriptors_for (bx w))) w
 
 -- ---- the block of a selector
-
--- the segment of the block to which a descriptor belongs
-abbrev pub segment_of_origin : Origin → Option ℕ
-segment_of_origin Own = None
-segment_of_origin Low = None
-segment_of_origin Entry = None
-segment_of_origin Psp = None
-segment_of_origin (Segment segment) = None
-segment_of_origin (Dos segment) = Some segment
-segment_of_origin Host = None
-
-abbrev pub segment_of_row : Row → Option ℕ
-segment_of_row None = None
-segment_of_row (Some row) = segment_of_origin row.1
-
--- the block has another descriptor before
-abbrev pub is_of_segment : Option ℕ → ℕ → Bool
-is_of_segment None segment = false
-is_of_segment (Some own) segment = nat_eq own segment
 
 -- the segment of the block, given that of its descriptor and that of the descriptor before
 abbrev pub first_of_segment : Option ℕ → Option ℕ → Option ℕ
@@ -93,45 +64,34 @@ place_of_selector w sel = place_of_segment w.arena (segment_of_selector w.descri
 
 -- ---- 0101h
 
-abbrev pub freed_with_run : ℕ → Option ℕ → World → Done (Unit {0})
-freed_with_run first None w = record { answer = Err WrongBlock; world = w }
-freed_with_run first (Some place) w = record {
-  answer = Ok tt;
-  world = with_entries_and_run w (place - free_before w.arena place) (free_before w.arena place + (1 + free_behind w.arena place))
-      (joined w.arena place ∷ [])
-      (run_of_block (entry_of_place w.arena place) first (entry_of_place w.arena place).paras 0);
-}
+abbrev pub freed_named : Option ℕ → World → Done (Unit {0})
+freed_named None w = record { answer = Err WrongBlock; world = w }
+freed_named (Some segment) w = freed w true segment
 
 -- 0101h (free DOS memory block): frees the block of DX and its descriptors
 unfoldable pub free_dos_block : World → Done (Unit {0})
-free_dos_block w = freed_with_run (index_of (dx w)) (place_of_selector w (dx w)) w
+free_dos_block w = freed_named (segment_of_selector w.descriptors (dx w)) w
 
 -- ---- 0102h
-
--- the descriptors that a run adds are free
-abbrev pub has_room_to_grow : List Row → DosRun → Bool
-has_room_to_grow rows run =
-    is_free_run rows (run.first + descriptors_for run.before) (descriptors_for run.after - descriptors_for run.before)
 
 -- the block at a place can have n paragraphs, and their descriptors
 abbrev pub can_have : World → ℕ → ℕ → ℕ → Bool
 can_have w n first place = nat_lt 0 n && (nat_le n (possible w.arena place)
     && has_room_to_grow w.descriptors (run_of_block (entry_of_place w.arena place) first (entry_of_place w.arena place).paras n))
 
-abbrev pub resized_with_run : ℕ → ℕ → Option ℕ → World → Done (Unit {0})
-resized_with_run n first None w = record { answer = Err WrongBlock; world = w }
-resized_with_run n first (Some place) w =
-    if can_have w n first place then record {
-      answer = Ok tt;
-      world = with_entries_and_run w place (1 + free_behind w.arena place)
-          (split Dpmi (entry_of_place w.arena place).at n (possible w.arena place))
-          (run_of_block (entry_of_place w.arena place) first (entry_of_place w.arena place).paras n);
-    }
+abbrev pub resized_named : ℕ → ℕ → ℕ → Option ℕ → World → Done (Unit {0})
+resized_named n first segment None w = record { answer = Err WrongBlock; world = w }
+resized_named n first segment (Some place) w =
+    if can_have w n first place then resized w true segment n
     else record { answer = Err (NoMemory (possible w.arena place)); world = w }
+
+abbrev pub resized_from : ℕ → ℕ → Option ℕ → World → Done (Unit {0})
+resized_from n first None w = record { answer = Err WrongBlock; world = w }
+resized_from n first (Some segment) w = resized_named n first segment (place_of_block true w.arena segment 0) w
 
 -- 0102h (resize DOS memory block): the block of DX gets BX paragraphs where it is, and the descriptors of as many
 unfoldable pub resize_dos_block : World → Done (Unit {0})
-resize_dos_block w = resized_with_run (bx w) (index_of (dx w)) (place_of_selector w (dx w)) w
+resize_dos_block w = resized_from (bx w) (index_of (dx w)) (segment_of_selector w.descriptors (dx w)) w
 
 -- ---- what each function returns
 

@@ -1,11 +1,12 @@
 // A block is given.
-ghost use Rattle.std.specs.Prelude.{◌≡◌, ◌≤◌, ◌+◌, false, OnErr};
+ghost use Rattle.std.specs.Prelude.{◌≡◌, ◌≤◌, ◌+◌, true, OnErr};
 ghost use Rattle.client_world.specs.declared.memory_map.TheConstants.{ARENA_END};
-ghost use Rattle.dos_blocks.specs.Blocks.{block_state, split, allocated};
+ghost use Rattle.dos_blocks.specs.Blocks.{CanAllocate, block_state, split, allocated};
 
 use crate::finding::{first_fit, largest};
+use crate::putting::{new_descriptor, put_block};
 use arrayvec::ArrayVec;
-use client_world::{DosEntry, DosRefusal, DosState};
+use client_world::{DosEntry, DosRefusal, DosRun, DosState};
 use guest_space::Machine;
 
 // The state of a block that a DOS call makes, or INT 31h function 0100h.
@@ -41,20 +42,29 @@ pub(crate) fn split(for_dpmi: bool, at: u16, n: u16, paras: u16) -> ArrayVec<Dos
     entries
 }
 
-/// Allocates a block of `paras` paragraphs, and returns its segment. Source: MS-DOS function 48h.
+/// Allocates a block of `paras` paragraphs, and returns its segment. With `for_dpmi` its descriptors are made too, from the first run of free
+/// ones on. Source: MS-DOS function 48h, INT 31h function 0100h.
 #[tactic(auto, unfolding(crate::specs::Blocks::allocated))]
 pub fn dos_alloc(m: &mut Machine, paras: u16, for_dpmi: bool) -> Result<u16, DosRefusal>
-    requires dos { for_dpmi ≡ false }
+    requires { for_dpmi ≡ true → CanAllocate m.old.world paras }
     ensures answer { result ≡ (allocated m.old.world for_dpmi paras).answer }
     ensures world { m.new.world ≡ (allocated m.old.world for_dpmi paras).world }
     ensures refused { OnErr result (m.new ≡ m.old) }
 {
+    m.soundness();
     let Some(place) = first_fit(m, paras) else {
         return Err(DosRefusal::NoMemory {
             largest: largest(m),
         });
     };
     let entry = m.arena(place);
-    m.arena_put(place, 1, &split(for_dpmi, entry.at, paras, entry.paras));
-    Ok(entry.at + 1)
+    let run = DosRun {
+        seg: entry.at + 1,
+        first: new_descriptor(m, for_dpmi, paras),
+        before: 0,
+        after: paras,
+    };
+    let entries = split(for_dpmi, entry.at, paras, entry.paras);
+    put_block(m, for_dpmi, place, 1, &entries, run);
+    Ok(run.seg)
 }

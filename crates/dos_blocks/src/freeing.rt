@@ -1,12 +1,13 @@
 // A block is freed.
-ghost use Rattle.std.specs.Prelude.{◌≡◌, ◌<◌, [], ◌∷◌, false, OnErr, length};
+ghost use Rattle.std.specs.Prelude.{◌≡◌, ◌≢◌, ◌<◌, [], ◌∷◌, true, None, OnErr, length};
 ghost use Rattle.client_world.specs.declared.dos_memory.DosEntry.{DosEntry};
 ghost use Rattle.dos_blocks.specs.Blocks.{freed, joined};
 
 use crate::finding::place_of_block;
 use crate::neighbours::{free_before, free_behind, room_before, room_behind};
+use crate::putting::{first_descriptor, put_block};
 use arrayvec::ArrayVec;
-use client_world::{DosEntry, DosRefusal, DosState};
+use client_world::{DosEntry, DosRefusal, DosRun, DosState};
 use guest_space::Machine;
 
 /// One entry.
@@ -33,19 +34,28 @@ pub(crate) fn joined(m: &Machine, place: u16) -> DosEntry
     }
 }
 
-/// Frees the block at a segment. Source: MS-DOS function 49h.
+/// Frees the block at a segment, and with `for_dpmi` its descriptors. Source: MS-DOS function 49h, INT 31h function 0101h.
 #[tactic(auto, unfolding(crate::specs::Blocks::freed))]
 pub fn dos_free(m: &mut Machine, seg: u16, for_dpmi: bool) -> Result<(), DosRefusal>
-    requires dos { for_dpmi ≡ false }
+    requires { for_dpmi ≡ true → m.old.world.width ≢ None }
     ensures answer { result ≡ (freed m.old.world for_dpmi seg).answer }
     ensures world { m.new.world ≡ (freed m.old.world for_dpmi seg).world }
     ensures refused { OnErr result (m.new ≡ m.old) }
 {
+    m.soundness();
     let Some(place) = place_of_block(m, for_dpmi, seg) else {
         return Err(DosRefusal::WrongBlock);
     };
+    let entry = m.arena(place);
+    let run = DosRun {
+        seg: entry.at + 1,
+        first: first_descriptor(m, for_dpmi, seg),
+        before: entry.paras,
+        after: 0,
+    };
     let before = free_before(m, place);
     let old = before + (1 + free_behind(m, place));
-    m.arena_put(place - before, old, &one(joined(m, place)));
+    let entries = one(joined(m, place));
+    put_block(m, for_dpmi, place - before, old, &entries, run);
     Ok(())
 }

@@ -9,6 +9,7 @@ mod finding;
 mod freeing;
 mod laws;
 mod neighbours;
+mod putting;
 mod resizing;
 mod selectors;
 mod services;

@@ -1,21 +1,24 @@
 // A block is resized.
-ghost use Rattle.std.specs.Prelude.{◌≡◌, false, OnErr};
-ghost use Rattle.dos_blocks.specs.Blocks.{resized};
+ghost use Rattle.std.specs.Prelude.{◌≡◌, true, OnErr};
+ghost use Rattle.dos_blocks.specs.Blocks.{CanResize, resized};
 
 use crate::allocating::split;
 use crate::finding::place_of_block;
 use crate::neighbours::{free_behind, room_behind};
-use client_world::DosRefusal;
+use crate::putting::{first_descriptor, put_block};
+use client_world::{DosRefusal, DosRun};
 use guest_space::Machine;
 
-/// Gives the block at a segment `paras` paragraphs, without moving it. Source: MS-DOS function 4Ah.
+/// Gives the block at a segment `paras` paragraphs, without moving it, and with `for_dpmi` the descriptors of as many. Source: MS-DOS function
+/// 4Ah, INT 31h function 0102h.
 #[tactic(auto, unfolding(crate::specs::Blocks::resized))]
 pub fn dos_resize(m: &mut Machine, seg: u16, paras: u16, for_dpmi: bool) -> Result<(), DosRefusal>
-    requires dos { for_dpmi ≡ false }
+    requires { for_dpmi ≡ true → CanResize m.old.world seg paras }
     ensures answer { result ≡ (resized m.old.world for_dpmi seg paras).answer }
     ensures world { m.new.world ≡ (resized m.old.world for_dpmi seg paras).world }
     ensures refused { OnErr result (m.new ≡ m.old) }
 {
+    m.soundness();
     let Some(place) = place_of_block(m, for_dpmi, seg) else {
         return Err(DosRefusal::WrongBlock);
     };
@@ -24,7 +27,14 @@ pub fn dos_resize(m: &mut Machine, seg: u16, paras: u16, for_dpmi: bool) -> Resu
     if paras > possible {
         return Err(DosRefusal::NoMemory { largest: possible });
     }
+    let run = DosRun {
+        seg: entry.at + 1,
+        first: first_descriptor(m, for_dpmi, seg),
+        before: entry.paras,
+        after: paras,
+    };
     let old = 1 + free_behind(m, place);
-    m.arena_put(place, old, &split(for_dpmi, entry.at, paras, possible));
+    let entries = split(for_dpmi, entry.at, paras, possible);
+    put_block(m, for_dpmi, place, old, &entries, run);
     Ok(())
 }

@@ -3,11 +3,10 @@ ghost use Rattle.std.specs.Prelude.{◌≡◌, ◌↔◌, ◌≤◌, ◌<◌, �
 ghost use Rattle.client_world.specs.declared.host_frames.TheConstants.{DESCRIPTORS};
 ghost use Rattle.client_world.specs.FreeRuns.{IsFirstFreeRunOf};
 ghost use Rattle.client_world.specs.Selector.{row_at_index};
-ghost use Rattle.client_world.specs.Soundness.{IsSound};
 ghost use Rattle.service_rows.specs.FreeRun.{are_free, first_free_run, is_free_run};
-ghost use Rattle.dos_blocks.specs.Services.{segment_of_origin, segment_of_row, segment_of_selector, place_of_selector};
+ghost use Rattle.dos_blocks.specs.Blocks.{descriptor_of_block, is_of_segment, segment_of_origin, segment_of_row};
+ghost use Rattle.dos_blocks.specs.Services.{segment_of_selector};
 
-use crate::finding::place_of_block;
 use client_world::host_frames::DESCRIPTORS;
 use client_world::selectors::{index_of, is_local};
 use client_world::{Desc, Origin};
@@ -38,9 +37,9 @@ fn segment_of_row(row: Option<(Desc, Origin)>) -> Option<u16>
     }
 }
 
-// The segment of the block whose first descriptor a selector names.
+/// The segment of the block whose first descriptor a selector names.
 #[tactic(auto, unfolding(crate::specs::Services::segment_of_selector))]
-fn segment_of_selector(m: &Machine, sel: u16) -> Option<u16>
+pub(crate) fn segment_of_selector(m: &Machine, sel: u16) -> Option<u16>
     ensures { result ≡ segment_of_selector m.now.world.descriptors sel }
 {
     if !is_local(sel) {
@@ -54,15 +53,27 @@ fn segment_of_selector(m: &Machine, sel: u16) -> Option<u16>
     }
 }
 
-/// The place in the arena of the block whose first descriptor a selector names.
-#[tactic(auto, unfolding(crate::specs::Services::place_of_selector))]
-pub(crate) fn place_of_selector(m: &Machine, sel: u16) -> Option<u16>
-    ensures found { result ≡ place_of_selector m.now.world sel }
-    ensures sound { IsSound m.now.world }
+// Whether the descriptor at an index belongs to the block at a segment.
+fn is_of_block(m: &Machine, index: u16, segment: u16) -> bool
+    requires { index < DESCRIPTORS }
+    ensures { result ≡ is_of_segment (segment_of_row (row_at_index m.now.world.descriptors index)) segment }
 {
-    m.soundness();
-    let segment = segment_of_selector(m, sel)?;
-    place_of_block(m, true, segment)
+    match segment_of_row(m.desc(index)) {
+        Some(own) => own == segment,
+        None => false,
+    }
+}
+
+/// The first descriptor of the block at a segment.
+pub(crate) fn descriptor_of_block(m: &Machine, segment: u16) -> Option<u16>
+    ensures { result ≡ descriptor_of_block m.now.world.descriptors segment }
+{
+    for index in 0..DESCRIPTORS as u16 {
+        if is_of_block(m, index, segment) {
+            return Some(index);
+        }
+    }
+    None
 }
 
 /// The first of n free indices, from 64 on.

@@ -2,13 +2,15 @@
 ghost use Rattle.std.specs.Prelude.{◌≡◌, ◌≢◌, ◌+◌, None, OnErr, OnOk};
 ghost use Rattle.client_world.specs.declared.registers.Mode.TheVariants.{Protected as protected};
 ghost use Rattle.client_world.specs.declared.services.Carry.TheVariants.{Clear, Set};
-ghost use Rattle.dos_blocks.specs.Services.{allocate_dos_block, reported, dos_service, free_dos_block, has_room_to_grow, resize_dos_block, with_bx, with_dx};
+ghost use Rattle.dos_blocks.specs.Blocks.{has_room_to_grow};
+ghost use Rattle.dos_blocks.specs.Services.{allocate_dos_block, reported, dos_service, free_dos_block, resize_dos_block, with_bx, with_dx};
 
-use crate::allocating::split;
-use crate::finding::{first_fit, largest};
-use crate::freeing::{joined, one};
-use crate::neighbours::{free_before, free_behind, room_behind};
-use crate::selectors::{first_free, is_free_run, place_of_selector};
+use crate::allocating::dos_alloc;
+use crate::finding::{largest, place_of_block};
+use crate::freeing::dos_free;
+use crate::neighbours::room_behind;
+use crate::resizing::dos_resize;
+use crate::selectors::{first_free, is_free_run, segment_of_selector};
 use client_world::selectors::{index_of, selector_of};
 use client_world::{Carry, DosRefusal, DosRun};
 use guest_space::{Machine, descriptors_for};
@@ -48,24 +50,17 @@ fn allocate_dos_block(m: &mut Machine) -> Result<(), DosRefusal>
     if n == 0 {
         return Err(refusal);
     }
-    let Some(place) = first_fit(m, n) else {
-        return Err(refusal);
-    };
     let Some(first) = first_free(m, descriptors_for(n)) else {
         return Err(refusal);
     };
-    m.soundness();
-    let entry = m.arena(place);
-    let run = DosRun {
-        seg: entry.at + 1,
-        first,
-        before: 0,
-        after: n,
-    };
-    m.arena_put_dpmi(place, 1, &split(true, entry.at, n, entry.paras), run);
-    set_ax(m, entry.at + 1);
-    set_dx(m, selector_of(first));
-    Ok(())
+    match dos_alloc(m, n, true) {
+        Ok(segment) => {
+            set_ax(m, segment);
+            set_dx(m, selector_of(first));
+            Ok(())
+        }
+        Err(refusal) => Err(refusal),
+    }
 }
 
 // Function 0101h: the block of DX and its descriptors become free.
@@ -76,21 +71,10 @@ fn free_dos_block(m: &mut Machine) -> Result<(), DosRefusal>
     ensures world { m.new.world ≡ (free_dos_block m.old.world).world }
     ensures refused { OnErr result (m.new ≡ m.old) }
 {
-    let sel = low_half(m.regs().edx);
-    let Some(place) = place_of_selector(m, sel) else {
-        return Err(DosRefusal::WrongBlock);
-    };
-    let entry = m.arena(place);
-    let run = DosRun {
-        seg: entry.at + 1,
-        first: index_of(sel),
-        before: entry.paras,
-        after: 0,
-    };
-    let before = free_before(m, place);
-    let old = before + (1 + free_behind(m, place));
-    m.arena_put_dpmi(place - before, old, &one(joined(m, place)), run);
-    Ok(())
+    match segment_of_selector(m, low_half(m.regs().edx)) {
+        Some(segment) => dos_free(m, segment, true),
+        None => Err(DosRefusal::WrongBlock),
+    }
 }
 
 // Whether the descriptors that a run adds are free.
@@ -110,9 +94,13 @@ fn resize_dos_block(m: &mut Machine) -> Result<(), DosRefusal>
     ensures world { m.new.world ≡ (resize_dos_block m.old.world).world }
     ensures refused { OnErr result (m.new ≡ m.old) }
 {
+    m.soundness();
     let n = low_half(m.regs().ebx);
     let sel = low_half(m.regs().edx);
-    let Some(place) = place_of_selector(m, sel) else {
+    let Some(segment) = segment_of_selector(m, sel) else {
+        return Err(DosRefusal::WrongBlock);
+    };
+    let Some(place) = place_of_block(m, true, segment) else {
         return Err(DosRefusal::WrongBlock);
     };
     let entry = m.arena(place);
@@ -126,9 +114,7 @@ fn resize_dos_block(m: &mut Machine) -> Result<(), DosRefusal>
     if n == 0 || n > possible || !has_room_to_grow(m, run) {
         return Err(DosRefusal::NoMemory { largest: possible });
     }
-    let old = 1 + free_behind(m, place);
-    m.arena_put_dpmi(place, old, &split(true, entry.at, n, possible), run);
-    Ok(())
+    dos_resize(m, segment, n, true)
 }
 
 // Reports what a service did: a refusal by its number in AX, and in BX the most paragraphs that there could be.

@@ -169,13 +169,13 @@ rest_allocated : (w : World) (n : ℕ) (o : Option ℕ) → rest_of (allocated_a
 rest_allocated w n None = refl
 rest_allocated w n (Some place) = rest_entries w place 1 _
 
-rest_resized : (w : World) (n : ℕ) (o : Option ℕ) → rest_of (resized_at w false n o).world ≡ rest_of w
-rest_resized w n None = refl
-rest_resized w n (Some place) = rest_if_done w (nat_le n (possible w.arena place)) _ _ (rest_entries w place _ _) refl
+rest_resized : (w : World) (segment n : ℕ) (o : Option ℕ) → rest_of (resized_at w false segment n o).world ≡ rest_of w
+rest_resized w segment n None = refl
+rest_resized w segment n (Some place) = rest_if_done w (nat_le n (possible w.arena place)) _ _ (rest_entries w place _ _) refl
 
-rest_freed : (w : World) (o : Option ℕ) → rest_of (freed_at w o).world ≡ rest_of w
-rest_freed w None = refl
-rest_freed w (Some place) = rest_entries w _ _ _
+rest_freed : (w : World) (segment : ℕ) (o : Option ℕ) → rest_of (freed_at w false segment o).world ≡ rest_of w
+rest_freed w segment None = refl
+rest_freed w segment (Some place) = rest_entries w _ _ _
 
 rest_refused : (refusal : DosRefusal) (w : World) → rest_of (memory_refused refusal w) ≡ rest_of w
 rest_refused (NoMemory largest) w = refl
@@ -201,16 +201,16 @@ leaves_free : (s : CallState) → Leaves s (calls.free s)
 unfolding calls.free freed
 leaves_free s =
     let o = place_of_block false s.world.arena s.world.regs.es 0 in
-    let d = freed_at s.world o in
-    leaves_served s (memory_changed d) s.keys (rest_changed d.answer d.world ∙ rest_freed s.world o)
+    let d = freed_at s.world false s.world.regs.es o in
+    leaves_served s (memory_changed d) s.keys (rest_changed d.answer d.world ∙ rest_freed s.world s.world.regs.es o)
 
 leaves_resize : (s : CallState) → Leaves s (calls.resize s)
 unfolding calls.resize resized
 leaves_resize s =
     let n = low_half s.world.regs.ebx in
     let o = place_of_block false s.world.arena s.world.regs.es 0 in
-    let d = resized_at s.world false n o in
-    leaves_served s (memory_changed d) s.keys (rest_changed d.answer d.world ∙ rest_resized s.world n o)
+    let d = resized_at s.world false s.world.regs.es n o in
+    leaves_served s (memory_changed d) s.keys (rest_changed d.answer d.world ∙ rest_resized s.world s.world.regs.es n o)
 
 -- ---- all of them
 

@@ -61,8 +61,9 @@ use Rattle.host_run.specs.declared.traps.Trap.TheVariants.{RealVector, Entry, To
 use Rattle.host_run.specs.Keys.{HasKeys}
 use Rattle.host_run.specs.Nested.{PushesRecord, PopsRecord, Stacked, kept, popped as left_one, pushed}
 use Rattle.host_run.specs.RealCalls.{StartsCall, StartsRealCall}
+use Rattle.host_run.specs.Families.{service}
 use Rattle.host_run.specs.Traps.{current_trap}
-use Rattle.host_run.specs.Turn.{Outcome, goes_on, ends, with_machine, noted, popped, seen, dos_served, multiplex_served, ends_client, vector_served, entry_line, after_entry, after_entry_trap, after_switch_to_protected, is_exit_call, is_presence_call, asked_call, call_enter_line, call_leave_line, call_of_record, after_begin, after_call_return, after_reflection, after_service, goes_on_with, after_presence_call, service, after_int31, after_protected_call, after_protected_pop, after_protected_vector, enter_line, after_protected_delivery, exception_number, leave_line, after_exception_return, after_callback, callback_slot, after_callback_return, delivered_in, after_interrupt, after_step, stepped, trapped, work, with_turn_counted, settled, turn}
+use Rattle.host_run.specs.Turn.{Outcome, goes_on, ends, with_machine, noted, popped, seen, dos_served, multiplex_served, ends_client, vector_served, entry_line, after_entry, after_entry_trap, after_switch_to_protected, is_exit_call, is_presence_call, asked_call, call_enter_line, call_leave_line, call_of_record, after_begin, after_call_return, after_reflection, after_service, goes_on_with, after_presence_call, after_int31, after_protected_call, after_protected_pop, after_protected_vector, enter_line, after_protected_delivery, exception_number, leave_line, after_exception_return, after_callback, callback_slot, after_callback_return, delivered_in, after_interrupt, after_step, stepped, trapped, work, with_turn_counted, settled, turn}
 use Rattle.host_run.proofs.AskedCalls.{plain_call}
 use Rattle.host_run.proofs.Frames.{still_popped}
 use Rattle.host_run.proofs.Services.{calls_service, sound_service}
@@ -319,7 +320,7 @@ begun_by : (h : HostWorld) (w : World) (call : Call) (c : Carry) → (begin_call
 begun_by h w call Set e s a =
     let next : IsNext h.machine (begin_call w call).world = record {
       sound = sound_begin w call a.next.sound a.mode;
-      calls = ap (λ (x : World). x.calls) (refused_world w call e) ∙ a.next.calls;
+      calls = ap (λ (x : World). x.calls) (refused_world w call e).1 ∙ a.next.calls;
     } in
     service_keeps h (low_half w.regs.eax) (begin_call w call) s next
 begun_by h w call Clear e s a =

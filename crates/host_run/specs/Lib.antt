@@ -1,4 +1,5 @@
 pub mod Exceptions
+pub mod Families
 pub mod Footprint
 pub mod HandOver
 pub mod Keys

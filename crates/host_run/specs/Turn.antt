@@ -24,24 +24,20 @@ use Rattle.client_world.specs.declared.trace.TraceLine.TheVariants as lines
 use Rattle.client_world.specs.Registers.{high_byte, low_byte, low_half, with_low_half}
 use Rattle.client_world.specs.Services.{Served, is_set}
 use Rattle.client_world.specs.World.{World, HostWorld, depth}
-use Rattle.block_services.specs.Rows.{block_service}
 use Rattle.callbacks.specs.Callbacks.{enter_callback, leave_callback}
-use Rattle.callbacks.specs.Services.{callback_service}
-use Rattle.desc_services.specs.Rows.{descriptor_service}
 use Rattle.dos_calls.specs.Calls.{CallState, CallResult, dos_call}
 use Rattle.dos_calls.specs.Multiplex.{multiplex_call}
 use Rattle.fault_service.specs.Worlds.{world_step, world_interrupt, world_delivery, world_popped}
 use Rattle.mode_gates.specs.Entry.{asked_width, entry, with_carry}
 use Rattle.mode_gates.specs.FarFrames.{world_after_far_return}
-use Rattle.mode_gates.specs.Switches.{gate_service, switched_to_protected, switched_to_real}
+use Rattle.mode_gates.specs.Switches.{switched_to_protected, switched_to_real}
 use Rattle.mode_stack.specs.Stack.{top}
 use Rattle.protected_faults.specs.Return.{exit_of_record}
 use Rattle.protected_faults.specs.Worlds.{world_exception_return, world_protected_delivery}
 use Rattle.translation.specs.SimulatedCall.{begin_call, end_call, reflect}
-use Rattle.vector_services.specs.Rows.{vector_service}
-use Rattle.dos_blocks.specs.Services.{dos_service}
 use Rattle.host_run.specs.declared.traps.Trap.{Trap}
 use Rattle.host_run.specs.declared.traps.Trap.TheVariants.{RealVector, Entry, ToProtected, RealState, CallReturn, Callback, ProtectedVector, ExceptionHandler, ToReal, ProtectedState, ExceptionReturn, CallbackReturn, NoTrap}
+use Rattle.host_run.specs.Families.{service}
 use Rattle.host_run.specs.Traps.{current_trap}
 
 -- what a turn does: the host after it, and the exit that ends the run, if there is one
@@ -154,24 +150,6 @@ after_call_return h (Ok w) = goes_on_with h (call_leave_line h.machine (call_of_
 after_call_return h (Err exit) = ends h exit
 
 -- ---- the default vectors of protected mode
-
--- the functions of INT 31h on callbacks
-abbrev pub is_of_callbacks : ℕ → Bool
-is_of_callbacks ax = nat_eq ax 0x0303 || nat_eq ax 0x0304
-
--- the high byte of a function of INT 31h on memory blocks and their pages
-abbrev pub is_of_blocks : ℕ → Bool
-is_of_blocks high = nat_eq high 5 || nat_eq high 6 || nat_eq high 7
-
--- the function ax of INT 31h, in the family of its high byte; each family sets the carry for a number that it doesn't have
-unfoldable pub service : ℕ → World → Served
-service ax w =
-    if nat_eq (high_byte ax) 0 then descriptor_service ax w else
-    if nat_eq (high_byte ax) 1 then dos_service ax w else
-    if is_of_callbacks ax then callback_service ax w else
-    if nat_eq (high_byte ax) 3 then gate_service ax w else
-    if is_of_blocks (high_byte ax) then block_service ax w else
-    vector_service ax w
 
 -- the call of real mode that a function of INT 31h asks for: 0300h the interrupt BL, 0301h a procedure with a far return, 0302h one with IRET
 abbrev pub asked_call : ℕ → World → Option Call

@@ -10,6 +10,7 @@
 mod callback_turns;
 mod calls;
 mod exceptions;
+mod families;
 mod host;
 mod laws;
 mod protected;

@@ -19,8 +19,9 @@ ghost use Rattle.host_run.specs.Turn.{
 };
 
 use crate::calls::asked_call;
+use crate::families::serve_function;
 use crate::host::Host;
-use crate::serving::{can_pop, pop_in_mode, serve_function};
+use crate::serving::{can_pop, pop_in_mode};
 use client_world::limits::GREATEST_DEPTH;
 use client_world::{Carry, Exit, Regs, TraceLine};
 use cpu_values::{part8, put16};

@@ -1,14 +1,13 @@
 // The services below, as turns see them: the world alone, and frames that can still be popped after them.
 ghost use Rattle.std.specs.Prelude.{◌≡◌, true, is_ok, Ok, Err, MatchResult};
-ghost use Rattle.client_world.specs.declared.registers.Mode.TheVariants.{Real, Protected as protected};
+ghost use Rattle.client_world.specs.declared.registers.Mode.TheVariants.{Real};
 ghost use Rattle.cpu_step.specs.Step.{client_step};
 ghost use Rattle.dos_calls.specs.Answering.{IfEnded};
 ghost use Rattle.dos_calls.specs.Calls.{dos_call};
 ghost use Rattle.dos_calls.specs.Multiplex.{multiplex_call};
 ghost use Rattle.fault_service.specs.Worlds.{world_step, world_popped};
-ghost use Rattle.host_run.specs.Turn.{is_of_blocks, is_of_callbacks, service};
 
-use client_world::{Carry, DosDone, Event, Exit};
+use client_world::{DosDone, Event, Exit};
 use cpu_step::step_with_memo;
 use dos_calls::{Console, Keys, every_dos_call_keeps_the_rest, int2f, int21};
 use fault_service::{
@@ -83,43 +82,4 @@ pub(crate) fn serve_multiplex(m: &mut Machine)
     m.soundness();
     int2f(m);
     m.soundness();
-}
-
-// Whether a function is one on callbacks.
-fn is_of_callbacks(ax: u16) -> bool
-    ensures { result ≡ is_of_callbacks ax }
-{
-    ax == 0x0303 || ax == 0x0304
-}
-
-// Whether a high byte is that of the services on memory blocks.
-fn is_of_blocks(high: u8) -> bool
-    ensures { result ≡ is_of_blocks high }
-{
-    high == 5 || high == 6 || high == 7
-}
-
-/// A function of INT 31h, by the family of its high byte. A number that no family has is refused.
-#[tactic(auto, unfolding(crate::specs::Turn::service))]
-pub(crate) fn serve_function(m: &mut Machine, ax: u16) -> Carry
-    requires { m.old.world.mode ≡ protected }
-    ensures { record { carry = result; world = m.new.world } ≡ service ax m.old.world }
-{
-    let high = (ax / 0x100) as u8;
-    if high == 0 {
-        return desc_services::serve(m, ax);
-    }
-    if high == 1 {
-        return dos_blocks::serve(m, ax);
-    }
-    if is_of_callbacks(ax) {
-        return callbacks::serve(m, ax);
-    }
-    if high == 3 {
-        return mode_gates::serve(m, ax);
-    }
-    if is_of_blocks(high) {
-        return block_services::serve(m, ax);
-    }
-    vector_services::serve(m, ax)
 }

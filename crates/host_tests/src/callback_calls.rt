@@ -18,32 +18,33 @@ fn entered(alloc: Global, width: Width) -> Result<Machine, AllocError> {
     Ok(m)
 }
 
-// AX, DS, ES, ECX and EDX of a call after which sixteen callbacks are held, and ECX and EDX after it, or none where it is refused.
-type Called = (u16, [u16; 2], [u32; 2], Option<[u32; 2]>);
+// AX, DS, ES, ECX and EDX of a call after which sixteen callbacks are held, and ECX and EDX after it, or EAX where it is refused. EAX is 0 before
+// it, and stays for a number that the family doesn't have.
+type Called = (u16, [u16; 2], [u32; 2], Result<[u32; 2], u32>);
 
 const CALLS: [Called; 12] = [
-    (0x0303, [0x87, 0x8F], [0, 0], None),
-    (0x0304, [0, 0], [0xF001, 0x0113], None),
-    (0x0304, [0, 0], [0xF000, 0x010F], None),
-    (0x0304, [0, 0], [0xF000, 0x0120], None),
+    (0x0303, [0x87, 0x8F], [0, 0], Err(0x8015)),
+    (0x0304, [0, 0], [0xF001, 0x0113], Err(0x8024)),
+    (0x0304, [0, 0], [0xF000, 0x010F], Err(0x8024)),
+    (0x0304, [0, 0], [0xF000, 0x0120], Err(0x8024)),
     (
         0x0304,
         [0, 0],
         [0x1_F000, 0x2_0113],
-        Some([0x1_F000, 0x2_0113]),
+        Ok([0x1_F000, 0x2_0113]),
     ),
-    (0x0304, [0, 0], [0xF000, 0x0113], None),
-    (0x0303, [0x8F, 0x8F], [0, 0], None),
-    (0x0303, [0x86, 0x8F], [0, 0], None),
-    (0x0303, [0x87, 0x107], [0, 0], None),
+    (0x0304, [0, 0], [0xF000, 0x0113], Err(0x8024)),
+    (0x0303, [0x8F, 0x8F], [0, 0], Err(0x8022)),
+    (0x0303, [0x86, 0x8F], [0, 0], Err(0x8022)),
+    (0x0303, [0x87, 0x107], [0, 0], Err(0x8022)),
     (
         0x0303,
         [0x87, 0x8F],
         [0x1111_2222, 0x3333_4444],
-        Some([0x1111_F000, 0x3333_0113]),
+        Ok([0x1111_F000, 0x3333_0113]),
     ),
-    (0x0303, [0x87, 0x8F], [0, 0], None),
-    (0x0302, [0x87, 0x8F], [0, 0], None),
+    (0x0303, [0x87, 0x8F], [0, 0], Err(0x8015)),
+    (0x0302, [0x87, 0x8F], [0, 0], Err(0x0000)),
 ];
 
 #[test]
@@ -74,8 +75,10 @@ fn callbacks_are_allocated_and_freed(rt: HostRuntime) -> Result<(), Fail> {
         let carry = serve(&mut m, *ax);
         let r = m.regs();
         match after {
-            Some(served) => assert_eq!(rt; (carry, [r.ecx, r.edx]), (Carry::Clear, *served)),
-            None => assert_eq!(rt; (carry, [r.ecx, r.edx]), (Carry::Set, [*ecx, *edx])),
+            Ok([ecx, edx]) => {
+                assert_eq!(rt; (carry, [r.eax, r.ecx, r.edx]), (Carry::Clear, [0, *ecx, *edx]));
+            }
+            Err(eax) => assert_eq!(rt; (carry, [r.eax, r.ecx, r.edx]), (Carry::Set, [*eax, *ecx, *edx])),
         }
     }
     Ok(())

@@ -2,7 +2,7 @@
 use client_world::limits::DEFAULT_PAGES;
 use client_world::{Carry, Exit, LoadFault, Regs, TraceLine, Width};
 use guest_space::Machine;
-use runs::Register::{Cs, Ds, Ebx, Eip, Es, Esp, Fs, Gs, Ss};
+use runs::Register::{Cs, Ds, Ebx, Edi, Eip, Es, Esi, Esp, Fs, Gs, Ss};
 use runs::State::{AnyDescriptor, AnyHostByte, Bits, Flags, Protected};
 use runs::{Client, ENTER_32, ENTERED, REAL, file, loaded, put_word, run_all};
 use std::alloc::{AllocError, Global};
@@ -120,16 +120,16 @@ static PROTECTED: [Client; 4] = [
     client!(ENTERED; enter: &ENTER_32, code: &[END], steps: Some(12), trace: &[(1, TraceLine::Entry(Width::ThirtyTwo))],
         registers: &[(Cs, 0x0087), (Eip, 0x221), (Ss, 0x020F), (Esp, 0xF0)],
         state: &[(Bits(17), 32), (Bits(64), 16), (Bits(65), 32), (Bits(66), 32), (Bits(67), 16), (Bits(68), 16)]),
-    // No descriptors are refused; 1FBBh fill the table from index 69 on; then one more is refused.
+    // No descriptors are refused, with AX = 8021h; 1FBBh fill the table from index 69 on; then one more is refused, with AX = 8011h.
     client!(ENTERED;
         code: &[
-            b"\xB8\x00\x00\x31\xC9\xCD\x31",
-            b"\xB9\xBB\x1F\xCD\x31\x89\xC3",
-            b"\xB8\x00\x00\xB9\x01\x00\xCD\x31",
+            b"\xB8\x00\x00\x31\xC9\xCD\x31\x89\xC6",
+            b"\xB8\x00\x00\xB9\xBB\x1F\xCD\x31\x89\xC3",
+            b"\xB8\x00\x00\xB9\x01\x00\xCD\x31\x89\xC7",
             END,
         ],
         trace: &[(2, int31!(0, Set)), (3, int31!(0, Clear)), (4, int31!(0, Set))],
-        registers: &[(Ebx, 0x022F)]),
+        registers: &[(Ebx, 0x022F), (Esi, 0x8021), (Edi, 0x8011)]),
     // AX = 1686h returns AX = 0. Function 0000h with CX = 0 sets carry: the jump on carry is taken, over HLT, and the client ends.
     client!(ENTERED;
         code: &[b"\xB8\x86\x16\xCD\x2F\x89\xC1\xCD\x31\x72\x01\xF4", b"\xB5\x4C\x89\xC8\xCD\x21"],

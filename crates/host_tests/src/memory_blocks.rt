@@ -7,58 +7,58 @@ use client_world::{Carry, Mode, Regs, Width};
 use guest_space::Machine;
 use std::test::Fail;
 
-// AX, EBX, ECX, ESI, EDI of a call, and the last four after it, or none where it is refused.
-const CALLS: [([u32; 5], Option<[u32; 4]>); 44] = [
-    ([0x0501, 0, 0, 0, 0], None),
-    ([0x0501, 0, 0x8001, 0, 0], None),
+// AX, EBX, ECX, ESI, EDI of a call, and the last four after it, or AX where it is refused. AX stays for a number that the family doesn't have.
+const CALLS: [([u32; 5], Result<[u32; 4], u32>); 44] = [
+    ([0x0501, 0, 0, 0, 0], Err(0x8021)),
+    ([0x0501, 0, 0x8001, 0, 0], Err(0x8013)),
     (
         [0x0501, 0x9999_0000, 0x8888_0001, 0x7777_FFFF, 0x6666_FFFF],
-        Some([0x9999_0040, 0x8888_0000, 0x7777_0000, 0x6666_0001]),
+        Ok([0x9999_0040, 0x8888_0000, 0x7777_0000, 0x6666_0001]),
     ),
-    ([0x0501, 0, 0x2000, 9, 9], Some([0x40, 0x1000, 0, 2])),
-    ([0x0501, 0, 0x1001, 9, 9], Some([0x40, 0x3000, 0, 3])),
-    ([0x0502, 5, 5, 0, 2], Some([5, 5, 0, 2])),
-    ([0x0502, 0, 0, 0, 2], None),
-    ([0x0502, 0, 0, 0, 0], None),
-    ([0x0502, 0, 0, 1, 1], None),
-    ([0x0501, 0, 0x3000, 0, 0], Some([0x40, 0x5000, 0, 2])),
-    ([0x0503, 0, 0x1001, 0, 1], Some([0x40, 0, 0, 1])),
-    ([0x0600, 0x40, 0x3000, 0, 1], Some([0x40, 0x3000, 0, 1])),
-    ([0x0503, 0, 0x3000, 0, 3], Some([0x40, 0x8000, 0, 3])),
-    ([0x0601, 0x40, 0x8000, 0, 1], Some([0x40, 0x8000, 0, 1])),
-    ([0x0601, 0x40, 0x8000, 0, 1], None),
-    ([0x0503, 0, 0x3001, 0, 3], None),
-    ([0x0503, 0, 0, 0, 3], None),
-    ([0x0503, 0, 1, 0, 9], None),
-    ([0x0503, 0, 1, 0, 3], Some([0x40, 0x8000, 0, 3])),
-    ([0x0600, 0x10, 0xFFFF, 0, 1], Some([0x10, 0xFFFF, 0, 1])),
-    ([0x0600, 0x10, 0xFFFF, 0, 2], None),
-    ([0x0600, 0xFFFF, 0xFFFF, 0, 0], Some([0xFFFF, 0xFFFF, 0, 0])),
-    ([0x0600, 0xFFFF, 0xFFFF, 0, 2], None),
-    ([0x0600, 0x40, 0x0FFF, 0, 2], Some([0x40, 0x0FFF, 0, 2])),
-    ([0x0601, 0x40, 0x1000, 0, 1], Some([0x40, 0x1000, 0, 1])),
-    ([0x0601, 0x40, 0, 0, 0x2000], None),
-    ([0x0601, 0x40, 0, 0, 1], Some([0x40, 0, 0, 1])),
-    ([0x0601, 0x40, 0, 0, 1], None),
-    ([0x0602, 0, 0, 0, 1], Some([0, 0, 0, 1])),
-    ([0x0602, 0, 0, 0, 1], None),
-    ([0x0603, 0, 0, 0, 0x1001], None),
-    ([0x0603, 0, 0, 0, 1], Some([0, 0, 0, 1])),
-    ([0x0603, 0, 0, 0, 1], None),
-    ([0x0602, 0x10, 0xFFFF, 0, 2], None),
-    ([0x0602, 0x10, 0xFFFF, 0, 1], Some([0x10, 0xFFFF, 0, 1])),
+    ([0x0501, 0, 0x2000, 9, 9], Ok([0x40, 0x1000, 0, 2])),
+    ([0x0501, 0, 0x1001, 9, 9], Ok([0x40, 0x3000, 0, 3])),
+    ([0x0502, 5, 5, 0, 2], Ok([5, 5, 0, 2])),
+    ([0x0502, 0, 0, 0, 2], Err(0x8023)),
+    ([0x0502, 0, 0, 0, 0], Err(0x8023)),
+    ([0x0502, 0, 0, 1, 1], Err(0x8023)),
+    ([0x0501, 0, 0x3000, 0, 0], Ok([0x40, 0x5000, 0, 2])),
+    ([0x0503, 0, 0x1001, 0, 1], Ok([0x40, 0, 0, 1])),
+    ([0x0600, 0x40, 0x3000, 0, 1], Ok([0x40, 0x3000, 0, 1])),
+    ([0x0503, 0, 0x3000, 0, 3], Ok([0x40, 0x8000, 0, 3])),
+    ([0x0601, 0x40, 0x8000, 0, 1], Ok([0x40, 0x8000, 0, 1])),
+    ([0x0601, 0x40, 0x8000, 0, 1], Err(0x8021)),
+    ([0x0503, 0, 0x3001, 0, 3], Err(0x8013)),
+    ([0x0503, 0, 0, 0, 3], Err(0x8021)),
+    ([0x0503, 0, 1, 0, 9], Err(0x8023)),
+    ([0x0503, 0, 1, 0, 3], Ok([0x40, 0x8000, 0, 3])),
+    ([0x0600, 0x10, 0xFFFF, 0, 1], Ok([0x10, 0xFFFF, 0, 1])),
+    ([0x0600, 0x10, 0xFFFF, 0, 2], Err(0x8025)),
+    ([0x0600, 0xFFFF, 0xFFFF, 0, 0], Ok([0xFFFF, 0xFFFF, 0, 0])),
+    ([0x0600, 0xFFFF, 0xFFFF, 0, 2], Err(0x8025)),
+    ([0x0600, 0x40, 0x0FFF, 0, 2], Ok([0x40, 0x0FFF, 0, 2])),
+    ([0x0601, 0x40, 0x1000, 0, 1], Ok([0x40, 0x1000, 0, 1])),
+    ([0x0601, 0x40, 0, 0, 0x2000], Err(0x8021)),
+    ([0x0601, 0x40, 0, 0, 1], Ok([0x40, 0, 0, 1])),
+    ([0x0601, 0x40, 0, 0, 1], Err(0x8021)),
+    ([0x0602, 0, 0, 0, 1], Ok([0, 0, 0, 1])),
+    ([0x0602, 0, 0, 0, 1], Err(0x8021)),
+    ([0x0603, 0, 0, 0, 0x1001], Err(0x8021)),
+    ([0x0603, 0, 0, 0, 1], Ok([0, 0, 0, 1])),
+    ([0x0603, 0, 0, 0, 1], Err(0x8021)),
+    ([0x0602, 0x10, 0xFFFF, 0, 2], Err(0x8025)),
+    ([0x0602, 0x10, 0xFFFF, 0, 1], Ok([0x10, 0xFFFF, 0, 1])),
     (
         [0x0604, 0xAAAA_FFFF, 0xBBBB_FFFF, 3, 4],
-        Some([0xAAAA_0000, 0xBBBB_1000, 3, 4]),
+        Ok([0xAAAA_0000, 0xBBBB_1000, 3, 4]),
     ),
-    ([0x0702, 0x40, 0, 0, 0x2000], Some([0x40, 0, 0, 0x2000])),
-    ([0x0702, 0, 0, 0, 1], None),
-    ([0x0703, 0x40, 0, 0, 0x2001], None),
-    ([0x0703, 0x40, 0, 0, 0x2000], Some([0x40, 0, 0, 0x2000])),
-    ([0x0500, 0, 0, 0, 0], None),
-    ([0x0504, 0, 0, 0, 0], None),
-    ([0x0800, 0, 0, 0, 0], None),
-    ([0x0A00, 0, 0, 0, 0], None),
+    ([0x0702, 0x40, 0, 0, 0x2000], Ok([0x40, 0, 0, 0x2000])),
+    ([0x0702, 0, 0, 0, 1], Err(0x8025)),
+    ([0x0703, 0x40, 0, 0, 0x2001], Err(0x8025)),
+    ([0x0703, 0x40, 0, 0, 0x2000], Ok([0x40, 0, 0, 0x2000])),
+    ([0x0500, 0, 0, 0, 0], Err(0x8025)),
+    ([0x0504, 0, 0, 0, 0], Err(0x0504)),
+    ([0x0800, 0, 0, 0, 0], Err(0x0800)),
+    ([0x0A00, 0, 0, 0, 0], Err(0x0A00)),
 ];
 
 fn registers(call: [u32; 5]) -> Regs {
@@ -81,19 +81,14 @@ fn calls_return_what_their_rows_say(rt: HostRuntime) -> Result<(), Fail> {
         m.set_regs(registers(before));
         let ax = (before[0] % 0x1_0000) as u16;
         assert_eq!(rt; m.mode(), Mode::Protected);
-        let carry = if after.is_some() {
-            Carry::Clear
-        } else {
-            Carry::Set
+        let (carry, eax, others) = match after {
+            Ok(served) => (Carry::Clear, before[0], served),
+            Err(eax) => (Carry::Set, eax, [before[1], before[2], before[3], before[4]]),
         };
         assert_eq!(rt; serve(&mut m, ax), carry, "call {number}");
         let r = m.regs();
-        assert_eq!(rt; r.eax, before[0], "call {number}");
-        assert_eq!(rt;
-            [r.ebx, r.ecx, r.esi, r.edi],
-            after.unwrap_or([before[1], before[2], before[3], before[4]]),
-            "call {number}"
-        );
+        assert_eq!(rt; r.eax, eax, "call {number}");
+        assert_eq!(rt; [r.ebx, r.ecx, r.esi, r.edi], others, "call {number}");
     }
     Ok(())
 }

@@ -320,11 +320,11 @@ fn a_reflection_passes_the_general_registers(rt: HostRuntime) -> Result<(), Fail
     Ok(())
 }
 
-// Clients, with the stack in their structures, whose call is refused: too many words, no structure, a word of theirs past the limit, and
-// words of the callee's stack at the segment's end and in read-only memory.
-const REFUSED: [(Regs, u16, u16); 5] = [
-    (Regs { ecx: 201, ..CLIENT }, 0xD000, 0x200),
-    (Regs { es: 0, ..CLIENT }, 0xD000, 0x200),
+// Clients, with the stack in their structures, whose call is refused, and EAX after it: too many words, no structure, a word of theirs past the
+// limit, and words of the callee's stack at the segment's end and in read-only memory.
+const REFUSED: [(Regs, u16, u16, u32); 5] = [
+    (Regs { ecx: 201, ..CLIENT }, 0xD000, 0x200, 0xABCD_8021),
+    (Regs { es: 0, ..CLIENT }, 0xD000, 0x200, 0xABCD_8025),
     (
         Regs {
             esp: 0xFFFD,
@@ -332,19 +332,24 @@ const REFUSED: [(Regs, u16, u16); 5] = [
         },
         0xD000,
         0x200,
+        0xABCD_8025,
     ),
-    (CLIENT, 0xD000, 1),
-    (CLIENT, 0xF000, 0x200),
+    (CLIENT, 0xD000, 1, 0xABCD_8025),
+    (CLIENT, 0xF000, 0x200, 0xABCD_8025),
 ];
 
 #[test]
 fn calls_are_refused(rt: HostRuntime) -> Result<(), Fail> {
-    for (client, ss, sp) in &REFUSED {
+    for (client, ss, sp, eax) in &REFUSED {
         let mut m = entered(rt.alloc(), Width::Sixteen, *client)?;
         put_structure(&mut m, 0, *ss, *sp);
         assert_eq!(rt; m.mode(), Mode::Protected);
         assert_eq!(rt; begin(&mut m, Call::Iret), Begun::Refused);
-        assert_eq!(rt; (m.regs(), depth(&m)), (*client, 0));
+        let refused = Regs {
+            eax: *eax,
+            ..*client
+        };
+        assert_eq!(rt; (m.regs(), depth(&m)), (refused, 0));
     }
     Ok(())
 }
@@ -364,6 +369,6 @@ fn calls_end_at_the_greatest_depth(rt: HostRuntime) -> Result<(), Fail> {
     assert_eq!(rt; m.mode(), Mode::Protected);
     assert_eq!(rt; reflect(&mut m, 0x21), Err(Exit::Deep));
     assert_eq!(rt; begin(&mut m, Call::Iret), Begun::Refused);
-    assert_eq!(rt; u32::from(depth(&m)), GREATEST_DEPTH);
+    assert_eq!(rt; (m.regs().eax, u32::from(depth(&m))), (0xABCD_8012, GREATEST_DEPTH));
     Ok(())
 }

@@ -5,68 +5,68 @@ use std::process::Abort;
 use std::test::Fail;
 use vector_services::serve;
 
-// EAX, EBX, ECX, EDX of a call, and the same after it, or none where it is refused. 0087h is the selector of index 16, the host's code; 008Fh
-// is that of index 17, its stacks. At the start real vector n is F000h:n, protected-mode vector n 0087h:0200h+n, exception
+// EAX, EBX, ECX, EDX of a call, and the same after it, or EAX where it is refused; EAX stays for a number that the family doesn't have.
+// 0087h is the selector of index 16, the host's code; 008Fh is that of index 17, its stacks. At the start real vector n is F000h:n, protected-mode vector n 0087h:0200h+n, exception
 // vector n 0087h:0300h+n, and interrupts are enabled.
-const CALLS: [([u32; 4], Option<[u32; 4]>); 22] = [
+const CALLS: [([u32; 4], Result<[u32; 4], u32>); 22] = [
     (
         [0x7777_0400, 0x1111_FFFF, 0x2222_AABB, 0x3333_FFFF],
-        Some([0x7777_005A, 0x1111_0001, 0x2222_AA03, 0x3333_0870]),
+        Ok([0x7777_005A, 0x1111_0001, 0x2222_AA03, 0x3333_0870]),
     ),
     (
         [0x0200, 0x21, 0xAAAA_FFFF, 0xBBBB_FFFF],
-        Some([0x0200, 0x21, 0xAAAA_F000, 0xBBBB_0021]),
+        Ok([0x0200, 0x21, 0xAAAA_F000, 0xBBBB_0021]),
     ),
     (
         [0x0201, 0x21, 0x5555_1234, 0x6666_5678],
-        Some([0x0201, 0x21, 0x5555_1234, 0x6666_5678]),
+        Ok([0x0201, 0x21, 0x5555_1234, 0x6666_5678]),
     ),
-    ([0x0200, 0x21, 0, 0], Some([0x0200, 0x21, 0x1234, 0x5678])),
-    ([0x0200, 0x22, 7, 7], Some([0x0200, 0x22, 0xF000, 0x0022])),
-    ([0x0203, 0x20, 0x0087, 0], None),
-    ([0x0203, 0x1F, 0x008F, 0], None),
-    ([0x0203, 0x1F, 0x0084, 0], None),
-    ([0x0203, 0x1F, 0x00B7, 0], None),
+    ([0x0200, 0x21, 0, 0], Ok([0x0200, 0x21, 0x1234, 0x5678])),
+    ([0x0200, 0x22, 7, 7], Ok([0x0200, 0x22, 0xF000, 0x0022])),
+    ([0x0203, 0x20, 0x0087, 0], Err(0x8021)),
+    ([0x0203, 0x1F, 0x008F, 0], Err(0x8022)),
+    ([0x0203, 0x1F, 0x0084, 0], Err(0x8022)),
+    ([0x0203, 0x1F, 0x00B7, 0], Err(0x8022)),
     (
         [0x0203, 0x1F, 0x0087, 0x1_2345],
-        Some([0x0203, 0x1F, 0x0087, 0x1_2345]),
+        Ok([0x0203, 0x1F, 0x0087, 0x1_2345]),
     ),
-    ([0x0202, 0x20, 0, 0], None),
+    ([0x0202, 0x20, 0, 0], Err(0x8021)),
     (
         [0x0202, 0x1F, 0x9999_0000, 0xFFFF_0000],
-        Some([0x0202, 0x1F, 0x9999_0087, 0xFFFF_2345]),
+        Ok([0x0202, 0x1F, 0x9999_0087, 0xFFFF_2345]),
     ),
-    ([0x0205, 0xFF, 0x0086, 0], None),
+    ([0x0205, 0xFF, 0x0086, 0], Err(0x8022)),
     (
         [0x0205, 0xFF, 0x0087, 0xFFFF],
-        Some([0x0205, 0xFF, 0x0087, 0xFFFF]),
+        Ok([0x0205, 0xFF, 0x0087, 0xFFFF]),
     ),
     (
         [0x0204, 0xFF, 0, 0x1_0000],
-        Some([0x0204, 0xFF, 0x0087, 0x1_FFFF]),
+        Ok([0x0204, 0xFF, 0x0087, 0x1_FFFF]),
     ),
-    ([0x0204, 0x1F, 5, 5], Some([0x0204, 0x1F, 0x0087, 0x021F])),
-    ([0x0900, 0, 0, 0], Some([0x0901, 0, 0, 0])),
-    ([0x0901, 0, 0, 0], Some([0x0900, 0, 0, 0])),
-    ([0x0902, 0, 0, 0], Some([0x0901, 0, 0, 0])),
-    ([0x0900, 0, 0, 0], Some([0x0901, 0, 0, 0])),
-    ([0x0206, 0, 0, 0], None),
-    ([0x0A00, 0, 0, 0], None),
+    ([0x0204, 0x1F, 5, 5], Ok([0x0204, 0x1F, 0x0087, 0x021F])),
+    ([0x0900, 0, 0, 0], Ok([0x0901, 0, 0, 0])),
+    ([0x0901, 0, 0, 0], Ok([0x0900, 0, 0, 0])),
+    ([0x0902, 0, 0, 0], Ok([0x0901, 0, 0, 0])),
+    ([0x0900, 0, 0, 0], Ok([0x0901, 0, 0, 0])),
+    ([0x0206, 0, 0, 0], Err(0x0206)),
+    ([0x0A00, 0, 0, 0], Err(0x0A00)),
 ];
 
 // The same for a client of 32 bits.
-const WIDE_CALLS: [([u32; 4], Option<[u32; 4]>); 3] = [
+const WIDE_CALLS: [([u32; 4], Result<[u32; 4], u32>); 3] = [
     (
         [0x0205, 8, 0x1111_0087, 0x0001_2345],
-        Some([0x0205, 8, 0x1111_0087, 0x0001_2345]),
+        Ok([0x0205, 8, 0x1111_0087, 0x0001_2345]),
     ),
     (
         [0x0204, 8, 0x2222_0000, 0xFFFF_FFFF],
-        Some([0x0204, 8, 0x2222_0087, 0x0001_2345]),
+        Ok([0x0204, 8, 0x2222_0087, 0x0001_2345]),
     ),
     (
         [0x0202, 0, 0, 0xFFFF_FFFF],
-        Some([0x0202, 0, 0x0087, 0x0300]),
+        Ok([0x0202, 0, 0x0087, 0x0300]),
     ),
 ];
 
@@ -80,22 +80,17 @@ fn registers(call: [u32; 4]) -> Regs {
 }
 
 // Makes the calls.
-fn expect_calls(rt: &impl Abort, m: &mut Machine, calls: &[([u32; 4], Option<[u32; 4]>)]) {
+fn expect_calls(rt: &impl Abort, m: &mut Machine, calls: &[([u32; 4], Result<[u32; 4], u32>)]) {
     for (number, &(before, after)) in calls.iter().enumerate() {
         m.set_regs(registers(before));
         let ax = (before[0] % 0x1_0000) as u16;
-        let carry = if after.is_some() {
-            Carry::Clear
-        } else {
-            Carry::Set
+        let (carry, wanted) = match after {
+            Ok(served) => (Carry::Clear, served),
+            Err(eax) => (Carry::Set, [eax, before[1], before[2], before[3]]),
         };
         assert_eq!(rt; serve(m, ax), carry, "call {number}");
         let r = m.regs();
-        assert_eq!(rt;
-            [r.eax, r.ebx, r.ecx, r.edx],
-            after.unwrap_or(before),
-            "call {number}"
-        );
+        assert_eq!(rt; [r.eax, r.ebx, r.ecx, r.edx], wanted, "call {number}");
     }
 }
 

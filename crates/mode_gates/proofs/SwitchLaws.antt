@@ -12,8 +12,9 @@ use Rattle.client_world.specs.Services.{by_width}
 use Rattle.client_world.specs.Soundness.{HasSegments, IsSound}
 use Rattle.client_world.specs.World.{World}
 use Rattle.client_world.proofs.SoundWrites.{IsSound-mode, IsSound-regs}
-use Rattle.service_rows.specs.Reasons.{outcome}
-use Rattle.service_rows.specs.Rows.{unsupported}
+use Rattle.client_world.specs.declared.services.Carry.TheVariants.{Set}
+use Rattle.service_rows.specs.declared.refusal.Refusal.{Refusal}
+use Rattle.service_rows.specs.Reasons.{family_outcome, first_reason, unsupported}
 use Rattle.service_rows.proofs.WidthLaws.{protected_width}
 use Rattle.mode_gates.specs.Switches.{after_switch, can_switch, gate_function, gate_service, state_addresses, switch_addresses, switched_by_width, switched_regs, switched_to_protected, switched_to_real}
 
@@ -90,7 +91,7 @@ to_real_switches w = refl
 -- ---- their addresses
 
 sound_by : (a b : Bool) (w : World) → IsSound w →
-    IsSound (outcome (if a then state_addresses w else if b then switch_addresses w else unsupported w) w).world
+    IsSound (family_outcome (if a then state_addresses w else if b then switch_addresses w else unsupported w) w).world
 unfolding state_addresses switch_addresses unsupported
 sound_by true b w s = IsSound-regs w _ s
     (record { es = s.segments.es; cs = s.segments.cs; ss = s.segments.ss; ds = s.segments.ds; fs = s.segments.fs; gs = s.segments.gs })
@@ -98,13 +99,27 @@ sound_by false true w s = IsSound-regs w _ s
     (record { es = s.segments.es; cs = s.segments.cs; ss = s.segments.ss; ds = s.segments.ds; fs = s.segments.fs; gs = s.segments.gs })
 sound_by false false w s = s
 
+-- a function that gives addresses isn't refused: only a number that is neither's is
+answered_by : (a b : Bool) (w : World) (refusal : Refusal) →
+    first_reason (if a then state_addresses w else if b then switch_addresses w else unsupported w).reasons ≡ Some refusal →
+    family_outcome (if a then state_addresses w else if b then switch_addresses w else unsupported w) w ≡ record { carry = Set; world = w }
+unfolding state_addresses switch_addresses unsupported
+answered_by true b w refusal e = absurd cc
+answered_by false true w refusal e = absurd cc
+answered_by false false w refusal e = refl
+
+pub only_unsupported : (ax : ℕ) (w : World) (refusal : Refusal) → first_reason (gate_function ax w).reasons ≡ Some refusal →
+    family_outcome (gate_function ax w) w ≡ record { carry = Set; world = w }
+unfolding gate_function
+only_unsupported ax w refusal e = answered_by (nat_eq ax 0x0305) (nat_eq ax 0x0306) w refusal e
+
 pub sound_service : (ax : ℕ) (w : World) → IsSound w → IsSound (gate_service ax w).world
 unfolding gate_service gate_function
 sound_service ax w s = sound_by (nat_eq ax 0x0305) (nat_eq ax 0x0306) w s
 
 kept_by : (a b : Bool) (w : World) →
-    (outcome (if a then state_addresses w else if b then switch_addresses w else unsupported w) w).world
-    ≡ record w { regs = (outcome (if a then state_addresses w else if b then switch_addresses w else unsupported w) w).world.regs }
+    (family_outcome (if a then state_addresses w else if b then switch_addresses w else unsupported w) w).world
+    ≡ record w { regs = (family_outcome (if a then state_addresses w else if b then switch_addresses w else unsupported w) w).world.regs }
 unfolding state_addresses switch_addresses unsupported
 kept_by true b w = refl
 kept_by false true w = refl

@@ -17,8 +17,8 @@ use Rattle.client_world.specs.Registers.{low_half, with_low_half}
 use Rattle.client_world.specs.Selector.{selector_code, selector_of}
 use Rattle.client_world.specs.Services.{Served, by_width}
 use Rattle.client_world.specs.World.{World}
-use Rattle.service_rows.specs.Reasons.{Service, outcome}
-use Rattle.service_rows.specs.Rows.{unsupported, with_by_width}
+use Rattle.service_rows.specs.Reasons.{Service, family_outcome, unsupported}
+use Rattle.service_rows.specs.Rows.{with_by_width}
 
 -- ---- the switches
 
@@ -95,4 +95,4 @@ gate_function ax w =
 
 -- the carry that INT 31h returns, and the world after it
 unfoldable pub gate_service : ℕ → World → Served
-gate_service ax w = outcome (gate_function ax w) w
+gate_service ax w = family_outcome (gate_function ax w) w

@@ -169,7 +169,7 @@ fn switch_addresses(m: &mut Machine) -> Result<(), Refusal>
 }
 
 // What the function of that number does, or why it refuses.
-#[tactic(auto, unfolding(crate::specs::Switches::gate_function, service_rows::specs::Rows::unsupported))]
+#[tactic(auto, unfolding(crate::specs::Switches::gate_function, service_rows::specs::Reasons::unsupported))]
 fn ask(m: &mut Machine, ax: u16) -> Result<(), Refusal>
     ensures { Does (gate_function ax m.old.world) result m.old m.new }
 {
@@ -181,7 +181,7 @@ fn ask(m: &mut Machine, ax: u16) -> Result<(), Refusal>
 }
 
 /// Serves function 0305h or 0306h of INT 31h, for a client in protected mode. Source: DPMI 0.9, INT 31h functions 0305h and 0306h.
-#[tactic(auto, unfolding(crate::specs::Switches::gate_service))]
+#[tactic(auto, using(crate::proofs::SwitchLaws::only_unsupported), unfolding(crate::specs::Switches::gate_service))]
 pub fn serve(m: &mut Machine, ax: u16) -> Carry
     requires { m.old.world.mode ≡ protected }
     ensures served { record { carry = result; world = m.new.world } ≡ gate_service ax m.old.world }

@@ -1,17 +1,52 @@
 -- What is true of a service is true of what it answers.
-use Rattle.std.proofs.Common.{◌≡◌, refl, Bool, true, false, List, [], ◌∷◌, if◌then◌else◌, Option, None, Some}
+use Rattle.std.proofs.Common.{◌≡◌, refl, ap, arith, ℕ, Bool, true, false, List, [], ◌∷◌, if◌then◌else◌, Option, None, Some}
+use Rattle.client_world.specs.declared.services.Carry.TheVariants.{Set}
+use Rattle.client_world.specs.Registers.{low_half, with_low_half}
+use Rattle.client_world.specs.Soundness.{IsSound}
 use Rattle.client_world.specs.World.{World}
+use Rattle.client_world.proofs.SoundWrites.{IsSound-regs}
 use Rattle.service_rows.specs.declared.refusal.Refusal.{Refusal}
-use Rattle.service_rows.specs.Reasons.{Service, service_answer, first_reason}
+use Rattle.service_rows.specs.declared.refusal.Refusal.TheVariants.{Unsupported}
+use Rattle.service_rows.specs.Reasons.{HasOtherAx, Service, family_answer, first_reason, number_of, service_answer}
+use Rattle.service_rows.specs.Rows.{with_ax}
 
 pub if_has : (P : Service → Type 0) (b : Bool) (x y : Service) → P x → P y → P (if b then x else y)
 if_has P true x y one other = one
 if_has P false x y one other = other
 
--- the world after a service is the one before it, or, where no reason applies, the one after its work
-pub of_answer : (P : World → Type 0) (o : Option Refusal) (w after : World) → P w → (o ≡ None → P after) → P (service_answer o w after).world
-of_answer P None w after before done = done refl
-of_answer P (Some r) w after before done = before
+-- the world after a service of a family is the one before it, but for AX, or, where no reason applies, the one after its work
+pub of_answer : (P : World → Type 0) (o : Option Refusal) (w after : World) → P w → ((n : ℕ) → P (with_ax n w)) → (o ≡ None → P after) →
+    P (family_answer o w after).world
+of_answer P None w after before refused done = done refl
+of_answer P (Some Unsupported) w after before refused done = before
+of_answer P (Some r) w after before refused done = refused (number_of r)
+
+-- AX may hold anything
+pub sound_ax : (w : World) (n : ℕ) → IsSound w → IsSound (with_ax n w)
+sound_ax w n s = IsSound-regs w (record w.regs { eax = with_low_half w.regs.eax n }) s (record {
+  es = s.segments.es;
+  cs = s.segments.cs;
+  ss = s.segments.ss;
+  ds = s.segments.ds;
+  fs = s.segments.fs;
+  gs = s.segments.gs;
+})
+
+-- a refusal changes AX alone
+same_low_half : (x : ℕ) → x ≡ with_low_half x (low_half x)
+same_low_half x = omega arith
+
+same_ax : (w : World) → HasOtherAx w w
+same_ax w = (low_half w.regs.eax, ap (λ (eax : ℕ). record w { regs = record w.regs { eax = eax } }) (same_low_half w.regs.eax))
+
+pub refused_answer : (o : Option Refusal) (w after : World) → (service_answer o w after).carry ≡ Set → HasOtherAx w (service_answer o w after).world
+refused_answer None w after e = absurd cc
+refused_answer (Some r) w after e = (number_of r, refl)
+
+pub refused_by_family : (o : Option Refusal) (w after : World) → (family_answer o w after).carry ≡ Set → HasOtherAx w (family_answer o w after).world
+refused_by_family None w after e = absurd cc
+refused_by_family (Some Unsupported) w after e = same_ax w
+refused_by_family (Some r) w after e = (number_of r, refl)
 
 -- none of the reasons applies
 abbrev pub NoneApplies : List (Refusal × Bool) → Type 0

@@ -1,5 +1,5 @@
 -- Words that the services share. Source: own.
-use Rattle.std.specs.Prelude.{ℕ, Bool, true, false, ◌&&◌, nat_eq, [], ◌∷◌, None, Some}
+use Rattle.std.specs.Prelude.{ℕ, Bool, true, false, ◌&&◌, nat_eq, None, Some}
 use Rattle.std.specs.declared.option.Option.{Option}
 use Rattle.client_world.specs.declared.descriptors.Desc.{Desc}
 use Rattle.client_world.specs.declared.descriptors.Kind.TheVariants.{Data}
@@ -11,8 +11,6 @@ use Rattle.client_world.specs.Registers.{low_half, with_low_half}
 use Rattle.client_world.specs.Selector.{Row, privilege_of}
 use Rattle.client_world.specs.Services.{desc_of}
 use Rattle.client_world.specs.World.{World}
-use Rattle.service_rows.specs.declared.refusal.Refusal.TheVariants.{Unsupported}
-use Rattle.service_rows.specs.Reasons.{Service}
 
 -- the world with another AX
 abbrev pub with_ax : ℕ → World → World
@@ -44,7 +42,3 @@ is_present_code (Some row) = is_code row.0.kind && row.0.present
 -- a code selector: its requested privilege level is 3, and its descriptor is present code
 abbrev pub is_code_selector : World → ℕ → Bool
 is_code_selector w sel = nat_eq (privilege_of sel) CLIENT_PRIVILEGE && is_present_code (desc_of w sel)
-
--- a function that no service has: it is refused
-unfoldable pub unsupported : World → Service
-unsupported w = record { reasons = (Unsupported, true) ∷ []; after = w }

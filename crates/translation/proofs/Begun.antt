@@ -11,7 +11,8 @@ use Rattle.client_world.specs.Services.{cx, es_di}
 use Rattle.client_world.specs.World.{World, depth}
 use Rattle.service_rows.specs.declared.refusal.Refusal.{Refusal}
 use Rattle.service_rows.specs.declared.refusal.Refusal.TheVariants.{InvalidAddress, InvalidValue, LinearMemoryUnavailable}
-use Rattle.service_rows.specs.Reasons.{first_reason, outcome, service_answer}
+use Rattle.service_rows.specs.Reasons.{HasOtherAx, first_reason, outcome, service_answer}
+use Rattle.service_rows.proofs.AnswerLaws.{refused_answer}
 use Rattle.translation.specs.SimulatedCall.{after_reflection, are_readable_words, begin_call, call_regs, call_service, call_words, called_world, has_stack, reflect}
 use Rattle.translation.specs.Structure.{has_structure, structure_bytes, structure_flags, structure_regs}
 
@@ -22,10 +23,6 @@ none_refused (Some refusal) w u e = absurd cc
 after_answer : (o : Option Refusal) (w u : World) → o ≡ None → (service_answer o w u).world ≡ u
 after_answer None w u e = refl
 after_answer (Some refusal) w u e = absurd cc
-
-pub refused_answer : (o : Option Refusal) (w u : World) → (service_answer o w u).carry ≡ Set → (service_answer o w u).world ≡ w
-refused_answer None w u e = absurd cc
-refused_answer (Some refusal) w u e = refl
 
 none_of_five : (p q r s t : Refusal) (a b c d e : Bool) → first_reason ((p, a) ∷ (q, b) ∷ (r, c) ∷ (s, d) ∷ (t, e) ∷ []) ≡ None →
     (a ≡ false) × (b ≡ false) × (c ≡ false) × (d ≡ false) × (e ≡ false)
@@ -83,7 +80,7 @@ unfolding begin_call
 begun_world w call e =
     let s = structure_bytes w (es_di w) in world_after w call (structure_regs s) (structure_flags s) e
 
-pub refused_world : (w : World) (call : Call) → (begin_call w call).carry ≡ Set → (begin_call w call).world ≡ w
+pub refused_world : (w : World) (call : Call) → (begin_call w call).carry ≡ Set → HasOtherAx w (begin_call w call).world
 unfolding begin_call
 refused_world w call e =
     let s = structure_bytes w (es_di w) in

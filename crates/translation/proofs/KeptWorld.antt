@@ -18,7 +18,7 @@ unfolding callee_world
 callee_left w call at r on words = refl
 
 by_carry : (carry : Carry) (w : World) (call : Call) → (begin_call w call).carry ≡ carry → LeftForCallee w (begin_call w call).world
-by_carry Set w call e = subst (λ (u : World). LeftForCallee w u) (sym (refused_world w call e)) refl
+by_carry Set w call e = subst (λ (u : World). LeftForCallee w u) (sym (refused_world w call e).1) refl
 by_carry Clear w call e = subst (λ (u : World). LeftForCallee w u) (sym (begun_world w call e)) (callee_left w call _ _ _ _)
 
 pub begin_left : (w : World) (call : Call) → LeftForCallee w (begin_call w call).world

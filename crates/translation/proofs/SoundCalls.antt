@@ -14,6 +14,7 @@ use Rattle.client_world.specs.World.{World, depth}
 use Rattle.translation.specs.SimulatedCall.{after_reflection, begin_call, call_regs, call_words, callee_interrupts, callee_stack, callee_start, no_structure, reflect, reflection_regs, reflection_words}
 use Rattle.translation.specs.RealStack.{host_real_stack}
 use Rattle.translation.specs.Structure.{structure_bytes, structure_flags, structure_regs}
+use Rattle.service_rows.proofs.AnswerLaws.{sound_ax}
 use Rattle.translation.proofs.Begun.{begun_world, is_made, refused_world, runs}
 use Rattle.translation.proofs.ReadBytes.{far_are_bytes}
 use Rattle.translation.proofs.SoundCallee.{callee_segments, sound_callee, stack_is_word, start_is_word, structure_segments}
@@ -28,7 +29,8 @@ call_segments w call r n s h =
     callee_segments r (callee_start w call r) (callee_stack w r) n h (start_is_word w call r s h) (stack_is_word w r h)
 
 sound_by_carry : (carry : Carry) (w : World) (call : Call) → IsSound w → w.mode ≡ Protected → (begin_call w call).carry ≡ carry → IsSound (begin_call w call).world
-sound_by_carry Set w call s mode e = subst IsSound (sym (refused_world w call e)) s
+sound_by_carry Set w call s mode e =
+    let refused = refused_world w call e in subst IsSound (sym refused.1) (sound_ax w refused.0 s)
 sound_by_carry Clear w call s mode e =
     let bytes = structure_bytes w (es_di w) in
     let r = structure_regs bytes in

@@ -41,7 +41,7 @@ use client_world::traps::CALL_RETURN_TRAP;
 use client_world::{Begun, Call, Deep, FarPtr, Mode, Record, Regs, is_interrupt_set};
 use guest_space::Machine;
 use mode_stack::{depth, push};
-use service_rows::{Refusal, es_di, low_half};
+use service_rows::{Refusal, es_di, low_half, refuse};
 
 // The greatest depth.
 pub(crate) const DEEPEST: u8 = GREATEST_DEPTH as u8;
@@ -200,20 +200,23 @@ fn call_by(m: &mut Machine, call: Call) -> Result<(), Refusal>
     Ok(())
 }
 
-/// Begins a call of a real-mode procedure or interrupt that a client asks for; the client goes on where it ends. It is refused, and the machine
-/// stays as it was, where CX is above 200, or at the greatest depth, or where the structure at ES:(E)DI can't be read and written, one of CX
-/// words at SS:(E)SP can't be read, or a word of the real-mode stack can't be written.
-/// Source: DPMI 0.9, INT 31h functions 0300h to 0302h; the order of the refusals is own.
+/// Begins a call of a real-mode procedure or interrupt that a client asks for; the client goes on where it ends. It is refused where CX is above
+/// 200, or at the greatest depth, or where the structure at ES:(E)DI can't be read and written, one of CX words at SS:(E)SP can't be read, or a
+/// word of the real-mode stack can't be written. Then AX holds the number of the first of these, and nothing else changes.
+/// Source: DPMI 0.9, INT 31h functions 0300h to 0302h; the order of the refusals and their numbers are own.
 #[tactic(auto, unfolding(crate::specs::SimulatedCall::begin_call))]
 pub fn begin(m: &mut Machine, call: Call) -> Begun
     requires mode { m.old.world.mode ≡ protected }
     requires kind { is_reflection call ≡ false }
     ensures begun { record { carry = carry_of result; world = m.new.world } ≡ begin_call m.old.world call }
-    ensures same { result ≡ refused → m.new ≡ m.old }
+    ensures bytes { result ≡ refused → m.new.bytes ≡ m.old.bytes }
 {
     m.soundness();
     match call_by(m, call) {
         Ok(()) => Begun::Run,
-        Err(_) => Begun::Refused,
+        Err(refusal) => {
+            refuse(m, refusal);
+            Begun::Refused
+        }
     }
 }

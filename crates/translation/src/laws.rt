@@ -11,6 +11,7 @@ ghost use Rattle.client_world.specs.Services.{es_di};
 ghost use Rattle.client_world.specs.Soundness.{IsSound};
 ghost use Rattle.client_world.specs.World.{World};
 ghost use Rattle.guest_space.specs.Transfer.{access_fault};
+ghost use Rattle.service_rows.specs.Reasons.{HasOtherAx};
 ghost use Rattle.translation.specs.HandOver.{HasBegun, HasEnded, HasReflected, IsPopped, LeftForCallee, LeftForClient};
 ghost use Rattle.translation.specs.RealStack.{is_writable_word, real_address};
 ghost use Rattle.translation.specs.SimulatedCall.{begin_call, end_call, no_structure, reflect};
@@ -24,10 +25,10 @@ pub fn every_call_is_sound()
 {}
 
 /// A call and a reflection change the mode, the registers, the virtual interrupt flag, the megabyte and the records alone, and a call that is
-/// refused nothing; a return changes the bytes of memory blocks besides.
+/// refused AX alone; a return changes the bytes of memory blocks besides.
 pub fn every_call_keeps_the_rest()
     ensures begin { (w : World) (call : Call) → LeftForCallee w (begin_call w call).world }
-    ensures refused { (w : World) (call : Call) → (begin_call w call).carry ≡ set → (begin_call w call).world ≡ w }
+    ensures refused { (w : World) (call : Call) → (begin_call w call).carry ≡ set → HasOtherAx w (begin_call w call).world }
     ensures reflect { (w u : World) (n : ℕ) → reflect w n ≡ Ok u → LeftForCallee w u }
     ensures end { (w u : World) → end_call w ≡ Ok u → LeftForClient w u }
 {}

@@ -1,8 +1,7 @@
 -- What is true of each service is true of the one that is asked for.
 use Rattle.std.proofs.Common.{ℕ}
 use Rattle.client_world.specs.World.{World}
-use Rattle.service_rows.specs.Reasons.{Service}
-use Rattle.service_rows.specs.Rows.{unsupported}
+use Rattle.service_rows.specs.Reasons.{Service, unsupported}
 use Rattle.service_rows.proofs.AnswerLaws.{if_has}
 use Rattle.vector_services.specs.Rows.{vector_function, disable_interrupts, enable_interrupts, get_exception_vector, get_protected_vector, get_real_vector, interrupt_state, set_exception_vector, set_protected_vector, set_real_vector, dpmi_version}
 

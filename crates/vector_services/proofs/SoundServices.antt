@@ -8,9 +8,8 @@ use Rattle.client_world.specs.World.{World}
 use Rattle.client_world.proofs.SoundWrites.{IsSound-dos, IsSound-regs, IsSound-vif, SoundMegabyte-set}
 use Rattle.guest_ram.specs.Bytes.{with_word}
 use Rattle.guest_space.proofs.SoundLists.{IsSound-vectors}
-use Rattle.service_rows.specs.Reasons.{Service, first_reason}
-use Rattle.service_rows.specs.Rows.{unsupported}
-use Rattle.service_rows.proofs.AnswerLaws.{of_answer}
+use Rattle.service_rows.specs.Reasons.{Service, first_reason, unsupported}
+use Rattle.service_rows.proofs.AnswerLaws.{of_answer, sound_ax}
 use Rattle.vector_services.specs.Rows.{vector_function, bl, cx_dx, disable_interrupts, enable_interrupts, get_exception_vector, get_protected_vector, get_real_vector, interrupt_state, real_vector_address, vector_service, set_exception_vector, set_protected_vector, set_real_vector, dpmi_version}
 use Rattle.vector_services.proofs.EachService.{of_each_service}
 
@@ -60,4 +59,5 @@ sound_after ax w s = of_each_service (λ (a : Service). IsSound a.after) w (reco
 
 pub sound_service : (ax : ℕ) (w : World) → IsSound w → IsSound (vector_service ax w).world
 unfolding vector_service
-sound_service ax w s = of_answer IsSound (first_reason (vector_function ax w).reasons) w (vector_function ax w).after s (λ e. sound_after ax w s)
+sound_service ax w s =
+    of_answer IsSound (first_reason (vector_function ax w).reasons) w (vector_function ax w).after s (λ n. sound_ax w n s) (λ e. sound_after ax w s)

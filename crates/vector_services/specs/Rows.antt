@@ -8,8 +8,8 @@ use Rattle.client_world.specs.World.{World}
 use Rattle.guest_ram.specs.Bytes.{with_word, word_of}
 use Rattle.guest_space.specs.VectorLists.{vector_at}
 use Rattle.service_rows.specs.declared.refusal.Refusal.TheVariants.{InvalidValue, InvalidSelector}
-use Rattle.service_rows.specs.Reasons.{Service, outcome}
-use Rattle.service_rows.specs.Rows.{is_code_selector, unsupported, with_by_width}
+use Rattle.service_rows.specs.Reasons.{Service, family_outcome, unsupported}
+use Rattle.service_rows.specs.Rows.{is_code_selector, with_by_width}
 
 -- BL holds the number of a vector
 abbrev pub bl : World → ℕ
@@ -126,4 +126,4 @@ vector_function ax w =
 
 -- the carry that INT 31h returns, and the world after it
 unfoldable pub vector_service : ℕ → World → Served
-vector_service ax w = outcome (vector_function ax w) w
+vector_service ax w = family_outcome (vector_function ax w) w

@@ -11,10 +11,10 @@ use crate::vectors::{
 };
 use client_world::Carry;
 use guest_space::Machine;
-use service_rows::Refusal;
+use service_rows::{Refusal, refuse};
 
 // What the function of that number does, or why it refuses.
-#[tactic(auto, unfolding(crate::specs::Rows::vector_function, service_rows::specs::Rows::unsupported))]
+#[tactic(auto, unfolding(crate::specs::Rows::vector_function, service_rows::specs::Reasons::unsupported))]
 fn ask(m: &mut Machine, ax: u16) -> Result<(), Refusal>
     ensures { Does (vector_function ax m.old.world) result m.old m.new }
 {
@@ -38,10 +38,11 @@ fn ask(m: &mut Machine, ax: u16) -> Result<(), Refusal>
 #[tactic(auto, unfolding(crate::specs::Rows::vector_service))]
 pub fn serve(m: &mut Machine, ax: u16) -> Carry
     ensures served { record { carry = result; world = m.new.world } ≡ vector_service ax m.old.world }
-    ensures same { result ≡ refused → m.new ≡ m.old }
+    ensures bytes { result ≡ refused → m.new.bytes ≡ m.old.bytes }
 {
     match ask(m, ax) {
         Ok(()) => Carry::Clear,
-        Err(_) => Carry::Set,
+        Err(Refusal::Unsupported) => Carry::Set,
+        Err(refusal) => refuse(m, refusal),
     }
 }

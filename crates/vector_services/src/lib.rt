@@ -1,5 +1,5 @@
 //! The services of INT 31h on vectors, on the version and on virtual interrupts.
-//! It promises that each returns the carry and leaves the world of its definition, and that a refusal changes nothing.
+//! It promises that each returns the carry and leaves the world of its definition, and that a refusal changes AX alone.
 //! It uses `guest_space` and `service_rows`.
 #![tactic(auto)]
 

@@ -44,11 +44,11 @@ const LOWEST: &[(Register, u32)] = &[(Ebx, 0x40), (Ecx, 0), (Esi, 0), (Edi, 1)];
 
 static BLOCKS: [Client; 4] = [
     // Function 0400h leaves DX = 0870h. Function 0501h with BX:CX = 1 gets the lowest page, 00400000h, with the lowest handle, 1. Function 0800h
-    // sets carry and changes nothing.
+    // sets carry and AX = 8001h, which is stored in the prefix, at 640h + 80h.
     client!(ENTERED;
-        code: &[b"\xB8\x00\x04\xCD\x31", b"\x31\xDB\xB9\x01\x00\xB8\x01\x05\xCD\x31", b"\xB8\x00\x08\xCD\x31", b"\xB8\x00\x4C\xCD\x21"],
+        code: &[b"\xB8\x00\x04\xCD\x31", b"\x31\xDB\xB9\x01\x00\xB8\x01\x05\xCD\x31", b"\xB8\x00\x08\xCD\x31\xA3\x80\x00", b"\xB8\x00\x4C\xCD\x21"],
         trace: &[(2, int31!(0x0400, Clear)), (3, int31!(0x0501, Clear)), (4, int31!(0x0800, Set))],
-        registers: &[(Ebx, 0x40), (Ecx, 0), (Edx, 0x0870), (Esi, 0), (Edi, 1)]),
+        registers: &[(Ebx, 0x40), (Ecx, 0), (Edx, 0x0870), (Esi, 0), (Edi, 1)], state: &[(Doubleword(0x6C0), 0x8001)]),
     // With 16 pages a block of 65,536 bytes takes all. The client writes to its first and last byte; a block of 1 byte is refused. It frees the
     // block and gets it again, and its exit code is the two bytes, which are 0 then.
     client!(ENTERED;
@@ -96,8 +96,8 @@ type Words = [u16; 6];
 // A call of INT 31h, and what comes of it: whether the carry is set, and the registers after it.
 type Row = (Words, bool, Words);
 
-// A call on memory blocks: AX, BX, CX, SI and DI, and the last four after it, or none where it is refused and all registers stay.
-type BlockCall = ([u16; 5], Option<[u16; 4]>);
+// A call on memory blocks: AX, BX, CX, SI and DI, and the last four after it, or AX where it is refused and all others stay.
+type BlockCall = ([u16; 5], Result<[u16; 4], u16>);
 
 // A client that makes calls of INT 31h one after another, and the state after them. Before them some code runs in real mode, then the entry to
 // protected mode as a client of 16 bits, and some code there, in so many turns.
@@ -125,88 +125,88 @@ const PLAIN: Calls = Calls {
 
 // Sizes of 0, 1 and FFFFFFFFh bytes, and handles that aren't held: 0, 1 before it is given, 512, 513, FFFFFFFFh, and 1 with a high half.
 const SIZES: [BlockCall; 20] = [
-    ([0x0502, 5, 6, 0, 1], None),
-    ([0x0501, 0, 0, 3, 4], None),
-    ([0x0501, 0xFFFF, 0xFFFF, 3, 4], None),
-    ([0x0501, 0, 1, 3, 4], Some([0x40, 0, 0, 1])),
-    ([0x0503, 0, 0, 0, 1], None),
-    ([0x0503, 0xFFFF, 0xFFFF, 0, 1], None),
-    ([0x0503, 0, 1, 0, 1], Some([0x40, 0, 0, 1])),
-    ([0x0503, 0, 1, 0, 0], None),
-    ([0x0503, 0, 1, 0, 0x200], None),
-    ([0x0503, 0, 1, 0, 0x201], None),
-    ([0x0503, 0, 1, 0xFFFF, 0xFFFF], None),
-    ([0x0503, 0, 1, 1, 1], None),
-    ([0x0502, 5, 6, 0, 0], None),
-    ([0x0502, 5, 6, 0, 0x200], None),
-    ([0x0502, 5, 6, 0, 0x201], None),
-    ([0x0502, 5, 6, 0xFFFF, 0xFFFF], None),
-    ([0x0502, 5, 6, 1, 1], None),
-    ([0x0502, 5, 6, 0, 1], Some([5, 6, 0, 1])),
-    ([0x0502, 5, 6, 0, 1], None),
-    ([0x0501, 0, 1, 3, 4], Some([0x40, 0, 0, 1])),
+    ([0x0502, 5, 6, 0, 1], Err(0x8023)),
+    ([0x0501, 0, 0, 3, 4], Err(0x8021)),
+    ([0x0501, 0xFFFF, 0xFFFF, 3, 4], Err(0x8013)),
+    ([0x0501, 0, 1, 3, 4], Ok([0x40, 0, 0, 1])),
+    ([0x0503, 0, 0, 0, 1], Err(0x8021)),
+    ([0x0503, 0xFFFF, 0xFFFF, 0, 1], Err(0x8013)),
+    ([0x0503, 0, 1, 0, 1], Ok([0x40, 0, 0, 1])),
+    ([0x0503, 0, 1, 0, 0], Err(0x8023)),
+    ([0x0503, 0, 1, 0, 0x200], Err(0x8023)),
+    ([0x0503, 0, 1, 0, 0x201], Err(0x8023)),
+    ([0x0503, 0, 1, 0xFFFF, 0xFFFF], Err(0x8023)),
+    ([0x0503, 0, 1, 1, 1], Err(0x8023)),
+    ([0x0502, 5, 6, 0, 0], Err(0x8023)),
+    ([0x0502, 5, 6, 0, 0x200], Err(0x8023)),
+    ([0x0502, 5, 6, 0, 0x201], Err(0x8023)),
+    ([0x0502, 5, 6, 0xFFFF, 0xFFFF], Err(0x8023)),
+    ([0x0502, 5, 6, 1, 1], Err(0x8023)),
+    ([0x0502, 5, 6, 0, 1], Ok([5, 6, 0, 1])),
+    ([0x0502, 5, 6, 0, 1], Err(0x8023)),
+    ([0x0501, 0, 1, 3, 4], Ok([0x40, 0, 0, 1])),
 ];
 
 // Three blocks of a page. The middle one is locked and grows: it moves past the last one with its lock, since its own page counts as held.
 // Then the first grows where it was. The last one, between the two, grows and moves, and its place goes to a new block.
 const BETWEEN: [BlockCall; 13] = [
-    ([0x0501, 0, 1, 0, 0], Some([0x40, 0, 0, 1])),
-    ([0x0501, 0, 1, 0, 0], Some([0x40, 0x1000, 0, 2])),
-    ([0x0501, 0, 1, 0, 0], Some([0x40, 0x2000, 0, 3])),
-    ([0x0600, 0x40, 0x1000, 0, 1], Some([0x40, 0x1000, 0, 1])),
-    ([0x0503, 0, 0x1001, 0, 2], Some([0x40, 0x3000, 0, 2])),
-    ([0x0601, 0x40, 0x1000, 0, 1], None),
-    ([0x0601, 0x40, 0x4000, 0, 1], None),
-    ([0x0601, 0x40, 0x3000, 0, 1], Some([0x40, 0x3000, 0, 1])),
-    ([0x0601, 0x40, 0x3000, 0, 1], None),
-    ([0x0503, 0, 0x1001, 0, 1], Some([0x40, 0, 0, 1])),
-    ([0x0503, 0, 0x1001, 0, 3], Some([0x40, 0x5000, 0, 3])),
-    ([0x0503, 0, 1, 0, 3], Some([0x40, 0x5000, 0, 3])),
-    ([0x0501, 0, 1, 0, 0], Some([0x40, 0x2000, 0, 4])),
+    ([0x0501, 0, 1, 0, 0], Ok([0x40, 0, 0, 1])),
+    ([0x0501, 0, 1, 0, 0], Ok([0x40, 0x1000, 0, 2])),
+    ([0x0501, 0, 1, 0, 0], Ok([0x40, 0x2000, 0, 3])),
+    ([0x0600, 0x40, 0x1000, 0, 1], Ok([0x40, 0x1000, 0, 1])),
+    ([0x0503, 0, 0x1001, 0, 2], Ok([0x40, 0x3000, 0, 2])),
+    ([0x0601, 0x40, 0x1000, 0, 1], Err(0x8025)),
+    ([0x0601, 0x40, 0x4000, 0, 1], Err(0x8021)),
+    ([0x0601, 0x40, 0x3000, 0, 1], Ok([0x40, 0x3000, 0, 1])),
+    ([0x0601, 0x40, 0x3000, 0, 1], Err(0x8021)),
+    ([0x0503, 0, 0x1001, 0, 1], Ok([0x40, 0, 0, 1])),
+    ([0x0503, 0, 0x1001, 0, 3], Ok([0x40, 0x5000, 0, 3])),
+    ([0x0503, 0, 1, 0, 3], Ok([0x40, 0x5000, 0, 3])),
+    ([0x0501, 0, 1, 0, 0], Ok([0x40, 0x2000, 0, 4])),
 ];
 
 // Of two blocks, of two pages and one, ranges are locked that wrap past FFFFFFFFh or end a byte past a block; and then nothing is locked.
 const REFUSED_LOCKS: [BlockCall; 15] = [
-    ([0x0501, 0, 0x2000, 0, 0], Some([0x40, 0, 0, 1])),
-    ([0x0501, 0, 0x1000, 0, 0], Some([0x40, 0x2000, 0, 2])),
-    ([0x0600, 0xFFFF, 0xFFFF, 0, 2], None),
-    ([0x0600, 0xFFFF, 0xF000, 0, 0x2000], None),
-    ([0x0600, 0x40, 0, 0xFFFF, 0xFFFF], None),
-    ([0x0600, 0x40, 0x2FFF, 0, 2], None),
-    ([0x0600, 0x3F, 0xFFFF, 0, 2], None),
-    ([0x0600, 0x10, 0xFFFF, 0, 2], None),
-    ([0x0600, 0x10, 0xFFFF, 0, 1], Some([0x10, 0xFFFF, 0, 1])),
-    ([0x0601, 0x40, 0, 0, 1], None),
-    ([0x0601, 0x40, 0x2FFF, 0, 1], None),
-    ([0x0602, 0xFFFF, 0xFFFF, 0, 2], None),
-    ([0x0702, 0x40, 0x2FFF, 0, 2], None),
-    ([0x0703, 0x40, 0x2FFF, 0, 2], None),
-    ([0x0703, 0xFFFF, 0xFFFF, 0, 2], None),
+    ([0x0501, 0, 0x2000, 0, 0], Ok([0x40, 0, 0, 1])),
+    ([0x0501, 0, 0x1000, 0, 0], Ok([0x40, 0x2000, 0, 2])),
+    ([0x0600, 0xFFFF, 0xFFFF, 0, 2], Err(0x8025)),
+    ([0x0600, 0xFFFF, 0xF000, 0, 0x2000], Err(0x8025)),
+    ([0x0600, 0x40, 0, 0xFFFF, 0xFFFF], Err(0x8025)),
+    ([0x0600, 0x40, 0x2FFF, 0, 2], Err(0x8025)),
+    ([0x0600, 0x3F, 0xFFFF, 0, 2], Err(0x8025)),
+    ([0x0600, 0x10, 0xFFFF, 0, 2], Err(0x8025)),
+    ([0x0600, 0x10, 0xFFFF, 0, 1], Ok([0x10, 0xFFFF, 0, 1])),
+    ([0x0601, 0x40, 0, 0, 1], Err(0x8021)),
+    ([0x0601, 0x40, 0x2FFF, 0, 1], Err(0x8021)),
+    ([0x0602, 0xFFFF, 0xFFFF, 0, 2], Err(0x8025)),
+    ([0x0702, 0x40, 0x2FFF, 0, 2], Err(0x8025)),
+    ([0x0703, 0x40, 0x2FFF, 0, 2], Err(0x8025)),
+    ([0x0703, 0xFFFF, 0xFFFF, 0, 2], Err(0x8025)),
 ];
 
 // Two bytes at the border of the blocks touch the last page of the one and the page of the other. Half a page is locked as a whole one, and
 // its neighbour isn't. Nothing, 0 bytes, is locked anywhere.
 const LOCKS: [BlockCall; 17] = [
-    ([0x0501, 0, 0x2000, 0, 0], Some([0x40, 0, 0, 1])),
-    ([0x0501, 0, 0x1000, 0, 0], Some([0x40, 0x2000, 0, 2])),
-    ([0x0600, 0x40, 0x1FFF, 0, 2], Some([0x40, 0x1FFF, 0, 2])),
-    ([0x0601, 0x40, 0, 0, 1], None),
-    ([0x0601, 0x40, 0x1000, 0, 1], Some([0x40, 0x1000, 0, 1])),
-    ([0x0601, 0x40, 0x1000, 0, 1], None),
-    ([0x0601, 0x40, 0x2FFF, 0, 1], Some([0x40, 0x2FFF, 0, 1])),
-    ([0x0601, 0x40, 0x2FFF, 0, 1], None),
+    ([0x0501, 0, 0x2000, 0, 0], Ok([0x40, 0, 0, 1])),
+    ([0x0501, 0, 0x1000, 0, 0], Ok([0x40, 0x2000, 0, 2])),
+    ([0x0600, 0x40, 0x1FFF, 0, 2], Ok([0x40, 0x1FFF, 0, 2])),
+    ([0x0601, 0x40, 0, 0, 1], Err(0x8021)),
+    ([0x0601, 0x40, 0x1000, 0, 1], Ok([0x40, 0x1000, 0, 1])),
+    ([0x0601, 0x40, 0x1000, 0, 1], Err(0x8021)),
+    ([0x0601, 0x40, 0x2FFF, 0, 1], Ok([0x40, 0x2FFF, 0, 1])),
+    ([0x0601, 0x40, 0x2FFF, 0, 1], Err(0x8021)),
     (
         [0x0600, 0x40, 0x0800, 0, 0x0800],
-        Some([0x40, 0x0800, 0, 0x0800]),
+        Ok([0x40, 0x0800, 0, 0x0800]),
     ),
-    ([0x0601, 0x40, 0x1000, 0, 1], None),
-    ([0x0601, 0x40, 0, 0, 0x1001], None),
-    ([0x0601, 0x40, 0, 0, 1], Some([0x40, 0, 0, 1])),
-    ([0x0600, 0x40, 0, 0, 0], Some([0x40, 0, 0, 0])),
-    ([0x0601, 0x40, 0, 0, 1], None),
-    ([0x0600, 0xFFFF, 0xFFFF, 0, 0], Some([0xFFFF, 0xFFFF, 0, 0])),
-    ([0x0602, 0xFFFF, 0xFFFF, 0, 0], Some([0xFFFF, 0xFFFF, 0, 0])),
-    ([0x0703, 0xFFFF, 0xFFFF, 0, 0], Some([0xFFFF, 0xFFFF, 0, 0])),
+    ([0x0601, 0x40, 0x1000, 0, 1], Err(0x8021)),
+    ([0x0601, 0x40, 0, 0, 0x1001], Err(0x8021)),
+    ([0x0601, 0x40, 0, 0, 1], Ok([0x40, 0, 0, 1])),
+    ([0x0600, 0x40, 0, 0, 0], Ok([0x40, 0, 0, 0])),
+    ([0x0601, 0x40, 0, 0, 1], Err(0x8021)),
+    ([0x0600, 0xFFFF, 0xFFFF, 0, 0], Ok([0xFFFF, 0xFFFF, 0, 0])),
+    ([0x0602, 0xFFFF, 0xFFFF, 0, 0], Ok([0xFFFF, 0xFFFF, 0, 0])),
+    ([0x0703, 0xFFFF, 0xFFFF, 0, 0], Ok([0xFFFF, 0xFFFF, 0, 0])),
 ];
 
 // With 513 pages a loop makes 512 blocks of a page each, with BP as its counter.
@@ -219,15 +219,15 @@ const ALL_HANDLES: Calls = Calls {
 
 // There is a page for one more, and no handle. Block 512 is the last: at page 511, 005FF000h.
 const AFTER_ALL_HANDLES: [BlockCall; 6] = [
-    ([0x0501, 0, 1, 3, 4], None),
-    ([0x0502, 5, 6, 0, 0x201], None),
+    ([0x0501, 0, 1, 3, 4], Err(0x8016)),
+    ([0x0502, 5, 6, 0, 0x201], Err(0x8023)),
     (
         [0x0503, 0, 0x1001, 0, 0x200],
-        Some([0x5F, 0xF000, 0, 0x200]),
+        Ok([0x5F, 0xF000, 0, 0x200]),
     ),
-    ([0x0502, 5, 6, 0, 0x200], Some([5, 6, 0, 0x200])),
-    ([0x0502, 5, 6, 0, 0x200], None),
-    ([0x0501, 0, 1, 3, 4], Some([0x5F, 0xF000, 0, 0x200])),
+    ([0x0502, 5, 6, 0, 0x200], Ok([5, 6, 0, 0x200])),
+    ([0x0502, 5, 6, 0, 0x200], Err(0x8023)),
+    ([0x0501, 0, 1, 3, 4], Ok([0x5F, 0xF000, 0, 0x200])),
 ];
 
 // A block of a page, and 4,369 rounds in which its first byte is locked 15 times: 65,535 locks.
@@ -238,10 +238,10 @@ const ALL_LOCKS: Calls = Calls {
 };
 
 const AFTER_ALL_LOCKS: [BlockCall; 4] = [
-    ([0x0600, 0x40, 0, 0, 1], None),
-    ([0x0601, 0x40, 0, 0, 1], Some([0x40, 0, 0, 1])),
-    ([0x0600, 0x40, 0, 0, 1], Some([0x40, 0, 0, 1])),
-    ([0x0600, 0x40, 0, 0, 1], None),
+    ([0x0600, 0x40, 0, 0, 1], Err(0x8021)),
+    ([0x0601, 0x40, 0, 0, 1], Ok([0x40, 0, 0, 1])),
+    ([0x0600, 0x40, 0, 0, 1], Ok([0x40, 0, 0, 1])),
+    ([0x0600, 0x40, 0, 0, 1], Err(0x8021)),
 ];
 
 // In real mode the program's block shrinks to 1000h paragraphs, and FFFFh are refused: AX = 8 and BX = 8F9Bh, the largest free size.
@@ -281,7 +281,7 @@ const LATER_DOS_ROWS: [Row; 10] = [
     (
         [0x0001, 0x022F, 3, 4, 5, 6],
         true,
-        [0x0001, 0x022F, 3, 4, 5, 6],
+        [0x8022, 0x022F, 3, 4, 5, 6],
     ),
     (
         [0x0102, 0x1000, 3, 0x022F, 5, 6],
@@ -347,13 +347,12 @@ static CALLS: [Calls; 6] = [
 ];
 
 fn row_of(call: &BlockCall) -> Row {
-    let ([ax, bx, cx, si, di], after) = *call;
-    let [bx_after, cx_after, si_after, di_after] = after.unwrap_or([bx, cx, si, di]);
-    (
-        [ax, bx, cx, 0, si, di],
-        after.is_none(),
-        [ax, bx_after, cx_after, 0, si_after, di_after],
-    )
+    let ([ax, bx, cx, si, di], done) = *call;
+    let (refused, after) = match done {
+        Ok([bx, cx, si, di]) => (false, [ax, bx, cx, 0, si, di]),
+        Err(number) => (true, [number, bx, cx, 0, si, di]),
+    };
+    ([ax, bx, cx, 0, si, di], refused, after)
 }
 
 // The calls, of both kinds.

@@ -1,7 +1,7 @@
-use Rattle.std.proofs.Common.{◌∙◌, ap, refl, arith}
+use Rattle.std.proofs.Common.{◌∙◌, ap, refl, arith, ℕ}
 use Rattle.client_world.specs.declared.dos_memory.DosEntry.{DosEntry}
-use Rattle.dos_blocks.specs.Blocks.{nowhere, block_state, split}
-use Rattle.dos_blocks.proofs.CallLaws.{can_give, can_put}
+use Rattle.dos_blocks.specs.Blocks.{nowhere, block_state, new_descriptor, run_of_block, split}
+use Rattle.dos_blocks.proofs.BlockRuns.{can_give_block, can_put}
 use Rattle.dos_blocks.proofs.Founds.{found_fit}
 use Rattle.dos_blocks.proofs.NeighbourLaws.{entry_within}
 use Rattle.dos_blocks.proofs.allocating.dos_alloc.Goals as goal
@@ -9,8 +9,8 @@ use Rattle.dos_blocks.proofs.allocating.dos_alloc.Goals as goal
 pub arena-entry-requires : goal.arena-entry-requires
 arena-entry-requires c = (found_fit c.args.m.now.world.arena c.args.paras c.in-Some.place c.in-Some.ensures.found).small
 
-pub split-requires : goal.split-requires
-split-requires c =
+pub split-entries-requires : goal.split-entries-requires
+split-entries-requires c =
     let es = c.args.m.now.world.arena in
     let fit = found_fit es c.args.paras c.in-Some.place c.in-Some.ensures.found in
     let within = entry_within es c.in-Some.place c.in-Some.ensures.sound fit.small in
@@ -19,18 +19,20 @@ split-requires c =
     let paras = ap (λ (e : DosEntry). e.paras) entry in
     record { fits = omega (arith, fit.room, paras); room = omega (arith, within.ends, at, paras) }
 
-pub arena_put-requires : goal.arena_put-requires
-arena_put-requires c =
-    let es = c.args.m.now.world.arena in
+pub put_block-requires : goal.put_block-requires
+put_block-requires c =
+    let w = c.args.m.now.world in
+    let n = c.args.paras in
     let place = c.in-Some.place in
-    let fit = found_fit es c.args.paras place c.in-Some.ensures.found in
-    let can = can_put es place place 1 1 _ c.split.result.items
-    (can_give es c.args.for_dpmi c.args.paras place c.requires.dos c.in-Some.ensures.sound fit) refl refl
-    (c.split.ensures ∙ ap (λ (e : DosEntry). split (block_state c.args.for_dpmi) e.at c.args.paras e.paras) (c.arena-entry.ensures nowhere)) in
-    record { within = can.within; old_plain = can.old_plain; new_plain = can.new_plain; sound = can.sound }
+    let entry = c.arena-entry.ensures nowhere in
+    can_put c.args.for_dpmi w place place 1 1 _ c.split-entries.result.items _ _
+    (can_give_block w c.args.for_dpmi n place c.soundness.ensures c.requires c.in-Some.ensures.found) refl refl
+    (c.split-entries.ensures ∙ ap (λ (e : DosEntry). split (block_state c.args.for_dpmi) e.at n e.paras) entry)
+    (ap (λ (first : ℕ). run_of_block c.arena-entry.result first 0 n) c.new_descriptor.ensures
+    ∙ ap (λ (e : DosEntry). run_of_block e (new_descriptor c.args.for_dpmi w.descriptors n) 0 n) entry)
 
-pub overflow_add-result : goal.overflow_add-result
-overflow_add-result c =
+pub overflow_add-run : goal.overflow_add-run
+overflow_add-run c =
     let es = c.args.m.now.world.arena in
     let fit = found_fit es c.args.paras c.in-Some.place c.in-Some.ensures.found in
     let within = entry_within es c.in-Some.place c.in-Some.ensures.sound fit.small in

@@ -1,0 +1,118 @@
+-- The services in one step: what they put at the place of the block that they find.
+use Rattle.std.proofs.Common.{◌≡◌, ℕ, ◌+◌, ◌-◌, Bool, true, false, [], ◌∷◌, refl, ap, ◌∙◌, sym, Option, Some, None, Ok, Err, if◌then◌else◌, nat_le, nat_lt}
+use Rattle.std.proofs.lemmas.Bool.{and_parts, cond-true}
+use Rattle.client_world.specs.declared.dos_memory.DosRefusal.TheVariants.{NoMemory, WrongBlock}
+use Rattle.client_world.specs.declared.dos_memory.DosState.TheVariants.{Dpmi}
+use Rattle.client_world.specs.DosMemory.{block_segment}
+use Rattle.client_world.specs.Selector.{index_of, selector_of}
+use Rattle.client_world.specs.Soundness.{IsSound, descriptors_for}
+use Rattle.client_world.specs.World.{World}
+use Rattle.guest_space.specs.DosRuns.{with_entries_and_run}
+use Rattle.service_rows.specs.FreeRun.{first_free_run}
+use Rattle.service_rows.specs.Rows.{with_ax}
+use Rattle.dos_blocks.specs.Blocks.{Done, allocated, allocated_at, entry_of_place, first_fit, free_before, free_behind, freed, freed_at, index_or_zero, joined, largest, place_of_block, possible, resized, resized_at, run_of_block, split}
+use Rattle.dos_blocks.specs.Services.{can_have, freed_named, given_from, place_of_segment, place_of_selector, resized_from, resized_named, segment_of_selector, with_dx, with_selector}
+use Rattle.dos_blocks.proofs.BlockRuns.{first_is_named}
+use Rattle.dos_blocks.proofs.Founds.{found_block}
+
+-- ---- 0100h
+
+abbrev pub given_at : ℕ → Option ℕ → Option ℕ → World → Done (Unit {0})
+given_at n None first w = record { answer = Err (NoMemory (largest w.arena)); world = w }
+given_at n (Some place) None w = record { answer = Err (NoMemory (largest w.arena)); world = w }
+given_at n (Some place) (Some first) w = record {
+  answer = Ok tt;
+  world = with_dx (selector_of first) (with_ax (block_segment (entry_of_place w.arena place))
+      (with_entries_and_run w place 1 (split Dpmi (entry_of_place w.arena place).at n (entry_of_place w.arena place).paras)
+      (run_of_block (entry_of_place w.arena place) first 0 n)));
+}
+
+pub given_is : (w : World) (n : ℕ) (fit first : Option ℕ) → first_fit w.arena n 0 ≡ fit → first_free_run w.descriptors (descriptors_for n) ≡ first →
+    given_from n first w ≡ given_at n fit first w
+unfolding allocated
+given_is w n None None e f = refl
+given_is w n (Some place) None e f = refl
+given_is w n None (Some first) e f = ap (λ (o : Option ℕ). with_selector first (allocated_at w true n o)) e
+given_is w n (Some place) (Some first) e f =
+    ap (λ (o : Option ℕ). with_selector first (allocated_at w true n o)) e
+    ∙ ap (λ (o : Option ℕ). with_selector first (record {
+      answer = Ok (block_segment (entry_of_place w.arena place));
+      world = with_entries_and_run w place 1 (split Dpmi (entry_of_place w.arena place).at n (entry_of_place w.arena place).paras)
+          (run_of_block (entry_of_place w.arena place) (index_or_zero o) 0 n);
+    })) f
+
+-- ---- 0101h
+
+abbrev pub freed_with_run : ℕ → Option ℕ → World → Done (Unit {0})
+freed_with_run first None w = record { answer = Err WrongBlock; world = w }
+freed_with_run first (Some place) w = record {
+  answer = Ok tt;
+  world = with_entries_and_run w (place - free_before w.arena place) (free_before w.arena place + (1 + free_behind w.arena place))
+      (joined w.arena place ∷ [])
+      (run_of_block (entry_of_place w.arena place) first (entry_of_place w.arena place).paras 0);
+}
+
+freed_in : (w : World) (sel segment : ℕ) (o : Option ℕ) → IsSound w → segment_of_selector w.descriptors sel ≡ Some segment →
+    place_of_block true w.arena segment 0 ≡ o → freed_at w true segment o ≡ freed_with_run (index_of sel) o w
+freed_in w sel segment None s found e = refl
+freed_in w sel segment (Some place) s found e =
+    ap (λ (first : ℕ). freed_with_run first (Some place) w) (first_is_named w sel segment place s found (found_block true w.arena segment place (sym e)))
+
+freed_by : (w : World) (sel : ℕ) (o : Option ℕ) → IsSound w → segment_of_selector w.descriptors sel ≡ o →
+    freed_named o w ≡ freed_with_run (index_of sel) (place_of_segment w.arena o) w
+unfolding freed
+freed_by w sel None s found = refl
+freed_by w sel (Some segment) s found = freed_in w sel segment (place_of_block true w.arena segment 0) s found refl
+
+pub freed_is : (w : World) (sel : ℕ) → IsSound w →
+    freed_named (segment_of_selector w.descriptors sel) w ≡ freed_with_run (index_of sel) (place_of_selector w sel) w
+unfolding place_of_selector
+freed_is w sel s = freed_by w sel (segment_of_selector w.descriptors sel) s refl
+
+-- ---- 0102h
+
+abbrev pub resized_with_run : ℕ → ℕ → Option ℕ → World → Done (Unit {0})
+resized_with_run n first None w = record { answer = Err WrongBlock; world = w }
+resized_with_run n first (Some place) w =
+    if can_have w n first place then record {
+      answer = Ok tt;
+      world = with_entries_and_run w place (1 + free_behind w.arena place)
+          (split Dpmi (entry_of_place w.arena place).at n (possible w.arena place))
+          (run_of_block (entry_of_place w.arena place) first (entry_of_place w.arena place).paras n);
+    }
+    else record { answer = Err (NoMemory (possible w.arena place)); world = w }
+
+abbrev resized_to : World → ℕ → ℕ → ℕ → Done (Unit {0})
+resized_to w n place first = record {
+  answer = Ok tt;
+  world = with_entries_and_run w place (1 + free_behind w.arena place)
+      (split Dpmi (entry_of_place w.arena place).at n (possible w.arena place))
+      (run_of_block (entry_of_place w.arena place) first (entry_of_place w.arena place).paras n);
+}
+
+resized_where : (w : World) (n sel segment place : ℕ) (can : Bool) → IsSound w → segment_of_selector w.descriptors sel ≡ Some segment →
+    place_of_block true w.arena segment 0 ≡ Some place → can_have w n (index_of sel) place ≡ can →
+    (if can then resized w true segment n else record { answer = Err (NoMemory (possible w.arena place)); world = w })
+    ≡ (if can then resized_to w n place (index_of sel) else record { answer = Err (NoMemory (possible w.arena place)); world = w })
+unfolding resized
+resized_where w n sel segment place false s found e is = refl
+resized_where w n sel segment place true s found e is =
+    let rest = and_parts (nat_lt 0 n) _ is in
+    let room = and_parts (nat_le n (possible w.arena place)) _ rest.1 in
+    ap (resized_at w true segment n) e ∙ cond-true _ _ _ room.0
+    ∙ ap (resized_to w n place) (first_is_named w sel segment place s found (found_block true w.arena segment place (sym e)))
+
+resized_in : (w : World) (n sel segment : ℕ) (o : Option ℕ) → IsSound w → segment_of_selector w.descriptors sel ≡ Some segment →
+    place_of_block true w.arena segment 0 ≡ o → resized_named n (index_of sel) segment o w ≡ resized_with_run n (index_of sel) o w
+resized_in w n sel segment None s found e = refl
+resized_in w n sel segment (Some place) s found e = resized_where w n sel segment place (can_have w n (index_of sel) place) s found e refl
+
+resized_by : (w : World) (n sel : ℕ) (o : Option ℕ) → IsSound w → segment_of_selector w.descriptors sel ≡ o →
+    resized_from n (index_of sel) o w ≡ resized_with_run n (index_of sel) (place_of_segment w.arena o) w
+resized_by w n sel None s found = refl
+resized_by w n sel (Some segment) s found = resized_in w n sel segment (place_of_block true w.arena segment 0) s found refl
+
+pub resized_is : (w : World) (n sel : ℕ) → IsSound w →
+    resized_from n (index_of sel) (segment_of_selector w.descriptors sel) w ≡ resized_with_run n (index_of sel) (place_of_selector w sel) w
+unfolding place_of_selector
+resized_is w n sel s = resized_by w n sel (segment_of_selector w.descriptors sel) s refl

@@ -1,0 +1,50 @@
+// What a call puts into the arena, with the descriptors of a block that has them.
+ghost use Rattle.std.specs.Prelude.{◌≡◌};
+ghost use Rattle.dos_blocks.specs.Blocks.{first_descriptor, new_descriptor, with_block};
+ghost use Rattle.dos_blocks.specs.Puts.{CanPutBlock};
+
+use crate::selectors::{descriptor_of_block, first_free};
+use arrayvec::ArrayVec;
+use client_world::{DosEntry, DosRun};
+use guest_space::{Machine, descriptors_for};
+
+/// Puts entries in place of others, and for a block of INT 31h function 0100h its run of descriptors.
+pub(crate) fn put_block(
+    m: &mut Machine,
+    for_dpmi: bool,
+    place: u16,
+    old: u16,
+    new: &ArrayVec<DosEntry, 3>,
+    run: DosRun,
+)
+    requires { CanPutBlock for_dpmi m.old.world place old new.now.items run }
+    ensures { m.new.world ≡ with_block for_dpmi m.old.world place old new.now.items run }
+{
+    if for_dpmi {
+        m.arena_put_dpmi(place, old, new, run)
+    } else {
+        m.arena_put(place, old, new)
+    }
+}
+
+/// The first descriptor of a block of n paragraphs that is made.
+pub(crate) fn new_descriptor(m: &Machine, for_dpmi: bool, n: u16) -> u16
+    ensures { result ≡ new_descriptor for_dpmi m.now.world.descriptors n }
+{
+    if for_dpmi {
+        first_free(m, descriptors_for(n)).unwrap_or(0)
+    } else {
+        0
+    }
+}
+
+/// The first descriptor of the block at a segment.
+pub(crate) fn first_descriptor(m: &Machine, for_dpmi: bool, segment: u16) -> u16
+    ensures { result ≡ first_descriptor for_dpmi m.now.world.descriptors segment }
+{
+    if for_dpmi {
+        descriptor_of_block(m, segment).unwrap_or(0)
+    } else {
+        0
+    }
+}
