@@ -2,6 +2,7 @@
 ghost use Rattle.std.specs.Prelude.{◌≡◌, ◌≤◌, ◌<◌, ◌+◌, ℕ, List, [], ◌∷◌, length, take, drop, IfOk, IfSome, MatchOption};
 ghost use Rattle.dos_calls.specs.Calls.{line_of};
 ghost use Rattle.dos_calls.specs.Answering.{any_left, line_at};
+ghost use Rattle.guest_ram.specs.Bytes.{AreBytes};
 
 use std::alloc::{AllocError, Global};
 use std::marker::Model;
@@ -21,6 +22,11 @@ impl Model for Keys {
     ghost invariant = { λ k. k.next ≤ length k.typed.items };
 }
 
+// Each of the bytes fits: the type says so, and contracts see numbers alone.
+fn all_fit(bytes: &[u8])
+    ensures { AreBytes bytes.now }
+{}
+
 impl Keys {
     /// Those keystrokes, in a copy.
     pub fn new(alloc: Global, bytes: &[u8]) -> Result<Keys, AllocError>
@@ -35,6 +41,13 @@ impl Keys {
         ensures { result.now ≡ self.now }
     {
         &self.typed[self.next..]
+    }
+
+    /// Those that are left are bytes.
+    pub fn soundness(&self)
+        ensures { AreBytes self.now }
+    {
+        all_fit(self.left());
     }
 
     /// Whether one is left.

@@ -5,8 +5,11 @@ use Rattle.std.proofs.lemmas.List.{take_all}
 use Rattle.client_world.specs.declared.outcome.Exit.{Exit}
 use Rattle.client_world.specs.declared.limits.TheConstants.{DEFAULT_BOUND}
 use Rattle.client_world.specs.World.{HostWorld}
+use Rattle.client_world.specs.Soundness.{IsSound}
+use Rattle.host_run.specs.HandOver.{HandsOver}
 use Rattle.host_run.specs.Nested.{HasTurns, IsHandedOver, LastPush, Matched, host_depth}
-use Rattle.host_run.specs.Run.{run, turns}
+use Rattle.host_run.specs.RealCalls.{InterruptSource}
+use Rattle.host_run.specs.Run.{run}
 use Rattle.dpmi_io.specs.Causes.{Rose}
 use Rattle.dpmi_io.specs.Content.{Shown, Gains, GainsPart}
 use Rattle.dpmi_report.specs.Summary.{summary, summary_at}
@@ -14,7 +17,7 @@ use Rattle.dpmi_report.specs.Text.{text}
 use Rattle.dpmi_cli.specs.declared.prepare.Reason.{Reason}
 use Rattle.dpmi_cli.specs.Answer.{Verdict, Refuses, Starts, StartsMade, answer_to, exit_status, run_status}
 use Rattle.dpmi_cli.specs.Causes.{Answers}
-use Rattle.dpmi_cli.specs.Laws.{OfItsRun, KeepsTheLaws, NestsByOneRecord, ReturnsInOrder}
+use Rattle.dpmi_cli.specs.Laws.{OfItsRun, KeepsTheLaws, NestsByOneRecord, ReturnsInOrder, RunKeepsTheLaws, RunSeen, TouchesWhatIsHeld}
 use Rattle.dpmi_cli.specs.Text.{refused}
 use Rattle.dpmi_cli.proofs.SmallStatus.{run_status-small}
 
@@ -50,7 +53,7 @@ gives_refusal (Err e) reason before now m n whole part rose = record {
 }
 
 -- a run answers with its status and its text, written whole
-whole : (v : Verdict) (before now : Shown) (m n result : ℕ) → OfItsRun KeepsTheLaws v → (answer_to v).status < 2 →
+whole : (v : Verdict) (before now : Shown) (m n result : ℕ) → OfItsRun RunKeepsTheLaws v → (answer_to v).status < 2 →
     result ≡ (answer_to v).status → Gains before now (answer_to v).text → Answers v before now m n result
 whole v before now m n result laws small status text = record {
   writes_the_answer = part_whole before now (answer_to v).text text;
@@ -62,7 +65,7 @@ whole v before now m n result laws small status text = record {
 }
 
 -- the output failed in the text of a run
-cut : (v : Verdict) (before now : Shown) (m n : ℕ) → OfItsRun KeepsTheLaws v → (answer_to v).status < 2 →
+cut : (v : Verdict) (before now : Shown) (m n : ℕ) → OfItsRun RunKeepsTheLaws v → (answer_to v).status < 2 →
     GainsPart before now (answer_to v).text → Rose m n → Answers v before now m n 4
 cut v before now m n laws small part rose = record {
   writes_the_answer = part;
@@ -74,47 +77,62 @@ cut v before now m n laws small part rose = record {
 }
 
 -- the run of a client up to a bound ended so, and its text was written
-pub gives_run : (w after : HostWorld) (bound : ℕ) (e : Exit) (before now : Shown) (m n result : ℕ) → KeepsTheLaws w →
+pub gives_run : (w after : HostWorld) (bound : ℕ) (e : Exit) (before now : Shown) (m n result : ℕ) → RunKeepsTheLaws w →
     after ≡ run w bound → after.exit ≡ Some e → Gains before now (text after) → result ≡ exit_status e →
     Answers (Starts w bound) before now m n result
 gives_run w after bound e before now m n result laws is ended written status =
     whole (Starts w bound) before now m n result laws (run_status-small (run w bound)) (status ∙ sym (status_is after e ended) ∙ ap run_status is)
     (subst (λ (v : HostWorld). Gains before now (text v)) is written)
 
-pub gives_cut : (w after : HostWorld) (bound : ℕ) (before now : Shown) (m n : ℕ) → KeepsTheLaws w → after ≡ run w bound →
+pub gives_cut : (w after : HostWorld) (bound : ℕ) (before now : Shown) (m n : ℕ) → RunKeepsTheLaws w → after ≡ run w bound →
     GainsPart before now (text after) → Rose m n → Answers (Starts w bound) before now m n 4
 gives_cut w after bound before now m n laws is part rose =
     cut (Starts w bound) before now m n laws (run_status-small (run w bound)) (subst (λ (v : HostWorld). GainsPart before now (text v)) is part) rose
 
 -- the same of a made client and its summary
-pub gives_summary : (number : ℕ) (w after : HostWorld) (e : Exit) (before now : Shown) (m n result : ℕ) → KeepsTheLaws w →
+pub gives_summary : (number : ℕ) (w after : HostWorld) (e : Exit) (before now : Shown) (m n result : ℕ) → RunKeepsTheLaws w →
     after ≡ run w DEFAULT_BOUND → after.exit ≡ Some e → Gains before now (summary_at number after e) → result ≡ exit_status e →
     Answers (StartsMade number w) before now m n result
 gives_summary number w after e before now m n result laws is ended written status =
     whole (StartsMade number w) before now m n result laws (run_status-small (run w DEFAULT_BOUND)) (status ∙ sym (status_is after e ended) ∙ ap run_status is)
     (subst (λ l. Gains before now l) (summary_is number after e ended ∙ ap (summary number) is) written)
 
-pub gives_summary_cut : (number : ℕ) (w after : HostWorld) (e : Exit) (before now : Shown) (m n : ℕ) → KeepsTheLaws w →
+pub gives_summary_cut : (number : ℕ) (w after : HostWorld) (e : Exit) (before now : Shown) (m n : ℕ) → RunKeepsTheLaws w →
     after ≡ run w DEFAULT_BOUND → after.exit ≡ Some e → GainsPart before now (summary_at number after e) → Rose m n →
     Answers (StartsMade number w) before now m n 4
 gives_summary_cut number w after e before now m n laws is ended part rose =
     cut (StartsMade number w) before now m n laws (run_status-small (run w DEFAULT_BOUND))
     (subst (λ l. GainsPart before now l) (summary_is number after e ended ∙ ap (summary number) is) part) rose
 
--- the laws over rows of hosts, for the turns of one run
+-- ---- the laws over rows of hosts, for one run
+
 abbrev EachDepth : Type 0
-EachDepth = (w : ℕ → HostWorld) (n k : ℕ) → HasTurns w n → k < n →
+EachDepth = (source : InterruptSource) (w : ℕ → HostWorld) (n k : ℕ) → HasTurns source w n → k < n →
     (host_depth (w (k + 1)) ≤ host_depth (w k) + 1) × (host_depth (w k) ≤ host_depth (w (k + 1)) + 1)
 
 abbrev EachPartner : Type 0
-EachPartner = (w : ℕ → HostWorld) (n i j : ℕ) → HasTurns w n → j < n → LastPush w i j → Matched w i j
+EachPartner = (source : InterruptSource) (w : ℕ → HostWorld) (n i j : ℕ) → HasTurns source w n → j < n → LastPush w i j → Matched w i j
 
 abbrev EachStays : Type 0
-EachStays = (w : ℕ → HostWorld) (n i j : ℕ) → HasTurns w n → j < n → Matched w i j → IsHandedOver w i j
+EachStays = (source : InterruptSource) (w : ℕ → HostWorld) (n i j : ℕ) → HasTurns source w n → j < n → Matched w i j → IsHandedOver source w i j
 
-pub in_order : (w : HostWorld) → NestsByOneRecord w → EachDepth → EachPartner → EachStays → ReturnsInOrder w
-in_order w nests depth partner stays = record {
-  depth = λ k. depth (turns w) (k + 1) k (λ i lt. nests i) (omega arith);
-  partner = λ i j last. partner (turns w) (j + 1) i j (λ k lt. nests k) (omega arith) last;
-  record_stays = λ i j matched. stays (turns w) (j + 1) i j (λ k lt. nests k) (omega arith) matched;
+abbrev EachHandsOver : Type 0
+EachHandsOver = (source : InterruptSource) (w : ℕ → HostWorld) (i j : ℕ) → IsSound (w i).machine → IsSound (w j).machine →
+    (h : IsHandedOver source w i j) → HandsOver source (w i) (w (i + 1)) (w j) (w (j + 1)) h.innermost
+
+in_order : (source : InterruptSource) (r : RunSeen) → NestsByOneRecord source r → EachDepth → EachPartner → EachStays → ReturnsInOrder source r
+in_order source r nests depth partner stays = record {
+  depth = λ k. depth source r.host (k + 1) k (λ i lt. nests i) (omega arith);
+  partner = λ i j last. partner source r.host (j + 1) i j (λ k lt. nests k) (omega arith) last;
+  record_stays = λ i j matched. stays source r.host (j + 1) i j (λ k lt. nests k) (omega arith) matched;
+}
+
+-- a run of sound hosts whose instructions touch what the client holds and whose turns nest keeps them all
+pub keeps_the_laws : (source : InterruptSource) (r : RunSeen) → TouchesWhatIsHeld r → NestsByOneRecord source r → ((n : ℕ) → IsSound (r.host n).machine) →
+    EachDepth → EachPartner → EachStays → EachHandsOver → KeepsTheLaws source r
+keeps_the_laws source r touches nests sound depth partner stays hands = record {
+  every_touch_is_held = touches;
+  every_turn_changes_the_innermost_record_at_most = nests;
+  nested_calls_return_in_order = in_order source r nests depth partner stays;
+  every_nested_call_hands_over = λ i j h. hands source r.host i j (sound i) (sound j) h;
 }

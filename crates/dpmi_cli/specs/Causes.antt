@@ -7,7 +7,7 @@ use Rattle.dpmi_io.specs.Content.{Files, Shown, Gains, GainsPart}
 use Rattle.dpmi_cli.specs.declared.status.TheConstants.{REFUSED, OUTPUT_FAILED}
 use Rattle.dpmi_cli.specs.Words.{file_names}
 use Rattle.dpmi_cli.specs.Answer.{Verdict, verdict_of, answer, answer_to}
-use Rattle.dpmi_cli.specs.Laws.{OfItsRun, KeepsTheLaws}
+use Rattle.dpmi_cli.specs.Laws.{OfItsRun, RunKeepsTheLaws}
 
 -- a file that the words name failed: the count of faults rose, and the file that is blamed is one of theirs
 abbrev pub NamedFailed : List (List ℕ) → ℕ → ℕ → Option (List ℕ) → Type 0
@@ -38,4 +38,4 @@ pub record Answers (v : Verdict) (before now : Shown) (faults_before faults_now 
   pub whole_text : result < REFUSED → Gains before now (answer_to v).text
   pub whole_line : result ≡ REFUSED → Gains before now (answer_to v).text ⊎ Rose faults_before faults_now
   pub output_failure_has_cause : result ≡ OUTPUT_FAILED → Rose faults_before faults_now
-  pub run_keeps_the_laws : OfItsRun KeepsTheLaws v
+  pub run_keeps_the_laws : OfItsRun RunKeepsTheLaws v

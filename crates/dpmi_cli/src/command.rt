@@ -7,7 +7,7 @@ ghost use Rattle.dpmi_io.specs.Content.{Gains};
 ghost use Rattle.dpmi_cli.specs.Answer.{answer, exit_status, Verdict};
 ghost use Rattle.dpmi_cli.specs.Answer.Verdict.{Refuses, Starts, StartsMade};
 ghost use Rattle.dpmi_cli.specs.Causes.{NamedFailed, IsAbsent, HasVerdict, Answers};
-ghost use Rattle.dpmi_cli.specs.Laws.{KeepsTheLaws};
+ghost use Rattle.dpmi_cli.specs.Laws.{RunKeepsTheLaws};
 ghost use Rattle.dpmi_cli.specs.Load.{IsNew, IsReady};
 
 use crate::prepare::{Prepared, Reason, Stop, prepare};
@@ -18,7 +18,7 @@ use client_world::limits::DEFAULT_BOUND;
 use dpmi_io::{Shelf, Sink};
 use dpmi_report::{write_all_of, write_summary};
 use host_run::{
-    Host, every_nested_call_hands_over, every_touch_of_a_run_is_held,
+    Host, every_nested_call_hands_over, every_run_is_sound, every_touch_of_a_run_is_held,
     every_turn_changes_the_innermost_record_at_most, nested_calls_return_in_order,
 };
 use std::alloc::Global;
@@ -44,8 +44,9 @@ fn status_of(exit: Exit) -> u8
 
 // What holds of each run. It has nothing to do: its contract says it.
 fn every_run_keeps_the_laws()
-    ensures { (w : HostWorld) → IsReady w → KeepsTheLaws w }
+    ensures { (w : HostWorld) → IsReady w → RunKeepsTheLaws w }
 {
+    every_run_is_sound();
     every_touch_of_a_run_is_held();
     every_turn_changes_the_innermost_record_at_most();
     nested_calls_return_in_order();

@@ -1,6 +1,6 @@
 -- Two matched turns hand over what the start and the return of a call or of an exception do, since the record of the first is that of the
 -- second.
-use Rattle.std.proofs.Common.{◌≡◌, ◌∙◌, ℕ, ◌+◌, List, [], ◌∷◌, ◌++◌, ap, sym, subst}
+use Rattle.std.proofs.Common.{◌≡◌, ◌∙◌, ◌⊎◌, inl, inr, ℕ, ◌+◌, List, [], ◌∷◌, ◌++◌, ap, sym, subst, Ok}
 use Rattle.std.proofs.lemmas.List.{same_from_push}
 use Rattle.client_world.specs.declared.calls.Call.{Call}
 use Rattle.client_world.specs.declared.calls.Call.TheVariants.{Int, Far, Iret, Reflect}
@@ -11,13 +11,14 @@ use Rattle.client_world.specs.declared.services.Carry.TheVariants.{Clear}
 use Rattle.client_world.specs.Services.{Served, es_di}
 use Rattle.client_world.specs.Soundness.{IsSound}
 use Rattle.client_world.specs.World.{World, HostWorld}
+use Rattle.fault_service.specs.Worlds.{world_popped}
 use Rattle.fault_service.proofs.SoundAnswers.{sound_world_popped}
 use Rattle.callbacks.specs.HandOver.{HasEntered, HasLeft}
 use Rattle.callbacks.proofs.HandedOver.{has_entered, has_left}
 use Rattle.host_run.specs.HandOver.{HandsOver, HandsOverCall, HandsOverRealCall}
 use Rattle.host_run.specs.Keys.{HasKeys}
 use Rattle.host_run.specs.Nested.{IsHandedOver, PopsRecord, PushesRecord}
-use Rattle.host_run.specs.RealCalls.{ReturnsFromCall, StartsCall, StartsRealCall}
+use Rattle.host_run.specs.RealCalls.{InterruptSource, ReflectedFrom, ReturnsFromCall, StartsCall, StartsRealCall, from_anywhere, from_client}
 use Rattle.host_run.specs.Run.{turns}
 use Rattle.host_run.proofs.HandedExceptions.{has_delivered, has_resumed}
 use Rattle.host_run.proofs.Sound.{turns_sound}
@@ -28,10 +29,10 @@ use Rattle.translation.proofs.HandedOver.{has_begun, has_reflected}
 use Rattle.translation.proofs.ResultsBack.{has_ended}
 
 -- a turn that adds a record, one that takes it away, and the records below it
-record Matches (w v x y : HostWorld) (r : Record) : Type 0 where
+record Matches (source : InterruptSource) (w v x y : HostWorld) (r : Record) : Type 0 where
   starts : IsSound w.machine
   ends : IsSound x.machine
-  pushes : PushesRecord w r v
+  pushes : PushesRecord source w r v
   pops : PopsRecord x r y
   pushed : v.machine.calls ≡ w.machine.calls ++ r ∷ []
   innermost : x.machine.calls ≡ y.machine.calls ++ r ∷ []
@@ -59,6 +60,7 @@ call_by w v x y call r starts ends pushes pops innermost =
     record {
       popped = pushes.popped;
       pops = pushes.pops;
+      vif = pushes.vif;
       begun = begun_call pushes.popped v.machine call (sound_world_popped w.machine pushes.popped starts pushes.pops) pushes.starts;
       ended = ended;
       same = same_record x y r innermost ended ∙ pushes.keeps;
@@ -66,26 +68,35 @@ call_by w v x y call r starts ends pushes pops innermost =
       leave = pops.lines;
     }
 
-real_call_by : (w v x y : HostWorld) (call : Call) (r : Record) → IsSound w.machine → IsSound x.machine → StartsRealCall w call r v →
-    ReturnsFromCall x call y → x.machine.calls ≡ y.machine.calls ++ r ∷ [] → HandsOverRealCall w v x y call
-real_call_by w v x y (Int n) r starts ends pushes pops innermost = call_by w v x y (Int n) r starts ends pushes pops innermost
-real_call_by w v x y Far r starts ends pushes pops innermost = call_by w v x y Far r starts ends pushes pops innermost
-real_call_by w v x y Iret r starts ends pushes pops innermost = call_by w v x y Iret r starts ends pushes pops innermost
-real_call_by w v x y (Reflect n) r starts ends pushes pops innermost =
+-- the machine that an interrupt is reflected from is sound
+sound_client : (source : InterruptSource) (w client : World) → IsSound w → ReflectedFrom source w client → IsSound client
+sound_client from_client w client sound pops = sound_world_popped w client sound pops
+sound_client from_anywhere w client sound (inl pops) = sound_world_popped w client sound pops
+sound_client from_anywhere w client sound (inr same) = subst IsSound (sym same) sound
+
+real_call_by : (source : InterruptSource) (w v x y : HostWorld) (call : Call) (r : Record) → IsSound w.machine → IsSound x.machine →
+    StartsRealCall source w call r v → ReturnsFromCall x call y → x.machine.calls ≡ y.machine.calls ++ r ∷ [] →
+    HandsOverRealCall source w v x y call
+real_call_by source w v x y (Int n) r starts ends pushes pops innermost = call_by w v x y (Int n) r starts ends pushes pops innermost
+real_call_by source w v x y Far r starts ends pushes pops innermost = call_by w v x y Far r starts ends pushes pops innermost
+real_call_by source w v x y Iret r starts ends pushes pops innermost = call_by w v x y Iret r starts ends pushes pops innermost
+real_call_by source w v x y (Reflect n) r starts ends pushes pops innermost =
     let ended = has_ended x.machine y.machine ends pops.returns in
     record {
-      popped = pushes.popped;
-      pops = pushes.pops;
-      begun = has_reflected pushes.popped v.machine n (sound_world_popped w.machine pushes.popped starts pushes.pops) pushes.starts;
+      client = pushes.client;
+      from = pushes.from;
+      vif = pushes.vif;
+      begun = has_reflected pushes.client v.machine n (sound_client source w.machine pushes.client starts pushes.from) pushes.starts;
       ended = ended;
       same = same_record x y r innermost ended ∙ pushes.keeps;
       enter = pushes.lines;
       leave = pops.lines;
     }
 
-by_record : (w v x y : HostWorld) (r : Record) → Matches w v x y r → HandsOver w v x y r
-by_record w v x y (Sim call saved vif at) m = real_call_by w v x y call (Sim call saved vif at) m.starts m.ends m.pushes m.pops m.innermost
-by_record w v x y (Back slot at) m = record {
+by_record : (source : InterruptSource) (w v x y : HostWorld) (r : Record) → Matches source w v x y r → HandsOver source w v x y r
+by_record source w v x y (Sim call saved vif at) m =
+    real_call_by source w v x y call (Sim call saved vif at) m.starts m.ends m.pushes m.pops m.innermost
+by_record source w v x y (Back slot at) m = record {
   entered = entered;
   place = same_place w v slot at entered m.pushed;
   left = left;
@@ -99,16 +110,16 @@ by_record w v x y (Back slot at) m = record {
 
     left : HasLeft x.machine y.machine
     left = has_left x.machine y.machine m.pops.0
-by_record w v x y (Exc number code) m = record {
+by_record source w v x y (Exc number code) m = record {
   delivered = has_delivered w.machine v.machine (record { number = number; code = code }) m.starts m.pushes.0 m.pushes.1;
   resumed = has_resumed x.machine y.machine m.pops.0;
   enter = m.pushes.2;
   leave = m.pops.1;
 }
 
-pub hands_over : (w : ℕ → HostWorld) (i j : ℕ) → IsSound (w i).machine → IsSound (w j).machine → (h : IsHandedOver w i j) →
-    HandsOver (w i) (w (i + 1)) (w j) (w (j + 1)) h.innermost
-hands_over w i j first last h = by_record (w i) (w (i + 1)) (w j) (w (j + 1)) h.innermost (record {
+pub hands_over : (source : InterruptSource) (w : ℕ → HostWorld) (i j : ℕ) → IsSound (w i).machine → IsSound (w j).machine →
+    (h : IsHandedOver source w i j) → HandsOver source (w i) (w (i + 1)) (w j) (w (j + 1)) h.innermost
+hands_over source w i j first last h = by_record source (w i) (w (i + 1)) (w j) (w (j + 1)) h.innermost (record {
   starts = first;
   ends = last;
   pushes = h.pushes;
@@ -117,6 +128,6 @@ hands_over w i j first last h = by_record (w i) (w (i + 1)) (w j) (w (j + 1)) h.
   innermost = h.pop ∙ ap (λ (calls : List Record). calls ++ h.innermost ∷ []) (sym h.rest);
 })
 
-pub run_hands_over : (w : HostWorld) (i j : ℕ) → IsSound w.machine → HasKeys w → (h : IsHandedOver (turns w) i j) →
-    HandsOver (turns w i) (turns w (i + 1)) (turns w j) (turns w (j + 1)) h.innermost
-run_hands_over w i j s keys h = hands_over (turns w) i j (turns_sound w i (record { machine = s; keys = keys })).machine (turns_sound w j (record { machine = s; keys = keys })).machine h
+pub run_hands_over : (w : HostWorld) (i j : ℕ) → IsSound w.machine → HasKeys w → (h : IsHandedOver from_client (turns w) i j) →
+    HandsOver from_client (turns w i) (turns w (i + 1)) (turns w j) (turns w (j + 1)) h.innermost
+run_hands_over w i j s keys h = hands_over from_client (turns w) i j (turns_sound w i (record { machine = s; keys = keys })).machine (turns_sound w j (record { machine = s; keys = keys })).machine h

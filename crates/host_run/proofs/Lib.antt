@@ -2,13 +2,17 @@ mod AskedCalls
 mod ClientChanges
 mod HandedExceptions
 mod Frames
+pub mod Growth
 mod HandOver
 mod KindModes
 mod Nested
 mod NoTraps
+mod PoppedInterrupts
 mod RealCalls
 mod Runs
 mod Services
 mod Touches
+mod TrapBytes
+pub mod OtherTurns
 pub mod Sound
 pub mod TurnLaws

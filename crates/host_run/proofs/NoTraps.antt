@@ -11,7 +11,7 @@ use Rattle.host_run.specs.declared.traps.Trap.TheVariants.{NoTrap}
 use Rattle.host_run.specs.Traps.{address_in, code_address, code_linear, protected_trap_at, real_trap_at, current_trap, trap_at, trap_where}
 
 -- an address outside read-only memory, where all trap bytes are
-abbrev IsOutside : ℕ → Type 0
+abbrev pub IsOutside : ℕ → Type 0
 IsOutside at = (at < ROM_START) ⊎ (DOS_SIZE ≤ at)
 
 real_none : (at : ℕ) → IsOutside at → real_trap_at at ≡ NoTrap
@@ -24,7 +24,7 @@ unfolding protected_trap_at
 protected_none at (inl below) = grind arith
 protected_none at (inr above) = grind arith
 
-none_at : (mode : Mode) (at : ℕ) → IsOutside at → trap_at mode at ≡ NoTrap
+pub none_at : (mode : Mode) (at : ℕ) → IsOutside at → trap_at mode at ≡ NoTrap
 none_at Real at outside = real_none at outside
 none_at Protected at outside = protected_none at outside
 

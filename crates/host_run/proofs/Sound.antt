@@ -1,20 +1,19 @@
--- What crates above may cite of a run: from a sound world with keys that are bytes each turn leads to such a one, leaves the records of calls
--- or adds or takes away the innermost one, and adds to the console at its end alone.
-use Rattle.std.proofs.Common.{arith, ◌≡◌, ◌≢◌, ◌∙◌, ◌≤◌, ◌+◌, ◌-◌, ◌*◌, ◌++◌, ℕ, zero, suc, List, None, Some, add-suc, add-zero, ap, append_assoc, refl, sym, subst}
+-- What crates above may cite of a run: from a sound world with keys that are bytes each turn leads to such a one and leaves the records of calls
+-- or adds or takes away the innermost one.
+use Rattle.std.proofs.Common.{arith, ◌≡◌, ◌≢◌, ◌≤◌, ◌+◌, ◌*◌, ℕ, zero, suc, List, None, Some, sym, subst}
 use Rattle.std.specs.Prelude.{IsSome}
 use Rattle.std.specs.declared.option.Option.{Option}
 use Rattle.client_world.specs.declared.outcome.Exit.{Exit}
 use Rattle.client_world.specs.declared.outcome.Exit.TheVariants.{Bound, ConsoleFull}
 use Rattle.client_world.specs.Soundness.{IsSound, IsSoundHost}
 use Rattle.client_world.specs.World.{HostWorld}
-use Rattle.dos_calls.specs.Kept.{Extends}
-use Rattle.dos_calls.proofs.LeftCalls.{extends_itself}
 use Rattle.guest_ram.specs.Bytes.{AreBytes}
 use Rattle.host_memory.proofs.BlankSound.{blank_is_sound}
 use Rattle.mz_loader.specs.Refusal.{refusal}
 use Rattle.mz_loader.proofs.SoundStart.{sound_start}
 use Rattle.host_run.specs.Keys.{HasKeys}
 use Rattle.host_run.specs.Nested.{Stacked}
+use Rattle.host_run.specs.RealCalls.{from_client}
 use Rattle.host_run.specs.Start.{blank, started_host}
 use Rattle.host_run.specs.Run.{turns, run}
 use Rattle.host_run.specs.Turn.{turn}
@@ -57,33 +56,8 @@ turns_lines w zero s few = few
 turns_lines w (suc n) s few = turn_lines (turns w n) (turns_sound w n s) (turns_lines w n s few)
 
 -- what turns do to the records of calls
-pub turns_calls : (w : HostWorld) (n : ℕ) → IsReached w → Stacked (turns w n) (turns w (n + 1))
-turns_calls w n s = subst (Stacked (turns w n)) (sym (turns_more w n)) (turn_keeps (turns w n) (turns_sound w n s)).calls
-
--- the console after some turns is a prefix of the console after more
-extends_then : (a b c : List ℕ) → Extends a b → Extends b c → Extends a c
-extends_then a b c first then = (first.0 ++ then.0, then.1 ∙ ap (λ (x : List ℕ). x ++ then.0) first.1 ∙ append_assoc a first.0 then.0)
-
-more_console : (w : HostWorld) (m k : ℕ) → IsReached w → Extends (turns w m).console (turns w (m + k)).console
-unfolding turns
-more_console w m zero s = rw add-zero (extends_itself (turns w m).console)
-more_console w m (suc k) s =
-    rw add-suc (extends_then _ _ _ (more_console w m k s) (turn_keeps (turns w (m + k)) (turns_sound w (m + k) s)).console)
-
-pub turns_console : (w : HostWorld) (m n : ℕ) → m ≤ n → IsReached w → Extends (turns w m).console (turns w n).console
-turns_console w m n le s =
-    let split : m + (n - m) ≡ n = omega arith in
-    subst (λ (k : ℕ). Extends (turns w m).console (turns w k).console) split (more_console w m (n - m) s)
-
--- the bound of a run leaves the console
-bounded_console : (w : HostWorld) (o : Option Exit) →
-    let after : HostWorld = elim o [ Some _ ↦ w | None ↦ record w { exit = Some Bound } ] in after.console ≡ w.console
-bounded_console w (Some _) = refl
-bounded_console w None = refl
-
-pub run_console : (w : HostWorld) (m n : ℕ) → m ≤ n → IsReached w → Extends (turns w m).console (run w n).console
-run_console w m n le s =
-    subst (Extends (turns w m).console) (sym (bounded_console (turns w n) (turns w n).exit)) (turns_console w m n le s)
+pub turns_calls : (w : HostWorld) (n : ℕ) → IsReached w → Stacked from_client (turns w n) (turns w (n + 1))
+turns_calls w n s = subst (Stacked from_client (turns w n)) (sym (turns_more w n)) (turn_keeps (turns w n) (turns_sound w n s)).calls
 
 -- so does a run
 bound_sound : (w : HostWorld) (o : Option Exit) → IsReached w → IsReached (elim o [ Some _ ↦ w | None ↦ record w { exit = Some Bound } ])

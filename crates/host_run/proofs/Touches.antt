@@ -1,12 +1,21 @@
--- The places that turns touch are the client's.
-use Rattle.std.proofs.Common.{[], None, Some}
-use Rattle.std.specs.Prelude.{All}
+-- The places that turns touch are the client's, and each byte that the client's instruction changes is that of such a place.
+use Rattle.std.proofs.Common.{◌≡◌, ◌∙◌, ℕ, List, [], ap, refl, subst, sym, None, Some, Result, Ok, Err}
+use Rattle.std.specs.Prelude.{All, Contains}
 use Rattle.std.proofs.lemmas.List.Elements.{All-nil}
 use Rattle.std.specs.declared.option.Option.{Option}
+use Rattle.client_world.specs.declared.faults.Event.{Event}
+use Rattle.client_world.specs.declared.faults.Event.TheVariants.{Soft}
 use Rattle.client_world.specs.declared.outcome.Exit.{Exit}
+use Rattle.client_world.specs.declared.place.Place.{Place}
 use Rattle.client_world.specs.Access.{IsHeld}
 use Rattle.client_world.specs.World.{World, HostWorld}
+use Rattle.cpu_step.specs.Step.{client_step}
 use Rattle.cpu_step.specs.Touched.{touched as step_touches}
+use Rattle.fault_service.specs.Delivery.{software_interrupt}
+use Rattle.fault_service.specs.Worlds.{bare, its_world, world_interrupt, world_step}
+use Rattle.fault_service.proofs.SoundAnswers.{holds_of_world}
+use Rattle.host_memory.specs.View.{MachineView}
+use Rattle.protected_faults.specs.StepMemory.{interrupt_places, written_places}
 use Rattle.host_run.specs.declared.traps.Trap.{Trap}
 use Rattle.host_run.specs.declared.traps.Trap.TheVariants.{NoTrap}
 use Rattle.host_run.specs.Touched.{touched_by_turn, unless_trapped}
@@ -23,3 +32,42 @@ touch_held steps w =
       | Some _ ↦ All-nil (IsHeld m)
       | None ↦ unless_held m (current_trap m) (steps m)
     ]
+
+-- ---- the bytes that change
+
+-- what a turn touches that runs a client instruction
+by_exit : (w : HostWorld) (o : Option Exit) → o ≡ None →
+    elim o as (λ _. List Place) [ Some _ ↦ [] | None ↦ unless_trapped w.machine (current_trap w.machine) ] ≡ unless_trapped w.machine (current_trap w.machine)
+by_exit w None none = refl
+by_exit w (Some exit) none = absurd cc
+
+runs : (w : HostWorld) → w.exit ≡ None → current_trap w.machine ≡ NoTrap → touched_by_turn w ≡ step_touches w.machine
+runs w none free = by_exit w w.exit none ∙ ap (unless_trapped w.machine) free
+
+event_of : (E : Type 0) (r : Result MachineView E) (e : E) → its_world r ≡ Err e → r ≡ Err e
+event_of E (Ok v) e is = absurd cc
+event_of E (Err f) e is = cc
+
+abbrev AreIn : List Place → List Place → Type 0
+AreIn places some = All (Contains places) some
+
+pub written_by_turn : ((v u : MachineView) → client_step v ≡ Ok u → AreIn (step_touches v.world) (written_places v.world)) →
+    (w : HostWorld) (u : World) → w.exit ≡ None → current_trap w.machine ≡ NoTrap → world_step w.machine ≡ Ok u →
+    AreIn (touched_by_turn w) (written_places w.machine)
+unfolding world_step
+written_by_turn law w u none free is =
+    let m = w.machine in
+    subst (λ (places : List Place). AreIn places (written_places m)) (sym (runs w none free))
+    (holds_of_world (λ _. AreIn (step_touches m) (written_places m)) (client_step (bare m)) u (λ v. law (bare m) v) is)
+
+pub pushed_by_turn : ((v u : MachineView) (number len : ℕ) → client_step v ≡ Err (Soft number len) → software_interrupt v number len ≡ Ok u →
+    AreIn (step_touches v.world) (interrupt_places v.world len)) →
+    (w : HostWorld) (u : World) (number len : ℕ) → w.exit ≡ None → current_trap w.machine ≡ NoTrap → world_step w.machine ≡ Err (Soft number len) →
+    world_interrupt w.machine number len ≡ Ok u → AreIn (touched_by_turn w) (interrupt_places w.machine len)
+unfolding world_step world_interrupt
+pushed_by_turn law w u number len none free is made =
+    let m = w.machine in
+    let event = event_of Event (client_step (bare m)) (Soft number len) is in
+    subst (λ (places : List Place). AreIn places (interrupt_places m len)) (sym (runs w none free))
+    (holds_of_world (λ _. AreIn (step_touches m) (interrupt_places m len)) (software_interrupt (bare m) number len) u
+    (λ v. law (bare m) v number len event) made)

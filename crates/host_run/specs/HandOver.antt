@@ -18,7 +18,7 @@ use Rattle.client_world.specs.World.{World, HostWorld}
 use Rattle.callbacks.specs.HandOver.{HasEntered, HasLeft}
 use Rattle.fault_service.specs.Worlds.{world_popped}
 use Rattle.host_run.specs.Exceptions.{HasDelivered, HasResumed}
-use Rattle.host_run.specs.RealCalls.{HasMoreLines}
+use Rattle.host_run.specs.RealCalls.{HasMoreLines, InterruptSource, ReflectedFrom}
 use Rattle.host_run.specs.Turn.{call_enter_line, call_leave_line, enter_line, leave_line}
 use Rattle.translation.specs.HandOver.{HasBegun, HasEnded, HasReflected}
 use Rattle.translation.specs.SimulatedCall.{no_structure}
@@ -30,27 +30,30 @@ use Rattle.translation.specs.Structure.{structure_bytes}
 pub record HandsOverCall (w v x y : HostWorld) (call : Call) : Type 0 where
   pub popped : World
   pub pops : world_popped w.machine ≡ Ok popped
+  pub vif : popped.vif ≡ w.machine.vif
   pub begun : HasBegun popped v.machine call (structure_bytes popped (es_di popped))
   pub ended : HasEnded x.machine y.machine
   pub same : Sim ended.call ended.saved ended.on ended.at ≡ Sim call popped.regs popped.vif (es_di popped)
   pub enter : HasMoreLines w (Int31 (low_half popped.regs.eax) Clear ∷ call_enter_line popped call v.machine ∷ []) v
   pub leave : HasMoreLines x (call_leave_line x.machine call y.machine ∷ []) y
 
--- the same of an interrupt that is reflected: the general registers and the flags pass both ways
-pub record HandsOverReflection (w v x y : HostWorld) (n : ℕ) : Type 0 where
-  pub popped : World
-  pub pops : world_popped w.machine ≡ Ok popped
-  pub begun : HasReflected popped v.machine n
+-- the same of an interrupt that is reflected: the general registers and the flags pass both ways. `client` is the machine that it is reflected
+-- from: with the interrupt's frame popped, where it pushed one
+pub record HandsOverReflection (source : InterruptSource) (w v x y : HostWorld) (n : ℕ) : Type 0 where
+  pub client : World
+  pub from : ReflectedFrom source w.machine client
+  pub vif : client.vif ≡ w.machine.vif
+  pub begun : HasReflected client v.machine n
   pub ended : HasEnded x.machine y.machine
-  pub same : Sim ended.call ended.saved ended.on ended.at ≡ Sim (Reflect n) popped.regs popped.vif no_structure
-  pub enter : HasMoreLines w (call_enter_line popped (Reflect n) v.machine ∷ []) v
+  pub same : Sim ended.call ended.saved ended.on ended.at ≡ Sim (Reflect n) client.regs client.vif no_structure
+  pub enter : HasMoreLines w (call_enter_line client (Reflect n) v.machine ∷ []) v
   pub leave : HasMoreLines x (call_leave_line x.machine (Reflect n) y.machine ∷ []) y
 
-abbrev pub HandsOverRealCall : HostWorld → HostWorld → HostWorld → HostWorld → Call → Type 0
-HandsOverRealCall w v x y (Int n) = HandsOverCall w v x y (Int n)
-HandsOverRealCall w v x y Far = HandsOverCall w v x y Far
-HandsOverRealCall w v x y Iret = HandsOverCall w v x y Iret
-HandsOverRealCall w v x y (Reflect n) = HandsOverReflection w v x y n
+abbrev pub HandsOverRealCall : InterruptSource → HostWorld → HostWorld → HostWorld → HostWorld → Call → Type 0
+HandsOverRealCall source w v x y (Int n) = HandsOverCall w v x y (Int n)
+HandsOverRealCall source w v x y Far = HandsOverCall w v x y Far
+HandsOverRealCall source w v x y Iret = HandsOverCall w v x y Iret
+HandsOverRealCall source w v x y (Reflect n) = HandsOverReflection source w v x y n
 
 -- an exception of protected mode: at the handler's SS:ESP the frame is read, and the return takes what the frame at SS:(E)SP then holds
 pub record HandsOverException (w v x y : HostWorld) (number code : ℕ) : Type 0 where
@@ -70,7 +73,7 @@ pub record HandsOverCallback (w v x y : HostWorld) (slot : ℕ) (at : FarPtr) : 
   pub leave : HasMoreLines x (leave_line y.machine (whats.Back slot) ∷ []) y
 
 -- by the record that the first of two turns adds and the second takes away
-abbrev pub HandsOver : HostWorld → HostWorld → HostWorld → HostWorld → Record → Type 0
-HandsOver w v x y (Sim call saved vif at) = HandsOverRealCall w v x y call
-HandsOver w v x y (Back slot at) = HandsOverCallback w v x y slot at
-HandsOver w v x y (Exc number code) = HandsOverException w v x y number code
+abbrev pub HandsOver : InterruptSource → HostWorld → HostWorld → HostWorld → HostWorld → Record → Type 0
+HandsOver source w v x y (Sim call saved vif at) = HandsOverRealCall source w v x y call
+HandsOver source w v x y (Back slot at) = HandsOverCallback w v x y slot at
+HandsOver source w v x y (Exc number code) = HandsOverException w v x y number code

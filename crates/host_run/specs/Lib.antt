@@ -4,6 +4,7 @@ pub mod Footprint
 pub mod HandOver
 pub mod Keys
 pub mod Nested
+pub mod OtherTurns
 pub mod RealCalls
 pub mod Run
 pub mod Start

@@ -7,15 +7,15 @@ use Rattle.client_world.specs.declared.registers.Mode.TheVariants.{Protected}
 use Rattle.client_world.specs.World.{HostWorld, depth}
 use Rattle.callbacks.specs.Callbacks.{enter_callback, leave_callback}
 use Rattle.protected_faults.specs.Worlds.{world_exception_return, world_protected_delivery}
-use Rattle.host_run.specs.RealCalls.{HasMoreLines, ReturnsFromCall, StartsRealCall}
+use Rattle.host_run.specs.RealCalls.{HasMoreLines, InterruptSource, ReturnsFromCall, StartsRealCall}
 use Rattle.host_run.specs.Turn.{enter_line, leave_line}
 
 -- a turn that adds a record: it starts a call of real mode or a callback, or delivers an exception of protected mode
-abbrev pub PushesRecord : HostWorld → Record → HostWorld → Type 0
-PushesRecord w (Sim call saved vif at) v = StartsRealCall w call (Sim call saved vif at) v
-PushesRecord w (Back slot at) v =
+abbrev pub PushesRecord : InterruptSource → HostWorld → Record → HostWorld → Type 0
+PushesRecord source w (Sim call saved vif at) v = StartsRealCall source w call (Sim call saved vif at) v
+PushesRecord source w (Back slot at) v =
     (enter_callback w.machine slot ≡ Ok v.machine) × HasMoreLines w (enter_line w.machine (whats.Back slot) ∷ []) v
-PushesRecord w (Exc number code) v =
+PushesRecord source w (Exc number code) v =
     (w.machine.mode ≡ Protected)
     × (world_protected_delivery w.machine (record { number = number; code = code }) ≡ Ok v.machine)
     × HasMoreLines w (enter_line w.machine (whats.Exc number) ∷ []) v
@@ -29,18 +29,18 @@ PopsRecord w (Exc number code) v =
     (world_exception_return w.machine ≡ Ok v.machine) × HasMoreLines w (leave_line v.machine (whats.Exc number) ∷ []) v
 
 -- what a turn from one host to the next does to the records
-pub data Stacked (w v : HostWorld) : Type 0 where
-  kept : v.machine.calls ≡ w.machine.calls → Stacked w v
-  pushed : (r : Record) → v.machine.calls ≡ w.machine.calls ++ r ∷ [] → PushesRecord w r v → Stacked w v
-  popped : (r : Record) → w.machine.calls ≡ v.machine.calls ++ r ∷ [] → PopsRecord w r v → Stacked w v
+pub data Stacked (source : InterruptSource) (w v : HostWorld) : Type 0 where
+  kept : v.machine.calls ≡ w.machine.calls → Stacked source w v
+  pushed : (r : Record) → v.machine.calls ≡ w.machine.calls ++ r ∷ [] → PushesRecord source w r v → Stacked source w v
+  popped : (r : Record) → w.machine.calls ≡ v.machine.calls ++ r ∷ [] → PopsRecord w r v → Stacked source w v
 
 -- the depth of nested calls
 abbrev pub host_depth : HostWorld → ℕ
 host_depth w = depth w.machine
 
 -- the first n turns of a run, given the host before each turn
-abbrev pub HasTurns : (ℕ → HostWorld) → ℕ → Type 0
-HasTurns w n = (k : ℕ) → k < n → Stacked (w k) (w (k + 1))
+abbrev pub HasTurns : InterruptSource → (ℕ → HostWorld) → ℕ → Type 0
+HasTurns source w n = (k : ℕ) → k < n → Stacked source (w k) (w (k + 1))
 
 -- turn j takes away what turn i added, or what came in its place: between them the depth is greater than before turn i
 pub record Matched (w : ℕ → HostWorld) (i j : ℕ) : Type 0 where
@@ -57,10 +57,10 @@ pub record LastPush (w : ℕ → HostWorld) (i j : ℕ) : Type 0 where
   pub last : (k : ℕ) → i < k → k < j → host_depth (w k) ≡ host_depth (w i) → host_depth (w (k + 1)) ≢ host_depth (w k) + 1
 
 -- turn i adds a record, which stays in its place, with those below it, until turn j takes that record away
-pub record IsHandedOver (w : ℕ → HostWorld) (i j : ℕ) : Type 0 where
+pub record IsHandedOver (source : InterruptSource) (w : ℕ → HostWorld) (i j : ℕ) : Type 0 where
   pub innermost : Record
   pub push : (w (i + 1)).machine.calls ≡ (w i).machine.calls ++ innermost ∷ []
-  pub pushes : PushesRecord (w i) innermost (w (i + 1))
+  pub pushes : PushesRecord source (w i) innermost (w (i + 1))
   pub stays : (k : ℕ) → i < k → k ≤ j → take (host_depth (w i) + 1) (w k).machine.calls ≡ (w i).machine.calls ++ innermost ∷ []
   pub pop : (w j).machine.calls ≡ (w i).machine.calls ++ innermost ∷ []
   pub pops : PopsRecord (w j) innermost (w (j + 1))

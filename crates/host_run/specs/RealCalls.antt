@@ -1,10 +1,11 @@
 -- How a turn starts a call of real mode, and how a call returns: the world after it, the record that it keeps meanwhile, and its lines of the
 -- trace. Source: own.
-use Rattle.std.specs.Prelude.{◌≡◌, List, [], ◌∷◌, ℕ, Some, Ok}
+use Rattle.std.specs.Prelude.{◌≡◌, ◌⊎◌, List, [], ◌∷◌, ℕ, Some, Ok}
 use Rattle.client_world.specs.declared.calls.Call.{Call}
 use Rattle.client_world.specs.declared.calls.Call.TheVariants.{Int, Far, Iret, Reflect}
 use Rattle.client_world.specs.declared.calls.Record.{Record}
 use Rattle.client_world.specs.declared.calls.Record.TheVariants.{Sim}
+use Rattle.client_world.specs.declared.registers.Mode.TheVariants.{Protected}
 use Rattle.client_world.specs.declared.services.Carry.TheVariants.{Clear}
 use Rattle.client_world.specs.declared.trace.TraceLine.{TraceLine}
 use Rattle.client_world.specs.declared.trace.TraceLine.TheVariants.{Int31}
@@ -20,28 +21,43 @@ abbrev pub HasMoreLines : HostWorld → List TraceLine → HostWorld → Type 0
 HasMoreLines w [] v = (v.kept ≡ w.kept) × (v.lines ≡ w.lines)
 HasMoreLines w (line ∷ lines) v = HasMoreLines (noted line w) lines v
 
--- the client asks for a call by a function of INT 31h. `popped` is the machine after the frame of that interrupt is popped
+-- the client asks for a call by a function of INT 31h. `popped` is the machine after the frame of that interrupt is popped, which in protected
+-- mode leaves the virtual interrupt flag
 pub record StartsCall (w : HostWorld) (call : Call) (r : Record) (v : HostWorld) : Type 0 where
   pub popped : World
   pub pops : world_popped w.machine ≡ Ok popped
+  pub mode : w.machine.mode ≡ Protected
+  pub vif : popped.vif ≡ w.machine.vif
   pub asked : asked_call (low_half popped.regs.eax) popped ≡ Some call
   pub starts : begin_call popped call ≡ record { carry = Clear; world = v.machine }
   pub keeps : r ≡ Sim call popped.regs popped.vif (es_di popped)
   pub lines : HasMoreLines w (Int31 (low_half popped.regs.eax) Clear ∷ call_enter_line popped call v.machine ∷ []) v
 
--- an interrupt that no handler of the client takes is reflected
-pub record StartsReflection (w : HostWorld) (n : ℕ) (r : Record) (v : HostWorld) : Type 0 where
-  pub popped : World
-  pub pops : world_popped w.machine ≡ Ok popped
-  pub starts : reflect popped n ≡ Ok v.machine
-  pub keeps : r ≡ Sim (Reflect n) popped.regs popped.vif no_structure
-  pub lines : HasMoreLines w (call_enter_line popped (Reflect n) v.machine ∷ []) v
+-- whose interrupts are reflected: the client's alone, each of which has pushed its frame; or also those from outside, which push none
+pub data InterruptSource : Type 0 where
+  from_client : InterruptSource
+  from_anywhere : InterruptSource
 
-abbrev pub StartsRealCall : HostWorld → Call → Record → HostWorld → Type 0
-StartsRealCall w (Int n) r v = StartsCall w (Int n) r v
-StartsRealCall w Far r v = StartsCall w Far r v
-StartsRealCall w Iret r v = StartsCall w Iret r v
-StartsRealCall w (Reflect n) r v = StartsReflection w n r v
+-- the machine that an interrupt is reflected from: with the frame popped that the interrupt pushed; or as it is, where it pushed none
+abbrev pub ReflectedFrom : InterruptSource → World → World → Type 0
+ReflectedFrom from_client w client = world_popped w ≡ Ok client
+ReflectedFrom from_anywhere w client = (world_popped w ≡ Ok client) ⊎ (client ≡ w)
+
+-- an interrupt that no handler of the client takes is reflected
+pub record StartsReflection (source : InterruptSource) (w : HostWorld) (n : ℕ) (r : Record) (v : HostWorld) : Type 0 where
+  pub client : World
+  pub from : ReflectedFrom source w.machine client
+  pub mode : w.machine.mode ≡ Protected
+  pub vif : client.vif ≡ w.machine.vif
+  pub starts : reflect client n ≡ Ok v.machine
+  pub keeps : r ≡ Sim (Reflect n) client.regs client.vif no_structure
+  pub lines : HasMoreLines w (call_enter_line client (Reflect n) v.machine ∷ []) v
+
+abbrev pub StartsRealCall : InterruptSource → HostWorld → Call → Record → HostWorld → Type 0
+StartsRealCall source w (Int n) r v = StartsCall w (Int n) r v
+StartsRealCall source w Far r v = StartsCall w Far r v
+StartsRealCall source w Iret r v = StartsCall w Iret r v
+StartsRealCall source w (Reflect n) r v = StartsReflection source w n r v
 
 -- the innermost call returns to the client
 pub record ReturnsFromCall (w : HostWorld) (call : Call) (v : HostWorld) : Type 0 where

@@ -1,12 +1,13 @@
 // The host and its turns.
 ghost use Rattle.std.specs.Prelude.{◌≡◌, ◌≢◌, ◌≤◌, ◌<◌, ◌+◌, ◌*◌, IfOk, OnOk, IfErr, IfSome, Ok, Err, Some, None, length, vec_capacity};
 ghost use Rattle.client_world.specs.declared.limits.TheConstants.{CONSOLE_ROOM, MAX_STEPS};
-ghost use Rattle.client_world.specs.Soundness.{IsSound};
+ghost use Rattle.client_world.specs.Soundness.{IsSound, IsSoundHost};
 ghost use Rattle.fault_service.specs.Worlds.{world_interrupt};
 ghost use Rattle.mz_loader.specs.Refusal.{refusal};
 ghost use Rattle.fault_service.specs.Delivery.{software_interrupt};
 ghost use Rattle.protected_faults.specs.ByMode.{delivery};
 ghost use Rattle.host_run.specs.Footprint.{ChangesOnly, after_client_interrupt, client_footprint, client_turn, trap_footprint, turn_footprint, work_footprint};
+ghost use Rattle.host_run.specs.Keys.{HasKeys};
 ghost use Rattle.host_run.specs.Run.{run};
 ghost use Rattle.host_run.specs.Start.{blank, IsBlank, started_host};
 ghost use Rattle.host_run.specs.declared.traps.Trap.TheVariants.{NoTrap};
@@ -134,6 +135,15 @@ impl Host {
         &self.machine
     }
 
+    /// The world of every host is sound, and its keystrokes are bytes.
+    pub fn soundness(&self)
+        ensures host { IsSoundHost self.now.world }
+        ensures keys { HasKeys self.now.world }
+    {
+        self.machine.soundness();
+        self.keys.soundness();
+    }
+
     /// One turn: it serves a trap byte, or runs one client instruction with its software interrupt, or delivers its
     /// exception. Of the memory it changes the bytes of its footprint alone. After an exit it returns that exit again and changes nothing.
     #[inline(always)]
@@ -185,7 +195,7 @@ impl Host {
 
     // An exception is delivered.
     #[tactic(auto, unfolding(protected_faults::specs::ByMode::delivery))]
-    fn deliver(&mut self, f: Fault) -> Result<(), Exit>
+    pub(crate) fn deliver(&mut self, f: Fault) -> Result<(), Exit>
         requires room { self.old.world.lines + 2 ≤ 2 * self.old.world.steps }
         ensures host { ComesTo self.old self.new result (delivered self.old.world f) }
         ensures machine { OnOk result (delivery (machine_view self.old) f ≡ Ok (machine_view self.new)) }
@@ -197,7 +207,7 @@ impl Host {
     }
 
     // A software interrupt, or the exception that it raises.
-    fn raise_interrupt(&mut self, number: u8, len: u8) -> Result<(), Exit>
+    pub(crate) fn raise_interrupt(&mut self, number: u8, len: u8) -> Result<(), Exit>
         requires room { self.old.world.lines + 2 ≤ 2 * self.old.world.steps }
         ensures host { ComesTo self.old self.new result (after_interrupt self.old.world (world_interrupt self.old.world.machine number len)) }
         ensures machine { OnOk result (after_client_interrupt (machine_view self.old) (software_interrupt (machine_view self.old) number len)

@@ -1,27 +1,39 @@
 // The laws of the host's runs. Each is a function with nothing to do: its contract is the law.
-ghost use Rattle.std.specs.Prelude.{◌≡◌, ◌≢◌, ◌≤◌, ◌<◌, ◌+◌, ℕ, List, All, None, Ok, Some, IsSome};
+ghost use Rattle.std.specs.Prelude.{◌≡◌, ◌≢◌, ◌≤◌, ◌<◌, ◌+◌, ℕ, List, All, Contains, None, Ok, Err, Some, IsSome};
+ghost use Rattle.client_world.specs.declared.faults.Event.TheVariants.{Fault as a_fault, Soft};
+ghost use Rattle.client_world.specs.declared.faults.Fault.{Fault as AFault};
+ghost use Rattle.client_world.specs.declared.faults.TheConstants.{GENERAL_PROTECTION};
 ghost use Rattle.client_world.specs.declared.outcome.Exit.{Exit as AnExit};
 ghost use Rattle.client_world.specs.declared.outcome.Exit.TheVariants.{ConsoleFull};
-ghost use Rattle.client_world.specs.Access.{IsHeld};
+ghost use Rattle.client_world.specs.declared.registers.Regs.{Regs as AnyRegs};
+ghost use Rattle.client_world.specs.declared.services.Carry.{Carry as ACarry};
+ghost use Rattle.client_world.specs.Access.{IsHeld, fault_with};
 ghost use Rattle.client_world.specs.Soundness.{IsSound, IsSoundHost};
-ghost use Rattle.client_world.specs.World.{HostWorld};
+ghost use Rattle.client_world.specs.World.{HostWorld, World};
 ghost use Rattle.dos_calls.specs.Kept.{Extends};
+ghost use Rattle.fault_service.specs.Worlds.{world_interrupt, world_step};
 ghost use Rattle.guest_ram.specs.Bytes.{AreBytes};
 ghost use Rattle.host_memory.specs.View.{MachineView};
 ghost use Rattle.mz_loader.specs.Refusal.{refusal};
 ghost use Rattle.protected_faults.specs.Memory.{IsMachineView};
+ghost use Rattle.protected_faults.specs.StepMemory.{interrupt_places, written_places};
 ghost use Rattle.host_run.specs.Footprint.{ChangesOnly, client_footprint, client_turn};
 ghost use Rattle.host_run.specs.HandOver.{HandsOver};
 ghost use Rattle.host_run.specs.Keys.{HasKeys};
 ghost use Rattle.host_run.specs.Nested.{HasTurns, IsHandedOver, LastPush, Matched, Stacked, host_depth};
-ghost use Rattle.host_run.specs.Run.{turns, run};
+ghost use Rattle.host_run.specs.RealCalls.{InterruptSource, from_anywhere, from_client};
+ghost use Rattle.host_run.specs.OtherTurns.{IsOneQuietTurn, exception_turn, int31_turn, interrupt_turn};
+ghost use Rattle.host_run.specs.Run.{bounded, turns, run};
 ghost use Rattle.host_run.specs.Start.{blank, started_host};
 ghost use Rattle.host_run.specs.Touched.{touched_by_turn};
+ghost use Rattle.host_run.specs.declared.traps.Trap.TheVariants.{NoTrap};
+ghost use Rattle.host_run.specs.Traps.{current_trap};
 ghost use Rattle.host_run.specs.Turn.{turn};
 
 use cpu_step::every_touched_place_is_held;
 use protected_faults::{
     every_delivery_and_return_changes_only_its_bytes, every_step_changes_only_what_it_writes,
+    every_written_place_is_touched_and_held,
 };
 
 /// Each place that the client instruction of a turn fetches, reads or writes lies in memory that the client holds.
@@ -30,6 +42,22 @@ pub fn every_touch_is_held()
 {
     every_touched_place_is_held();
 }
+
+/// Each byte that a turn's client instruction changes, or that its software interrupt pushes, is that of a place which the instruction touches.
+pub fn every_changed_place_is_touched()
+    ensures written { (w : HostWorld) (u : World) → w.exit ≡ None → current_trap w.machine ≡ NoTrap → world_step w.machine ≡ Ok u →
+        All (Contains (touched_by_turn w)) (written_places w.machine) }
+    ensures pushed { (w : HostWorld) (u : World) (number len : ℕ) → w.exit ≡ None → current_trap w.machine ≡ NoTrap →
+        world_step w.machine ≡ Err (Soft number len) → world_interrupt w.machine number len ≡ Ok u →
+        All (Contains (touched_by_turn w)) (interrupt_places w.machine len) }
+{
+    every_written_place_is_touched_and_held();
+}
+
+/// A trap byte is HLT, which raises a general protection exception: at a trap no client instruction would run.
+pub fn no_instruction_runs_at_a_trap()
+    ensures { (w : World) → IsSound w → current_trap w ≢ NoTrap → world_step w ≡ Err (a_fault (fault_with GENERAL_PROTECTION 0)) }
+{}
 
 /// A turn leads from a sound world to a sound world: the megabyte keeps its size, its read-only part and its bytes, each segment register stays
 /// a word, and what the services keep stays sound. So it is for a host, with two lines of the trace for each turn at most. The keystrokes
@@ -50,20 +78,24 @@ pub fn every_run_is_sound()
 {}
 
 /// A turn leaves the records of the nested calls as they are, or adds one as it starts a call of real mode or a callback or delivers an exception
-/// of protected mode, or takes the innermost one away as its call, callback or exception returns; and so does each turn of a run.
+/// of protected mode, or takes the innermost one away as its call, callback or exception returns; and so does each turn of a run. What holds
+/// where the client's interrupts alone are reflected holds where those from outside are too.
 pub fn every_turn_changes_the_innermost_record_at_most()
-    ensures turn { (w : HostWorld) → IsSound w.machine → HasKeys w → Stacked w (turn w) }
-    ensures turns { (w : HostWorld) → IsSound w.machine → HasKeys w → (n : ℕ) → Stacked (turns w n) (turns w (n + 1)) }
+    ensures turn { (w : HostWorld) → IsSound w.machine → HasKeys w → Stacked from_client w (turn w) }
+    ensures turns { (w : HostWorld) → IsSound w.machine → HasKeys w → (n : ℕ) → Stacked from_client (turns w n) (turns w (n + 1)) }
+    ensures anywhere { (w v : HostWorld) → Stacked from_client w v → Stacked from_anywhere w v }
 {}
 
 /// Calls return in order. In each row of hosts that follow one another as turns leave them, the depth changes by one at most. A turn that
 /// takes a record away has a partner: the last turn before it that added one at that depth. It takes the record away that its partner
 /// added, and until then that record stayed in its place, with those below it.
 pub fn nested_calls_return_in_order()
-    ensures depth { (w : ℕ → HostWorld) (n k : ℕ) → HasTurns w n → k < n →
+    ensures depth { (source : InterruptSource) (w : ℕ → HostWorld) (n k : ℕ) → HasTurns source w n → k < n →
         (host_depth (w (k + 1)) ≤ host_depth (w k) + 1) × (host_depth (w k) ≤ host_depth (w (k + 1)) + 1) }
-    ensures partner { (w : ℕ → HostWorld) (n i j : ℕ) → HasTurns w n → j < n → LastPush w i j → Matched w i j }
-    ensures record_stays { (w : ℕ → HostWorld) (n i j : ℕ) → HasTurns w n → j < n → Matched w i j → IsHandedOver w i j }
+    ensures partner { (source : InterruptSource) (w : ℕ → HostWorld) (n i j : ℕ) → HasTurns source w n → j < n → LastPush w i j →
+        Matched w i j }
+    ensures record_stays { (source : InterruptSource) (w : ℕ → HostWorld) (n i j : ℕ) → HasTurns source w n → j < n → Matched w i j →
+        IsHandedOver source w i j }
 {}
 
 /// A call of real mode, a callback and an exception hand over what they should, whatever is nested in them. The procedure of a call starts with the registers
@@ -73,18 +105,46 @@ pub fn nested_calls_return_in_order()
 /// present ES:(E)DI. The handler of an exception finds its frame at SS:ESP, and the turn that takes its record away takes what the frame then holds. So it is of each two turns of which
 /// the second takes away the record that the first added, in a row of hosts whose machines are sound, and in each run.
 pub fn every_nested_call_hands_over()
-    ensures matched { (w : ℕ → HostWorld) (i j : ℕ) → IsSound (w i).machine → IsSound (w j).machine → (h : IsHandedOver w i j) →
-        HandsOver (w i) (w (i + 1)) (w j) (w (j + 1)) h.innermost }
-    ensures run { (w : HostWorld) (i j : ℕ) → IsSound w.machine → HasKeys w → (h : IsHandedOver (turns w) i j) →
-        HandsOver (turns w i) (turns w (i + 1)) (turns w j) (turns w (j + 1)) h.innermost }
+    ensures matched { (source : InterruptSource) (w : ℕ → HostWorld) (i j : ℕ) → IsSound (w i).machine → IsSound (w j).machine →
+        (h : IsHandedOver source w i j) → HandsOver source (w i) (w (i + 1)) (w j) (w (j + 1)) h.innermost }
+    ensures run { (w : HostWorld) (i j : ℕ) → IsSound w.machine → HasKeys w → (h : IsHandedOver from_client (turns w) i j) →
+        HandsOver from_client (turns w i) (turns w (i + 1)) (turns w j) (turns w (j + 1)) h.innermost }
 {}
 
 /// What the client wrote stays: a turn adds bytes at the console's end alone. So the console after some turns is a prefix of the console after
 /// more, and of the console at the end of the run.
 pub fn every_turn_extends_the_console()
-    ensures turn { (w : HostWorld) → IsSound w.machine → HasKeys w → Extends w.console (turn w).console }
-    ensures turns { (w : HostWorld) → IsSound w.machine → HasKeys w → (m n : ℕ) → m ≤ n → Extends (turns w m).console (turns w n).console }
-    ensures end { (w : HostWorld) → IsSound w.machine → HasKeys w → (m n : ℕ) → m ≤ n → Extends (turns w m).console (run w n).console }
+    ensures turn { (w : HostWorld) → Extends w.console (turn w).console }
+    ensures turns { (w : HostWorld) (m n : ℕ) → m ≤ n → Extends (turns w m).console (turns w n).console }
+    ensures end { (w : HostWorld) (m n : ℕ) → m ≤ n → Extends (turns w m).console (run w n).console }
+{}
+
+/// The turns that are made in place of the host's own change the innermost record at most, too. So each row of hosts nests that is made of these
+/// turns and of the host's own.
+pub fn every_other_turn_changes_the_innermost_record_at_most()
+    ensures int31 { (w : HostWorld) (r : AnyRegs) (carry : ACarry) → Stacked from_client w (int31_turn w r carry) }
+    ensures exception { (w : HostWorld) (f : AFault) → IsSound w.machine → HasKeys w → Stacked from_client w (exception_turn w f) }
+    ensures interrupt { (w : HostWorld) (n : ℕ) → IsSound w.machine → HasKeys w → Stacked from_anywhere w (interrupt_turn w n) }
+    ensures bound { (w : HostWorld) → Stacked from_client w (bounded w) }
+{}
+
+/// They lead from a sound host to a sound host. Each is counted as one turn, takes no keystroke and writes nothing, and where it ends the run it leaves
+/// the machine.
+pub fn every_other_turn_is_sound()
+    ensures int31 { (w : HostWorld) (r : AnyRegs) (carry : ACarry) → IsSoundHost w → HasKeys w → IsSoundHost (int31_turn w r carry) }
+    ensures exception { (w : HostWorld) (f : AFault) → IsSoundHost w → HasKeys w → IsSoundHost (exception_turn w f) }
+    ensures interrupt { (w : HostWorld) (n : ℕ) → IsSoundHost w → HasKeys w → IsSoundHost (interrupt_turn w n) }
+    ensures int31_alone { (w : HostWorld) (r : AnyRegs) (carry : ACarry) → IsOneQuietTurn w (int31_turn w r carry) }
+    ensures exception_alone { (w : HostWorld) (f : AFault) → IsOneQuietTurn w (exception_turn w f) }
+    ensures interrupt_alone { (w : HostWorld) (n : ℕ) → IsOneQuietTurn w (interrupt_turn w n) }
+    ensures exception_exit { (w : HostWorld) (f : AFault) → IsSome (exception_turn w f).exit → (exception_turn w f).machine ≡ w.machine }
+    ensures interrupt_exit { (w : HostWorld) (n : ℕ) → IsSome (interrupt_turn w n).exit → (interrupt_turn w n).machine ≡ w.machine }
+{}
+
+/// A turn of a run that goes on adds 1 to the count of turns; after an exit it adds none.
+pub fn every_turn_is_counted()
+    ensures turn { (w : HostWorld) → w.exit ≡ None → (turn w).steps ≡ w.steps + 1 }
+    ensures turns { (w : HostWorld) (n : ℕ) → (turns w n).steps ≤ w.steps + n }
 {}
 
 /// However many turns were made, the next touches memory that the client holds, and no other.

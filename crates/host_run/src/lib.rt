@@ -13,6 +13,7 @@ mod exceptions;
 mod families;
 mod host;
 mod laws;
+mod other_turns;
 mod protected;
 mod serving;
 mod switches;
@@ -22,9 +23,11 @@ mod vectors;
 
 pub use host::Host;
 pub use laws::{
-    a_run_past_an_exit_is_over, every_client_turn_changes_only_its_footprint,
-    every_exit_leaves_the_machine, every_nested_call_hands_over, every_run_is_sound,
-    every_start_is_sound, every_touch_is_held, every_touch_of_a_run_is_held,
-    every_turn_changes_the_innermost_record_at_most, every_turn_extends_the_console,
-    every_turn_is_sound, nested_calls_return_in_order, once_ended_a_run_stays,
+    a_run_past_an_exit_is_over, every_changed_place_is_touched,
+    every_client_turn_changes_only_its_footprint, every_exit_leaves_the_machine,
+    every_nested_call_hands_over, every_other_turn_changes_the_innermost_record_at_most,
+    every_other_turn_is_sound, every_run_is_sound, every_start_is_sound, every_touch_is_held,
+    every_touch_of_a_run_is_held, every_turn_changes_the_innermost_record_at_most,
+    every_turn_extends_the_console, every_turn_is_counted, every_turn_is_sound,
+    nested_calls_return_in_order, no_instruction_runs_at_a_trap, once_ended_a_run_stays,
 };

@@ -30,7 +30,7 @@ use mode_gates::{asked_width, entry, with_carry};
 use mode_stack::depth;
 
 // The low half of EAX.
-fn ax(m: &Machine) -> u16
+pub(crate) fn ax(m: &Machine) -> u16
     ensures { result ≡ low_half m.now.world.regs.eax }
 {
     (m.regs().eax % 0x1_0000) as u16
@@ -125,6 +125,7 @@ impl Host {
         requires room { self.old.world.lines + 2 ≤ 2 * self.old.world.steps }
         ensures answer { after_service self.old.world ax (record { carry = carry; world = self.old.world.machine }) ≡ goes_on self.new.world }
         ensures steps { self.new.world.steps ≡ self.old.world.steps }
+        ensures bytes { self.new.bytes ≡ self.old.bytes }
     {
         self.note(TraceLine::Int31 { ax, carry });
         let r = self.machine.regs();

@@ -44,6 +44,7 @@ pub(crate) fn pop_in_mode(m: &mut Machine) -> Result<(), Exit>
         (λ e. (world_popped m.old.world ≡ Err e) × (m.new ≡ m.old)) }
     ensures mode { m.new.world.mode ≡ m.old.world.mode }
     ensures calls { m.new.world.calls ≡ m.old.world.calls }
+    ensures bytes { m.new.bytes ≡ m.old.bytes }
 {
     match pop_iret(m) {
         Ok(()) => Ok(()),

@@ -1,18 +1,25 @@
 -- What a client instruction writes it touches, and every place that it or its software interrupt writes is the client's.
-use Rattle.std.proofs.Common.{◌≡◌, ℕ, true, List, [], ◌∷◌, ◌++◌, slice_index_or, refl, ap, subst, Option, None, Some, Result, Ok, Err}
+use Rattle.std.proofs.Common.{◌≡◌, ◌∙◌, ℕ, ◌+◌, ◌%◌, ◌^◌, true, List, [], ◌∷◌, ◌++◌, slice_index_or, refl, sym, ap, subst, Option, None, Some, Result, Ok, Err}
 use Rattle.std.specs.Prelude.{All, Contains}
 use Rattle.std.proofs.lemmas.List.{get_or_default}
-use Rattle.std.proofs.lemmas.List.Elements.{All-append, All-contains_itself, All-nil, All-weaker, Contains-append_right}
+use Rattle.std.proofs.lemmas.List.Elements.{All-append, All-contains_itself, All-nil, All-weaker, Contains-append_left, Contains-append_right}
 use Rattle.client_world.specs.declared.faults.Event.{Event}
-use Rattle.client_world.specs.declared.faults.Event.TheVariants.{Fault as fault}
+use Rattle.client_world.specs.declared.faults.Event.TheVariants.{Fault as fault, Soft}
 use Rattle.client_world.specs.declared.faults.Fault.{Fault}
 use Rattle.client_world.specs.declared.place.Place.{Place}
 use Rattle.client_world.specs.declared.place.Place.TheVariants.{Dos, Block, Host, Nothing}
-use Rattle.client_world.specs.Access.{IsHeld, access}
+use Rattle.client_world.specs.declared.registers.Mode.{Mode}
+use Rattle.client_world.specs.declared.registers.Mode.TheVariants.{Real, Protected}
+use Rattle.client_world.specs.declared.registers.Regs.{Regs}
+use Rattle.client_world.specs.declared.segments.SegReg.{SegReg}
+use Rattle.client_world.specs.declared.segments.SegReg.TheVariants.{Ss}
+use Rattle.client_world.specs.Access.{IsHeld, access, places_at, segment_base}
+use Rattle.client_world.specs.Selector.{Row}
 use Rattle.client_world.specs.World.{World}
 use Rattle.cpu_step.specs.Step.{behind, client_row, client_step, code, executed, has_big_code, moved, step_of}
-use Rattle.cpu_step.specs.Touched.{and_then, decoded_touches, executed_touches, fetched, places_behind, read_places, touched, write_places}
+use Rattle.cpu_step.specs.Touched.{and_then, decoded_touches, executed_touches, fetched, places_behind, read_places, touched, vector_read, write_places}
 use Rattle.exec_flow.specs.Interrupts.{interrupt_pushed}
+use Rattle.fault_service.specs.Delivery.{software_interrupt}
 use Rattle.guest_space.specs.Code.{code_room}
 use Rattle.guest_space.specs.declared.pending.Write.{Write}
 use Rattle.guest_space.specs.Pending.{all_written, byte_count, first_refusal, places_of_writes, write_refusal}
@@ -26,6 +33,7 @@ use Rattle.insn_decode.specs.Decode.{decoded}
 use Rattle.insn_forms.specs.declared.insn.Insn.{Insn}
 use Rattle.insn_plan.specs.Act.{Pending}
 use Rattle.insn_plan.specs.Plan.{after_commit, carried_out, planned, with_state}
+use Rattle.insn_plan.specs.Stack.{has_big_stack, pushed}
 use Rattle.protected_faults.specs.StepMemory.{interrupt_places, written_by, written_of, written_places}
 
 -- ---- writes none of which is refused
@@ -87,6 +95,129 @@ unfolding client_step touched written_places
 written_touched v u e =
     let w = v.world in
     decoded_in v u (decoded (has_big_code w) (code w)) (fetched w 0 code_room) e
+
+-- ---- a software interrupt whose pushes are made
+
+-- they are accesses through SS
+abbrev AreOnStack : List Write → Type 0
+AreOnStack [] = Unit {0}
+AreOnStack (x ∷ xs) = (x.seg ≡ Ss) × AreOnStack xs
+
+-- the instruction pointer has no part in such an access
+stack_base : (mode : Mode) (r : Regs) (eip : ℕ) (rows : List Row) (off n : ℕ) →
+    segment_base mode (record r { eip = eip }) rows Ss off n true ≡ segment_base mode r rows Ss off n true
+unfolding segment_base
+stack_base Real r eip rows off n = refl
+stack_base Protected r eip rows off n = refl
+
+stack_access : (w : World) (len : ℕ) (seg : SegReg) (off n : ℕ) → seg ≡ Ss → access (moved len w) seg off n true ≡ access w seg off n true
+unfolding access
+stack_access w len seg off n is = rw is
+    (ap (λ (base : Result ℕ Fault). places_at w.blocks base off n true)
+    (stack_base w.mode w.regs ((w.regs.eip + len) % 2 ^ 32) w.descriptors off n))
+
+stack_places : (w : World) (len : ℕ) (xs : List Write) → AreOnStack xs → places_of_writes (moved len w) xs ≡ places_of_writes w xs
+stack_places w len [] on = refl
+stack_places w len (x ∷ xs) on =
+    ap (λ (r : Result (List Place) Fault). places_of_access r ++ places_of_writes (moved len w) xs)
+    (stack_access w len x.seg x.off (byte_count x.width) on.0)
+    ∙ ap (λ (more : List Place). places_of_access (access w x.seg x.off (byte_count x.width) true) ++ more) (stack_places w len xs on.1)
+
+refused_first : Option Fault → Result (List Place) Fault → Option Fault
+refused_first more r = elim (fault_of r) [ Some f ↦ Some f | None ↦ more ]
+
+stack_refusal : (w : World) (len : ℕ) (xs : List Write) → AreOnStack xs → first_refusal (moved len w) xs ≡ first_refusal w xs
+unfolding first_refusal write_refusal access_fault refused_first
+stack_refusal w len [] on = refl
+stack_refusal w len (x ∷ xs) on =
+    ap (refused_first (first_refusal (moved len w) xs)) (stack_access w len x.seg x.off (byte_count x.width) on.0)
+    ∙ ap (λ (more : Option Fault). refused_first more (access w x.seg x.off (byte_count x.width) true)) (stack_refusal w len xs on.1)
+
+-- what an interrupt pushes lies at the same places, whatever the instruction pointer is that it pushes
+abbrev pushes : World → ℕ → List Write
+pushes w len = (interrupt_pushed (moved len w)).writes
+
+pushes_on_stack : (w : World) (len : ℕ) → AreOnStack (pushes w len)
+unfolding interrupt_pushed pushed
+pushes_on_stack w len = (refl, (refl, (refl, tt)))
+
+same_pushes : (w : World) (one other : ℕ) → places_of_writes w (pushes w one) ≡ places_of_writes w (pushes w other)
+unfolding interrupt_pushed pushed has_big_stack
+same_pushes w one other = refl
+
+same_refusal : (w : World) (one other : ℕ) → first_refusal w (pushes w one) ≡ first_refusal w (pushes w other)
+unfolding interrupt_pushed pushed has_big_stack first_refusal write_refusal
+same_refusal w one other = refl
+
+interrupt_places_same : (w : World) (one other : ℕ) → interrupt_places w one ≡ interrupt_places w other
+interrupt_places_same w one other =
+    stack_places w one (pushes w one) (pushes_on_stack w one) ∙ same_pushes w one other
+    ∙ sym (stack_places w other (pushes w other) (pushes_on_stack w other))
+
+refusal_same : (w : World) (one other : ℕ) → first_refusal (moved one w) (pushes w one) ≡ first_refusal (moved other w) (pushes w other)
+refusal_same w one other =
+    stack_refusal w one (pushes w one) (pushes_on_stack w one) ∙ same_refusal w one other
+    ∙ sym (stack_refusal w other (pushes w other) (pushes_on_stack w other))
+
+interrupt_granted_by : (o : Option Fault) (r : Result MachineView Fault) (u : MachineView) →
+    elim o as (λ _. Result MachineView Fault) [ Some f ↦ Err f | None ↦ r ] ≡ Ok u → o ≡ None
+interrupt_granted_by None r u e = refl
+interrupt_granted_by (Some f) r u e = absurd cc
+
+interrupt_granted : (v u : MachineView) (n len : ℕ) → software_interrupt v n len ≡ Ok u → first_refusal (moved len v.world) (pushes v.world len) ≡ None
+unfolding software_interrupt
+interrupt_granted v u n len e = interrupt_granted_by (first_refusal (moved len v.world) (pushes v.world len)) _ u e
+
+-- an event of a plan is that of the plan
+event_was : (v : MachineView) (o : Option Fault) (x : MachineView) (number len : ℕ) →
+    elim o as (λ _. Result MachineView Event) [ Some f ↦ Err (fault f) | None ↦ Ok x ] ≡ Err (Soft number len) → ⊥
+event_was v None x number len e = cc
+event_was v (Some f) x number len e = cc
+
+no_commit : (v : MachineView) (p : Pending) (number len : ℕ) → after_commit v p ≡ Err (Soft number len) → ⊥
+unfolding after_commit
+no_commit v p number len e = event_was v (first_refusal v.world p.writes) (with_state p.regs p.vif (all_written v p.writes)) number len e
+
+plan_was : (v : MachineView) (r : Result Pending Event) (number len : ℕ) → carried_out v r ≡ Err (Soft number len) → r ≡ Err (Soft number len)
+unfolding carried_out
+plan_was v (Ok p) number len e = absurd (no_commit v p number len e)
+plan_was v (Err event) number len e = cc
+
+-- the third of four lists
+third_in : (first second third fourth : List Place) → AreIn (first ++ (second ++ (third ++ fourth))) third
+third_in first second third fourth =
+    All-weaker (Contains third) (Contains (first ++ (second ++ (third ++ fourth))))
+    (λ p here. Contains-append_right first (second ++ (third ++ fourth)) p
+    (Contains-append_right second (third ++ fourth) p (Contains-append_left third fourth p here))) third (All-contains_itself third)
+
+executed_pushes : (v : MachineView) (insn : Insn) (long number len : ℕ) (before : List Place) → executed v insn long ≡ Err (Soft number len) →
+    first_refusal (moved long v.world) (pushes v.world long) ≡ None → AreIn (before ++ decoded_touches v.world (Whole insn long)) (interrupt_places v.world long)
+unfolding executed
+executed_pushes v insn long number len before e granted =
+    let w = moved long v.world in
+    let act = client_row w insn long in
+    let xs = (interrupt_pushed w).writes in
+    let plan = plan_was (behind long v) (planned w act) number len e in
+    let behind_is = ap (places_behind w) plan in
+    let written_is = granted_places w xs granted in
+    subst (λ (places : List Place). AreIn (before ++ (read_places w act ++ places)) (places_of_writes w xs)) (sym behind_is)
+    (subst (λ (places : List Place). AreIn (before ++ (read_places w act ++ (places ++ vector_read w number))) (places_of_writes w xs)) (sym written_is)
+    (third_in before (read_places w act) (places_of_writes w xs) (vector_read w number)))
+
+decoded_pushes : (v : MachineView) (d : Decoded) (number len : ℕ) (before : List Place) → step_of v d ≡ Err (Soft number len) →
+    first_refusal (moved len v.world) (pushes v.world len) ≡ None → AreIn (before ++ decoded_touches v.world d) (interrupt_places v.world len)
+decoded_pushes v (Whole insn long) number len before e granted =
+    subst (AreIn (before ++ decoded_touches v.world (Whole insn long))) (interrupt_places_same v.world long len)
+    (executed_pushes v insn long number len before e (refusal_same v.world long len ∙ granted))
+decoded_pushes v More number len before e granted = absurd cc
+decoded_pushes v Invalid number len before e granted = absurd cc
+
+pub pushed_touched : (v u : MachineView) (number len : ℕ) → client_step v ≡ Err (Soft number len) → software_interrupt v number len ≡ Ok u →
+    AreIn (touched v.world) (interrupt_places v.world len)
+unfolding client_step touched
+pushed_touched v u number len e made =
+    let w = v.world in
+    decoded_pushes v (decoded (has_big_code w) (code w)) number len (fetched w 0 code_room) e (interrupt_granted v u number len made)
 
 -- ---- they are the client's
 

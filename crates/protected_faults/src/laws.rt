@@ -1,5 +1,6 @@
 // What holds of every delivery and every return. Each function has nothing to do: its contract is the law.
-ghost use Rattle.std.specs.Prelude.{◌≡◌, ◌≢◌, ◌<◌, ℕ, All, Contains, None, Ok};
+ghost use Rattle.std.specs.Prelude.{◌≡◌, ◌≢◌, ◌<◌, ℕ, All, Contains, None, Ok, Err};
+ghost use Rattle.client_world.specs.declared.faults.Event.TheVariants.{Soft};
 ghost use Rattle.client_world.specs.declared.faults.Fault.{Fault};
 ghost use Rattle.client_world.specs.declared.registers.Mode.TheVariants.{Protected};
 ghost use Rattle.client_world.specs.declared.limits.TheConstants.{GREATEST_DEPTH};
@@ -14,6 +15,7 @@ ghost use Rattle.protected_faults.specs.Return.{exception_return};
 ghost use Rattle.protected_faults.specs.StepMemory.{InterruptLaw, RealDeliveryLaw, StepLaw, interrupt_places, written_places};
 ghost use Rattle.protected_faults.specs.Trip.{FrameLaw, RecordsLaw, TripLaw};
 ghost use Rattle.protected_faults.specs.Worlds.{world_exception_return, world_protected_delivery};
+ghost use Rattle.fault_service.specs.Delivery.{software_interrupt};
 ghost use Rattle.fault_service.specs.Worlds.{its_world};
 ghost use Rattle.protected_faults.specs.Memory.{DeliveryLaw, IsMachineView, ReturnLaw, LiesInStack};
 
@@ -63,10 +65,11 @@ pub fn every_step_changes_only_what_it_writes()
     ensures exception { (v : MachineView) → IsMachineView v → RealDeliveryLaw v }
 {}
 
-/// What a client instruction writes it touches; and every place that it writes, or to which its software interrupt pushes, lies in memory that
-/// the client holds.
+/// What a client instruction writes, or its software interrupt pushes, it touches; and each such place lies in memory that the client holds.
 pub fn every_written_place_is_touched_and_held()
     ensures touched { (v u : MachineView) → client_step v ≡ Ok u → All (Contains (touched v.world)) (written_places v.world) }
+    ensures pushed_touched { (v u : MachineView) (number len : ℕ) → client_step v ≡ Err (Soft number len) → software_interrupt v number len ≡ Ok u →
+        All (Contains (touched v.world)) (interrupt_places v.world len) }
     ensures held { (w : World) → All (IsHeld w) (written_places w) }
     ensures pushed { (w : World) (len : ℕ) → All (IsHeld w) (interrupt_places w len) }
 {}

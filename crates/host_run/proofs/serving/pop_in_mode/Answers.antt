@@ -1,6 +1,8 @@
 use Rattle.std.proofs.Common.{ap, rules}
 use Rattle.client_world.specs.World.{World}
 use Rattle.fault_service.proofs.KeptWorlds.{kept_world_popped}
+use Rattle.fault_service.proofs.ReturnStates.{return_state}
+use Rattle.host_memory.specs.View.{MachineView}
 use Rattle.host_run.proofs.serving.pop_in_mode.Goals as goal
 
 pub returns-in-Ok-clause-mode : goal.returns-in-Ok-clause-mode
@@ -10,3 +12,7 @@ returns-in-Ok-clause-mode c =
 pub returns-in-Ok-clause-calls : goal.returns-in-Ok-clause-calls
 returns-in-Ok-clause-calls c =
     ap (λ (w : World). w.calls) (kept_world_popped c.args.m.now.world c.pop_iret.new.m.world (search rules))
+
+pub returns-in-Ok-clause-bytes : goal.returns-in-Ok-clause-bytes
+returns-in-Ok-clause-bytes c =
+    ap (λ (v : MachineView). v.bytes) (return_state c.args.m.now c.pop_iret.new.m (search rules))

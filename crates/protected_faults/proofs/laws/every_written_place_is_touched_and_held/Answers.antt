@@ -1,4 +1,4 @@
-use Rattle.protected_faults.proofs.WrittenTouches.{pushed_held, written_held, written_touched}
+use Rattle.protected_faults.proofs.WrittenTouches.{pushed_held, pushed_touched, written_held, written_touched}
 use Rattle.protected_faults.proofs.laws.every_written_place_is_touched_and_held.Goals as goal
 
 pub returns-clause-touched : goal.returns-clause-touched
@@ -9,3 +9,6 @@ returns-clause-held c = written_held
 
 pub returns-clause-pushed : goal.returns-clause-pushed
 returns-clause-pushed c = pushed_held
+
+pub returns-clause-pushed_touched : goal.returns-clause-pushed_touched
+returns-clause-pushed_touched c = pushed_touched

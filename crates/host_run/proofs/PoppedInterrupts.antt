@@ -1,0 +1,82 @@
+-- A frame that is popped in protected mode leaves the virtual interrupt flag.
+use Rattle.std.proofs.Common.{◌≡◌, ℕ, Bool, true, refl, Option, None, Some, Result, Ok, Err}
+use Rattle.client_world.specs.declared.faults.Event.{Event}
+use Rattle.client_world.specs.declared.faults.Event.TheVariants.{Fault as fault}
+use Rattle.client_world.specs.declared.faults.Fault.{Fault}
+use Rattle.client_world.specs.declared.registers.Mode.{Mode}
+use Rattle.client_world.specs.declared.registers.Mode.TheVariants.{Real, Protected}
+use Rattle.client_world.specs.Loading.{transfer_fault}
+use Rattle.client_world.specs.Registers.{low_half}
+use Rattle.client_world.specs.World.{World}
+use Rattle.exec_flow.specs.FarTransfers.{far_transfer, frame_popped}
+use Rattle.exec_flow.specs.FlagImages.{flags_popped}
+use Rattle.exec_flow.specs.Interrupts.{frame_bits}
+use Rattle.fault_service.specs.Delivery.{iret_popped}
+use Rattle.fault_service.specs.Worlds.{bare, world_popped}
+use Rattle.fault_service.proofs.ReturnPlans.{left, with_cs, with_image, with_ip}
+use Rattle.fault_service.proofs.SoundAnswers.{granted_was, holds_of_answer, holds_of_world, return_was}
+use Rattle.guest_space.specs.Pending.{all_written, first_refusal}
+use Rattle.host_memory.specs.View.{MachineView}
+use Rattle.insn_plan.specs.Act.{Act, Input, Pending, Read, done, unless_fault, value_of}
+use Rattle.insn_plan.specs.Plan.{after_commit, carried_out, planned, with_state}
+use Rattle.insn_plan.specs.Stack.{stack_item}
+
+-- a plan leaves the flag, where there is one
+abbrev LeavesInterrupts : World → Result Pending Event → Type 0
+LeavesInterrupts w (Ok p) = p.vif ≡ w.vif
+LeavesInterrupts w (Err e) = Unit {0}
+
+by_value : (w : World) (r : Result ℕ Event) (rest : ℕ → Act) → ((v : ℕ) → LeavesInterrupts w (planned w (rest v))) →
+    LeavesInterrupts w (elim r [ Ok v ↦ planned w (rest v) | Err e ↦ Err e ])
+by_value w (Ok v) rest leaves = leaves v
+by_value w (Err e) rest leaves = tt
+
+read_leaves : (w : World) (input : Input) (rest : ℕ → Act) → ((v : ℕ) → LeavesInterrupts w (planned w (rest v))) →
+    LeavesInterrupts w (planned w (Read input rest))
+read_leaves w input rest leaves = by_value w (value_of w input) rest leaves
+
+unless_leaves : (w : World) (o : Option Fault) (p : Pending) → p.vif ≡ w.vif → LeavesInterrupts w (planned w (unless_fault o (done p)))
+unless_leaves w None p same = same
+unless_leaves w (Some f) p same = tt
+
+transfer_leaves : (w : World) (sel ip : ℕ) (return : Bool) (p : Pending) → p.vif ≡ w.vif →
+    LeavesInterrupts w (planned w (far_transfer w sel ip return p))
+unfolding far_transfer
+transfer_leaves w sel ip return p same = unless_leaves w (transfer_fault w sel ip return) _ same
+
+by_mode : (mode : Mode) (popped on : Bool) → mode ≡ Protected → elim mode as (λ _. Bool) [ Real ↦ popped | Protected ↦ on ] ≡ on
+by_mode Real popped on e = absurd cc
+by_mode Protected popped on e = refl
+
+flag_left : (w : World) (bits image : ℕ) → w.mode ≡ Protected → (left w bits image).vif ≡ w.vif
+unfolding flags_popped
+flag_left w bits image mode = by_mode w.mode _ w.vif mode
+
+frame_leaves : (w : World) (bits : ℕ) → w.mode ≡ Protected → LeavesInterrupts w (planned w (frame_popped w bits))
+unfolding frame_popped
+frame_leaves w bits mode =
+    read_leaves w (stack_item w bits 0) (with_ip w bits) (λ ip.
+    read_leaves w (stack_item w bits 1) (with_cs w bits ip) (λ cs.
+    read_leaves w (stack_item w bits 2) (with_image w bits ip cs) (λ image.
+    transfer_leaves w (low_half cs) ip true (left w bits image) (flag_left w bits image mode))))
+
+settled_leaves : (v u : MachineView) (p : Pending) → p.vif ≡ v.world.vif → after_commit v p ≡ Ok u → u.world.vif ≡ v.world.vif
+unfolding after_commit
+settled_leaves v u p same e =
+    let x = with_state p.regs p.vif (all_written v p.writes) in
+    holds_of_answer (λ (m : MachineView). m.world.vif ≡ v.world.vif) (Ok x) u same
+    (granted_was fault (first_refusal v.world p.writes) (Ok x) u e)
+
+carried_leaves : (v u : MachineView) (r : Result Pending Event) → LeavesInterrupts v.world r → carried_out v r ≡ Ok u → u.world.vif ≡ v.world.vif
+unfolding carried_out
+carried_leaves v u (Ok p) same e = settled_leaves v u p same e
+carried_leaves v u (Err f) same e = absurd cc
+
+machine_popped : (v u : MachineView) → v.world.mode ≡ Protected → iret_popped v ≡ Ok u → u.world.vif ≡ v.world.vif
+unfolding iret_popped
+machine_popped v u mode e = carried_leaves v u _ (frame_leaves v.world (frame_bits v.world) mode) (return_was _ u e)
+
+pub popped_keeps_interrupts : (w u : World) → w.mode ≡ Protected → world_popped w ≡ Ok u → u.vif ≡ w.vif
+unfolding world_popped
+popped_keeps_interrupts w u mode e =
+    holds_of_world (λ (x : World). x.vif ≡ w.vif) (iret_popped (bare w)) u (λ v is. machine_popped (bare w) v mode is) e

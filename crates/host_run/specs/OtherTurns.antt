@@ -1,0 +1,84 @@
+-- Turns that are made in place of the host's own: INT 31h that is served from outside, an exception and an interrupt that come from outside. Each
+-- is counted as a turn. Source: own.
+use Rattle.std.specs.Prelude.{◌≡◌, ℕ, ◌+◌, Bool, false, ◌&&◌, is_ok, nat_eq, if◌then◌else◌, None, Some, Ok, Err}
+use Rattle.std.specs.declared.option.Option.{Option}
+use Rattle.std.specs.declared.result.Result.{Result}
+use Rattle.client_world.specs.declared.faults.Fault.{Fault}
+use Rattle.client_world.specs.declared.outcome.Exit.{Exit}
+use Rattle.client_world.specs.declared.registers.Mode.{Mode}
+use Rattle.client_world.specs.declared.registers.Mode.TheVariants.{Real, Protected}
+use Rattle.client_world.specs.declared.registers.Regs.{Regs}
+use Rattle.client_world.specs.declared.services.Carry.{Carry}
+use Rattle.client_world.specs.declared.traps.TheConstants.{PROTECTED_VECTOR_TRAPS}
+use Rattle.client_world.specs.Registers.{low_half}
+use Rattle.client_world.specs.Services.{Served}
+use Rattle.client_world.specs.World.{World, HostWorld}
+use Rattle.fault_service.specs.Worlds.{world_interrupt, world_popped}
+use Rattle.guest_space.specs.VectorLists.{vector_at}
+use Rattle.host_memory.specs.Blank.{host_pointer}
+use Rattle.host_run.specs.declared.traps.Trap.{Trap}
+use Rattle.host_run.specs.declared.traps.Trap.TheVariants.{ProtectedVector}
+use Rattle.host_run.specs.Traps.{current_trap}
+use Rattle.host_run.specs.Turn.{Outcome, after_interrupt, after_reflection, after_service, delivered, ends, settled, with_turn_counted}
+use Rattle.translation.specs.SimulatedCall.{reflect}
+
+-- it is counted as one turn, takes no keystroke and writes nothing
+abbrev pub IsOneQuietTurn : HostWorld → HostWorld → Type 0
+IsOneQuietTurn w v = (v.keys ≡ w.keys) × (v.console ≡ w.console) × (v.steps ≡ w.steps + 1)
+
+-- ---- INT 31h, served from outside
+
+-- the trap byte of INT 31h
+abbrev pub is_int31 : Trap → Bool
+is_int31 (ProtectedVector n) = nat_eq n 0x31
+is_int31 _ = false
+
+-- AX of the call of INT 31h at whose trap byte the machine is, where its frame can be popped
+abbrev pub int31_at : World → Option ℕ
+int31_at w = if is_int31 (current_trap w) && is_ok (world_popped w) then Some (low_half w.regs.eax) else None
+
+-- AX of the call of INT 31h that the next turn would serve
+unfoldable pub int31_call : HostWorld → Option ℕ
+int31_call h = elim h.exit [ Some _ ↦ None | None ↦ int31_at h.machine ]
+
+-- a service that answers in EAX, EBX and the carry; w is the machine after the frame is popped
+abbrev pub answered : World → Regs → Carry → Served
+answered w r carry = record { carry = carry; world = record w { regs = record w.regs { eax = r.eax; ebx = r.ebx } } }
+
+-- the line of the trace has the AX of the call
+abbrev pub after_answer : HostWorld → Regs → Carry → Result World Exit → Outcome
+after_answer h r carry (Ok w) = after_service h (low_half h.machine.regs.eax) (answered w r carry)
+after_answer h r carry (Err exit) = ends h exit
+
+-- the host after such a turn
+unfoldable pub int31_turn : HostWorld → Regs → Carry → HostWorld
+int31_turn h r carry = settled (after_answer (with_turn_counted h) r carry (world_popped h.machine))
+
+-- ---- an exception from outside
+
+unfoldable pub exception_turn : HostWorld → Fault → HostWorld
+exception_turn h f = settled (delivered (with_turn_counted h) f)
+
+-- ---- an interrupt from outside
+
+-- the client has set no handler of its own: the vector of protected mode still leads to the host
+abbrev pub is_hosts_vector : World → ℕ → Bool
+is_hosts_vector w n =
+    let p = vector_at w.interrupt_vectors n in
+    let own = host_pointer (PROTECTED_VECTOR_TRAPS + n) in
+    nat_eq p.sel own.sel && nat_eq p.off own.off
+
+-- the client's own handler starts with virtual interrupts off
+abbrev pub with_interrupts_off : Result World Fault → Result World Fault
+with_interrupts_off (Ok w) = Ok (record w { vif = false })
+with_interrupts_off (Err f) = Err f
+
+-- in real mode and to the client's own handler it pushes the address of the present instruction; else it is reflected, with the present registers
+abbrev pub interrupted_in : Mode → HostWorld → ℕ → Outcome
+interrupted_in Real h n = after_interrupt h (world_interrupt h.machine n 0)
+interrupted_in Protected h n =
+    if is_hosts_vector h.machine n then after_reflection h n h.machine (reflect h.machine n)
+    else after_interrupt h (with_interrupts_off (world_interrupt h.machine n 0))
+
+unfoldable pub interrupt_turn : HostWorld → ℕ → HostWorld
+interrupt_turn h n = settled (interrupted_in h.machine.mode (with_turn_counted h) n)

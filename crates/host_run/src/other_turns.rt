@@ -1,0 +1,171 @@
+// Turns that are made in place of the host's own: INT 31h that is served from outside, an exception and an interrupt that come from outside; and the
+// end of a run at its bound.
+ghost use Rattle.std.specs.Prelude.{◌≡◌, ◌≤◌, ◌<◌, ◌+◌, ◌*◌, true, Ok, Err, Some, None, IfErr, OnOk, IsSome, MatchResult};
+ghost use Rattle.client_world.specs.declared.limits.TheConstants.{EXCEPTION_VECTORS, GREATEST_DEPTH, MAX_STEPS};
+ghost use Rattle.client_world.specs.declared.registers.Mode.TheVariants.{Protected as protected};
+ghost use Rattle.client_world.specs.World.{depth};
+ghost use Rattle.host_run.specs.Footprint.{ChangesOnly, delivery_footprint};
+ghost use Rattle.host_run.specs.OtherTurns.{exception_turn, int31_call, int31_turn, interrupt_turn, interrupted_in, is_hosts_vector, is_int31};
+ghost use Rattle.host_run.specs.Traps.{current_trap};
+ghost use Rattle.host_run.specs.Run.{bounded};
+ghost use Rattle.host_run.specs.View.{ComesTo};
+
+use crate::host::Host;
+use crate::protected::ax;
+use crate::serving::{can_pop, pop_in_mode};
+use crate::traps::{Trap, current_trap};
+use client_world::memory_map::ROM_START;
+use client_world::selectors::{HOST_CODE, selector_of};
+use client_world::traps::PROTECTED_VECTOR_TRAPS;
+use client_world::{Carry, Exit, Fault, Mode, Regs};
+use fault_service::soft_int;
+use guest_space::Machine;
+use protected_faults::a_machine_changes_only_what_is_written;
+
+// Whether the machine is at the trap byte of INT 31h.
+fn is_at_int31(m: &Machine) -> bool
+    ensures { result ≡ is_int31 (current_trap m.now.world) }
+{
+    match current_trap(m) {
+        Trap::ProtectedVector(n) => n == 0x31,
+        _ => false,
+    }
+}
+
+// Whether the vector of protected mode still leads to the host.
+fn is_hosts_vector(m: &Machine, n: u8) -> bool
+    ensures { result ≡ is_hosts_vector m.now.world n }
+{
+    let p = m.pvec(n);
+    p.sel == selector_of(HOST_CODE) && p.off == PROTECTED_VECTOR_TRAPS - ROM_START + u32::from(n)
+}
+
+impl Host {
+    /// AX of the call of INT 31h that the next turn would serve; `None` after an exit, where CS:EIP isn't at that vector's trap byte, and where
+    /// the interrupt's frame can't be popped.
+    #[tactic(auto, unfolding(crate::specs::OtherTurns::int31_call))]
+    pub fn int31_here(&self) -> Option<u16>
+        ensures { result ≡ int31_call self.now.world }
+    {
+        match self.exit {
+            Some(_) => None,
+            None if is_at_int31(&self.machine) && can_pop(&self.machine) => Some(ax(&self.machine)),
+            None => None,
+        }
+    }
+
+    /// Makes that turn in place of a service: the frame is popped, EAX and EBX are those of `r`, and the carry goes into the flags that were popped.
+    #[tactic(auto, unfolding(crate::specs::OtherTurns::int31_call, crate::specs::OtherTurns::int31_turn))]
+    pub fn int31_done(&mut self, r: Regs, carry: Carry)
+        requires here { IsSome (int31_call self.old.world) }
+        requires answer { r ≡ record self.old.world.machine.regs { eax = r.eax; ebx = r.ebx } }
+        requires room { self.old.world.steps < MAX_STEPS }
+        ensures world { self.new.world ≡ int31_turn self.old.world r carry }
+        ensures goes_on { self.new.world.exit ≡ None }
+        ensures bytes { self.new.bytes ≡ self.old.bytes }
+    {
+        let number = ax(&self.machine);
+        self.steps += 1;
+        match pop_in_mode(&mut self.machine) {
+            Ok(()) => {
+                let popped = self.machine.regs();
+                self.machine.set_regs(Regs {
+                    eax: r.eax,
+                    ebx: r.ebx,
+                    ..popped
+                });
+                self.finish_service(number, carry);
+            }
+            Err(_) => unreachable!(),
+        }
+    }
+
+    /// Delivers an exception in protected mode, as a turn of its own. It ends the run with `Deep` at the greatest depth, else with `Fault` where the
+    /// handler can't be loaded; the machine then stays as it was.
+    #[tactic(auto, unfolding(crate::specs::OtherTurns::exception_turn))]
+    pub fn deliver_turn(&mut self, f: Fault) -> Result<(), Exit>
+        requires no_exit { self.old.world.exit ≡ None }
+        requires mode { self.old.world.machine.mode ≡ protected }
+        requires number { f.number < EXCEPTION_VECTORS }
+        requires room { self.old.world.steps < MAX_STEPS }
+        ensures world { self.new.world ≡ exception_turn self.old.world f }
+        ensures bytes { ChangesOnly (delivery_footprint protected self.old.world.machine) self.old.bytes self.new.bytes }
+        ensures kept { IfErr result (λ _. self.new.bytes ≡ self.old.bytes) }
+        ensures goes_on { OnOk result (self.new.world.exit ≡ None) }
+        ensures ends { IfErr result (λ exit. self.new.world.exit ≡ Some exit) }
+    {
+        a_machine_changes_only_what_is_written(&self.machine);
+        self.steps += 1;
+        match self.deliver_in_protected_mode(f) {
+            Ok(()) => Ok(()),
+            Err(exit) => {
+                self.exit = Some(exit);
+                Err(exit)
+            }
+        }
+    }
+
+    /// Ends the run as one that has reached its bound.
+    pub fn stop_bound(&mut self)
+        requires { self.old.world.exit ≡ None }
+        ensures { self.new ≡ record self.old { world = bounded self.old.world } }
+    {
+        self.exit = Some(Exit::Bound);
+    }
+
+    /// An interrupt from outside, as a turn of its own. In real mode, and to a handler that the client has set, it pushes the address of the present
+    /// instruction; else it is reflected to real mode. It ends the run where a fault of that push or load can't be delivered; the machine
+    /// then stays as it was.
+    #[tactic(auto, unfolding(crate::specs::OtherTurns::interrupt_turn))]
+    pub fn int_turn(&mut self, n: u8) -> Result<(), Exit>
+        requires no_exit { self.old.world.exit ≡ None }
+        requires enabled { self.old.world.machine.vif ≡ true }
+        requires shallow { self.old.world.machine.mode ≡ protected → depth self.old.world.machine < GREATEST_DEPTH }
+        requires room { self.old.world.steps < MAX_STEPS }
+        ensures world { self.new.world ≡ interrupt_turn self.old.world n }
+        ensures kept { IfErr result (λ _. self.new.bytes ≡ self.old.bytes) }
+        ensures goes_on { OnOk result (self.new.world.exit ≡ None) }
+        ensures ends { IfErr result (λ exit. self.new.world.exit ≡ Some exit) }
+    {
+        self.steps += 1;
+        match self.interrupt(n) {
+            Ok(()) => Ok(()),
+            Err(exit) => {
+                self.exit = Some(exit);
+                Err(exit)
+            }
+        }
+    }
+
+    // An interrupt from outside.
+    fn interrupt(&mut self, n: u8) -> Result<(), Exit>
+        requires shallow { self.old.world.machine.mode ≡ protected → depth self.old.world.machine < GREATEST_DEPTH }
+        requires room { self.old.world.lines + 2 ≤ 2 * self.old.world.steps }
+        ensures { ComesTo self.old self.new result (interrupted_in self.old.world.machine.mode self.old.world n) }
+    {
+        match self.machine.mode() {
+            Mode::Real => self.raise_interrupt(n, 0),
+            Mode::Protected => self.interrupt_in_protected_mode(n),
+        }
+    }
+
+    // The same in protected mode: to the client's own handler, with virtual interrupts off, or reflected.
+    fn interrupt_in_protected_mode(&mut self, n: u8) -> Result<(), Exit>
+        requires mode { self.old.world.machine.mode ≡ protected }
+        requires shallow { depth self.old.world.machine < GREATEST_DEPTH }
+        requires room { self.old.world.lines + 2 ≤ 2 * self.old.world.steps }
+        ensures { ComesTo self.old self.new result (interrupted_in protected self.old.world n) }
+    {
+        if is_hosts_vector(&self.machine, n) {
+            self.reflect_interrupt(n);
+            return Ok(());
+        }
+        match soft_int(&mut self.machine, n, 0) {
+            Ok(()) => {
+                self.machine.set_vif(false);
+                Ok(())
+            }
+            Err(f) => self.deliver(f),
+        }
+    }
+}
