@@ -21,9 +21,10 @@ use Rattle.guest_space.specs.Pending.{byte_count, first_refusal}
 use Rattle.insn_decode.specs.declared.decoding.Decoded.{Decoded}
 use Rattle.insn_decode.specs.declared.decoding.Decoded.TheVariants.{Whole, More, Invalid}
 use Rattle.insn_decode.specs.Decode.{decoded}
+use Rattle.insn_plan.specs.Accesses.{moved}
 use Rattle.insn_plan.specs.Act.{Act, End, Read, Input, Given, From, Pending, value_of}
 use Rattle.insn_plan.specs.Plan.{planned}
-use Rattle.cpu_step.specs.Step.{has_big_code, code, client_row, moved}
+use Rattle.cpu_step.specs.Step.{has_big_code, code, client_row}
 use Rattle.cpu_step.specs.Touched.{and_then, fetched, input_read, read_places, write_places, vector_places, vector_read, places_behind, executed_touches, decoded_touches, touched}
 
 abbrev AreHeld : World → List Place → Type 0

@@ -1,10 +1,12 @@
 pub mod CodeBytes
 pub mod CoreOrFlow
 pub mod CoreSegments
+pub mod EventTouches
 pub mod FlowSegments
 pub mod Held
+pub mod Joined
+pub mod KnownSteps
 pub mod Outcomes
 pub mod SegmentWords
 pub mod SoundSteps
 pub mod SoundWritten
-pub mod KnownSteps

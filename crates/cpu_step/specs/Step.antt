@@ -1,7 +1,7 @@
 -- One instruction of the client: twice, as what the grammar says of the code bytes, and as what reading them from left to right gives.
 -- Source: 80386 Programmer's Reference Manual, ch. 9 and 17; which of several exceptions is raised, and that an instruction of more than 15
 -- bytes is a general protection fault with code 0 before its next byte is fetched, is own.
-use Rattle.std.specs.Prelude.{◌≡◌, ◌<◌, ℕ, ◌+◌, ◌%◌, ◌^◌, Bool, List, ◌++◌, length, Ok, Err, nat_eq, if◌then◌else◌}
+use Rattle.std.specs.Prelude.{◌≡◌, ◌<◌, ℕ, Bool, List, ◌++◌, length, Ok, Err, nat_eq, if◌then◌else◌}
 use Rattle.std.specs.declared.result.Result.{Result}
 use Rattle.client_world.specs.declared.faults.Event.{Event}
 use Rattle.client_world.specs.declared.faults.Event.TheVariants.{Fault as fault}
@@ -19,6 +19,7 @@ use Rattle.insn_decode.specs.declared.decoding.Decoded.TheVariants.{Whole, More,
 use Rattle.insn_decode.specs.Decode.{decoded}
 use Rattle.insn_forms.specs.declared.insn.Insn.{Insn}
 use Rattle.insn_forms.specs.Grammar.{Encoding, HasEncoding, BeginsEncoding}
+use Rattle.insn_plan.specs.Accesses.{moved}
 use Rattle.insn_plan.specs.Act.{Act}
 use Rattle.insn_plan.specs.Plan.{planned, carried_out}
 
@@ -30,10 +31,7 @@ has_big_code w = is_big w.mode w.descriptors w.regs.cs
 abbrev pub code : World → List ℕ
 code w = code_from w 0 code_room
 
--- the world, and the machine, with EIP past an instruction of `len` bytes
-abbrev pub moved : ℕ → World → World
-moved len w = record w { regs = record w.regs { eip = (w.regs.eip + len) % 2 ^ 32 } }
-
+-- the machine with EIP past an instruction of `len` bytes
 abbrev pub behind : ℕ → MachineView → MachineView
 behind len v = record v { world = moved len v.world }
 

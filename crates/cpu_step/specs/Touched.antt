@@ -1,7 +1,7 @@
 -- The places that the client's next instruction touches, in the order of the accesses: the bytes that are fetched, what it reads, what it
 -- writes; and what its software interrupt pushes, and the vector that this reads. An access that faults names no place, and nothing is accessed
 -- after it. Source: own.
-use Rattle.std.specs.Prelude.{ℕ, zero, suc, ◌+◌, ◌*◌, true, false, List, [], ◌∷◌, ◌++◌, Ok, Err, None, Some}
+use Rattle.std.specs.Prelude.{ℕ, zero, suc, ◌+◌, ◌*◌, ◌^◌, ◌≤◌, true, false, List, [], ◌∷◌, ◌++◌, Ok, Err, None, Some}
 use Rattle.std.specs.declared.result.Result.{Result}
 use Rattle.client_world.specs.declared.faults.Event.{Event}
 use Rattle.client_world.specs.declared.faults.Event.TheVariants.{Fault as fault, Soft}
@@ -10,7 +10,7 @@ use Rattle.client_world.specs.declared.place.Place.{Place}
 use Rattle.client_world.specs.declared.place.Place.TheVariants.{Dos}
 use Rattle.client_world.specs.declared.registers.Mode.TheVariants.{Real, Protected}
 use Rattle.client_world.specs.declared.segments.SegReg.TheVariants.{Cs}
-use Rattle.client_world.specs.Access.{access}
+use Rattle.client_world.specs.Access.{access, places_from}
 use Rattle.client_world.specs.World.{World}
 use Rattle.exec_flow.specs.Interrupts.{interrupt_pushed}
 use Rattle.guest_space.specs.Code.{code_room}
@@ -19,9 +19,11 @@ use Rattle.guest_space.specs.Pending.{byte_count, first_refusal}
 use Rattle.insn_decode.specs.declared.decoding.Decoded.{Decoded}
 use Rattle.insn_decode.specs.declared.decoding.Decoded.TheVariants.{Whole, More, Invalid}
 use Rattle.insn_decode.specs.Decode.{decoded}
+use Rattle.insn_plan.specs.declared.accesses.Touch.{Touch}
+use Rattle.insn_plan.specs.Accesses.{moved}
 use Rattle.insn_plan.specs.Act.{Act, End, Read, Input, Given, From, Pending, value_of}
 use Rattle.insn_plan.specs.Plan.{planned}
-use Rattle.cpu_step.specs.Step.{has_big_code, code, client_row, moved}
+use Rattle.cpu_step.specs.Step.{has_big_code, code, client_row}
 
 -- the places of an access, and of what comes after it where it doesn't fault
 abbrev pub and_then : Result (List Place) Fault → List Place → List Place
@@ -76,3 +78,14 @@ decoded_touches w Invalid = []
 -- all of them
 unfoldable pub touched : World → List Place
 touched w = fetched w 0 code_room ++ decoded_touches w (decoded (has_big_code w) (code w))
+
+-- ---- the same bytes as runs of linear addresses
+
+-- the places of touches, one after another
+abbrev pub touch_places : World → List Touch → List Place
+touch_places w [] = []
+touch_places w (t ∷ rest) = places_from w.blocks t.lin t.len ++ touch_places w rest
+
+-- the run has no byte past the last address
+abbrev pub IsInside : Touch → Type 0
+IsInside t = t.lin + t.len ≤ 2 ^ 32

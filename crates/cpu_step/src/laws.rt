@@ -1,5 +1,5 @@
 // What holds of every step. Each is a function with nothing to do: its contract is the law.
-ghost use Rattle.std.specs.Prelude.{◌≡◌, All, Ok};
+ghost use Rattle.std.specs.Prelude.{◌≡◌, All, IsErr, IsOk, List, None, Ok, Some};
 ghost use Rattle.std.specs.declared.result.Result.{Result};
 ghost use Rattle.client_world.specs.declared.faults.Event.{Event as AnEvent};
 ghost use Rattle.client_world.specs.Access.{IsHeld};
@@ -7,7 +7,11 @@ ghost use Rattle.client_world.specs.Soundness.{IsSound};
 ghost use Rattle.client_world.specs.World.{World};
 ghost use Rattle.host_memory.specs.View.{MachineView};
 ghost use Rattle.cpu_step.specs.Step.{IsStep, client_step};
-ghost use Rattle.cpu_step.specs.Touched.{touched};
+ghost use Rattle.cpu_step.specs.Touched.{IsInside, executed_touches, touch_places, touched};
+ghost use Rattle.insn_plan.specs.declared.accesses.Touch.{Touch};
+ghost use Rattle.insn_plan.specs.Accesses.{touches};
+ghost use Rattle.insn_plan.specs.Act.{Act};
+ghost use Rattle.insn_plan.specs.Plan.{carried_out, planned};
 
 /// In a sound world what the grammar says of the client's next instruction is one outcome, and is what reading its bytes from left to
 /// right gives.
@@ -20,6 +24,18 @@ pub fn a_step_has_one_outcome()
 /// Every place that the client's next instruction touches lies in memory that the client holds.
 pub fn every_touched_place_is_held()
     ensures { (w : World) → All (IsHeld w) (touched w) }
+{}
+
+/// The touches of an instruction are what it reads and writes: they have the same places, in the same order, and no run wraps.
+pub fn every_touch_is_an_access()
+    ensures places { (w : World) (act : Act) (list : List Touch) → touches w act ≡ Some list → executed_touches w act ≡ touch_places w list }
+    ensures inside { (w : World) (act : Act) (list : List Touch) → touches w act ≡ Some list → All IsInside list }
+{}
+
+/// An instruction has touches exactly where it is no event.
+pub fn only_an_event_has_no_touches()
+    ensures none { (v : MachineView) (act : Act) → touches v.world act ≡ None → IsErr (carried_out v (planned v.world act)) }
+    ensures some { (v : MachineView) (act : Act) (list : List Touch) → touches v.world act ≡ Some list → IsOk (carried_out v (planned v.world act)) }
 {}
 
 /// A step leads from a sound world to a sound one.

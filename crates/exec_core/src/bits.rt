@@ -61,8 +61,8 @@ fn moved_form(f: MemForm, distance: u64) -> MemForm
     }
 }
 
-// The operand in which the bit at an offset is: memory moves with an offset in a register.
-fn bit_operand(i: &Insn, offset: u32) -> Operand
+/// The operand in which the bit at an offset is: memory moves with an offset in a register.
+pub(crate) fn bit_operand(i: &Insn, offset: u32) -> Operand
     requires { IsTrue (is_width i.now.width) }
     ensures { result ≡ bit_operand i.now offset i.now.first }
 {

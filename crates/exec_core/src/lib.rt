@@ -15,5 +15,7 @@ mod shift_operations;
 mod shifts;
 mod stacks;
 mod strings;
+mod touches;
 
 pub use dispatch::{is_core, run_core};
+pub use touches::touches_core;

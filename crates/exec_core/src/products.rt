@@ -27,7 +27,7 @@ ghost use Rattle.insn_plan.specs.Registers.{register};
 
 use client_world::faults::DIVIDE_ERROR;
 use client_world::general::{EAX, EDX};
-use client_world::{Event, Fault, Flags};
+use client_world::{Event, Fault, Flags, Regs};
 use cpu_alu::{div, idiv, imul, mul};
 use cpu_values::cut;
 use guest_space::Machine;
@@ -146,21 +146,20 @@ fn put_double(m: &mut Machine, width: u8, low: u32, high: u32)
     put_register(m, width, high_register(width), high);
 }
 
-// The register of a double word's high half.
-fn high_register(width: u8) -> u8
+/// The register of a double word's high half.
+pub(crate) fn high_register(width: u8) -> u8
     ensures { result ≡ high_register width }
 {
     if width == 8 { AH } else { EDX }
 }
 
-// The register of a number, and that it has no more bits than the width.
+/// The register of a number, and that it has no more bits than the width.
 #[tactic(auto, unfolding(insn_plan::specs::Registers::register))]
-fn word_in(m: &Machine, width: u8, n: u8) -> u32
+pub(crate) fn word_in(r: &Regs, width: u8, n: u8) -> u32
     requires { IsTrue (is_width width) }
-    ensures value { result ≡ register m.now.world.regs width n }
-    ensures in_range { cut width (register m.now.world.regs width n) ≡ register m.now.world.regs width n }
+    ensures value { result ≡ register r.now width n }
+    ensures in_range { cut width (register r.now width n) ≡ register r.now width n }
 {
-    let r = m.registers();
     match width {
         8 => register(r, 8, n),
         16 => register(r, 16, n),
@@ -176,7 +175,7 @@ pub(crate) fn multiply<S: Sign>(m: &mut Machine, i: &Insn) -> Result<(), Event>
     ensures { CarriesOut m.old m.new result (multiply S.product m.old.world i.now) }
 {
     let a = source(m, i.addr32, i.width, &i.first)?;
-    let by = word_in(m, i.width, EAX);
+    let by = word_in(m.registers(), i.width, EAX);
     let (low, high, flags) = S::product(i.width, by, a, m.registers().flags);
     m.set_flags(flags);
     put_double(m, i.width, low, high);
@@ -240,8 +239,8 @@ pub(crate) fn divide<S: Sign>(m: &mut Machine, i: &Insn) -> Result<(), Event>
     ensures { CarriesOut m.old m.new result (divide S.quotient m.old.world i.now) }
 {
     let by = source(m, i.addr32, i.width, &i.first)?;
-    let low = word_in(m, i.width, EAX);
-    let high = word_in(m, i.width, high_register(i.width));
+    let low = word_in(m.registers(), i.width, EAX);
+    let high = word_in(m.registers(), i.width, high_register(i.width));
     let Some((quotient, remainder)) = S::quotient(i.width, low, high, by) else {
         return Err(divide_error());
     };

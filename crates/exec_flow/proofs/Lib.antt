@@ -1,2 +1,3 @@
+pub mod EnterLaws
 pub mod FrameReads
 pub mod Loaded

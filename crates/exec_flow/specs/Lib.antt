@@ -1,4 +1,5 @@
 pub mod Dispatch
+pub mod EnterAccesses
 pub mod FarTransfers
 pub mod FlagImages
 pub mod Frames

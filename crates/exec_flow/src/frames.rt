@@ -1,5 +1,5 @@
 // Stack frames of procedures, and array bounds.
-ghost use Rattle.std.specs.Prelude.{◌≡◌, ◌+◌, ◌-◌, ◌<◌, ◌≤◌, ◌^◌, length, IsTrue, MatchResult, Err};
+ghost use Rattle.std.specs.Prelude.{◌≡◌, ◌+◌, ◌-◌, ◌*◌, ◌<◌, ◌≤◌, ◌^◌, length, IsTrue, MatchResult, Err};
 ghost use Rattle.cpu_values.specs.Word.{cut};
 ghost use Rattle.exec_flow.specs.Frames.{
   saved_frame,
@@ -11,6 +11,7 @@ ghost use Rattle.exec_flow.specs.Frames.{
   bound,
 };
 ghost use Rattle.client_world.specs.declared.segments.SegReg.TheVariants.{Ss};
+ghost use Rattle.exec_flow.specs.Transfers.{at_operand_size};
 ghost use Rattle.guest_space.specs.Pending.{byte_count};
 ghost use Rattle.insn_forms.specs.Kinds.{is_width};
 ghost use Rattle.insn_plan.specs.Act.{Act, From, Pending, unchanged, value_of};
@@ -30,12 +31,12 @@ use insn_plan::{
     source, stack_pointer, with_pointer,
 };
 
-// Where the frame pointer of a level was saved.
-fn saved_frame(m: &Machine, i: &Insn, level: u8) -> u32
-    ensures { result ≡ saved_frame m.now.world i.now level }
+/// Where the frame pointer of a level was saved: that many items below (E)BP.
+pub(crate) fn saved_frame(ebp: u32, i: &Insn, level: u8) -> u32
+    ensures { result ≡ at_operand_size i.now (ebp + 2 ^ 32 - level * byte_count i.now.width) }
 {
     let below = u64::from(level) * u64::from(byte_count(i.width));
-    at_operand_size(i, u64::from(m.regs().ebp) + 0x1_0000_0000 - below)
+    at_operand_size(i, u64::from(ebp) + 0x1_0000_0000 - below)
 }
 
 // Reads the frame pointer that was saved for a level, or gives the fault of the access.
@@ -43,7 +44,7 @@ fn read_frame(m: &Machine, i: &Insn, level: u8) -> Result<u32, Event>
     ensures { result
         ≡ value_of m.now.world (From Ss (saved_frame m.now.world i.now level) (byte_count i.now.width)) }
 {
-    let at = saved_frame(m, i, level);
+    let at = saved_frame(m.registers().ebp, i, level);
     read_width(m, SegReg::Ss, at, byte_count(i.width))
 }
 
@@ -135,8 +136,8 @@ fn rank(width: u8, a: u64) -> u64
     }
 }
 
-// Whether a number of a width is less than another in two's complement.
-fn is_less_signed(width: u8, a: u64, b: u64) -> bool
+/// Whether a number of a width is less than another in two's complement.
+pub(crate) fn is_less_signed(width: u8, a: u64, b: u64) -> bool
     requires { IsTrue (is_width width) }
     ensures { result ≡ is_less_signed width a b }
 {

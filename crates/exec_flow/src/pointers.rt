@@ -25,9 +25,9 @@ pub(crate) fn memory_bytes(m: &Machine, i: &Insn, n: u8, operand: &Operand) -> R
     }
 }
 
-// The numbers above an offset of the operand size count units of this.
+/// The numbers above an offset of the operand size count units of this.
 #[inline(always)]
-fn offset_range(i: &Insn) -> u64
+pub(crate) fn offset_range(i: &Insn) -> u64
     ensures { result ≡ offset_range i.now }
 {
     if i.width == 16 {
@@ -37,9 +37,9 @@ fn offset_range(i: &Insn) -> u64
     }
 }
 
-// The bytes of a far pointer in memory.
+/// The bytes of a far pointer in memory.
 #[inline(always)]
-fn pointer_size(i: &Insn) -> u8
+pub(crate) fn pointer_size(i: &Insn) -> u8
     ensures value { result ≡ pointer_size i.now }
     ensures count { IsCount result }
 {

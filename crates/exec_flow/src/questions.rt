@@ -37,8 +37,8 @@ fn with_zero(m: &Machine, zero_flag: bool) -> Flags
     }
 }
 
-// The descriptor that the low word of a number names as a selector.
-fn row_of(m: &Machine, sel: u32) -> Option<(Desc, Origin)>
+/// The descriptor that the low word of a number names as a selector.
+pub(crate) fn row_of(m: &Machine, sel: u32) -> Option<(Desc, Origin)>
     ensures row { result ≡ row_of_selector m.now.world.descriptors (low_half sel) }
     ensures fits { FitsRow result }
 {
@@ -153,8 +153,8 @@ pub(crate) fn tell_byte_limit(m: &mut Machine, i: &Insn) -> Result<(), Event>
     }
 }
 
-// The privilege level that a selector asks for.
-fn privilege_of(sel: u32) -> u32
+/// The privilege level that a selector asks for.
+pub(crate) fn privilege_of(sel: u32) -> u32
     ensures { result ≡ privilege_of sel }
 {
     sel % PRIVILEGE_LEVELS

@@ -22,9 +22,9 @@ use guest_space::Machine;
 use insn_forms::{Insn, Operand};
 use insn_plan::{push_item, put_operand, source, stack_item};
 
-// Whether a selector may be loaded into a segment register; in real mode every word may.
+/// Whether a selector may be loaded into a segment register; in real mode every word may.
 #[inline(always)]
-fn check_load(m: &Machine, seg: SegReg, sel: u16) -> Result<(), Fault>
+pub(crate) fn check_load(m: &Machine, seg: SegReg, sel: u16) -> Result<(), Fault>
     ensures { MatchResult result (λ _. register_fault m.now.world seg sel ≡ None)
         (λ fault. register_fault m.now.world seg sel ≡ Some fault) }
 {

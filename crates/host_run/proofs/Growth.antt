@@ -35,8 +35,9 @@ use Rattle.translation.specs.SimulatedCall.{begin_call, end_call, reflect}
 use Rattle.host_run.specs.declared.traps.Trap.{Trap}
 use Rattle.host_run.specs.declared.traps.Trap.TheVariants.{RealVector, Entry, ToProtected, RealState, CallReturn, Callback, ProtectedVector, ExceptionHandler, ToReal, ProtectedState, ExceptionReturn, CallbackReturn, NoTrap}
 use Rattle.host_run.specs.Run.{turns, run}
+use Rattle.host_run.specs.Families.{service}
 use Rattle.host_run.specs.Traps.{current_trap}
-use Rattle.host_run.specs.Turn.{Outcome, goes_on, ends, with_machine, noted, popped, seen, dos_served, multiplex_served, ends_client, vector_served, after_entry, after_entry_trap, after_switch_to_protected, is_exit_call, is_presence_call, asked_call, call_enter_line, after_begin, after_call_return, after_reflection, after_service, goes_on_with, service, after_int31, after_protected_call, after_protected_pop, after_protected_vector, after_protected_delivery, after_exception_return, after_callback, after_callback_return, delivered, delivered_in, after_interrupt, after_step, stepped, trapped, work, with_turn_counted, settled, turn}
+use Rattle.host_run.specs.Turn.{Outcome, goes_on, ends, with_machine, noted, popped, seen, dos_served, multiplex_served, ends_client, vector_served, after_entry, after_entry_trap, after_switch_to_protected, is_exit_call, is_presence_call, asked_call, call_enter_line, after_begin, after_call_return, after_reflection, after_service, goes_on_with, after_int31, after_protected_call, after_protected_pop, after_protected_vector, after_protected_delivery, after_exception_return, after_callback, after_callback_return, delivered, delivered_in, after_interrupt, after_step, stepped, trapped, work, with_turn_counted, settled, turn}
 
 -- what the work of a turn makes of both
 pub record Grows (h : HostWorld) (o : Outcome) : Type 0 where

@@ -1,3 +1,4 @@
+pub mod Accesses
 pub mod Act
 pub mod Conditions
 pub mod Counter

@@ -3,6 +3,7 @@
 //! It uses the machine and the instruction's types.
 #![tactic(auto)]
 
+mod accesses;
 mod conditions;
 mod loop_counter;
 mod next;
@@ -11,6 +12,7 @@ mod read;
 mod registers;
 mod stack;
 
+pub use accesses::{Access, Accesses, MAX_ACCESSES, Touch};
 pub use conditions::condition;
 pub use loop_counter::{counter, with_address};
 pub use next::{MAX_WRITES, Next};

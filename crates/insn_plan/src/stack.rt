@@ -61,7 +61,7 @@ pub fn esp_up(big: bool, n: u32, esp: u32) -> u32
 
 // The stack pointer of an item that is pushed, n bytes further down.
 #[inline(always)]
-fn pointer_down(big: bool, n: u8, esp: u32) -> u32
+pub(crate) fn pointer_down(big: bool, n: u8, esp: u32) -> u32
     requires { n < 2 ^ 8 }
     ensures value { result ≡ cut_address big (cut_address big esp + 2 ^ 32 - n) }
     ensures fits { IsTrue big ⊎ (result < 2 ^ 16) }

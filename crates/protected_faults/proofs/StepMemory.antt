@@ -4,7 +4,7 @@ use Rattle.client_world.specs.declared.faults.Event.{Event}
 use Rattle.client_world.specs.declared.faults.Event.TheVariants.{Fault as fault}
 use Rattle.client_world.specs.declared.faults.Fault.{Fault}
 use Rattle.client_world.specs.Loading.{transfer_fault}
-use Rattle.cpu_step.specs.Step.{behind, client_row, client_step, code, executed, has_big_code, moved, step_of}
+use Rattle.cpu_step.specs.Step.{behind, client_row, client_step, code, executed, has_big_code, step_of}
 use Rattle.exec_flow.specs.FarTransfers.{code_selector}
 use Rattle.exec_flow.specs.Interrupts.{interrupt_pushed}
 use Rattle.fault_service.specs.Delivery.{frame_pushed, handler_entered, handler_interrupts, has_real_vector, interrupt_vector, interrupted, real_delivery, software_interrupt}
@@ -15,6 +15,7 @@ use Rattle.insn_decode.specs.declared.decoding.Decoded.{Decoded}
 use Rattle.insn_decode.specs.declared.decoding.Decoded.TheVariants.{Whole, More, Invalid}
 use Rattle.insn_decode.specs.Decode.{decoded}
 use Rattle.insn_forms.specs.declared.insn.Insn.{Insn}
+use Rattle.insn_plan.specs.Accesses.{moved}
 use Rattle.insn_plan.specs.Act.{Pending}
 use Rattle.insn_plan.specs.Plan.{carried_out, planned, after_commit, with_state}
 use Rattle.protected_faults.specs.Memory.{IsMachineView}

@@ -16,7 +16,7 @@ use Rattle.client_world.specs.declared.segments.SegReg.TheVariants.{Ss}
 use Rattle.client_world.specs.Access.{IsHeld, access, places_at, segment_base}
 use Rattle.client_world.specs.Selector.{Row}
 use Rattle.client_world.specs.World.{World}
-use Rattle.cpu_step.specs.Step.{behind, client_row, client_step, code, executed, has_big_code, moved, step_of}
+use Rattle.cpu_step.specs.Step.{behind, client_row, client_step, code, executed, has_big_code, step_of}
 use Rattle.cpu_step.specs.Touched.{and_then, decoded_touches, executed_touches, fetched, places_behind, read_places, touched, vector_read, write_places}
 use Rattle.exec_flow.specs.Interrupts.{interrupt_pushed}
 use Rattle.fault_service.specs.Delivery.{software_interrupt}
@@ -31,6 +31,7 @@ use Rattle.insn_decode.specs.declared.decoding.Decoded.{Decoded}
 use Rattle.insn_decode.specs.declared.decoding.Decoded.TheVariants.{Whole, More, Invalid}
 use Rattle.insn_decode.specs.Decode.{decoded}
 use Rattle.insn_forms.specs.declared.insn.Insn.{Insn}
+use Rattle.insn_plan.specs.Accesses.{moved}
 use Rattle.insn_plan.specs.Act.{Pending}
 use Rattle.insn_plan.specs.Plan.{after_commit, carried_out, planned, with_state}
 use Rattle.insn_plan.specs.Stack.{has_big_stack, pushed}

@@ -6,7 +6,7 @@ use Rattle.client_world.specs.declared.faults.Event.{Event}
 use Rattle.client_world.specs.declared.faults.Fault.{Fault}
 use Rattle.client_world.specs.declared.place.Place.{Place}
 use Rattle.client_world.specs.World.{World}
-use Rattle.cpu_step.specs.Step.{client_row, client_step, code, has_big_code, moved}
+use Rattle.cpu_step.specs.Step.{client_row, client_step, code, has_big_code}
 use Rattle.exec_flow.specs.Interrupts.{interrupt_pushed}
 use Rattle.fault_service.specs.Delivery.{real_delivery, software_interrupt}
 use Rattle.guest_space.specs.Pending.{places_of_writes}
@@ -14,6 +14,7 @@ use Rattle.host_memory.specs.View.{MachineView, OnlyAt}
 use Rattle.insn_decode.specs.declared.decoding.Decoded.{Decoded}
 use Rattle.insn_decode.specs.declared.decoding.Decoded.TheVariants.{Whole, More, Invalid}
 use Rattle.insn_decode.specs.Decode.{decoded}
+use Rattle.insn_plan.specs.Accesses.{moved}
 use Rattle.insn_plan.specs.Act.{Pending}
 use Rattle.insn_plan.specs.Plan.{planned}
 

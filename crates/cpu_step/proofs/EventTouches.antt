@@ -1,0 +1,168 @@
+-- An instruction has touches exactly where it is no event.
+use Rattle.std.proofs.Common.{◌≡◌, ℕ, ◌+◌, Bool, true, false, List, [], ◌∷◌, ◌++◌, refl, ap, sym, ◌∙◌, subst, Option, None, Some, Result, Ok, Err}
+use Rattle.std.specs.Prelude.{IsErr, IsOk, is_err, is_ok}
+use Rattle.client_world.specs.declared.faults.Event.{Event}
+use Rattle.client_world.specs.declared.faults.Event.TheVariants.{Fault as fault, Soft}
+use Rattle.client_world.specs.declared.faults.Fault.{Fault}
+use Rattle.client_world.specs.World.{World}
+use Rattle.guest_space.specs.declared.pending.Write.{Write}
+use Rattle.guest_space.specs.Pending.{byte_count, first_refusal, write_refusal, all_written}
+use Rattle.host_memory.specs.View.{MachineView}
+use Rattle.insn_plan.specs.declared.accesses.Access.{Access}
+use Rattle.insn_plan.specs.declared.accesses.Touch.{Touch}
+use Rattle.insn_plan.specs.Accesses.{and_read, and_writes, accesses_after, granted, touch_of, touches_after, touches_where, touches}
+use Rattle.insn_plan.specs.Act.{Act, End, Read, Done, Raise, Interrupt, Input, Given, From, Pending, value_of}
+use Rattle.insn_plan.specs.Plan.{planned, carried_out, after_commit, with_state}
+use Rattle.cpu_step.proofs.Joined.{AllGranted, IsGranted, access_of, are_written, granted_front, value_granted, known, known_touches}
+
+granted_back : (w : World) (front back : List Access) → AllGranted w front → AllGranted w back → AllGranted w (front ++ back)
+granted_back w [] back f b = b
+granted_back w (a ∷ front) back f b = (f.0, granted_back w front back f.1 b)
+
+read_granted : (w : World) (done : List Access) (input : Input) (v : ℕ) → value_of w input ≡ Ok v → AllGranted w done → AllGranted w (and_read done input)
+read_granted w done (Given x) v e all = all
+read_granted w done (From seg off n) v e all = granted_back w done _ all (value_granted w seg off n v e, tt)
+
+-- ---- an instruction that is an event
+
+after_event : (r : Result ℕ Event) (w : World) (done : List Access) (rest : ℕ → Act) (event : Event) →
+    ((v : ℕ) → planned w (rest v) ≡ Err event → accesses_after w done (rest v) ≡ None) →
+    elim r as (λ _. Result Pending Event) [ Ok v ↦ planned w (rest v) | Err e ↦ Err e ] ≡ Err event →
+    elim r as (λ _. Option (List Access)) [ Ok v ↦ accesses_after w done (rest v) | Err e ↦ None ] ≡ None
+after_event (Ok v) w done rest event h e = h v e
+after_event (Err other) w done rest event h e = refl
+
+event_none : (w : World) (done : List Access) (act : Act) (event : Event) → planned w act ≡ Err event → accesses_after w done act ≡ None
+unfolding accesses_after
+event_none w done (End (Done p)) event e = absurd cc
+event_none w done (End (Raise f)) event e = refl
+event_none w done (End (Interrupt number len)) event e = refl
+event_none w done (Read input rest) event e =
+    after_event (value_of w input) w (and_read done input) rest event (λ v. event_none w (and_read done input) (rest v) event) e
+
+-- ---- one that isn't
+
+record Reads (w : World) (done : List Access) (act : Act) (p : Pending) : Type 0 where
+  reads : List Access
+  follow : accesses_after w done act ≡ Some (and_writes reads p.writes)
+  granted : AllGranted w done → AllGranted w reads
+
+record Value (w : World) (r : Result ℕ Event) (rest : ℕ → Act) (p : Pending) : Type 0 where
+  value : ℕ
+  is : r ≡ Ok value
+  others : planned w (rest value) ≡ Ok p
+
+value_by : (w : World) (r : Result ℕ Event) (rest : ℕ → Act) (p : Pending) →
+    elim r as (λ _. Result Pending Event) [ Ok v ↦ planned w (rest v) | Err e ↦ Err e ] ≡ Ok p → Value w r rest p
+value_by w (Ok v) rest p e = record { value = v; is = refl; others = e }
+value_by w (Err event) rest p e = absurd cc
+
+reads_of : (w : World) (done : List Access) (act : Act) (p : Pending) → planned w act ≡ Ok p → Reads w done act p
+unfolding accesses_after
+reads_of w done (End (Done q)) p e =
+    let same : q ≡ p = cc in
+    record { reads = done; follow = ap (λ (x : Pending). Some (and_writes done x.writes)) same; granted = λ all. all }
+reads_of w done (End (Raise f)) p e = absurd cc
+reads_of w done (End (Interrupt number len)) p e = absurd cc
+reads_of w done (Read input rest) p e =
+    let found = value_by w (value_of w input) rest p e in
+    let others = reads_of w (and_read done input) (rest found.value) p found.others in
+    record {
+      reads = others.reads;
+      follow = ap (λ (r : Result ℕ Event). elim r as (λ _. Option (List Access)) [ Ok v ↦ accesses_after w (and_read done input) (rest v) | Err x ↦ None ]) found.is
+          ∙ others.follow;
+      granted = λ all. others.granted (read_granted w done input found.value found.is all);
+    }
+
+-- ---- its writes
+
+no_refusal : (o : Option Fault) (more : Option Fault) → elim o as (λ _. Option Fault) [ Some f ↦ Some f | None ↦ more ] ≡ None → (o ≡ None) × (more ≡ None)
+no_refusal None more e = (refl, e)
+no_refusal (Some f) more e = absurd cc
+
+writes_granted : (w : World) (done : List Access) (xs : List Write) → first_refusal w xs ≡ None → AllGranted w done → AllGranted w (and_writes done xs)
+unfolding first_refusal write_refusal
+writes_granted w done [] e all = all
+writes_granted w done (x ∷ xs) e all =
+    let parts = no_refusal (write_refusal w x) (first_refusal w xs) e in
+    writes_granted w (done ++ access_of x ∷ []) xs parts.1 (granted_back w done (access_of x ∷ []) all (parts.0, tt))
+
+none_refused : (w : World) (done : List Access) (xs : List Write) → AllGranted w (and_writes done xs) → first_refusal w xs ≡ None
+unfolding first_refusal write_refusal
+none_refused w done [] all = refl
+none_refused w done (x ∷ xs) all =
+    let a = access_of x in
+    let parts = granted_front w done (a ∷ []) (are_written w (done ++ a ∷ []) xs all).before in
+    ap (λ (o : Option Fault). elim o as (λ _. Option Fault) [ Some f ↦ Some f | None ↦ first_refusal w xs ]) parts.1.0
+    ∙ none_refused w (done ++ a ∷ []) xs all
+
+granted_some : (w : World) (a : Access) → IsGranted w a → granted w a ≡ Some (touch_of w a)
+unfolding granted
+granted_some w a e = ap (λ (o : Option Fault). elim o as (λ _. Option Touch) [ None ↦ Some (touch_of w a) | Some f ↦ None ]) e
+
+not_none : (w : World) (done : List Touch) (all : List Access) → AllGranted w all → ¬ (touches_after w done all ≡ None)
+unfolding touches_after
+not_none w done [] all e = absurd cc
+not_none w done (a ∷ rest) all e =
+    let first = ap (λ (o : Option Touch). elim o as (λ _. Option (List Touch)) [ Some t ↦ touches_after w (done ++ t ∷ []) rest | None ↦ None ]) (granted_some w a all.0) in
+    not_none w (done ++ touch_of w a ∷ []) rest all.1 (sym first ∙ e)
+
+-- ---- what it comes to
+
+abbrev committed : Option Fault → MachineView → Result MachineView Event
+committed None u = Ok u
+committed (Some f) u = Err (fault f)
+
+committed_is : (o : Option Fault) (u : MachineView) → elim o as (λ _. Result MachineView Event) [ Some f ↦ Err (fault f) | None ↦ Ok u ] ≡ committed o u
+committed_is None u = refl
+committed_is (Some f) u = refl
+
+commit_is : (v : MachineView) (p : Pending) → after_commit v p ≡ committed (first_refusal v.world p.writes) (with_state p.regs p.vif (all_written v p.writes))
+unfolding after_commit
+commit_is v p = committed_is (first_refusal v.world p.writes) (with_state p.regs p.vif (all_written v p.writes))
+
+committed_ok : (v : MachineView) (p : Pending) → first_refusal v.world p.writes ≡ None → IsOk (after_commit v p)
+committed_ok v p e =
+    ap (λ (r : Result MachineView Event). is_ok r)
+    (commit_is v p ∙ ap (λ (o : Option Fault). committed o (with_state p.regs p.vif (all_written v p.writes))) e)
+
+committed_err : (v : MachineView) (p : Pending) (f : Fault) → first_refusal v.world p.writes ≡ Some f → IsErr (after_commit v p)
+committed_err v p f e =
+    ap (λ (r : Result MachineView Event). is_err r)
+    (commit_is v p ∙ ap (λ (o : Option Fault). committed o (with_state p.regs p.vif (all_written v p.writes))) e)
+
+some_or_none : (list : List Touch) → ¬ (Some list ≡ None)
+some_or_none list e = absurd cc
+
+-- without touches
+refused : (v : MachineView) (act : Act) (p : Pending) (o : Option Fault) → first_refusal v.world p.writes ≡ o → Reads v.world [] act p →
+    touches v.world act ≡ None → IsErr (after_commit v p)
+unfolding touches
+refused v act p (Some f) is reads e = committed_err v p f is
+refused v act p None is reads e =
+    absurd (not_none v.world [] (and_writes reads.reads p.writes) (writes_granted v.world reads.reads p.writes is (reads.granted tt))
+    (ap (touches_where v.world) (sym reads.follow) ∙ e))
+
+untouched_by : (v : MachineView) (act : Act) (r : Result Pending Event) → planned v.world act ≡ r → touches v.world act ≡ None → IsErr (carried_out v r)
+unfolding carried_out
+untouched_by v act (Err event) is e = refl
+untouched_by v act (Ok p) is e = refused v act p (first_refusal v.world p.writes) refl (reads_of v.world [] act p is) e
+
+pub untouched : (v : MachineView) (act : Act) → touches v.world act ≡ None → IsErr (carried_out v (planned v.world act))
+untouched v act e = untouched_by v act (planned v.world act) refl e
+
+-- with touches
+touched_by : (v : MachineView) (act : Act) (list : List Touch) (r : Result Pending Event) → planned v.world act ≡ r →
+    touches v.world act ≡ Some list → IsOk (carried_out v r)
+unfolding carried_out touches
+touched_by v act list (Err event) is e =
+    absurd (some_or_none list (sym e ∙ ap (touches_where v.world) (event_none v.world [] act event is)))
+touched_by v act list (Ok p) is e =
+    let k = known v.world act list e in
+    let reads = reads_of v.world [] act p is in
+    let same : k.accesses ≡ and_writes reads.reads p.writes = cc (k.follow, reads.follow) in
+    let all = subst (λ (all : List Access). AllGranted v.world all) same (known_touches v.world act list k).granted in
+    committed_ok v p (none_refused v.world reads.reads p.writes all)
+
+pub has_touches : (v : MachineView) (act : Act) (list : List Touch) → touches v.world act ≡ Some list → IsOk (carried_out v (planned v.world act))
+has_touches v act list e = touched_by v act list (planned v.world act) refl e

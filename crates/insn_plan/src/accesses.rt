@@ -1,0 +1,271 @@
+// What an instruction accesses.
+ghost use Rattle.std.specs.Prelude.{◌≡◌, ◌+◌, ◌-◌, ◌<◌, ◌≤◌, ◌++◌, ◌∷◌, [], MatchOption, None, Some, false, true, length};
+ghost use Rattle.client_world.specs.declared.segments.SegReg.TheVariants.{Ss};
+ghost use Rattle.guest_space.specs.Pending.{byte_count, IsCountOfWidth};
+ghost use Rattle.insn_plan.specs.Accesses.{and_read, and_put, and_push, esp_down, moved, granted, touches_after, HasBytes};
+ghost use Rattle.insn_plan.specs.Act.{From, IsCount, value_of};
+ghost use Rattle.insn_plan.specs.Operands.{source};
+ghost use Rattle.insn_plan.specs.Stack.{stack_item, has_big_stack};
+
+use crate::operands::source;
+use crate::read::{read_number, read_width};
+use crate::registers::{cut_address, offset_of};
+use crate::stack::{has_big_stack, pointer_down, with_pointer};
+use arrayvec::ArrayVec;
+use client_world::{Event, Regs, SegReg};
+use guest_space::{Machine, byte_count};
+use insn_forms::Operand;
+use std::marker::Model;
+
+/// The room for an instruction's accesses: the most are the 62 of ENTER at level 31.
+pub const MAX_ACCESSES: usize = 64;
+
+/// An access to bytes at an offset of a segment register.
+#[derive(Clone, Copy, Debug, PartialEq, Eq)]
+pub struct Access {
+    pub seg: SegReg,
+    pub off: u32,
+    pub count: u8,
+    pub write: bool,
+}
+
+impl Default for Access {
+    fn default() -> Access {
+        Access {
+            seg: SegReg::Es,
+            off: 0,
+            count: 0,
+            write: false,
+        }
+    }
+}
+
+/// A run of bytes that an instruction reads or writes, from a linear address on.
+#[derive(Clone, Copy, Debug, Default, PartialEq, Eq)]
+pub struct Touch {
+    pub lin: u32,
+    pub len: u8,
+    pub write: bool,
+}
+
+/// The accesses of an instruction, one after another. The machine stands at the instruction, and is seen with EIP past it.
+#[derive(Drop)]
+pub struct Accesses<'a> {
+    machine: &'a Machine,
+    len: u8,
+    list: ArrayVec<Access, MAX_ACCESSES>,
+}
+
+impl<'a> Model for Accesses<'a> {
+    ghost use Rattle.std.specs.Prelude.{All};
+    ghost use Rattle.insn_plan.specs.Accesses.{Followed, HasBytes, moved};
+
+    ghost Value = { Followed };
+
+    ghost view = { λ a. record { world = moved a.len a.machine.now.world; accesses = a.list.items } };
+
+    ghost invariant = { λ a. All HasBytes a.list.items };
+}
+
+impl<'a> Accesses<'a> {
+    /// None yet, of an instruction of `len` bytes.
+    pub fn new(machine: &'a Machine, len: u8) -> Accesses<'a>
+        ensures { result ≡ record { world = moved len machine.now.world; accesses = [] } }
+    {
+        Accesses {
+            machine,
+            len,
+            list: ArrayVec::new(),
+        }
+    }
+
+    /// The machine, which is as it is seen but for EIP.
+    pub fn machine(&self) -> &Machine
+        ensures { self.now.world ≡ record result.now.world { regs = record result.now.world.regs { eip = self.now.world.regs.eip } } }
+    {
+        self.machine
+    }
+
+    /// The registers, with EIP past the instruction.
+    pub fn regs(&self) -> Regs
+        ensures { result ≡ self.now.world.regs }
+    {
+        let r = self.machine.regs();
+        Regs {
+            eip: r.eip.wrapping_add(u32::from(self.len)),
+            ..r
+        }
+    }
+
+    /// Whether the stack pointer is ESP.
+    #[tactic(auto, unfolding(crate::specs::Stack::has_big_stack))]
+    pub fn has_big_stack(&self) -> bool
+        ensures { result ≡ has_big_stack self.now.world }
+    {
+        has_big_stack(self.machine)
+    }
+
+    // Notes an access.
+    fn note(&mut self, seg: SegReg, off: u32, count: u8, write: bool)
+        requires some { 0 < count }
+        requires room { length self.old.accesses < MAX_ACCESSES }
+        ensures noted { self.new ≡ record self.old {
+          accesses = self.old.accesses ++ record { seg = seg; off = off; count = count; write = write } ∷ [];
+        } }
+        ensures room { length self.new.accesses ≡ length self.old.accesses + 1 }
+    {
+        self.list.push(Access {
+            seg,
+            off,
+            count,
+            write,
+        });
+    }
+
+    /// Reads 1, 2, 4, 6 or 8 bytes at an offset of a segment register, or gives the fault of the access.
+    #[tactic(auto, using(crate::proofs::Moved::value_moved))]
+    pub fn read(&mut self, seg: SegReg, off: u32, count: u8) -> Result<u64, Event>
+        requires count { IsCount count }
+        requires room { length self.old.accesses < MAX_ACCESSES }
+        ensures value { result ≡ value_of self.old.world (From seg off count) }
+        ensures noted { self.new ≡ record self.old { accesses = and_read self.old.accesses (From seg off count) } }
+        ensures room { length self.new.accesses ≡ length self.old.accesses + 1 }
+    {
+        self.note(seg, off, count, false);
+        read_number(self.machine, seg, off, count)
+    }
+
+    /// Reads an operand, in memory at that width, or gives the fault of the access.
+    #[tactic(auto, using(crate::proofs::Moved::value_moved, crate::proofs::Moved::source_moved), unfolding(crate::specs::Operands::source))]
+    pub fn operand(&mut self, addr32: bool, width: u8, operand: &Operand) -> Result<u32, Event>
+        requires { length self.old.accesses < MAX_ACCESSES }
+        ensures value { result ≡ value_of self.old.world (source self.old.world.regs addr32 width operand.now) }
+        ensures noted { self.new ≡ record self.old {
+          accesses = and_read self.old.accesses (source self.old.world.regs addr32 width operand.now);
+        } }
+        ensures room { length self.new.accesses ≤ length self.old.accesses + 1 }
+    {
+        if let Operand::Mem(f) = operand {
+            self.note(
+                f.seg,
+                offset_of(&self.regs(), addr32, f),
+                byte_count(width),
+                false,
+            );
+        }
+        source(self.machine, addr32, width, operand)
+    }
+
+    /// The same, as the number of 1, 2 or 4 bytes.
+    #[tactic(auto, using(crate::proofs::Moved::value_moved))]
+    pub fn read_width(&mut self, seg: SegReg, off: u32, count: u8) -> Result<u32, Event>
+        requires count { IsCountOfWidth count }
+        requires room { length self.old.accesses < MAX_ACCESSES }
+        ensures value { result ≡ value_of self.old.world (From seg off count) }
+        ensures noted { self.new ≡ record self.old { accesses = and_read self.old.accesses (From seg off count) } }
+        ensures room { length self.new.accesses ≡ length self.old.accesses + 1 }
+    {
+        self.note(seg, off, count, false);
+        read_width(self.machine, seg, off, count)
+    }
+
+    // The offset of the item of a width at a place of the stack, counted from the top.
+    #[tactic(auto, unfolding(crate::specs::Stack::stack_item, crate::specs::Stack::has_big_stack))]
+    fn item_offset(&self, width: u8, place: u8) -> u32
+        ensures { From Ss result (byte_count width) ≡ stack_item self.now.world width place }
+    {
+        let big = has_big_stack(self.machine);
+        let sp = u64::from(cut_address(big, u64::from(self.machine.registers().esp)));
+        cut_address(big, sp + u64::from(byte_count(width)) * u64::from(place))
+    }
+
+    /// Reads the item of a width at a place of the stack, counted from the top, or gives the fault of the access.
+    pub fn stack_item(&mut self, width: u8, place: u8) -> Result<u32, Event>
+        requires { length self.old.accesses < MAX_ACCESSES }
+        ensures value { result ≡ value_of self.old.world (stack_item self.old.world width place) }
+        ensures noted { self.new ≡ record self.old { accesses = and_read self.old.accesses (stack_item self.old.world width place) } }
+        ensures room { length self.new.accesses ≡ length self.old.accesses + 1 }
+    {
+        let off = self.item_offset(width, place);
+        self.read_width(SegReg::Ss, off, byte_count(width))
+    }
+
+    /// Writes a number of a width at an offset of a segment register.
+    pub fn write(&mut self, seg: SegReg, off: u32, width: u8)
+        requires { length self.old.accesses < MAX_ACCESSES }
+        ensures noted { self.new ≡ record self.old {
+          accesses = self.old.accesses ++ record { seg = seg; off = off; count = byte_count width; write = true } ∷ [];
+        } }
+        ensures room { length self.new.accesses ≡ length self.old.accesses + 1 }
+    {
+        self.note(seg, off, byte_count(width), true);
+    }
+
+    /// Puts a number of a width where an operand names; its address is that of the registers `r`.
+    #[tactic(auto, unfolding(crate::specs::Accesses::and_put))]
+    pub fn put_with(&mut self, r: &Regs, addr32: bool, width: u8, operand: &Operand)
+        requires { length self.old.accesses < MAX_ACCESSES }
+        ensures noted { self.new ≡ record self.old { accesses = and_put r.now addr32 width operand.now self.old.accesses } }
+        ensures room { length self.new.accesses ≤ length self.old.accesses + 1 }
+    {
+        if let Operand::Mem(f) = operand {
+            self.write(f.seg, offset_of(r, addr32, f), width);
+        }
+    }
+
+    /// Puts a number of a width where an operand names.
+    pub fn put(&mut self, addr32: bool, width: u8, operand: &Operand)
+        requires { length self.old.accesses < MAX_ACCESSES }
+        ensures noted { self.new ≡ record self.old { accesses = and_put self.old.world.regs addr32 width operand.now self.old.accesses } }
+        ensures room { length self.new.accesses ≤ length self.old.accesses + 1 }
+    {
+        let r = self.regs();
+        self.put_with(&r, addr32, width, operand);
+    }
+
+    /// Pushes a number of a width at an ESP, and returns ESP after it.
+    #[tactic(auto, unfolding(crate::specs::Stack::has_big_stack))]
+    pub fn push(&mut self, width: u8, esp: u32) -> u32
+        requires { length self.old.accesses < MAX_ACCESSES }
+        ensures esp { result ≡ esp_down self.old.world width esp }
+        ensures noted { self.new ≡ record self.old { accesses = and_push self.old.world width esp self.old.accesses } }
+        ensures room { length self.new.accesses ≡ length self.old.accesses + 1 }
+    {
+        let big = has_big_stack(self.machine);
+        let sp = pointer_down(big, byte_count(width), esp);
+        self.write(SegReg::Ss, sp, width);
+        with_pointer(big, esp, sp)
+    }
+
+    // The touch of an access, or none where it has a fault.
+    #[tactic(auto, unfolding(crate::specs::Accesses::granted), using(crate::proofs::Moved::access_fault_moved, crate::proofs::Moved::selector_moved))]
+    fn granted(&self, a: Access) -> Option<Touch>
+        requires { HasBytes a }
+        ensures { result ≡ granted self.now.world a }
+    {
+        let count = u32::from(a.count);
+        if self.machine.probe(a.seg, a.off, count, a.write).is_err() {
+            return None;
+        }
+        Some(Touch {
+            lin: self.machine.first_byte(a.seg).wrapping_add(a.off),
+            len: a.count,
+            write: a.write,
+        })
+    }
+
+    /// The touches of all of them, or none where one has a fault.
+    pub fn touches(&self) -> Option<ArrayVec<Touch, MAX_ACCESSES>>
+        ensures { MatchOption result (touches_after self.now.world [] self.now.accesses ≡ None)
+            (λ list. touches_after self.now.world [] self.now.accesses ≡ Some list.items) }
+    {
+        let mut touches = ArrayVec::new();
+        for a in self.list.as_slice() {
+            match self.granted(*a) {
+                Some(touch) => touches.push(touch),
+                None => return None,
+            }
+        }
+        Some(touches)
+    }
+}

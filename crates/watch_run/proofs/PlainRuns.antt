@@ -1,0 +1,52 @@
+-- Runs in which no function on watchpoints is served.
+use Rattle.std.proofs.Common.{◌≡◌, ℕ, zero, suc, ◌+◌, ◌<◌, Bool, None, Some, Option, refl, ap, sym, ◌∙◌, arith}
+use Rattle.client_world.specs.declared.outcome.Exit.{Exit}
+use Rattle.client_world.specs.World.{World, HostWorld}
+use Rattle.host_run.specs.Run.{bounded, run, turns}
+use Rattle.host_run.specs.Turn.{settled, turn, with_turn_counted, work}
+use Rattle.watch_run.specs.Turn.{WatchWorld, run_with_watchpoints, turn_with_watchpoints, turned, turns_with_watchpoints, unwatched, watch_call, watched}
+use Rattle.watch_run.specs.Watches.{Watching, no_watches}
+
+nothing_watched : (w : World) → watched w no_watches ≡ no_watches
+unfolding watched
+nothing_watched w = refl
+
+-- a turn of the host, by its exit
+abbrev turn_by : Option Exit → HostWorld → HostWorld
+turn_by None h = settled (work (with_turn_counted h))
+turn_by (Some exit) h = h
+
+turn_is : (o : Option Exit) (h : HostWorld) → elim o as (λ _. HostWorld) [ Some _ ↦ h | None ↦ settled (work (with_turn_counted h)) ] ≡ turn_by o h
+turn_is None h = refl
+turn_is (Some exit) h = refl
+
+turn_of : (h : HostWorld) → turn h ≡ turn_by h.exit h
+unfolding turn
+turn_of h = turn_is h.exit h
+
+-- one with watchpoints, where none is held
+by_exit : (o : Option Exit) (h : HostWorld) (x : WatchWorld) → x ≡ unwatched (turn h) → turn h ≡ turn_by o h →
+    elim o as (λ _. WatchWorld) [ Some _ ↦ unwatched h | None ↦ x ] ≡ unwatched (turn h)
+by_exit None h x e t = e
+by_exit (Some exit) h x e t = ap unwatched (sym t)
+
+plain_turn : (h : HostWorld) → watch_call h.machine ≡ None → turn_with_watchpoints (unwatched h) ≡ unwatched (turn h)
+unfolding turn_with_watchpoints
+plain_turn h none =
+    let x = turned (unwatched h) (watch_call h.machine) in
+    let is : x ≡ unwatched (turn h) =
+    ap (turned (unwatched h)) none
+    ∙ ap (λ (s : Watching). record { host = turn h; watching = s }) (nothing_watched h.machine) in
+    by_exit h.exit h x is (turn_of h)
+
+plain_turns : (h : HostWorld) (n : ℕ) → ((k : ℕ) → k < n → watch_call (turns h k).machine ≡ None) →
+    turns_with_watchpoints (unwatched h) n ≡ unwatched (turns h n)
+unfolding turns_with_watchpoints turns
+plain_turns h zero none = refl
+plain_turns h (suc n) none =
+    ap turn_with_watchpoints (plain_turns h n (λ k less. none k (omega (arith, less))))
+    ∙ plain_turn (turns h n) (none n (omega arith))
+
+pub plain_run : (h : HostWorld) (n : ℕ) → ((k : ℕ) → k < n → watch_call (turns h k).machine ≡ None) →
+    run_with_watchpoints (unwatched h) n ≡ unwatched (run h n)
+plain_run h n none = ap (λ (w : WatchWorld). record w { host = bounded w.host }) (plain_turns h n none)

@@ -1,0 +1,68 @@
+-- Which watchpoints the next instruction hits. Addresses are compared as linear numbers, before the instruction runs. Source: own.
+use Rattle.std.specs.Prelude.{ℕ, ◌+◌, ◌*◌, Bool, true, false, cond, ◌&&◌, ◌||◌, List, [], ◌∷◌, nat_le, nat_lt, None, Some}
+use Rattle.std.specs.declared.option.Option.{Option}
+use Rattle.client_world.specs.Access.{linear}
+use Rattle.client_world.specs.World.{World}
+use Rattle.guest_space.specs.SegmentRows.{first_byte}
+use Rattle.insn_decode.specs.declared.decoding.Decoded.{Decoded}
+use Rattle.insn_decode.specs.declared.decoding.Decoded.TheVariants.{Whole, More, Invalid}
+use Rattle.insn_decode.specs.Decode.{decoded}
+use Rattle.insn_plan.specs.declared.accesses.Touch.{Touch}
+use Rattle.insn_plan.specs.Accesses.{moved, touches}
+use Rattle.cpu_step.specs.Step.{has_big_code, code, client_row}
+use Rattle.watch_run.specs.declared.watch.Watch.{Watch}
+use Rattle.watch_run.specs.declared.watch.WatchKind.TheVariants.{Execute, Write, ReadOrWrite}
+
+-- the touches of what the code bytes are; none where they are no instruction, or it is an event
+abbrev pub decoded_runs : World → Decoded → Option (List Touch)
+decoded_runs w (Whole insn len) = touches (moved len w) (client_row (moved len w) insn len)
+decoded_runs w More = None
+decoded_runs w Invalid = None
+
+-- those of the instruction at CS:EIP
+unfoldable pub next_touches : World → Option (List Touch)
+next_touches w = decoded_runs w (decoded (has_big_code w) (code w))
+
+-- the linear address of CS:EIP
+abbrev pub instruction_address : World → ℕ
+instruction_address w = linear (first_byte w.mode w.descriptors w.regs.cs + w.regs.eip)
+
+-- a watchpoint's bytes and those of a touch have one in common
+abbrev pub overlaps : Watch → Touch → Bool
+overlaps x t = nat_lt x.at (t.lin + t.len) && nat_lt t.lin (x.at + x.size)
+
+-- it watches for the touch: for reads and writes, or for writes alone
+abbrev pub watches_for : Watch → Touch → Bool
+watches_for x t = elim x.kind [ Execute ↦ false | Write ↦ t.write && overlaps x t | ReadOrWrite ↦ overlaps x t ]
+
+-- it watches for one of them
+unfoldable pub watches_one : Watch → List Touch → Bool
+watches_one x [] = false
+watches_one x (t ∷ rest) = watches_for x t || watches_one x rest
+
+-- its bytes have that address
+abbrev pub covers : Watch → ℕ → Bool
+covers x at = nat_le x.at at && nat_lt at (x.at + x.size)
+
+-- an instruction at an address, with those touches, hits it
+abbrev pub is_hit : ℕ → List Touch → Watch → Bool
+is_hit at touched x = elim x.kind [
+  | Execute ↦ covers x at
+  | Write ↦ watches_one x touched
+  | ReadOrWrite ↦ watches_one x touched
+]
+
+-- the same of a handle, whether it is held or not, where the instruction is no event
+abbrev pub slot_hit : ℕ → Option (List Touch) → Option Watch → Bool
+slot_hit at None slot = false
+slot_hit at (Some touched) None = false
+slot_hit at (Some touched) (Some x) = is_hit at touched x
+
+-- the number whose bit k says whether the k-th handle is hit
+unfoldable pub hit_bits : ℕ → Option (List Touch) → List (Option Watch) → ℕ
+hit_bits at touched [] = 0
+hit_bits at touched (slot ∷ slots) = cond (slot_hit at touched slot) 1 0 + 2 * hit_bits at touched slots
+
+-- the handles that the instruction at CS:EIP hits, from bit 0 on
+abbrev pub hits : World → List (Option Watch) → ℕ
+hits w slots = hit_bits (instruction_address w) (next_touches w) slots

@@ -1,0 +1,4 @@
+pub mod Hits
+pub mod Services
+pub mod Turn
+pub mod Watches

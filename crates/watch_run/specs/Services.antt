@@ -1,0 +1,104 @@
+-- INT 31h functions 0B00h to 0B03h. A refusal returns its number in AX.
+-- Source: DPMI 0.9, INT 31h functions 0B00h to 0B03h; that there are 16 watchpoints without debug registers, and the numbers, are own.
+use Rattle.std.specs.Prelude.{ℕ, ◌+◌, ◌-◌, ◌^◌, Bool, true, false, not, cond, ◌||◌, nat_eq, nat_lt, None, Some, if◌then◌else◌, slice_set}
+use Rattle.std.specs.declared.option.Option.{Option}
+use Rattle.client_world.specs.declared.registers.Regs.{Regs}
+use Rattle.client_world.specs.declared.services.Carry.{Carry}
+use Rattle.client_world.specs.declared.services.Carry.TheVariants.{Clear, Set}
+use Rattle.client_world.specs.Registers.{high_byte, low_byte, low_half, with_low_half}
+use Rattle.client_world.specs.Services.{two_words}
+use Rattle.watch_run.specs.declared.watch.Watch.{Watch}
+use Rattle.watch_run.specs.declared.watch.WatchKind.{WatchKind}
+use Rattle.watch_run.specs.declared.watch.WatchKind.TheVariants.{Execute, Write, ReadOrWrite}
+use Rattle.watch_run.specs.Watches.{Watching, watch_at, lowest_free}
+
+-- what a function returns: the registers, the carry, and the watchpoints after it
+pub record Answer : Type 0 where
+  pub regs : Regs
+  pub carry : Carry
+  pub watching : Watching
+
+-- it is done
+abbrev pub served : Regs → Watching → Answer
+served r w = record { regs = r; carry = Clear; watching = w }
+
+-- it is refused: AX is the number, and nothing else changes
+abbrev pub refused : ℕ → Regs → Watching → Answer
+refused number r w = record { regs = record r { eax = with_low_half r.eax number }; carry = Set; watching = w }
+
+-- the numbers of the refusals
+abbrev pub invalid_value : ℕ
+invalid_value = 0x8021
+
+abbrev pub invalid_handle : ℕ
+invalid_handle = 0x8023
+
+abbrev pub invalid_address : ℕ
+invalid_address = 0x8025
+
+abbrev pub no_handle : ℕ
+no_handle = 0x8016
+
+-- the sizes of watchpoints
+abbrev pub is_size : ℕ → Bool
+is_size n = nat_eq n 1 || nat_eq n 2 || nat_eq n 4
+
+-- what a number of a kind watches for; those above 2 are refused
+abbrev pub kind_of : ℕ → WatchKind
+kind_of n = if nat_eq n 0 then Execute else if nat_eq n 1 then Write else ReadOrWrite
+
+-- the watchpoint that BX:CX, DL and DH describe
+abbrev pub described : Regs → Watch
+described r = record {
+  at = two_words (low_half r.ebx) (low_half r.ecx);
+  size = low_byte r.edx;
+  kind = kind_of (high_byte r.edx);
+  hit = false;
+}
+
+-- the watchpoints with another one, or none, at a handle
+abbrev pub with_watch : ℕ → Option Watch → Watching → Watching
+with_watch handle watch w = record w { watches = slice_set w.watches (handle - 1) watch }
+
+abbrev pub made : Regs → Watching → Option ℕ → Answer
+made r w None = refused no_handle r w
+made r w (Some handle) = served (record r { ebx = with_low_half r.ebx handle }) (with_watch handle (Some (described r)) w)
+
+-- 0B00h: a watchpoint on DL bytes at BX:CX, of the kind DH; BX becomes its handle, the lowest that is free
+unfoldable pub set_watch : Regs → Watching → Answer
+set_watch r w =
+    if not (is_size (low_byte r.edx)) || nat_lt 2 (high_byte r.edx) then refused invalid_value r w else
+    if nat_lt (2 ^ 32) ((described r).at + low_byte r.edx) then refused invalid_address r w else
+    made r w (lowest_free w.watches)
+
+-- what is done to the watchpoint BX, if it is held
+abbrev pub held : Regs → Watching → Option Watch → (Watch → Answer) → Answer
+held r w None answer = refused invalid_handle r w
+held r w (Some watch) answer = answer watch
+
+abbrev pub asked : Regs → Watching → Option Watch
+asked r w = watch_at w.watches (low_half r.ebx)
+
+-- 0B01h: watchpoint BX is freed
+unfoldable pub clear_watch : Regs → Watching → Answer
+clear_watch r w = held r w (asked r w) (λ watch. served r (with_watch (low_half r.ebx) None w))
+
+-- 0B02h: AX is 1 where it was hit since it was made or reset, else 0
+unfoldable pub watch_state : Regs → Watching → Answer
+watch_state r w = held r w (asked r w) (λ watch. served (record r { eax = with_low_half r.eax (cond watch.hit 1 0) }) w)
+
+-- 0B03h: it counts as not hit
+unfoldable pub reset_watch : Regs → Watching → Answer
+reset_watch r w = held r w (asked r w) (λ watch. served r (with_watch (low_half r.ebx) (Some (record watch { hit = false })) w))
+
+-- the functions
+abbrev pub is_watch_function : ℕ → Bool
+is_watch_function ax = nat_eq ax 0x0B00 || nat_eq ax 0x0B01 || nat_eq ax 0x0B02 || nat_eq ax 0x0B03
+
+-- the function in AX
+unfoldable pub watch_service : Regs → Watching → Answer
+watch_service r w =
+    if nat_eq (low_half r.eax) 0x0B00 then set_watch r w else
+    if nat_eq (low_half r.eax) 0x0B01 then clear_watch r w else
+    if nat_eq (low_half r.eax) 0x0B02 then watch_state r w else
+    reset_watch r w

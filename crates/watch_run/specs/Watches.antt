@@ -1,0 +1,29 @@
+-- The watchpoints that are held. Source: DPMI 0.9, "Debug Register Support".
+use Rattle.std.specs.Prelude.{ℕ, zero, suc, ◌+◌, ◌-◌, Bool, true, false, List, [], ◌∷◌, None, Some, is_none, ◌||◌, nat_eq, nat_lt, if◌then◌else◌, slice_index_or}
+use Rattle.std.specs.declared.option.Option.{Option}
+use Rattle.watch_run.specs.declared.watch.Watch.{Watch}
+use Rattle.service_rows.specs.FirstIndex.{first_index}
+
+-- the watchpoints, the one of handle h at place h - 1; and whether a hit is still to be told to the client
+pub record Watching : Type 0 where
+  pub watches : List (Option Watch)
+  pub due : Bool
+
+-- none is held, and nothing is due
+abbrev pub no_watches : Watching
+no_watches = record {
+  watches = None ∷ None ∷ None ∷ None ∷ None ∷ None ∷ None ∷ None ∷ None ∷ None ∷ None ∷ None ∷ None ∷ None ∷ None ∷ None ∷ [];
+  due = false;
+}
+
+-- the watchpoint of a handle; the handles are 1 to 16
+abbrev pub watch_at : List (Option Watch) → ℕ → Option Watch
+watch_at watches handle = if nat_eq handle 0 || nat_lt 16 handle then None else slice_index_or watches (handle - 1) None
+
+-- the handle is free
+abbrev pub is_free : List (Option Watch) → ℕ → Bool
+is_free watches handle = is_none (watch_at watches handle)
+
+-- the lowest handle that is free
+unfoldable pub lowest_free : List (Option Watch) → Option ℕ
+lowest_free watches = first_index (is_free watches) 1 16

@@ -1,0 +1,176 @@
+// INT 31h functions 0B00h to 0B03h.
+ghost use Rattle.std.specs.Prelude.{◌≡◌, ◌<◌, ◌≤◌, IsTrue, MatchOption, MatchResult, None, Some};
+ghost use Rattle.client_world.specs.Registers.{low_half};
+ghost use Rattle.watch_run.specs.Services.{
+  asked,
+  clear_watch,
+  described,
+  is_size,
+  is_watch_function,
+  kind_of,
+  refused,
+  reset_watch,
+  served,
+  set_watch,
+  watch_service,
+  watch_state,
+};
+ghost use Rattle.watch_run.specs.Watches.{lowest_free};
+
+use crate::watch::{WATCHES, Watch, WatchKind, Watches};
+use client_world::{Carry, Regs};
+use guest_space::Machine;
+use service_rows::{high_byte, low_byte, low_half, two_words, with_low_half};
+
+// The numbers of the refusals.
+const INVALID_VALUE: u16 = 0x8021;
+
+const INVALID_HANDLE: u16 = 0x8023;
+
+const INVALID_ADDRESS: u16 = 0x8025;
+
+const NO_HANDLE: u16 = 0x8016;
+
+// Whether a watchpoint may have that many bytes.
+fn is_size(n: u8) -> bool
+    ensures { result ≡ is_size n }
+{
+    n == 1 || n == 2 || n == 4
+}
+
+// What a number of a kind watches for.
+fn kind_of(n: u8) -> WatchKind
+    ensures { result ≡ kind_of n }
+{
+    match n {
+        0 => WatchKind::Execute,
+        1 => WatchKind::Write,
+        _ => WatchKind::ReadOrWrite,
+    }
+}
+
+// The watchpoint that BX:CX, DL and DH describe.
+fn described(r: &Regs) -> Watch
+    ensures { result ≡ described r.now }
+{
+    Watch {
+        at: two_words(low_half(r.ebx), low_half(r.ecx)),
+        size: low_byte(r.edx),
+        kind: kind_of(high_byte(r.edx)),
+        hit: false,
+    }
+}
+
+impl Watches {
+    // The lowest handle that is free.
+    #[tactic(auto, unfolding(crate::specs::Watches::lowest_free), using(service_rows::proofs::IndexLaws::index_found, service_rows::proofs::IndexLaws::index_passed, service_rows::proofs::IndexLaws::index_missed))]
+    fn lowest_free(&self) -> Option<u16>
+        ensures { MatchOption result (lowest_free self.now.watches ≡ None)
+            (λ handle. (lowest_free self.now.watches ≡ Some handle) × (0 < handle) × (handle ≤ WATCHES)) }
+    {
+        for handle in 1..WATCHES + 1 {
+            if self.watch(handle).is_none() {
+                return Some(handle);
+            }
+        }
+        None
+    }
+
+    // Function 0B00h: the registers after it, or the number of the refusal.
+    #[tactic(auto, unfolding(crate::specs::Services::set_watch))]
+    fn set_watch(&mut self, r: Regs) -> Result<Regs, u16>
+        ensures { MatchResult result (λ regs. set_watch r self.old ≡ served regs self.new)
+            (λ number. (set_watch r self.old ≡ refused number r self.old) × (self.new ≡ self.old)) }
+    {
+        let watch = described(&r);
+        if !is_size(watch.size) || high_byte(r.edx) > 2 {
+            return Err(INVALID_VALUE);
+        }
+        if u64::from(watch.at) + u64::from(watch.size) > 0x1_0000_0000 {
+            return Err(INVALID_ADDRESS);
+        }
+        let Some(handle) = self.lowest_free() else {
+            return Err(NO_HANDLE);
+        };
+        self.put(handle, Some(watch));
+        Ok(Regs {
+            ebx: with_low_half(r.ebx, handle),
+            ..r
+        })
+    }
+
+    // The watchpoint BX, or the number of the refusal.
+    fn asked(&self, r: &Regs) -> Result<Watch, u16>
+        ensures { MatchResult result
+            (λ watch. (asked r.now self.now ≡ Some watch) × (0 < low_half r.now.ebx) × (low_half r.now.ebx ≤ WATCHES))
+            (λ number. (asked r.now self.now ≡ None) × (number ≡ 0x8023)) }
+    {
+        match self.watch(low_half(r.ebx)) {
+            Some(watch) => Ok(watch),
+            None => Err(INVALID_HANDLE),
+        }
+    }
+
+    // Function 0B01h.
+    #[tactic(auto, unfolding(crate::specs::Services::clear_watch))]
+    fn clear_watch(&mut self, r: Regs) -> Result<Regs, u16>
+        ensures { MatchResult result (λ regs. clear_watch r self.old ≡ served regs self.new)
+            (λ number. (clear_watch r self.old ≡ refused number r self.old) × (self.new ≡ self.old)) }
+    {
+        self.asked(&r)?;
+        self.put(low_half(r.ebx), None);
+        Ok(r)
+    }
+
+    // Function 0B02h.
+    #[tactic(auto, unfolding(crate::specs::Services::watch_state))]
+    fn watch_state(&mut self, r: Regs) -> Result<Regs, u16>
+        ensures { MatchResult result (λ regs. watch_state r self.old ≡ served regs self.new)
+            (λ number. (watch_state r self.old ≡ refused number r self.old) × (self.new ≡ self.old)) }
+    {
+        let watch = self.asked(&r)?;
+        Ok(Regs {
+            eax: with_low_half(r.eax, u16::from(watch.hit)),
+            ..r
+        })
+    }
+
+    // Function 0B03h.
+    #[tactic(auto, unfolding(crate::specs::Services::reset_watch))]
+    fn reset_watch(&mut self, r: Regs) -> Result<Regs, u16>
+        ensures { MatchResult result (λ regs. reset_watch r self.old ≡ served regs self.new)
+            (λ number. (reset_watch r self.old ≡ refused number r self.old) × (self.new ≡ self.old)) }
+    {
+        let watch = self.asked(&r)?;
+        self.put(
+            low_half(r.ebx),
+            Some(Watch {
+                hit: false,
+                ..watch
+            }),
+        );
+        Ok(r)
+    }
+
+    /// Serves the function in AX, and returns the registers after it and the carry. Source: DPMI 0.9, INT 31h functions 0B00h to 0B03h.
+    #[tactic(auto, unfolding(crate::specs::Services::watch_service))]
+    pub fn serve(&mut self, m: &Machine) -> (Regs, Carry)
+        requires { IsTrue (is_watch_function (low_half m.now.world.regs.eax)) }
+        ensures { record { regs = result.0; carry = result.1; watching = self.new } ≡ watch_service m.now.world.regs self.old }
+    {
+        let r = m.regs();
+        let result = match low_half(r.eax) {
+            0x0B00 => self.set_watch(r),
+            0x0B01 => self.clear_watch(r),
+            0x0B02 => self.watch_state(r),
+            _ => self.reset_watch(r),
+        };
+        match result {
+            Ok(regs) => (regs, Carry::Clear),
+            Err(number) => {
+                let eax = with_low_half(r.eax, number);
+                (Regs { eax, ..r }, Carry::Set)
+            }
+        }
+    }
+}
