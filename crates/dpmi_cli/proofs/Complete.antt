@@ -11,12 +11,12 @@ use Rattle.dpmi_io.specs.Causes.{Rose}
 use Rattle.dpmi_io.specs.Content.{Files, Shown, Gains}
 use Rattle.dpmi_cli.specs.declared.prepare.Prepared.{Prepared}
 use Rattle.dpmi_cli.specs.declared.prepare.Reason.TheVariants.{Words}
-use Rattle.dpmi_cli.specs.Answer.{Verdict, Refuses, Starts, StartsMade, verdict, verdict_of, answer, answer_to}
+use Rattle.dpmi_cli.specs.Answer.{Verdict, Refuses, Starts, StartsMade, StartsPair, verdict, verdict_of, answer, answer_to}
 use Rattle.dpmi_cli.specs.Causes.{NamedFailed, IsAbsent, HasVerdict, Answers}
 use Rattle.dpmi_cli.specs.Load.{verdict_in}
 use Rattle.dpmi_cli.specs.Words.{file_names, names_in}
 use Rattle.dpmi_cli.proofs.Files.{no_verdict}
-use Rattle.dpmi_cli.proofs.SmallStatus.{run_status-small}
+use Rattle.dpmi_cli.proofs.SmallStatus.{pair_status-small, run_status-small}
 
 -- where the output didn't fail, the answer is whole
 pub gives_whole : (v : Verdict) (before now : Shown) (m n result : ℕ) → Answers v before now m n result →
@@ -29,6 +29,12 @@ gives_whole (Refuses reason) before now m n result gave calm = elim gave.status_
 gives_whole (Starts w bound) before now m n result gave calm = elim gave.status_of_the_answer [
   | inl is ↦
       let small = run_status-small (run w bound) in
+      (is, gave.whole_text (subst (λ s. s < 2) (sym is) small))
+  | inr failed ↦ absurd (calm (gave.output_failure_has_cause failed.0))
+]
+gives_whole (StartsPair slice bound a b) before now m n result gave calm = elim gave.status_of_the_answer [
+  | inl is ↦
+      let small = pair_status-small (run a bound) (run b bound) in
       (is, gave.whole_text (subst (λ s. s < 2) (sym is) small))
   | inr failed ↦ absurd (calm (gave.output_failure_has_cause failed.0))
 ]

@@ -51,6 +51,8 @@ is_started pages keys keep file before w new is =
 pub is_ready : (pages : ℕ) (keys : List ℕ) (keep : ℕ) (file : List ℕ) (w : HostWorld) → w ≡ started_host pages keys keep file →
     IsSound w.machine → AreBytes keys → IsReady w
 is_ready pages keys keep file w is sound bytes = record {
+  no_exit = ap (λ (v : HostWorld). v.exit) is;
+  no_bytes = ap (λ (v : HostWorld). v.console) is;
   no_turn = ap (λ (v : HostWorld). v.steps) is;
   sound = sound;
   keys = subst (λ (ks : List ℕ). AreBytes ks) (sym (ap (λ (v : HostWorld). v.keys) is)) bytes;
@@ -127,10 +129,10 @@ lacks_stored : (files : Option Files) (name : List ℕ) → Lacks files name →
 lacks_stored None name lacks = lacks
 lacks_stored (Some fs) name lacks = lacks
 
-first_of : (name : List ℕ) (rest : List (List ℕ)) → Contains (name ∷ rest) name
+pub first_of : (name : List ℕ) (rest : List (List ℕ)) → Contains (name ∷ rest) name
 first_of name rest = (0, omega arith, refl)
 
-blames_first : (blamed : Option (List ℕ)) (name : List ℕ) (rest : List (List ℕ)) → blamed ≡ Some name → IsSomeAnd blamed (λ b. Contains (name ∷ rest) b)
+pub blames_first : (blamed : Option (List ℕ)) (name : List ℕ) (rest : List (List ℕ)) → blamed ≡ Some name → IsSomeAnd blamed (λ b. Contains (name ∷ rest) b)
 blames_first blamed name rest is = subst (λ (o : Option (List ℕ)). IsSomeAnd o (λ b. Contains (name ∷ rest) b)) (sym is) (first_of name rest)
 
 -- a failure at the file with the keystrokes
@@ -187,10 +189,10 @@ pub file_fails : (files : Option Files) (r : RunMeaning) (before now : ℕ) (bla
 file_fails files r before now blamed (inl failed) = inl (failed.0, blames_first blamed r.file (key_file_names r.keys) failed.1)
 file_fails files r before now blamed (inr lacks) = inr (no_file files r lacks)
 
-later : (name : List ℕ) (rest : List (List ℕ)) (b : List ℕ) → Contains rest b → Contains (name ∷ rest) b
+pub later : (name : List ℕ) (rest : List (List ℕ)) (b : List ℕ) → Contains rest b → Contains (name ∷ rest) b
 later name rest b (k, lt, is) = (k + 1, omega arith, rw add-one is)
 
-blames_later : (blamed : Option (List ℕ)) (name : List ℕ) (rest : List (List ℕ)) → IsSomeAnd blamed (λ b. Contains rest b) → IsSomeAnd blamed (λ b. Contains (name ∷ rest) b)
+pub blames_later : (blamed : Option (List ℕ)) (name : List ℕ) (rest : List (List ℕ)) → IsSomeAnd blamed (λ b. Contains rest b) → IsSomeAnd blamed (λ b. Contains (name ∷ rest) b)
 blames_later None name rest h = h
 blames_later (Some b) name rest h = later name rest b h
 

@@ -1,5 +1,7 @@
 mod Complete
 mod Files
+mod PairAnswers
+mod PairFiles
 mod Ranges
 mod RunAnswers
 mod SmallStatus

@@ -5,10 +5,11 @@ use Rattle.std.specs.Str.{bytes_eq}
 use Rattle.std.specs.Str.Parse.{digits_value}
 use Rattle.std.proofs.lemmas.Bool.{and_parts, cases_Bool, leb-true}
 use Rattle.client_world.specs.declared.limits.TheConstants.{MAX_STEPS, DEFAULT_BOUND, MAX_PAGES, DEFAULT_PAGES, MAX_TRACE, DEFAULT_TRACE}
-use Rattle.dpmi_words.specs.Meaning.{Keys, RunMeaning, Runs, Soaks, run_with, run_of_values, run_meaning, soak_meaning, meaning}
+use Rattle.dpmi_words.specs.Meaning.{Keys, PairMeaning, RunMeaning, Runs, Soaks, Pairs, pair_meaning, pair_of_values, pair_with, run_with, run_of_values, run_meaning, soak_meaning, meaning}
 use Rattle.dpmi_words.specs.Numbers.{is_between, is_decimal, number_in_text, number_or}
-use Rattle.dpmi_words.specs.Reading.{Text, given_by, run_options, value_given}
-use Rattle.dpmi_cli.specs.Load.{HasRanges}
+use Rattle.dpmi_words.specs.Reading.{Text, first_name, second_name, given_by, one_operand, pair_operands, pair_options, run_options, value_given}
+use Rattle.dpmi_words.specs.declared.meaning.TheConstants.{DEFAULT_SLICE, MAX_SLICE}
+use Rattle.dpmi_cli.specs.Load.{HasPairRanges, HasRanges}
 
 in_text : (digits least most n : ℕ) (text : Text) → number_in_text digits least most text ≡ Some n → (least ≤ n) × (n ≤ most)
 in_text digits least most n text e = elim (cases_Bool (is_decimal digits text && is_between least most (digits_value 10 text))) [
@@ -65,17 +66,106 @@ no_soak : (m : Option ℕ) (r : RunMeaning) → option_map Soaks m ≡ Some (Run
 no_soak None r e = absurd cc
 no_soak (Some x) r e = absurd cc
 
+no_pair : (m : Option PairMeaning) (r : RunMeaning) → option_map Pairs m ≡ Some (Runs r) → ⊥
+no_pair None r e = absurd cc
+no_pair (Some x) r e = absurd cc
+
 -- a run that words mean has numbers such as a host takes
 pub run_ranges : (words : List Text) (r : RunMeaning) → meaning words ≡ Some (Runs r) → HasRanges r
 run_ranges [] r e = absurd cc
 run_ranges (first ∷ rest) r e = elim (cases_Bool (bytes_eq first (codes "run"))) [
   | inl t ↦
       let is : option_map Runs (run_meaning rest) ≡ Some (Runs r) = rw t at e in
-      of_given (given_by run_options rest) r (of_runs (run_meaning rest) r is)
+      of_given (given_by run_options one_operand rest) r (of_runs (run_meaning rest) r is)
   | inr f ↦ elim (cases_Bool (bytes_eq first (codes "soak"))) [
     | inl t ↦
         let is : option_map Soaks (soak_meaning rest) ≡ Some (Runs r) = rw (f, t) at e in
         absurd (no_soak (soak_meaning rest) r is)
-    | inr g ↦ let is : None ≡ Some (Runs r) = rw (f, g) at e in absurd cc
+    | inr g ↦ elim (cases_Bool (bytes_eq first (codes "pair"))) [
+      | inl t ↦
+          let is : option_map Pairs (pair_meaning rest) ≡ Some (Runs r) = rw (f, g, t) at e in
+          absurd (no_pair (pair_meaning rest) r is)
+      | inr h ↦ let is : None ≡ Some (Runs r) = rw (f, g, h) at e in absurd cc
+    ]
+  ]
+]
+
+-- ---- pairs
+
+record PairParts (slice bound pages_a pages_b : Option ℕ) (p : PairMeaning) : Type 0 where
+  slice_is : slice ≡ Some p.slice
+  bound_is : bound ≡ Some p.bound
+  pages_a_is : pages_a ≡ Some p.pages_a
+  pages_b_is : pages_b ≡ Some p.pages_b
+
+pair_parts : (first second : Option Text) (slice bound pages_a pages_b : Option ℕ) (p : PairMeaning) →
+    pair_with first second slice bound pages_a pages_b ≡ Some p → PairParts slice bound pages_a pages_b p
+pair_parts None second slice bound pages_a pages_b p e = absurd cc
+pair_parts (Some f) None slice bound pages_a pages_b p e = absurd cc
+pair_parts (Some f) (Some g) None bound pages_a pages_b p e = absurd cc
+pair_parts (Some f) (Some g) (Some s) None pages_a pages_b p e = absurd cc
+pair_parts (Some f) (Some g) (Some s) (Some b) None pages_b p e = absurd cc
+pair_parts (Some f) (Some g) (Some s) (Some b) (Some x) None p e = absurd cc
+pair_parts (Some f) (Some g) (Some s) (Some b) (Some x) (Some y) p e =
+    let same : record { first = f; second = g; slice = s; bound = b; pages_a = x; pages_b = y } ≡ p = cc in
+    record {
+      slice_is = ap (λ (q : PairMeaning). Some q.slice) same;
+      bound_is = ap (λ (q : PairMeaning). Some q.bound) same;
+      pages_a_is = ap (λ (q : PairMeaning). Some q.pages_a) same;
+      pages_b_is = ap (λ (q : PairMeaning). Some q.pages_b) same;
+    }
+
+of_pair_values : (value : Text → Option Text) (p : PairMeaning) → pair_of_values value ≡ Some p → HasPairRanges p
+of_pair_values value p e =
+    let each = pair_parts _ _ _ _ _ _ p e in
+    let slice = in_range DEFAULT_SLICE 1 MAX_SLICE p.slice (value (codes "slice")) (omega arith) (omega arith) each.slice_is in
+    let bound = in_range DEFAULT_BOUND 1 MAX_STEPS p.bound (value (codes "bound")) (omega arith) (omega arith) each.bound_is in
+    let pages_a = in_range DEFAULT_PAGES 1 MAX_PAGES p.pages_a (value (codes "pages-a")) (omega arith) (omega arith) each.pages_a_is in
+    let pages_b = in_range DEFAULT_PAGES 1 MAX_PAGES p.pages_b (value (codes "pages-b")) (omega arith) (omega arith) each.pages_b_is in
+    record {
+      some_turns = omega (arith, slice.0);
+      slice = slice.1;
+      some_bound = omega (arith, bound.0);
+      bound = bound.1;
+      some_pages_a = omega (arith, pages_a.0);
+      pages_a = pages_a.1;
+      some_pages_b = omega (arith, pages_b.0);
+      pages_b = pages_b.1;
+    }
+
+of_pair_given : (given : Option (List (Text × Text))) (p : PairMeaning) →
+    option_and_then (λ g. pair_of_values (λ name. value_given name g)) given ≡ Some p → HasPairRanges p
+of_pair_given None p e = absurd cc
+of_pair_given (Some g) p e = of_pair_values (λ name. value_given name g) p e
+
+of_pairs : (m : Option PairMeaning) (p : PairMeaning) → option_map Pairs m ≡ Some (Pairs p) → m ≡ Some p
+of_pairs None p e = absurd cc
+of_pairs (Some x) p e = let same : x ≡ p = cc in ap Some same
+
+no_run_pair : (m : Option RunMeaning) (p : PairMeaning) → option_map Runs m ≡ Some (Pairs p) → ⊥
+no_run_pair None p e = absurd cc
+no_run_pair (Some x) p e = absurd cc
+
+no_soak_pair : (m : Option ℕ) (p : PairMeaning) → option_map Soaks m ≡ Some (Pairs p) → ⊥
+no_soak_pair None p e = absurd cc
+no_soak_pair (Some x) p e = absurd cc
+
+-- a pair that words mean has numbers such as two hosts take
+pub pair_ranges : (words : List Text) (p : PairMeaning) → meaning words ≡ Some (Pairs p) → HasPairRanges p
+pair_ranges [] p e = absurd cc
+pair_ranges (first ∷ rest) p e = elim (cases_Bool (bytes_eq first (codes "run"))) [
+  | inl t ↦
+      let is : option_map Runs (run_meaning rest) ≡ Some (Pairs p) = rw t at e in
+      absurd (no_run_pair (run_meaning rest) p is)
+  | inr f ↦ elim (cases_Bool (bytes_eq first (codes "soak"))) [
+    | inl t ↦
+        let is : option_map Soaks (soak_meaning rest) ≡ Some (Pairs p) = rw (f, t) at e in
+        absurd (no_soak_pair (soak_meaning rest) p is)
+    | inr g ↦ elim (cases_Bool (bytes_eq first (codes "pair"))) [
+      | inl t ↦
+          let is : option_map Pairs (pair_meaning rest) ≡ Some (Pairs p) = rw (f, g, t) at e in
+          of_pair_given (given_by pair_options pair_operands rest) p (of_pairs (pair_meaning rest) p is)
+      | inr h ↦ let is : None ≡ Some (Pairs p) = rw (f, g, h) at e in absurd cc
+    ]
   ]
 ]

@@ -53,7 +53,7 @@ gives_refusal (Err e) reason before now m n whole part rose = record {
 }
 
 -- a run answers with its status and its text, written whole
-whole : (v : Verdict) (before now : Shown) (m n result : ℕ) → OfItsRun RunKeepsTheLaws v → (answer_to v).status < 2 →
+pub whole : (v : Verdict) (before now : Shown) (m n result : ℕ) → OfItsRun RunKeepsTheLaws v → (answer_to v).status < 2 →
     result ≡ (answer_to v).status → Gains before now (answer_to v).text → Answers v before now m n result
 whole v before now m n result laws small status text = record {
   writes_the_answer = part_whole before now (answer_to v).text text;
@@ -65,7 +65,7 @@ whole v before now m n result laws small status text = record {
 }
 
 -- the output failed in the text of a run
-cut : (v : Verdict) (before now : Shown) (m n : ℕ) → OfItsRun RunKeepsTheLaws v → (answer_to v).status < 2 →
+pub cut : (v : Verdict) (before now : Shown) (m n : ℕ) → OfItsRun RunKeepsTheLaws v → (answer_to v).status < 2 →
     GainsPart before now (answer_to v).text → Rose m n → Answers v before now m n 4
 cut v before now m n laws small part rose = record {
   writes_the_answer = part;

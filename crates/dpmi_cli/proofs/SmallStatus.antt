@@ -4,7 +4,7 @@ use Rattle.std.specs.Prelude.{None, Some}
 use Rattle.client_world.specs.declared.outcome.Exit.{Exit}
 use Rattle.client_world.specs.declared.outcome.Exit.TheVariants.{Exited, Fault, Bound, NoKeys, ConsoleFull, Deep, Stray, LostStructure, BadFrame, BadSwitch}
 use Rattle.client_world.specs.World.{HostWorld}
-use Rattle.dpmi_cli.specs.Answer.{run_status, exit_status}
+use Rattle.dpmi_cli.specs.Answer.{exit_status, pair_status, run_status}
 
 -- the status of an exit is 0 or 1
 pub exit_status-small : (e : Exit) → exit_status e < 2
@@ -25,3 +25,7 @@ run_status-small w = elim (w.exit) as (λ x. (elim x [ None ↦ 1 | Some e ↦ e
   | None ↦ omega arith
   | Some e ↦ exit_status-small e
 ]
+
+-- and so is that of two runs
+pub pair_status-small : (a b : HostWorld) → pair_status a b < 2
+pair_status-small a b = let first = run_status-small a in let second = run_status-small b in omega arith

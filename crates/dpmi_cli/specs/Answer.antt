@@ -1,12 +1,13 @@
 -- What the command answers, by its words and the files. Source: own.
-use Rattle.std.specs.Prelude.{ℕ, List, [], length, nat_lt, if◌then◌else◌, None, Some, option_map, option_and_then}
+use Rattle.std.specs.Prelude.{ℕ, List, [], length, max, nat_lt, if◌then◌else◌, None, Some, option_map, option_and_then}
 use Rattle.std.specs.declared.option.Option.{Option}
-use Rattle.client_world.specs.declared.limits.TheConstants.{DEFAULT_BOUND, DEFAULT_PAGES, MAX_FILE, MAX_KEYS, MAX_TRACE}
+use Rattle.client_world.specs.declared.limits.TheConstants.{DEFAULT_BOUND, DEFAULT_PAGES, DEFAULT_TRACE, MAX_FILE, MAX_KEYS, MAX_TRACE}
 use Rattle.client_world.specs.declared.outcome.Exit.{Exit}
 use Rattle.client_world.specs.declared.outcome.Exit.TheVariants.{Exited, Fault, Bound, NoKeys, ConsoleFull, Deep, Stray, LostStructure, BadFrame, BadSwitch}
+use Rattle.client_world.specs.declared.outcome.LoadFault.{LoadFault}
 use Rattle.client_world.specs.World.{HostWorld}
 use Rattle.client_maker.specs.Made.{made}
-use Rattle.dpmi_words.specs.Meaning.{Keys, Pressed, Stored, RunMeaning, Meaning, Runs, Soaks, meaning}
+use Rattle.dpmi_words.specs.Meaning.{Keys, Pressed, Stored, RunMeaning, PairMeaning, Meaning, Runs, Soaks, Pairs, meaning}
 use Rattle.host_run.specs.Start.{started_host}
 use Rattle.mz_loader.specs.Refusal.{refusal}
 use Rattle.host_run.specs.Run.{run}
@@ -14,16 +15,19 @@ use Rattle.dpmi_io.specs.Content.{Files}
 use Rattle.dpmi_report.specs.Summary.{summary}
 use Rattle.dpmi_report.specs.Text.{text}
 use Rattle.dpmi_cli.specs.declared.prepare.Reason.{Reason}
-use Rattle.dpmi_cli.specs.declared.prepare.Reason.TheVariants.{Words, FileTooLong, KeysTooLong, Load}
+use Rattle.dpmi_cli.specs.declared.prepare.Reason.TheVariants.{Words, FileTooLong, KeysTooLong, Load, FileOf, LoadOf}
 use Rattle.dpmi_cli.specs.declared.status.TheConstants.{EXITED, ENDED_OTHERWISE, REFUSED}
+use Rattle.pair_run.specs.declared.lines.Letter.TheVariants.{A, B}
+use Rattle.dpmi_cli.specs.Pairs.{pair_text}
 use Rattle.dpmi_cli.specs.Text.{refused}
 
--- what comes of the words and the files: a refusal, the world in which a run starts and its bound, or the number of a made client and
--- the world in which its run starts
+-- what comes of the words and the files: a refusal; the world in which a run starts and its bound; the number of a made client and
+-- the world in which its run starts; or the turns of a slice, the bound and the worlds in which the runs of two clients start
 pub data Verdict : Type 0 where
   Refuses : Reason → Verdict
   Starts : HostWorld → ℕ → Verdict
   StartsMade : ℕ → HostWorld → Verdict
+  StartsPair : ℕ → ℕ → HostWorld → HostWorld → Verdict
 
 -- the bytes of a file, if they are no more than the limit
 abbrev pub limited : ℕ → List ℕ → Option (List ℕ)
@@ -62,11 +66,39 @@ made_verdict number = elim (refusal (made number)) [
   | Some fault ↦ Refuses (Load fault)
 ]
 
+-- two clients that are loaded. They have no keystrokes, and the usual number of trace lines
+abbrev pub pair_start : PairMeaning → List ℕ → List ℕ → Verdict
+pair_start p a b = StartsPair p.slice p.bound (started_host p.pages_a [] DEFAULT_TRACE a) (started_host p.pages_b [] DEFAULT_TRACE b)
+
+-- the first client's file is loaded, and then the second one's
+abbrev pub second_load : PairMeaning → List ℕ → List ℕ → Option LoadFault → Verdict
+second_load p a b None = pair_start p a b
+second_load p a b (Some fault) = Refuses (LoadOf B fault)
+
+abbrev pub first_load : PairMeaning → List ℕ → List ℕ → Option LoadFault → Verdict
+first_load p a b None = second_load p a b (refusal b)
+first_load p a b (Some fault) = Refuses (LoadOf A fault)
+
+-- the verdict on the second client's file, and then on the loads
+abbrev pub second_verdict : PairMeaning → List ℕ → Option (List ℕ) → Verdict
+second_verdict p a None = Refuses (FileOf B)
+second_verdict p a (Some b) = first_load p a b (refusal a)
+
+-- the verdict on the first client's file, and then on the second one's; none where that isn't there
+abbrev pub first_verdict : PairMeaning → Files → Option (List ℕ) → Option Verdict
+first_verdict p files None = Some (Refuses (FileOf A))
+first_verdict p files (Some a) = option_map (λ b. second_verdict p a (limited MAX_FILE b)) (files p.second)
+
+-- the verdict on a pair: both files are read first, and loaded then
+abbrev pub pair_verdict : PairMeaning → Files → Files → Option Verdict
+pair_verdict p files files_then = option_and_then (λ a. first_verdict p files_then (limited MAX_FILE a)) (files p.first)
+
 -- the verdict on a meaning, by the files at the first reading and at the second; none where a file that is read isn't there
 abbrev pub verdict_of : Option Meaning → Files → Files → Option Verdict
 verdict_of None files files_then = Some (Refuses Words)
 verdict_of (Some (Runs r)) files files_then = run_verdict r files files_then
 verdict_of (Some (Soaks number)) files files_then = Some (made_verdict number)
+verdict_of (Some (Pairs p)) files files_then = pair_verdict p files files_then
 
 -- the verdict on the words
 abbrev pub verdict : List (List ℕ) → Files → Option Verdict
@@ -89,17 +121,23 @@ exit_status BadSwitch = ENDED_OTHERWISE
 abbrev pub run_status : HostWorld → ℕ
 run_status w = elim w.exit [ None ↦ ENDED_OTHERWISE | Some exit ↦ exit_status exit ]
 
+-- the status of two runs: 0 where each client ended itself
+abbrev pub pair_status : HostWorld → HostWorld → ℕ
+pair_status a b = max (run_status a) (run_status b)
+
 -- what is written, and the status
 pub record Answer : Type 0 where
   pub text : List ℕ
   pub status : ℕ
 
--- the answer to a verdict: the line of a refusal, the text of a run, or the summary of the run of a made client
+-- the answer to a verdict: the line of a refusal, the text of a run, the summary of the run of a made client, or the text of a pair
 abbrev pub answer_to : Verdict → Answer
 answer_to (Refuses reason) = record { text = refused reason; status = REFUSED }
 answer_to (Starts w bound) = let end = run w bound in record { text = text end; status = run_status end }
 answer_to (StartsMade number w) =
     let end = run w DEFAULT_BOUND in record { text = summary number end; status = run_status end }
+answer_to (StartsPair slice bound a b) =
+    record { text = pair_text slice bound a b; status = pair_status (run a bound) (run b bound) }
 
 -- the answer to the words, by the files
 abbrev pub answer : List (List ℕ) → Files → Option Answer

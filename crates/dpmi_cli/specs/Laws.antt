@@ -8,13 +8,14 @@ use Rattle.host_run.specs.Nested.{IsHandedOver, LastPush, Matched, Stacked, host
 use Rattle.host_run.specs.RealCalls.{InterruptSource, from_client}
 use Rattle.host_run.specs.Run.{turns}
 use Rattle.host_run.specs.Touched.{touched_by_turn}
-use Rattle.dpmi_cli.specs.Answer.{Verdict, Refuses, Starts, StartsMade}
+use Rattle.dpmi_cli.specs.Answer.{Verdict, Refuses, Starts, StartsMade, StartsPair}
 
--- it holds of the world in which the run starts, if one starts
+-- it holds of the world in which the run starts, if one starts, or of those in which two start
 abbrev pub OfItsRun : (HostWorld → Type 0) → Verdict → Type 0
 OfItsRun P (Refuses reason) = ⊤
 OfItsRun P (Starts w bound) = P w
 OfItsRun P (StartsMade number w) = P w
+OfItsRun P (StartsPair slice bound a b) = P a × P b
 
 -- a run as the laws see it: the host before each turn, and the places that the client instruction of each turn touches
 pub record RunSeen : Type 0 where

@@ -2,5 +2,7 @@ pub mod Answer
 pub mod Causes
 pub mod Laws
 pub mod Load
+pub mod Pairs
 pub mod Text
+pub mod TurnGains
 pub mod Words

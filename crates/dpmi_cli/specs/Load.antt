@@ -1,16 +1,17 @@
 -- What comes before a run: the files that are read, and the client that is loaded. Source: own.
-use Rattle.std.specs.Prelude.{ℕ, List, ◌∷◌, ◌≡◌, ◌≤◌, ◌<◌, ◌⊎◌, take, None, Some, Contains, IsSomeAnd, ⊤, option_map}
+use Rattle.std.specs.Prelude.{ℕ, List, [], ◌∷◌, ◌≡◌, ◌≤◌, ◌<◌, ◌⊎◌, take, None, Some, Contains, IsSomeAnd, ⊤, option_map}
 use Rattle.std.specs.declared.option.Option.{Option}
 use Rattle.client_world.specs.declared.limits.TheConstants.{MAX_KEYS, MAX_PAGES, MAX_STEPS, MAX_TRACE}
 use Rattle.client_world.specs.World.{HostWorld}
 use Rattle.client_world.specs.Soundness.{IsSound}
 use Rattle.host_run.specs.Keys.{HasKeys}
-use Rattle.dpmi_words.specs.Meaning.{Keys, RunMeaning}
+use Rattle.pair_run.specs.declared.slices.TheConstants.{MAX_SLICE}
+use Rattle.dpmi_words.specs.Meaning.{Keys, PairMeaning, RunMeaning}
 use Rattle.dpmi_io.specs.Causes.{Rose}
 use Rattle.dpmi_io.specs.Content.{Files, Lacks}
 use Rattle.dpmi_cli.specs.declared.prepare.Prepared.{Prepared}
 use Rattle.dpmi_cli.specs.declared.prepare.Prepared.TheVariants as prepared
-use Rattle.dpmi_cli.specs.Answer.{Verdict, Refuses, Starts, StartsMade, file_verdict, keys_from, limited, run_verdict}
+use Rattle.dpmi_cli.specs.Answer.{Verdict, Refuses, Starts, StartsMade, StartsPair, file_verdict, first_verdict, keys_from, limited, pair_verdict, run_verdict}
 use Rattle.dpmi_cli.specs.Causes.{OfFiles}
 use Rattle.dpmi_cli.specs.Words.{key_file_names}
 
@@ -56,6 +57,38 @@ HasKeysVerdict files r file v = OfFiles files (λ fs. file_verdict r fs (Some fi
 abbrev pub HasRunVerdict : Option Files → RunMeaning → Verdict → Type 0
 HasRunVerdict files r v = OfFiles files (λ first. OfFiles files (λ second. run_verdict r first second ≡ Some v))
 
+-- a file of the pair failed in this call and is blamed, or the files are known and one that is read isn't there
+abbrev pub LacksEither : Option Files → PairMeaning → Type 0
+LacksEither None p = ⊥
+LacksEither (Some files) p = pair_verdict p files files ≡ None
+
+abbrev pub PairFails : Option Files → PairMeaning → ℕ → ℕ → Option (List ℕ) → Type 0
+PairFails files p before now blamed =
+    (Rose before now × IsSomeAnd blamed (λ name. Contains (p.first ∷ p.second ∷ []) name)) ⊎ LacksEither files p
+
+-- the second file failed in this call and is blamed, or the files are known and it isn't there
+abbrev pub SecondFails : Option Files → PairMeaning → ℕ → ℕ → Option (List ℕ) → Type 0
+SecondFails files p before now blamed = FailsAt files p.second before now blamed
+
+-- the verdict on a pair of which this is the first file, and the second one is read next
+abbrev pub HasSecondVerdict : Option Files → PairMeaning → List ℕ → Verdict → Type 0
+HasSecondVerdict files p a v = OfFiles files (λ fs. first_verdict p fs (Some a) ≡ Some v)
+
+-- the verdict on a pair, whose files are read next
+abbrev pub HasPairVerdict : Option Files → PairMeaning → Verdict → Type 0
+HasPairVerdict files p v = OfFiles files (λ first. OfFiles files (λ second. pair_verdict p first second ≡ Some v))
+
+-- the numbers of a pair are such as two hosts and their turns take
+pub record HasPairRanges (p : PairMeaning) : Type 0 where
+  pub some_turns : 0 < p.slice
+  pub slice : p.slice ≤ MAX_SLICE
+  pub some_bound : 0 < p.bound
+  pub bound : p.bound ≤ MAX_STEPS
+  pub some_pages_a : 0 < p.pages_a
+  pub pages_a : p.pages_a ≤ MAX_PAGES
+  pub some_pages_b : 0 < p.pages_b
+  pub pages_b : p.pages_b ≤ MAX_PAGES
+
 -- the numbers of a run are such as a host takes
 pub record HasRanges (r : RunMeaning) : Type 0 where
   pub some_pages : 0 < r.pages
@@ -68,15 +101,26 @@ abbrev pub verdict_in : Prepared → Verdict
 verdict_in (prepared.Refused reason) = Refuses reason
 verdict_in (prepared.Run host bound) = Starts host.world bound
 verdict_in (prepared.Soak host number) = StartsMade number host.world
+verdict_in (prepared.Pair a b slice bound) = StartsPair slice bound a.host.world b.host.world
 
--- no turn was made, the machine is sound, and the keystrokes are bytes
+-- no turn was made and nothing written, the machine is sound, and the keystrokes are bytes
 pub record IsReady (w : HostWorld) : Type 0 where
+  pub no_exit : w.exit ≡ None
   pub no_turn : w.steps ≡ 0
+  pub no_bytes : w.console ≡ []
   pub sound : IsSound w.machine
   pub keys : HasKeys w
+
+-- slices of so many turns, up to a bound, are such as two clients take
+pub record CanTakeTurns (slice bound : ℕ) : Type 0 where
+  pub some_turns : 0 < slice
+  pub slice : slice ≤ MAX_SLICE
+  pub some_bound : 0 < bound
+  pub bound : bound ≤ MAX_STEPS
 
 -- a run that starts is ready, and may go up to its bound
 abbrev pub IsNew : Verdict → Type 0
 IsNew (Refuses reason) = ⊤
 IsNew (Starts w bound) = IsReady w × (bound ≤ MAX_STEPS)
 IsNew (StartsMade number w) = IsReady w
+IsNew (StartsPair slice bound a b) = IsReady a × IsReady b × CanTakeTurns slice bound

@@ -1,10 +1,11 @@
 -- What is written of a refusal. Source: own.
-use Rattle.std.specs.Prelude.{ℕ, List, ◌++◌, codes}
+use Rattle.std.specs.Prelude.{ℕ, List, [], ◌++◌, codes}
 use Rattle.client_world.specs.declared.outcome.LoadFault.{LoadFault}
 use Rattle.client_world.specs.declared.outcome.LoadFault.TheVariants as fault
 use Rattle.dpmi_report.specs.Lines.{line_end}
+use Rattle.pair_run.specs.Slices.{letter_text}
 use Rattle.dpmi_cli.specs.declared.prepare.Reason.{Reason}
-use Rattle.dpmi_cli.specs.declared.prepare.Reason.TheVariants.{Words, FileTooLong, KeysTooLong, Load}
+use Rattle.dpmi_cli.specs.declared.prepare.Reason.TheVariants.{Words, FileTooLong, KeysTooLong, Load, FileOf, LoadOf}
 
 -- how a fault of the load is written
 abbrev pub fault_text : LoadFault → List ℕ
@@ -22,7 +23,18 @@ reason_text Words = codes "words"
 reason_text FileTooLong = codes "FileTooLong"
 reason_text KeysTooLong = codes "KeysTooLong"
 reason_text (Load fault) = fault_text fault
+reason_text (FileOf client) = codes "FileTooLong"
+reason_text (LoadOf client fault) = fault_text fault
+
+-- which client of a pair is refused
+abbrev pub client_text : Reason → List ℕ
+client_text Words = []
+client_text FileTooLong = []
+client_text KeysTooLong = []
+client_text (Load fault) = []
+client_text (FileOf client) = letter_text client ++ codes " "
+client_text (LoadOf client fault) = letter_text client ++ codes " "
 
 -- the line of a refusal
 abbrev pub refused : Reason → List ℕ
-refused reason = codes "refused " ++ reason_text reason ++ line_end
+refused reason = codes "refused " ++ client_text reason ++ reason_text reason ++ line_end

@@ -4,12 +4,14 @@ ghost use Rattle.client_world.specs.World.{HostWorld};
 ghost use Rattle.dpmi_words.specs.Meaning.{meaning};
 ghost use Rattle.dpmi_io.specs.Causes.{Rose};
 ghost use Rattle.dpmi_io.specs.Content.{Gains};
-ghost use Rattle.dpmi_cli.specs.Answer.{answer, exit_status, Verdict};
-ghost use Rattle.dpmi_cli.specs.Answer.Verdict.{Refuses, Starts, StartsMade};
+ghost use Rattle.dpmi_cli.specs.Answer.{answer, exit_status, run_status, Verdict};
+ghost use Rattle.dpmi_cli.specs.Answer.Verdict.{Refuses, Starts, StartsMade, StartsPair};
 ghost use Rattle.dpmi_cli.specs.Causes.{NamedFailed, IsAbsent, HasVerdict, Answers};
 ghost use Rattle.dpmi_cli.specs.Laws.{RunKeepsTheLaws};
 ghost use Rattle.dpmi_cli.specs.Load.{IsNew, IsReady};
 
+use crate::client::Client;
+use crate::pairs::write_turns;
 use crate::prepare::{Prepared, Reason, Stop, prepare};
 use crate::report::write_refusal;
 use crate::status::{ENDED_OTHERWISE, EXITED, FILE_FAILED, NO_MEMORY, OUTPUT_FAILED, REFUSED};
@@ -83,6 +85,31 @@ fn run_made_client<O: Sink>(host: &mut Host, number: u64, out: &mut O) -> u8
     }
 }
 
+// The status of a run that has ended.
+fn status_of_run(host: &Host) -> u8
+    ensures { result ≡ run_status host.now.world }
+{
+    match host.exit() {
+        Some(exit) => status_of(exit),
+        None => ENDED_OTHERWISE,
+    }
+}
+
+// Runs two clients that are loaded in turns, and writes the text of the pair.
+fn run_pair<O: Sink>(a: &mut Client, b: &mut Client, slice: u32, bound: u32, out: &mut O) -> u8
+    requires { IsNew (StartsPair slice bound a.old.host.world b.old.host.world) }
+    ensures answers { Answers (StartsPair slice bound a.old.host.world b.old.host.world)
+        (O.taken out.old) (O.taken out.new) (O.faults out.old) (O.faults out.new) result }
+    ensures status { result ≤ OUTPUT_FAILED }
+    ensures no_file_failed { result ≢ FILE_FAILED }
+{
+    every_run_keeps_the_laws();
+    match write_turns(a, b, slice, bound, out) {
+        Ok(()) => status_of_run(&a.host).max(status_of_run(&b.host)),
+        Err(_) => OUTPUT_FAILED,
+    }
+}
+
 // Does what the words mean.
 fn answer_words<F: Shelf, O: Sink>(
     alloc: Global,
@@ -105,15 +132,17 @@ fn answer_words<F: Shelf, O: Sink>(
         Ok(Prepared::Refused(reason)) => refuse(reason, out),
         Ok(Prepared::Run(mut host, bound)) => run_client(&mut host, bound, out),
         Ok(Prepared::Soak(mut host, number)) => run_made_client(&mut host, number, out),
+        Ok(Prepared::Pair(mut a, mut b, slice, bound)) => run_pair(&mut a, &mut b, slice, bound, out),
         Err(Stop::Shelf) => FILE_FAILED,
         Err(Stop::Memory) => NO_MEMORY,
     }
 }
 
 /// All that the program does, with the words after its name, the files and the output. Returns the status: 0 and 1
-/// for a run by its exit, 2 for a refusal, 3 where a file that the words name failed or isn't there, 4 where the
+/// for a run by its exit, for a pair by both exits, 2 for a refusal, 3 where a file that the words name failed or isn't there, 4 where the
 /// output failed, 5 where memory ran out. With 3 and 5 nothing is written. All memory is taken before the load.
-/// The words are `run FILE` with `--keys HEX`, `--keys-file NAME`, `--bound N`, `--pages N` and `--trace N`, or `soak N`.
+/// The words are `run FILE` with `--keys HEX`, `--keys-file NAME`, `--bound N`, `--pages N` and `--trace N`, or `soak N`, or `pair A B` with
+/// `--slice N`, `--bound N`, `--pages-a N` and `--pages-b N`.
 /// Source: own.
 pub fn dpmi<F: Shelf, O: Sink>(alloc: Global, words: &[String], shelf: &mut F, out: &mut O) -> u8
     ensures answers { result ≢ FILE_FAILED → result ≢ NO_MEMORY →

@@ -5,7 +5,9 @@
 //! `dpmi_report` for the text, and `dpmi_io`.
 #![tactic(auto)]
 
+mod client;
 mod command;
+mod pairs;
 mod prepare;
 mod report;
 mod status;

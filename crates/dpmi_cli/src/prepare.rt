@@ -1,22 +1,24 @@
 // What comes before the run: the words, the files, the memory and the load.
-ghost use Rattle.std.specs.Prelude.{◌≡◌, ◌≤◌, ◌<◌, ◌⊎◌, map, string_bytes, None, Some, Ok, Err, length, take, option_map, IfOk, IfErr, OnOk, OnErr, IsErrOf};
-ghost use Rattle.client_world.specs.declared.limits.TheConstants.{MAX_FILE, MAX_KEYS, MAX_PAGES, MAX_TRACE};
+ghost use Rattle.std.specs.Prelude.{◌≡◌, ◌≤◌, ◌<◌, ◌⊎◌, [], map, string_bytes, None, Some, Ok, Err, length, take, option_map, IfOk, IfErr, OnOk, OnErr, IsErrOf};
+ghost use Rattle.client_world.specs.declared.limits.TheConstants.{DEFAULT_TRACE, MAX_FILE, MAX_KEYS, MAX_PAGES, MAX_TRACE};
 ghost use Rattle.client_maker.specs.Made.{made};
-ghost use Rattle.dpmi_words.specs.Meaning.{keys_in, run_in};
+ghost use Rattle.dpmi_words.specs.Meaning.{keys_in, pair_in, run_in};
 ghost use Rattle.guest_ram.specs.Bytes.{AreBytes};
-ghost use Rattle.host_run.specs.Start.{started_host};
+ghost use Rattle.host_run.specs.Start.{blank, started_host};
 ghost use Rattle.mz_loader.specs.Refusal.{refusal};
-ghost use Rattle.dpmi_cli.specs.Answer.{limited, load_verdict, made_verdict};
+ghost use Rattle.dpmi_cli.specs.Answer.{first_load, limited, load_verdict, made_verdict};
 ghost use Rattle.dpmi_cli.specs.Causes.{NamedFailed, IsAbsent, HasVerdict};
-ghost use Rattle.dpmi_cli.specs.Load.{HasFront, HasFile, HasPressed, FailsAt, KeysFail, RunFails, HasKeysVerdict, HasRunVerdict, HasRanges, verdict_in, IsReady, IsNew};
+ghost use Rattle.dpmi_cli.specs.Load.{HasFront, HasFile, HasPressed, FailsAt, KeysFail, RunFails, HasKeysVerdict, HasRunVerdict, HasPairVerdict, HasSecondVerdict, HasRanges, HasPairRanges, PairFails, verdict_in, IsReady, IsNew};
 ghost use Rattle.dpmi_cli.specs.declared.prepare.Stop.TheVariants.{Memory};
 
+use crate::client::Client;
 use client_maker::make;
 use client_world::LoadFault;
-use client_world::limits::{DEFAULT_PAGES, MAX_FILE, MAX_KEYS, MAX_TRACE};
+use client_world::limits::{DEFAULT_PAGES, DEFAULT_TRACE, MAX_FILE, MAX_KEYS, MAX_TRACE};
 use dpmi_io::{Shelf, ShelfFail, read_whole};
-use dpmi_words::{KeySource, Run, Words, read_words};
+use dpmi_words::{KeySource, Pair, Run, Words, read_words};
 use host_run::Host;
+use pair_run::Letter;
 use std::alloc::{AllocError, Global};
 
 /// Why the words, a file or the keystrokes are refused. Source: own.
@@ -26,15 +28,20 @@ pub enum Reason {
     FileTooLong,
     KeysTooLong,
     Load(LoadFault),
+    /// The file of this client of a pair is too long.
+    FileOf(Letter),
+    /// The load of this client of a pair is refused.
+    LoadOf(Letter, LoadFault),
 }
 
-/// What the words and the files come to: a refusal, a host with the client loaded and the bound of its run, or a host with a made client
-/// loaded and its number.
+/// What the words and the files come to: a refusal; a host with the client loaded and the bound of its run; a host with a made client
+/// loaded and its number; or two clients that are loaded, the turns of a slice and the bound of each run.
 #[derive(Drop)]
 pub enum Prepared {
     Refused(Reason),
     Run(Host, u32),
     Soak(Host, u64),
+    Pair(Client, Client, u32, u32),
 }
 
 /// Why there is no answer: out of memory, or a file failed or wasn't there.
@@ -209,6 +216,75 @@ fn prepare_run<F: Shelf>(alloc: Global, run: &Run<'_>, shelf: &mut F) -> Result<
     }
 }
 
+// Loads a client's file into a new host of these pages, without keystrokes.
+fn load_client(host: &mut Host, pages: u32, file: &[u8]) -> Result<(), LoadFault>
+    requires { host.old.world ≡ blank pages [] DEFAULT_TRACE }
+    ensures refused { IfErr result (λ fault. refusal file.now ≡ Some fault) }
+    ensures taken { OnOk result (refusal file.now ≡ None) }
+    ensures started { OnOk result (host.new.world ≡ started_host pages [] DEFAULT_TRACE file.now) }
+    ensures ready { OnOk result (IsReady host.new.world) }
+{
+    all_bytes_fit(&[]);
+    host.load(file)
+}
+
+// Loads the two clients of a pair, once all memory is taken.
+fn load_pair(alloc: Global, pair: &Pair<'_>, first: &[u8], second: &[u8]) -> Result<Prepared, AllocError>
+    requires { HasPairRanges (pair_in pair.now) }
+    ensures verdict { IfOk result (λ p. first_load (pair_in pair.now) first.now second.now (refusal first.now) ≡ verdict_in p) }
+    ensures new { IfOk result (λ p. IsNew (verdict_in p)) }
+{
+    let mut a = Host::new(alloc, pair.pages_a, &[], DEFAULT_TRACE)?;
+    let mut b = Host::new(alloc, pair.pages_b, &[], DEFAULT_TRACE)?;
+    match load_client(&mut a, pair.pages_a, first) {
+        Ok(()) => {}
+        Err(fault) => return Ok(Prepared::Refused(Reason::LoadOf(Letter::A, fault))),
+    }
+    match load_client(&mut b, pair.pages_b, second) {
+        Ok(()) => {}
+        Err(fault) => return Ok(Prepared::Refused(Reason::LoadOf(Letter::B, fault))),
+    }
+    Ok(Prepared::Pair(Client::new(a), Client::new(b), pair.slice, pair.bound))
+}
+
+// Reads the second file of a pair, and loads both clients.
+fn prepare_second<F: Shelf>(
+    alloc: Global,
+    pair: &Pair<'_>,
+    first: &[u8],
+    shelf: &mut F,
+) -> Result<Prepared, Stop>
+    requires { HasPairRanges (pair_in pair.now) }
+    ensures verdict { IfOk result (λ p. HasSecondVerdict (F.files shelf.old) (pair_in pair.now) first.now (verdict_in p)) }
+    ensures new { IfOk result (λ p. IsNew (verdict_in p)) }
+    ensures failed { IsErrOf result Stop.Shelf →
+        FailsAt (F.files shelf.old) pair.now.second.now (F.faults shelf.old) (F.faults shelf.new) (F.blamed shelf.new) }
+{
+    match read_file(alloc, pair.second, MAX_FILE, shelf) {
+        Ok(Some(second)) => Ok(load_pair(alloc, pair, first, second.as_slice())?),
+        Ok(None) => Ok(Prepared::Refused(Reason::FileOf(Letter::B))),
+        Err(stop) => Err(stop),
+    }
+}
+
+// Reads the files of a pair, and loads its clients.
+fn prepare_pair<F: Shelf>(alloc: Global, pair: &Pair<'_>, shelf: &mut F) -> Result<Prepared, Stop>
+    requires { HasPairRanges (pair_in pair.now) }
+    ensures verdict { IfOk result (λ p. HasPairVerdict (F.files shelf.old) (pair_in pair.now) (verdict_in p)) }
+    ensures new { IfOk result (λ p. IsNew (verdict_in p)) }
+    ensures failed { IsErrOf result Stop.Shelf →
+        PairFails (F.files shelf.old) (pair_in pair.now) (F.faults shelf.old) (F.faults shelf.new) (F.blamed shelf.new) }
+{
+    match read_file(alloc, pair.first, MAX_FILE, shelf) {
+        Ok(Some(first)) => match prepare_second(alloc, pair, first.as_slice(), shelf) {
+            Ok(prepared) => Ok(prepared),
+            Err(stop) => Err(stop),
+        },
+        Ok(None) => Ok(Prepared::Refused(Reason::FileOf(Letter::A))),
+        Err(stop) => Err(stop),
+    }
+}
+
 // Makes the client of a number, and loads it.
 fn prepare_soak(alloc: Global, number: u64) -> Result<Prepared, AllocError>
     ensures verdict { IfOk result (λ p. verdict_in p ≡ made_verdict number) }
@@ -237,6 +313,10 @@ pub fn prepare<F: Shelf>(alloc: Global, words: &[String], shelf: &mut F) -> Resu
             Err(stop) => Err(stop),
         },
         Some(Words::Soak(number)) => Ok(prepare_soak(alloc, number)?),
+        Some(Words::Pair(pair)) => match prepare_pair(alloc, &pair, shelf) {
+            Ok(prepared) => Ok(prepared),
+            Err(stop) => Err(stop),
+        },
         None => Ok(Prepared::Refused(Reason::Words)),
     }
 }

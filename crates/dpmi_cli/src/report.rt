@@ -2,12 +2,12 @@
 ghost use Rattle.std.specs.Prelude.{◌≡◌, ◌≤◌, OnOk, OnErr, length};
 ghost use Rattle.dpmi_io.specs.Causes.{Rose};
 ghost use Rattle.dpmi_io.specs.Content.{Gains, GainsPart};
-ghost use Rattle.dpmi_cli.specs.Text.{refused, reason_text};
+ghost use Rattle.dpmi_cli.specs.Text.{client_text, fault_text, refused, reason_text};
 
 use crate::prepare::Reason;
 use client_world::LoadFault;
-use dpmi_io::{Sink, SinkFail, put_all};
-use dpmi_report::{Line, add};
+use dpmi_io::{Line, Sink, SinkFail, add, put_all};
+use pair_run::Letter;
 
 // How a reason is written.
 fn reason_name(reason: Reason) -> &'static [u8]
@@ -16,15 +16,37 @@ fn reason_name(reason: Reason) -> &'static [u8]
 {
     match reason {
         Reason::Words => b"words",
-        Reason::FileTooLong => b"FileTooLong",
+        Reason::FileTooLong | Reason::FileOf(_) => b"FileTooLong",
         Reason::KeysTooLong => b"KeysTooLong",
-        Reason::Load(LoadFault::ShortHeader) => b"ShortHeader",
-        Reason::Load(LoadFault::Signature) => b"Signature",
-        Reason::Load(LoadFault::LastPage) => b"LastPage",
-        Reason::Load(LoadFault::RelocTable) => b"RelocTable",
-        Reason::Load(LoadFault::NoRoom) => b"NoRoom",
-        Reason::Load(LoadFault::RelocTarget) => b"RelocTarget",
-        Reason::Load(LoadFault::EntryOutside) => b"EntryOutside",
+        Reason::Load(fault) | Reason::LoadOf(_, fault) => fault_name(fault),
+    }
+}
+
+// How a fault of the load is written.
+fn fault_name(fault: LoadFault) -> &'static [u8]
+    ensures name { result.now ≡ fault_text fault }
+    ensures short { length result.now ≤ 12 }
+{
+    match fault {
+        LoadFault::ShortHeader => b"ShortHeader",
+        LoadFault::Signature => b"Signature",
+        LoadFault::LastPage => b"LastPage",
+        LoadFault::RelocTable => b"RelocTable",
+        LoadFault::NoRoom => b"NoRoom",
+        LoadFault::RelocTarget => b"RelocTarget",
+        LoadFault::EntryOutside => b"EntryOutside",
+    }
+}
+
+// Which client of a pair is refused.
+fn client_name(reason: Reason) -> &'static [u8]
+    ensures name { result.now ≡ client_text reason }
+    ensures short { length result.now ≤ 2 }
+{
+    match reason {
+        Reason::FileOf(Letter::A) | Reason::LoadOf(Letter::A, _) => b"a ",
+        Reason::FileOf(Letter::B) | Reason::LoadOf(Letter::B, _) => b"b ",
+        _ => b"",
     }
 }
 
@@ -34,6 +56,7 @@ fn refusal_line(reason: Reason) -> Line
 {
     let mut line = Line::new();
     add(&mut line, b"refused ");
+    add(&mut line, client_name(reason));
     add(&mut line, reason_name(reason));
     add(&mut line, b"\n");
     line

@@ -1,3 +1,4 @@
+pub mod Decimal
 mod Input
 pub mod Output
 mod Stored

@@ -3,6 +3,7 @@
 //! It uses no other crate; `dpmi_cli` uses it.
 #![tactic(auto)]
 
+mod line;
 mod memory_shelf;
 mod memory_sink;
 mod open_file;
@@ -12,6 +13,7 @@ mod real;
 mod sure;
 mod whole;
 
+pub use line::{LINE_ROOM, Line, add, add_decimal};
 pub use memory_shelf::MemShelf;
 pub use memory_sink::MemSink;
 pub use outside::{Shelf, ShelfFail, Sink, SinkFail};

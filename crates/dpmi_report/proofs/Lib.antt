@@ -1,5 +1,4 @@
 mod BlockBytes
 mod Counts
-mod Decimal
 mod Pieces
 mod Sequence

@@ -10,11 +10,10 @@ ghost use Rattle.dpmi_report.specs.Rows.{up_to};
 ghost use Rattle.dpmi_report.specs.Text.{blocks_head, blocks_part};
 
 use crate::digest::block_digest;
-use crate::line::Line;
 use crate::lines::{block_line, blocks_line};
 use client_world::host_frames::PAGE_SIZE;
 use client_world::limits::MAX_BLOCKS;
-use dpmi_io::{Sink, SinkFail, put_all};
+use dpmi_io::{Line, Sink, SinkFail, put_all};
 use guest_space::Machine;
 
 // Whether a page of a memory block is locked.

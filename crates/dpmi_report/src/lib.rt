@@ -5,7 +5,7 @@
 
 mod blocks;
 mod digest;
-mod line;
+mod digits;
 mod lines;
 mod parts;
 mod report;
@@ -14,7 +14,6 @@ mod summary;
 mod tests;
 mod trace;
 
-pub use line::{Line, add};
 pub use parts::{put_console, put_dos, put_exit};
 pub use report::{write_all_of, write_memory, write_run, write_state};
 pub use summary::write_summary;

@@ -6,12 +6,10 @@ ghost use Rattle.dpmi_report.specs.Lines.{exit_text, exit_part, mode_text, wide_
 ghost use Rattle.dpmi_report.specs.Text.{console_head, trace_head, end_part, processor_text, descs_head, blocks_head};
 ghost use Rattle.dpmi_report.specs.Summary.{soak_head, services_text, console_digest_text};
 
-use crate::line::{
-    Line, add, add_decimal, add_digest, add_hex_byte, add_hex_digit, add_hex_doubleword,
-    add_hex_word,
-};
+use crate::digits::{add_digest, add_hex_byte, add_hex_digit, add_hex_doubleword, add_hex_word};
 use client_world::{Desc, Exit, Mode, Origin, Regs};
 use desc_table::pack;
+use dpmi_io::{Line, add, add_decimal};
 
 // Adds a fault's number and code.
 fn add_fault(line: &mut Line, number: u8, code: u32)
@@ -26,7 +24,7 @@ fn add_fault(line: &mut Line, number: u8, code: u32)
 }
 
 // Adds how a run ended.
-#[tactic(auto, using(crate::proofs::Decimal::decimal_byte))]
+#[tactic(auto, using(dpmi_io::proofs::Decimal::decimal_byte))]
 fn add_exit(line: &mut Line, exit: Exit)
     requires { length line.old.items ≤ 100 }
     ensures added { line.new.items ≡ line.old.items ++ exit_text exit }
@@ -50,7 +48,7 @@ fn add_exit(line: &mut Line, exit: Exit)
 }
 
 /// The line before the console's bytes.
-#[tactic(auto, using(crate::proofs::Decimal::decimal_short))]
+#[tactic(auto, using(dpmi_io::proofs::Decimal::decimal_short))]
 pub fn console_line(count: u32) -> Line
     ensures { result.items ≡ console_head count }
 {
@@ -62,7 +60,7 @@ pub fn console_line(count: u32) -> Line
 }
 
 /// The line before the trace.
-#[tactic(auto, using(crate::proofs::Decimal::decimal_short))]
+#[tactic(auto, using(dpmi_io::proofs::Decimal::decimal_short))]
 pub fn trace_line(kept: u32, lines: u32) -> Line
     ensures { result.items ≡ trace_head kept lines }
 {
@@ -76,7 +74,7 @@ pub fn trace_line(kept: u32, lines: u32) -> Line
 }
 
 // Adds the lines of the exit and of the turns.
-#[tactic(auto, using(crate::proofs::Decimal::decimal_short))]
+#[tactic(auto, using(dpmi_io::proofs::Decimal::decimal_short))]
 fn add_exit_lines(lines: &mut Line, exit: Exit, steps: u32)
     requires { length lines.old.items ≤ 90 }
     ensures { lines.new.items ≡ lines.old.items ++ exit_part exit steps }
@@ -231,7 +229,7 @@ pub fn descriptor_line(selector: u16, d: &Desc, origin: Origin) -> Line
 }
 
 /// The line before the descriptors.
-#[tactic(auto, using(crate::proofs::Decimal::decimal_short))]
+#[tactic(auto, using(dpmi_io::proofs::Decimal::decimal_short))]
 pub fn descriptors_line(count: u32) -> Line
     ensures { result.items ≡ descs_head count }
 {
@@ -243,7 +241,7 @@ pub fn descriptors_line(count: u32) -> Line
 }
 
 /// The line before the memory blocks.
-#[tactic(auto, using(crate::proofs::Decimal::decimal_short))]
+#[tactic(auto, using(dpmi_io::proofs::Decimal::decimal_short))]
 pub fn blocks_line(count: u32) -> Line
     ensures { result.items ≡ blocks_head count }
 {
@@ -266,7 +264,7 @@ pub fn dos_line(digest: &[u8; 32]) -> Line
 }
 
 /// The lines of the mode, the depth and the registers.
-#[tactic(auto, using(crate::proofs::Decimal::decimal_byte))]
+#[tactic(auto, using(dpmi_io::proofs::Decimal::decimal_byte))]
 pub fn processor_lines(mode: Mode, depth: u8, regs: &Regs, vif: bool) -> Line
     ensures { result.items ≡ processor_text mode depth regs.now vif }
 {
@@ -284,7 +282,7 @@ pub fn processor_lines(mode: Mode, depth: u8, regs: &Regs, vif: bool) -> Line
 }
 
 /// The line of the number of a made client.
-#[tactic(auto, using(crate::proofs::Decimal::decimal_long))]
+#[tactic(auto, using(dpmi_io::proofs::Decimal::decimal_long))]
 pub fn soak_line(number: u64) -> Line
     ensures { result.items ≡ soak_head number }
 {
@@ -296,7 +294,7 @@ pub fn soak_line(number: u64) -> Line
 }
 
 /// The line of the services of INT 31h, and of those that were refused.
-#[tactic(auto, using(crate::proofs::Decimal::decimal_short))]
+#[tactic(auto, using(dpmi_io::proofs::Decimal::decimal_short))]
 pub fn services_line(services: u32, carries: u32) -> Line
     ensures { result.items ≡ services_text services carries }
 {
@@ -310,7 +308,7 @@ pub fn services_line(services: u32, carries: u32) -> Line
 }
 
 /// The line of the console: the number of its bytes, and their digest.
-#[tactic(auto, using(crate::proofs::Decimal::decimal_short))]
+#[tactic(auto, using(dpmi_io::proofs::Decimal::decimal_short))]
 pub fn console_digest_line(count: u32, digest: &[u8; 32]) -> Line
     ensures { result.items ≡ console_digest_text count digest.now }
 {
@@ -324,7 +322,7 @@ pub fn console_digest_line(count: u32, digest: &[u8; 32]) -> Line
 }
 
 /// The line of a memory block: its handle, base, pages, locked pages, and the digest of its bytes.
-#[tactic(auto, using(crate::proofs::Decimal::decimal_short))]
+#[tactic(auto, using(dpmi_io::proofs::Decimal::decimal_short))]
 pub fn block_line(handle: u32, base: u32, pages: u32, locked: u32, digest: &[u8; 32]) -> Line
     ensures { result.items ≡ block_line_with handle base pages locked digest.now }
 {

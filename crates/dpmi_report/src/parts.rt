@@ -9,7 +9,6 @@ ghost use Rattle.dpmi_report.specs.Text.{console_head, console_part, trace_head,
 ghost use Rattle.dpmi_report.specs.Trace.{trace_row};
 
 use crate::digest::dos_digest;
-use crate::line::Line;
 use crate::lines::{
     console_line, descriptor_line, descriptors_line, dos_line, end_lines, exit_lines,
     processor_lines, trace_line,
@@ -18,7 +17,7 @@ use crate::trace::event_line;
 use client_world::Exit;
 use client_world::host_frames::DESCRIPTORS;
 use client_world::selectors::selector_of;
-use dpmi_io::{Sink, SinkFail, put_all};
+use dpmi_io::{Line, Sink, SinkFail, put_all};
 use guest_space::Machine;
 use host_run::Host;
 use mode_stack::depth;

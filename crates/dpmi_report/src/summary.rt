@@ -6,11 +6,10 @@ ghost use Rattle.sha2.specs.Sha256.{sha256};
 ghost use Rattle.dpmi_report.specs.Lines.{exit_part, dos_line};
 ghost use Rattle.dpmi_report.specs.Summary.{soak_head, is_service, is_refusal, services_line, console_line, summary_at};
 
-use crate::line::Line;
 use crate::lines::{console_digest_line, services_line, soak_line};
 use crate::parts::{put_dos, put_exit};
 use client_world::{Carry, Exit, TraceLine};
-use dpmi_io::{Sink, SinkFail, put_all};
+use dpmi_io::{Line, Sink, SinkFail, put_all};
 use host_run::Host;
 use sha2::{Digest, Sha256};
 

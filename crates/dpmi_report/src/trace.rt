@@ -3,9 +3,10 @@ ghost use Rattle.std.specs.Prelude.{◌≡◌, ◌≤◌, ◌+◌, ◌++◌, len
 ghost use Rattle.dpmi_report.specs.Lines.{line_end};
 ghost use Rattle.dpmi_report.specs.Trace.{call_text, what_text, carry_text, width_text, record_text, event_text};
 
-use crate::line::{Line, add, add_decimal, add_hex_byte, add_hex_word};
+use crate::digits::{add_hex_byte, add_hex_word};
 use crate::lines::add_regs;
 use client_world::{Call, Carry, Regs, TraceLine, What, Width};
+use dpmi_io::{Line, add, add_decimal};
 
 // Adds what was called.
 fn add_call(line: &mut Line, call: Call)
@@ -28,7 +29,7 @@ fn add_call(line: &mut Line, call: Call)
 }
 
 // Adds what was entered or left.
-#[tactic(auto, using(crate::proofs::Decimal::decimal_byte))]
+#[tactic(auto, using(dpmi_io::proofs::Decimal::decimal_byte))]
 fn add_what(line: &mut Line, what: What)
     requires { length line.old.items ≤ 40 }
     ensures added { line.new.items ≡ line.old.items ++ what_text what }
@@ -48,7 +49,7 @@ fn add_what(line: &mut Line, what: What)
 }
 
 // Adds the depth, what was called, and the registers.
-#[tactic(auto, using(crate::proofs::Decimal::decimal_byte))]
+#[tactic(auto, using(dpmi_io::proofs::Decimal::decimal_byte))]
 fn add_record(line: &mut Line, depth: u8, what: What, regs: &Regs, vif: bool)
     requires { length line.old.items ≤ 6 }
     ensures added { line.new.items ≡ line.old.items ++ record_text depth what regs.now vif }

@@ -1,5 +1,5 @@
 -- The command of some words takes the words that break no rule, and assigns the values that they give.
-use Rattle.std.proofs.Common.{◌≡◌, ◌∙◌, ◌||◌, Bool, cond, true, false, refl, ap, List, [], ◌∷◌, map, true≢false, sym, inl, inr, subst}
+use Rattle.std.proofs.Common.{◌≡◌, ◌∙◌, ◌||◌, Bool, cond, true, false, ℕ, refl, ap, List, [], ◌∷◌, map, true≢false, sym, inl, inr, subst}
 use Rattle.std.specs.Prelude.{IfSome, option_and_then, option_map, slice_get, find, Some, None, ◌⊎◌}
 use Rattle.std.specs.declared.option.Option.{Option}
 use Rattle.std.specs.List.{fold, AllByRecursion}
@@ -13,9 +13,9 @@ use Rattle.clap.proofs.OnLiterals.{clap_on_literals}
 use Rattle.clap.proofs.TakesLemmas.{leaf_takes}
 use Rattle.clap.specs.declared.parser.matches.Found.{Found}
 use Rattle.clap.proofs.WalkLemmas.{first_value-rows}
-use Rattle.dpmi_words.specs.Reading.{Text, Reading, nothing_read, operand_name, has_given, is_option_name, reads, finished, finished_by, given_by, value_given, run_options, soak_options}
-use Rattle.dpmi_words.specs.Command.{run_app, soak_app, Assigns}
-use Rattle.dpmi_words.proofs.Walks.{Rules, Tied, Idle, row, walk_at, all_steps, when_Some}
+use Rattle.dpmi_words.specs.Reading.{Text, Reading, nothing_read, has_given, is_option_name, one_operand, pair_operands, reads, finished, finished_by, given_by, value_given, pair_options, run_options, soak_options}
+use Rattle.dpmi_words.specs.Command.{pair_app, run_app, soak_app, Assigns}
+use Rattle.dpmi_words.proofs.Walks.{Rules, Operands, Tied, Idle, row, walk_at, all_steps}
 
 -- ---- the command of `run`
 
@@ -39,10 +39,10 @@ run_rules : Rules run_options (built run_app).top.rules
 run_rules = record {
   long = each_name _ run_options (refl, (refl, (refl, (refl, (refl, tt)))));
   by_id = each_name _ run_options (refl, (refl, (refl, (refl, (refl, tt)))));
-  index = refl;
-  operand_by_id = refl;
-  other = each_name _ run_options (refl, (refl, (refl, (refl, (refl, tt)))));
 }
+
+run_operands : Operands (built run_app).top.rules 1 one_operand
+run_operands = (refl, refl, tt)
 
 -- ---- the command of `soak`
 
@@ -54,24 +54,38 @@ soak_rules : Rules soak_options (built soak_app).top.rules
 soak_rules = record {
   long = each_name _ soak_options tt;
   by_id = each_name _ soak_options tt;
-  index = refl;
-  operand_by_id = refl;
-  other = each_name _ soak_options tt;
 }
+
+soak_operands : Operands (built soak_app).top.rules 1 one_operand
+soak_operands = (refl, refl, tt)
+
+-- ---- the command of `pair`
+
+pub pair_simple : is_simple pair_app ≡ true
+unfolding clap_on_literals
+pair_simple = refl
+
+pair_rules : Rules pair_options (built pair_app).top.rules
+pair_rules = record {
+  long = each_name _ pair_options (refl, (refl, (refl, (refl, tt))));
+  by_id = each_name _ pair_options (refl, (refl, (refl, (refl, tt))));
+}
+
+pair_both : Operands (built pair_app).top.rules 1 pair_operands
+pair_both = (refl, refl, (refl, refl, tt))
 
 -- ---- the end of the walk
 
 finished_is : (o : Option Reading) (given : List (Text × Text)) → option_and_then finished o ≡ Some given →
     (r : Reading) × (o ≡ Some r) × (r.waiting ≡ None) × (r.given ≡ given)
 finished_is None given e = cc
-finished_is (Some r) given e = go r.waiting refl e
+finished_is (Some r) given e = go r.waiting r.left refl e
   where
-    go : (w : Option Text) → r.waiting ≡ w → finished_by w r.given ≡ Some given → (x : Reading) × (Some r ≡ Some x) × (x.waiting ≡ None) × (x.given ≡ given)
-    go (Some n) is h = cc
-    go None is h =
-        let both = when_Some (has_given operand_name r.given) (Some r.given) given h in
-        let same : r.given ≡ given = let s = both.1 in cc in
-        (r, refl, is, same)
+    go : (w : Option Text) (left : List Text) → r.waiting ≡ w → finished_by w left r.given ≡ Some given →
+        (x : Reading) × (Some r ≡ Some x) × (x.waiting ≡ None) × (x.given ≡ given)
+    go (Some n) left is h = cc
+    go None (name ∷ rest) is h = cc
+    go None [] is h = let same : r.given ≡ given = cc in (r, refl, is, same)
 
 no_default : (rows : List Row) (a : Rule) → a.defaults ≡ [] → with_default rows a ≡ rows
 no_default rows a none = rw none (same (has_row a.id rows))
@@ -85,47 +99,68 @@ no_defaults [] rows none = refl
 no_defaults (a ∷ rest) rows none = rw (no_default rows a none.0) (no_defaults rest rows none.1)
 
 -- where the walk over the words ends
-abbrev Ends : App → List Text → List (Text × Text) → Type 0
-Ends app words given = (walk_passes (built app).top [] (walk_from nothing_held) words ≡ true)
-    × (h : Held) × Idle (built app).top.rules given h × (walk (built app).top.rules [] nothing_held words ≡ walk_at given idle h)
+record Ends (app : App) (words : List Text) (given : List (Text × Text)) : Type 0 where
+  passes : walk_passes (built app).top [] (walk_from nothing_held) words ≡ true
+  held : Held
+  at : ℕ
+  idle_now : Idle (built app).top.rules given held
+  is : walk (built app).top.rules [] nothing_held words ≡ walk_at at idle held
 
-walk_ends : (names : List Text) (app : App) → Rules names (built app).top.rules → (built app).top.args_override_self ≡ false →
-    (words : List Text) (given : List (Text × Text)) → given_by names words ≡ Some given → Ends app words given
-walk_ends names app rules again words given e =
-    let r = finished_is (reads names words nothing_read) given e in
-    let started : Tied names (built app).top.rules None [] (walk_from nothing_held) =
-    (nothing_held, record { rows = refl; skip = refl; passes = refl }, refl) in
-    let both = all_steps names (built app).top rules again words nothing_read r.0 (walk_from nothing_held) started r.1 in
-    let tied : Tied names (built app).top.rules None given (walk (built app).top.rules [] nothing_held words) = rw (r.2, r.3) at both.1 in
-    (both.0, tied.0, tied.1, tied.2)
+walk_ends : (names operands : List Text) (app : App) → Rules names (built app).top.rules → Operands (built app).top.rules 1 operands →
+    (built app).top.args_override_self ≡ false → (words : List Text) (given : List (Text × Text)) → given_by names operands words ≡ Some given → Ends app words given
+walk_ends names operands app rules places again words given e =
+    let r = finished_is (reads names words (nothing_read operands)) given e in
+    let started : Tied names (built app).top.rules None operands [] (walk_from nothing_held) = record {
+      held = nothing_held;
+      at = 1;
+      idle_now = record { rows = refl; skip = refl; passes = refl };
+      operands = places;
+      is = refl;
+    } in
+    let both = all_steps names (built app).top rules again words (nothing_read operands) r.0 (walk_from nothing_held) started r.1 in
+    let tied : Tied names (built app).top.rules None r.0.left given (walk (built app).top.rules [] nothing_held words) = rw (r.2, r.3) at both.1 in
+    record { passes = both.0; held = tied.held; at = tied.at; idle_now = tied.idle_now; is = tied.is }
 
 -- ---- what the commands take and assign
 
-pub run_takes : (words : List Text) (given : List (Text × Text)) → given_by run_options words ≡ Some given → takes run_app words ≡ true
+pub run_takes : (words : List Text) (given : List (Text × Text)) → given_by run_options one_operand words ≡ Some given → takes run_app words ≡ true
 run_takes words given e =
-    let ends = walk_ends run_options run_app run_rules refl words given e in
-    let level : level_passes (built run_app).top [] nothing_held words false ≡ true = rw (ends.0, ends.3, ends.2.passes) refl in
+    let ends = walk_ends run_options one_operand run_app run_rules run_operands refl words given e in
+    let level : level_passes (built run_app).top [] nothing_held words false ≡ true = rw (ends.passes, ends.is, ends.idle_now.passes) refl in
     rw run_simple (leaf_takes (built run_app) nothing_held words refl level)
 
-pub run_matches : (words : List Text) (given : List (Text × Text)) → given_by run_options words ≡ Some given → matches_of run_app words ≡ map row given
+pub run_matches : (words : List Text) (given : List (Text × Text)) → given_by run_options one_operand words ≡ Some given → matches_of run_app words ≡ map row given
 run_matches words given e =
-    let ends = walk_ends run_options run_app run_rules refl words given e in
-    ap (λ (w : Walk). rows_finished (built run_app).top.rules w.held) ends.3
+    let ends = walk_ends run_options one_operand run_app run_rules run_operands refl words given e in
+    ap (λ (w : Walk). rows_finished (built run_app).top.rules w.held) ends.is
     ∙ no_defaults (built run_app).top.rules _ (refl, (refl, (refl, (refl, (refl, (refl, tt))))))
-    ∙ ends.2.rows
+    ∙ ends.idle_now.rows
 
-pub soak_takes : (words : List Text) (given : List (Text × Text)) → given_by soak_options words ≡ Some given → takes soak_app words ≡ true
+pub soak_takes : (words : List Text) (given : List (Text × Text)) → given_by soak_options one_operand words ≡ Some given → takes soak_app words ≡ true
 soak_takes words given e =
-    let ends = walk_ends soak_options soak_app soak_rules refl words given e in
-    let level : level_passes (built soak_app).top [] nothing_held words false ≡ true = rw (ends.0, ends.3, ends.2.passes) refl in
+    let ends = walk_ends soak_options one_operand soak_app soak_rules soak_operands refl words given e in
+    let level : level_passes (built soak_app).top [] nothing_held words false ≡ true = rw (ends.passes, ends.is, ends.idle_now.passes) refl in
     rw soak_simple (leaf_takes (built soak_app) nothing_held words refl level)
 
-pub soak_matches : (words : List Text) (given : List (Text × Text)) → given_by soak_options words ≡ Some given → matches_of soak_app words ≡ map row given
+pub soak_matches : (words : List Text) (given : List (Text × Text)) → given_by soak_options one_operand words ≡ Some given → matches_of soak_app words ≡ map row given
 soak_matches words given e =
-    let ends = walk_ends soak_options soak_app soak_rules refl words given e in
-    ap (λ (w : Walk). rows_finished (built soak_app).top.rules w.held) ends.3
+    let ends = walk_ends soak_options one_operand soak_app soak_rules soak_operands refl words given e in
+    ap (λ (w : Walk). rows_finished (built soak_app).top.rules w.held) ends.is
     ∙ no_defaults (built soak_app).top.rules _ (refl, tt)
-    ∙ ends.2.rows
+    ∙ ends.idle_now.rows
+
+pub pair_takes : (words : List Text) (given : List (Text × Text)) → given_by pair_options pair_operands words ≡ Some given → takes pair_app words ≡ true
+pair_takes words given e =
+    let ends = walk_ends pair_options pair_operands pair_app pair_rules pair_both refl words given e in
+    let level : level_passes (built pair_app).top [] nothing_held words false ≡ true = rw (ends.passes, ends.is, ends.idle_now.passes) refl in
+    rw pair_simple (leaf_takes (built pair_app) nothing_held words refl level)
+
+pub pair_matches : (words : List Text) (given : List (Text × Text)) → given_by pair_options pair_operands words ≡ Some given → matches_of pair_app words ≡ map row given
+pair_matches words given e =
+    let ends = walk_ends pair_options pair_operands pair_app pair_rules pair_both refl words given e in
+    ap (λ (w : Walk). rows_finished (built pair_app).top.rules w.held) ends.is
+    ∙ no_defaults (built pair_app).top.rules _ (refl, (refl, (refl, (refl, (refl, (refl, tt))))))
+    ∙ ends.idle_now.rows
 
 -- the first value of a name in the rows
 pub first_given : (name : Text) (given : List (Text × Text)) → first_of name (map row given) ≡ value_given name given

@@ -20,7 +20,7 @@ two_steps : (names : List Text) (name value : Text) (r : Reading) → IsName nam
 two_steps names name value r is plain = go r.waiting
   where
     listed : (b : Bool) → cond b (gives name value r) None
-        ≡ option_and_then (step names value) (cond b (Some (record { waiting = Some name; given = r.given })) None)
+        ≡ option_and_then (step names value) (cond b (Some (record { waiting = Some name; left = r.left; given = r.given })) None)
     listed true = rw plain refl
     listed false = refl
 
@@ -46,6 +46,7 @@ same_reading names (word ∷ before) after name value r is plain = go (λ r1. sa
     go same None = refl
     go same (Some r1) = same r1
 
-pub either_way : (names before after : List Text) (name value : Text) → IsName name → is_hyphened value ≡ false →
-    given_by names (before ++ option_with_value name value ∷ after) ≡ given_by names (before ++ option_word_of name ∷ value ∷ after)
-either_way names before after name value is plain = ap (option_and_then finished) (same_reading names before after name value nothing_read is plain)
+pub either_way : (names operands before after : List Text) (name value : Text) → IsName name → is_hyphened value ≡ false →
+    given_by names operands (before ++ option_with_value name value ∷ after) ≡ given_by names operands (before ++ option_word_of name ∷ value ∷ after)
+either_way names operands before after name value is plain =
+    ap (option_and_then finished) (same_reading names before after name value (nothing_read operands) is plain)

@@ -1,12 +1,12 @@
--- A command of clap with these options and one operand takes each word as `step` does.
-use Rattle.std.proofs.Common.{◌≡◌, ◌∙◌, ◌&&◌, ◌||◌, not, ℕ, Bool, cond, true, false, refl, sym, ap, List, [], ◌∷◌, ◌++◌, map, true≢false, subst}
-use Rattle.std.specs.Prelude.{option_and_then, Some, None}
+-- A command of clap with these options and operands takes each word as `step` does.
+use Rattle.std.proofs.Common.{◌≡◌, ◌∙◌, ◌+◌, ◌&&◌, ◌||◌, not, ℕ, Bool, cond, true, false, refl, sym, ap, List, [], ◌∷◌, ◌++◌, map, true≢false, subst}
+use Rattle.std.specs.Prelude.{option_and_then, Some, None, min, ⊤}
 use Rattle.std.specs.declared.option.Option.{Option}
 use Rattle.std.specs.List.{list_any, fold}
 use Rattle.std.specs.Str.{bytes_eq}
 use Rattle.std.proofs.lemmas.Slice.Eq.{bytes_eq-Decides}
 use Rattle.std.proofs.lemmas.List.{append-nil, map-append}
-use Rattle.clap.specs.Lexer.{long_of, short_of}
+use Rattle.clap.specs.Lexer.{long_of, short_of, usize_max}
 use Rattle.clap.specs.Values.{reading_of}
 use Rattle.clap.specs.declared.builder.value_parser.ValueParser.TheVariants as vp
 use Rattle.clap.specs.declared.parser.matches.ValueSource.TheVariants.{CommandLine}
@@ -15,15 +15,20 @@ use Rattle.clap.specs.Walk.{Rule, Row, Held, Walk, Text, idle, option, arg_by_lo
 use Rattle.clap.specs.Takes.{settle_passes, turn_passes, walk_passes}
 use Rattle.clap.specs.Simple.{Shape}
 use Rattle.clap.specs.Walk.{Waiting}
-use Rattle.dpmi_words.specs.Reading.{Reading, option_of, operand_name, option_word, with_value, step_by, has_given, is_hyphened, is_option_name, is_blank, gives, step, reads}
+use Rattle.dpmi_words.specs.Reading.{Reading, option_of, operand_word, option_word, with_value, step_by, has_given, is_hyphened, is_option_name, is_blank, gives, step, reads}
 
 -- ---- the rules
 
 abbrev pub built_option : Text → Rule
 built_option name = filled (record (new_rule name) { long = Some name })
 
-abbrev pub built_operand : Rule
-built_operand = with_index 1 (filled (new_rule operand_name))
+-- the operand of a place
+abbrev pub built_operand : ℕ → Text → Rule
+built_operand k name = with_index k (filled (new_rule name))
+
+-- the place of the next operand
+abbrev pub next_place : ℕ → ℕ
+next_place k = min (k + 1) usize_max
 
 abbrev pub row : Text × Text → Row
 row p = record { id = p.0; values = p.1 ∷ []; count = None; source = Some CommandLine; reading = reading_of vp.String }
@@ -31,9 +36,12 @@ row p = record { id = p.0; values = p.1 ∷ []; count = None; source = Some Comm
 pub record Rules (names : List Text) (c : List Rule) : Type 0 where
   pub long : (n : Text) → is_option_name names n ≡ true → arg_by_long c n ≡ Some (built_option n)
   pub by_id : (n : Text) → is_option_name names n ≡ true → arg_by_id c n ≡ Some (built_option n)
-  pub index : arg_by_index c 1 ≡ Some built_operand
-  pub operand_by_id : arg_by_id c operand_name ≡ Some built_operand
-  pub other : (n : Text) → is_option_name names n ≡ true → bytes_eq n operand_name ≡ false
+
+-- these operands are to come from a place on
+abbrev pub Operands : List Rule → ℕ → List Text → Type 0
+Operands c k [] = ⊤
+Operands c k (n ∷ rest) =
+    (arg_by_index c k ≡ Some (built_operand k n)) × (arg_by_id c n ≡ Some (built_operand k n)) × Operands c (next_place k) rest
 
 -- ---- rows
 
@@ -112,12 +120,12 @@ idle_pending c given n v rule new = record {
   passes = rw (rule, has_row_given n given, new) refl;
 }
 
-pub idle_operand : (c : List Rule) (given : List (Text × Text)) (v : Text) → arg_by_id c operand_name ≡ Some built_operand → has_given operand_name given ≡ false →
-    Idle c (given ++ (operand_name, v) ∷ []) (record { rows = map row given; pending = Some (operand_name, v ∷ []); skip = 0 })
-idle_operand c given v rule new = record {
-  rows = rw rule (used_new operand_name v given new);
+pub idle_operand : (c : List Rule) (given : List (Text × Text)) (k : ℕ) (n v : Text) → arg_by_id c n ≡ Some (built_operand k n) → has_given n given ≡ false →
+    Idle c (given ++ (n, v) ∷ []) (record { rows = map row given; pending = Some (n, v ∷ []); skip = 0 })
+idle_operand c given k n v rule new = record {
+  rows = rw rule (used_new n v given new);
   skip = refl;
-  passes = rw (rule, has_row_given operand_name given, new) refl;
+  passes = rw (rule, has_row_given n given, new) refl;
 }
 
 -- a word that is no flag
@@ -142,12 +150,13 @@ value_read : (c : List Rule) (rows : List Row) (k : ℕ) (word n : Text) → is_
 unfolding walked
 value_read c rows k word n e rule = rw (plain_dashes word e, plain_long word e, plain_short word e, rule, same_bytes n) refl
 
-operand_read : (c : List Rule) (given : List (Text × Text)) (h : Held) (word : Text) → is_hyphened word ≡ false → arg_by_index c 1 ≡ Some built_operand →
-    Idle c given h →
-    walked c [] (record { held = h; waiting = idle; position = 1; is_trailing = false; stopped = None }) word
-    ≡ record { held = record { rows = map row given; pending = Some (operand_name, word ∷ []); skip = 0 }; waiting = idle; position = 2; is_trailing = false; stopped = None }
+operand_read : (c : List Rule) (given : List (Text × Text)) (h : Held) (k : ℕ) (n word : Text) → is_hyphened word ≡ false →
+    arg_by_index c k ≡ Some (built_operand k n) → Idle c given h →
+    walked c [] (record { held = h; waiting = idle; position = k; is_trailing = false; stopped = None }) word
+    ≡ record { held = record { rows = map row given; pending = Some (n, word ∷ []); skip = 0 }; waiting = idle; position = next_place k; is_trailing = false; stopped = None }
 unfolding walked
-operand_read c given h word e rule is = rw (plain_dashes word e, plain_long word e, plain_short word e, rule, and_false (is_pending built_operand h.pending), is.rows, is.skip) refl
+operand_read c given h k n word e rule is =
+    rw (plain_dashes word e, plain_long word e, plain_short word e, rule, and_false (is_pending (built_operand k n) h.pending), is.rows, is.skip) refl
 
 -- ---- each word passes
 
@@ -165,23 +174,35 @@ value_passes : (s : Shape) (rows : List Row) (k : ℕ) (word n : Text) → is_hy
     turn_passes s [] (record { held = record { rows = rows; pending = Some (n, []); skip = 0 }; waiting = option n; position = k; is_trailing = false; stopped = None }) word ≡ true
 value_passes s rows k word n e = rw (plain_dashes word e, plain_long word e, plain_short word e) refl
 
-operand_passes : (s : Shape) (given : List (Text × Text)) (h : Held) (word : Text) → is_hyphened word ≡ false → arg_by_index s.rules 1 ≡ Some built_operand →
-    s.args_override_self ≡ false → Idle s.rules given h →
-    turn_passes s [] (record { held = h; waiting = idle; position = 1; is_trailing = false; stopped = None }) word ≡ true
-operand_passes s given h word e rule again is = rw (plain_dashes word e, plain_long word e, plain_short word e, rule, again, and_false (is_pending built_operand h.pending), is.passes) refl
+operand_passes : (s : Shape) (given : List (Text × Text)) (h : Held) (k : ℕ) (n word : Text) → is_hyphened word ≡ false →
+    arg_by_index s.rules k ≡ Some (built_operand k n) → s.args_override_self ≡ false → Idle s.rules given h →
+    turn_passes s [] (record { held = h; waiting = idle; position = k; is_trailing = false; stopped = None }) word ≡ true
+operand_passes s given h k n word e rule again is =
+    rw (plain_dashes word e, plain_long word e, plain_short word e, rule, again, and_false (is_pending (built_operand k n) h.pending), is.passes) refl
 
 -- ---- one step of both
 
-abbrev pub place : List (Text × Text) → ℕ
-place given = cond (has_given operand_name given) 2 1
+abbrev pub walk_at : ℕ → Waiting → Held → Walk
+walk_at k waiting h = record { held = h; waiting = waiting; position = k; is_trailing = false; stopped = None }
 
-abbrev pub walk_at : List (Text × Text) → Waiting → Held → Walk
-walk_at given waiting h = record { held = h; waiting = waiting; position = place given; is_trailing = false; stopped = None }
+-- the walk of clap is where the reading is
+pub record IdleAt (c : List Rule) (left : List Text) (given : List (Text × Text)) (w : Walk) : Type 0 where
+  pub held : Held
+  pub at : ℕ
+  pub idle_now : Idle c given held
+  pub operands : Operands c at left
+  pub is : w ≡ walk_at at idle held
 
-abbrev pub Tied : List Text → List Rule → Option Text → List (Text × Text) → Walk → Type 0
-Tied names c None given w = (h : Held) × Idle c given h × (w ≡ walk_at given idle h)
-Tied names c (Some n) given w = (is_option_name names n ≡ true) × (has_given n given ≡ false)
-    × (w ≡ walk_at given (option n) (record { rows = map row given; pending = Some (n, []); skip = 0 }))
+pub record WaitsAt (names : List Text) (c : List Rule) (n : Text) (left : List Text) (given : List (Text × Text)) (w : Walk) : Type 0 where
+  pub at : ℕ
+  pub listed : is_option_name names n ≡ true
+  pub new : has_given n given ≡ false
+  pub operands : Operands c at left
+  pub is : w ≡ walk_at at (option n) (record { rows = map row given; pending = Some (n, []); skip = 0 })
+
+abbrev pub Tied : List Text → List Rule → Option Text → List Text → List (Text × Text) → Walk → Type 0
+Tied names c None left given w = IdleAt c left given w
+Tied names c (Some n) left given w = WaitsAt names c n left given w
 
 pub unless_Some : {A : Type 0} (b : Bool) (o : Option A) (x : A) → cond b None o ≡ Some x → (b ≡ false) × (o ≡ Some x)
 unless_Some true o x e = cc
@@ -196,140 +217,133 @@ and_not true true h = absurd (true≢false (sym h))
 and_not true false h = (refl, refl)
 and_not false b h = absurd (true≢false (sym h))
 
-or_false_right : (b : Bool) → (b || false) ≡ b
-or_false_right true = refl
-or_false_right false = refl
-
-or_assoc : (a b c : Bool) → (a || (b || c)) ≡ ((a || b) || c)
-or_assoc true b c = refl
-or_assoc false b c = refl
-
-given_more : (m n v : Text) (given : List (Text × Text)) → has_given m (given ++ (n, v) ∷ []) ≡ (has_given m given || bytes_eq n m)
-given_more m n v [] = or_false_right (bytes_eq n m)
-given_more m n v (p ∷ ps) = ap (λ b. bytes_eq p.0 m || b) (given_more m n v ps) ∙ or_assoc (bytes_eq p.0 m) (has_given m ps) (bytes_eq n m)
-
-place_kept : (n v : Text) (given : List (Text × Text)) → bytes_eq n operand_name ≡ false → place given ≡ place (given ++ (n, v) ∷ [])
-place_kept n v given other = rw (given_more operand_name n v given, other, or_false_right (has_given operand_name given)) refl
-
-place_operand : (v : Text) (given : List (Text × Text)) → place (given ++ (operand_name, v) ∷ []) ≡ 2
-place_operand v given = rw (given_more operand_name operand_name v given, or_true (has_given operand_name given)) refl
-  where
-    or_true : (b : Bool) → (b || true) ≡ true
-    or_true true = refl
-    or_true false = refl
-
-gives_is : (n v : Text) (r r2 : Reading) → gives n v r ≡ Some r2 → (has_given n r.given ≡ false) × (r2 ≡ record { waiting = None; given = r.given ++ (n, v) ∷ [] })
+gives_is : (n v : Text) (r r2 : Reading) → gives n v r ≡ Some r2 →
+    (has_given n r.given ≡ false) × (r2 ≡ record { waiting = None; left = r.left; given = r.given ++ (n, v) ∷ [] })
 gives_is n v r r2 e =
     let both = unless_Some (has_given n r.given || is_blank v) _ r2 e in
-    let same : r2 ≡ record { waiting = None; given = r.given ++ (n, v) ∷ [] } = let h = both.1 in cc in
+    let same : r2 ≡ record { waiting = None; left = r.left; given = r.given ++ (n, v) ∷ [] } = let h = both.1 in cc in
     ((or_false (has_given n r.given) (is_blank v) both.0).0, same)
 
 abbrev pub StepsWith : List Text → Shape → Text → Walk → Reading → Type 0
-StepsWith names s word w r2 = (turn_passes s [] w word ≡ true) × Tied names s.rules r2.waiting r2.given (walked s.rules [] w word)
+StepsWith names s word w r2 = (turn_passes s [] w word ≡ true) × Tied names s.rules r2.waiting r2.left r2.given (walked s.rules [] w word)
 
-value_step : (names : List Text) (s : Shape) → Rules names s.rules → (given : List (Text × Text)) (n word : Text) (w : Walk) (r2 : Reading) →
-    Tied names s.rules (Some n) given w → step names word (record { waiting = Some n; given = given }) ≡ Some r2 → StepsWith names s word w r2
-value_step names s rules given n word w r2 tied e =
+value_step : (names : List Text) (s : Shape) → Rules names s.rules → (left : List Text) (given : List (Text × Text)) (n word : Text) (w : Walk) (r2 : Reading) →
+    WaitsAt names s.rules n left given w → step names word (record { waiting = Some n; left = left; given = given }) ≡ Some r2 → StepsWith names s word w r2
+value_step names s rules left given n word w r2 tied e =
     let plain = unless_Some (is_hyphened word) _ r2 e in
-    let is = gives_is n word (record { waiting = Some n; given = given }) r2 plain.1 in
-    let rule = rules.by_id n tied.0 in
-    rw (is.1, tied.2) (
-      value_passes s (map row given) (place given) word n plain.0,
-      (
-        record { rows = map row given; pending = Some (n, word ∷ []); skip = 0 },
-        idle_pending s.rules given n word rule tied.1,
-        value_read s.rules (map row given) (place given) word n plain.0 rule
-            ∙ ap (λ k. record { held = record { rows = map row given; pending = Some (n, word ∷ []); skip = 0 }; waiting = idle; position = k; is_trailing = false; stopped = None })
-            (place_kept n word given (rules.other n tied.0)),
-      ),
+    let is = gives_is n word (record { waiting = Some n; left = left; given = given }) r2 plain.1 in
+    let rule = rules.by_id n tied.listed in
+    rw (is.1, tied.is) (
+      value_passes s (map row given) tied.at word n plain.0,
+      record {
+        held = record { rows = map row given; pending = Some (n, word ∷ []); skip = 0 };
+        at = tied.at;
+        idle_now = idle_pending s.rules given n word rule tied.new;
+        operands = tied.operands;
+        is = value_read s.rules (map row given) tied.at word n plain.0 rule;
+      },
     )
 
-attached_step : (names : List Text) (s : Shape) → Rules names s.rules → s.args_override_self ≡ false → (given : List (Text × Text)) (h : Held) (n v word : Text) (r2 : Reading) →
-    Idle s.rules given h → long_of word ≡ Some (n, Some v) → is_option_name names n ≡ true →
-    gives n v (record { waiting = None; given = given }) ≡ Some r2 → StepsWith names s word (walk_at given idle h) r2
-attached_step names s rules again given h n v word r2 idle_now long listed e =
-    let is = gives_is n v (record { waiting = None; given = given }) r2 e in
+attached_step : (names : List Text) (s : Shape) → Rules names s.rules → s.args_override_self ≡ false → (left : List Text) (given : List (Text × Text)) (h : Held) (k : ℕ)
+    (n v word : Text) (r2 : Reading) → Idle s.rules given h → Operands s.rules k left → long_of word ≡ Some (n, Some v) → is_option_name names n ≡ true →
+    gives n v (record { waiting = None; left = left; given = given }) ≡ Some r2 → StepsWith names s word (walk_at k idle h) r2
+attached_step names s rules again left given h k n v word r2 idle_now operands long listed e =
+    let is = gives_is n v (record { waiting = None; left = left; given = given }) r2 e in
     let rule = rules.long n listed in
     rw is.1 (
-      attached_passes s given h (place given) word n v long rule again idle_now is.0,
-      (
-        record { rows = map row (given ++ (n, v) ∷ []); pending = None; skip = 0 },
-        idle_used s.rules given n v is.0,
-        attached s.rules h (place given) word n v long rule
-            ∙ rw (idle_now.rows, idle_now.skip, used_new n v given is.0, place_kept n v given (rules.other n listed)) refl,
-      ),
+      attached_passes s given h k word n v long rule again idle_now is.0,
+      record {
+        held = record { rows = map row (given ++ (n, v) ∷ []); pending = None; skip = 0 };
+        at = k;
+        idle_now = idle_used s.rules given n v is.0;
+        operands = operands;
+        is = attached s.rules h k word n v long rule ∙ rw (idle_now.rows, idle_now.skip, used_new n v given is.0) refl;
+      },
     )
 
-separate_step : (names : List Text) (s : Shape) → Rules names s.rules → s.args_override_self ≡ false → (given : List (Text × Text)) (h : Held) (n word : Text) →
-    Idle s.rules given h → long_of word ≡ Some (n, None) → is_option_name names n ≡ true → has_given n given ≡ false →
-    StepsWith names s word (walk_at given idle h) (record { waiting = Some n; given = given })
-separate_step names s rules again given h n word idle_now long listed new =
+separate_step : (names : List Text) (s : Shape) → Rules names s.rules → s.args_override_self ≡ false → (left : List Text) (given : List (Text × Text)) (h : Held) (k : ℕ)
+    (n word : Text) → Idle s.rules given h → Operands s.rules k left → long_of word ≡ Some (n, None) → is_option_name names n ≡ true → has_given n given ≡ false →
+    StepsWith names s word (walk_at k idle h) (record { waiting = Some n; left = left; given = given })
+separate_step names s rules again left given h k n word idle_now operands long listed new =
     let rule = rules.long n listed in (
-      separate_passes s given h (place given) word n long rule again idle_now,
-      (listed, new, separate s.rules h (place given) word n long rule ∙ rw (idle_now.rows, idle_now.skip) refl),
+      separate_passes s given h k word n long rule again idle_now,
+      record {
+        at = k;
+        listed = listed;
+        new = new;
+        operands = operands;
+        is = separate s.rules h k word n long rule ∙ rw (idle_now.rows, idle_now.skip) refl;
+      },
     )
 
-operand_step : (names : List Text) (s : Shape) → Rules names s.rules → s.args_override_self ≡ false → (given : List (Text × Text)) (h : Held) (word : Text) (r2 : Reading) →
-    Idle s.rules given h → is_hyphened word ≡ false →
-    gives operand_name word (record { waiting = None; given = given }) ≡ Some r2 → StepsWith names s word (walk_at given idle h) r2
-operand_step names s rules again given h word r2 idle_now plain e =
-    let is = gives_is operand_name word (record { waiting = None; given = given }) r2 e in
-    let first : walk_at given idle h ≡ record { held = h; waiting = idle; position = 1; is_trailing = false; stopped = None } = rw is.0 refl in
-    subst (λ w. StepsWith names s word w r2) (sym first) (rw is.1 (
-      operand_passes s given h word plain rules.index again idle_now,
-      (
-        record { rows = map row given; pending = Some (operand_name, word ∷ []); skip = 0 },
-        idle_operand s.rules given word rules.operand_by_id is.0,
-        operand_read s.rules given h word plain rules.index idle_now ∙ rw (place_operand word given) refl,
-      ),
-    ))
+operand_step : (names : List Text) (s : Shape) → s.args_override_self ≡ false → (left : List Text) (given : List (Text × Text)) (h : Held) (k : ℕ)
+    (word : Text) (r2 : Reading) → Idle s.rules given h → Operands s.rules k left → is_hyphened word ≡ false →
+    operand_word left word (record { waiting = None; left = left; given = given }) ≡ Some r2 → StepsWith names s word (walk_at k idle h) r2
+operand_step names s again [] given h k word r2 idle_now operands plain e = cc
+operand_step names s again (n ∷ rest) given h k word r2 idle_now operands plain e =
+    let is = gives_is n word (record { waiting = None; left = rest; given = given }) r2 e in
+    rw is.1 (
+      operand_passes s given h k n word plain operands.0 again idle_now,
+      record {
+        held = record { rows = map row given; pending = Some (n, word ∷ []); skip = 0 };
+        at = next_place k;
+        idle_now = idle_operand s.rules given k n word operands.1 is.0;
+        operands = operands.2;
+        is = operand_read s.rules given h k n word plain operands.0 idle_now;
+      },
+    )
 
-value_or_name : (names : List Text) (s : Shape) → Rules names s.rules → s.args_override_self ≡ false → (given : List (Text × Text)) (h : Held) (n word : Text) (v : Option Text) (r2 : Reading) →
-    Idle s.rules given h → long_of word ≡ Some (n, v) → is_option_name names n ≡ true → has_given n given ≡ false →
-    with_value n v (record { waiting = None; given = given }) ≡ Some r2 → StepsWith names s word (walk_at given idle h) r2
-value_or_name names s rules again given h n word (Some v) r2 idle_now long listed new e = attached_step names s rules again given h n v word r2 idle_now long listed e
-value_or_name names s rules again given h n word None r2 idle_now long listed new e =
-    let is : r2 ≡ record { waiting = Some n; given = given } = cc in
-    rw is (separate_step names s rules again given h n word idle_now long listed new)
+value_or_name : (names : List Text) (s : Shape) → Rules names s.rules → s.args_override_self ≡ false → (left : List Text) (given : List (Text × Text)) (h : Held) (k : ℕ)
+    (n word : Text) (v : Option Text) (r2 : Reading) → Idle s.rules given h → Operands s.rules k left → long_of word ≡ Some (n, v) → is_option_name names n ≡ true →
+    has_given n given ≡ false → with_value n v (record { waiting = None; left = left; given = given }) ≡ Some r2 → StepsWith names s word (walk_at k idle h) r2
+value_or_name names s rules again left given h k n word (Some v) r2 idle_now operands long listed new e =
+    attached_step names s rules again left given h k n v word r2 idle_now operands long listed e
+value_or_name names s rules again left given h k n word None r2 idle_now operands long listed new e =
+    let is : r2 ≡ record { waiting = Some n; left = left; given = given } = cc in
+    rw is (separate_step names s rules again left given h k n word idle_now operands long listed new)
 
-option_step : (names : List Text) (s : Shape) → Rules names s.rules → s.args_override_self ≡ false → (given : List (Text × Text)) (h : Held) (word : Text) (o : Option (Text × Option Text)) (r2 : Reading) →
-    Idle s.rules given h → long_of word ≡ o →
-    option_word names o (record { waiting = None; given = given }) ≡ Some r2 → StepsWith names s word (walk_at given idle h) r2
-option_step names s rules again given h word None r2 idle_now long e = cc
-option_step names s rules again given h word (Some p) r2 idle_now long e =
+option_step : (names : List Text) (s : Shape) → Rules names s.rules → s.args_override_self ≡ false → (left : List Text) (given : List (Text × Text)) (h : Held) (k : ℕ)
+    (word : Text) (o : Option (Text × Option Text)) (r2 : Reading) → Idle s.rules given h → Operands s.rules k left → long_of word ≡ o →
+    option_word names o (record { waiting = None; left = left; given = given }) ≡ Some r2 → StepsWith names s word (walk_at k idle h) r2
+option_step names s rules again left given h k word None r2 idle_now operands long e = cc
+option_step names s rules again left given h k word (Some p) r2 idle_now operands long e =
     let first = when_Some (is_option_name names p.0 && not (has_given p.0 given)) _ r2 e in
     let both = and_not (is_option_name names p.0) (has_given p.0 given) first.0 in
-    value_or_name names s rules again given h p.0 word p.1 r2 idle_now long both.0 both.1 first.1
+    value_or_name names s rules again left given h k p.0 word p.1 r2 idle_now operands long both.0 both.1 first.1
 
-idle_step : (names : List Text) (s : Shape) → Rules names s.rules → s.args_override_self ≡ false → (given : List (Text × Text)) (h : Held) (word : Text) (r2 : Reading) (b : Bool) →
-    Idle s.rules given h → is_hyphened word ≡ b →
-    cond b (option_word names (option_of word) (record { waiting = None; given = given })) (gives operand_name word (record { waiting = None; given = given })) ≡ Some r2 →
-    StepsWith names s word (walk_at given idle h) r2
-idle_step names s rules again given h word r2 true idle_now is e = option_step names s rules again given h word (option_of word) r2 idle_now (long_is word) e
-idle_step names s rules again given h word r2 false idle_now is e = operand_step names s rules again given h word r2 idle_now is e
+idle_step : (names : List Text) (s : Shape) → Rules names s.rules → s.args_override_self ≡ false → (left : List Text) (given : List (Text × Text)) (h : Held) (k : ℕ)
+    (word : Text) (r2 : Reading) (b : Bool) → Idle s.rules given h → Operands s.rules k left → is_hyphened word ≡ b →
+    cond b (option_word names (option_of word) (record { waiting = None; left = left; given = given }))
+    (operand_word left word (record { waiting = None; left = left; given = given })) ≡ Some r2 →
+    StepsWith names s word (walk_at k idle h) r2
+idle_step names s rules again left given h k word r2 true idle_now operands is e =
+    option_step names s rules again left given h k word (option_of word) r2 idle_now operands (long_is word) e
+idle_step names s rules again left given h k word r2 false idle_now operands is e = operand_step names s again left given h k word r2 idle_now operands is e
 
-pub one_step : (names : List Text) (s : Shape) → Rules names s.rules → s.args_override_self ≡ false → (waiting : Option Text) (given : List (Text × Text)) (word : Text) (w : Walk) (r2 : Reading) →
-    Tied names s.rules waiting given w → step_by names waiting word (record { waiting = waiting; given = given }) ≡ Some r2 → StepsWith names s word w r2
-one_step names s rules again (Some n) given word w r2 tied e = value_step names s rules given n word w r2 tied e
-one_step names s rules again None given word w r2 tied e = rw tied.2 (idle_step names s rules again given tied.0 word r2 (is_hyphened word) tied.1 refl e)
+pub one_step : (names : List Text) (s : Shape) → Rules names s.rules → s.args_override_self ≡ false → (waiting : Option Text) (left : List Text) (given : List (Text × Text))
+    (word : Text) (w : Walk) (r2 : Reading) → Tied names s.rules waiting left given w →
+    step_by names waiting word (record { waiting = waiting; left = left; given = given }) ≡ Some r2 → StepsWith names s word w r2
+one_step names s rules again (Some n) left given word w r2 tied e = value_step names s rules left given n word w r2 tied e
+one_step names s rules again None left given word w r2 tied e =
+    rw tied.is (idle_step names s rules again left given tied.held tied.at word r2 (is_hyphened word) tied.idle_now tied.operands refl e)
 
 -- ---- all the words
 
 pub all_steps : (names : List Text) (s : Shape) → Rules names s.rules → s.args_override_self ≡ false → (words : List Text) (r r2 : Reading) (w : Walk) →
-    Tied names s.rules r.waiting r.given w → reads names words r ≡ Some r2 →
-    (walk_passes s [] w words ≡ true) × Tied names s.rules r2.waiting r2.given (fold (walked s.rules []) w words)
+    Tied names s.rules r.waiting r.left r.given w → reads names words r ≡ Some r2 →
+    (walk_passes s [] w words ≡ true) × Tied names s.rules r2.waiting r2.left r2.given (fold (walked s.rules []) w words)
 unfolding reads walk_passes
-all_steps names s rules again [] r r2 w tied e = let same : r ≡ r2 = cc in (refl, subst (λ (x : Reading). Tied names s.rules x.waiting x.given w) same tied)
+all_steps names s rules again [] r r2 w tied e = let same : r ≡ r2 = cc in (refl, subst (λ (x : Reading). Tied names s.rules x.waiting x.left x.given w) same tied)
 all_steps names s rules again (word ∷ rest) r r2 w tied e =
     go (λ r1 t more. all_steps names s rules again rest r1 r2 (walked s.rules [] w word) t more) (step names word r) refl e
   where
-    go : ((r1 : Reading) → Tied names s.rules r1.waiting r1.given (walked s.rules [] w word) → reads names rest r1 ≡ Some r2 →
-        (walk_passes s [] (walked s.rules [] w word) rest ≡ true) × Tied names s.rules r2.waiting r2.given (fold (walked s.rules []) (walked s.rules [] w word) rest)) →
+    go : ((r1 : Reading) → Tied names s.rules r1.waiting r1.left r1.given (walked s.rules [] w word) → reads names rest r1 ≡ Some r2 →
+        (walk_passes s [] (walked s.rules [] w word) rest ≡ true) × Tied names s.rules r2.waiting r2.left r2.given (fold (walked s.rules []) (walked s.rules [] w word) rest)) →
         (o : Option Reading) → step names word r ≡ o → option_and_then (reads names rest) o ≡ Some r2 →
         ((turn_passes s [] w word && walk_passes s [] (walked s.rules [] w word) rest) ≡ true)
-        × Tied names s.rules r2.waiting r2.given (fold (walked s.rules []) (walked s.rules [] w word) rest)
+        × Tied names s.rules r2.waiting r2.left r2.given (fold (walked s.rules []) (walked s.rules [] w word) rest)
     go others None is more = cc
     go others (Some r1) is more =
-        let one = one_step names s rules again r.waiting r.given word w r1 tied is in
+        let one = one_step names s rules again r.waiting r.left r.given word w r1 tied is in
         let h = others r1 one.1 more in
         (rw (one.0, h.0) refl, h.1)

@@ -5,7 +5,7 @@ use Rattle.clap.specs.Walk.{Rule}
 use Rattle.clap.specs.Matches.{first_value}
 use Rattle.clap.specs.declared.parser.matches.Found.{Found}
 use Rattle.clap.specs.Simple.{App, new_rule, new_shape, with_rule}
-use Rattle.dpmi_words.specs.Reading.{Text, operand_name, run_options, soak_options, value_given}
+use Rattle.dpmi_words.specs.Reading.{Text, one_operand, pair_operands, pair_options, run_options, soak_options, value_given}
 
 -- an option with a value
 abbrev pub option_rule : Text → Rule
@@ -19,16 +19,23 @@ quiet_app name = record { top = record (new_shape name) { no_binary_name = true;
 abbrev pub with_option : App → Text → App
 with_option app name = with_rule app (option_rule name)
 
--- the command of a first word with these options and the operand
-abbrev pub command_app : Text → List Text → App
-command_app name options = with_rule (fold with_option (quiet_app name) options) (new_rule operand_name)
+-- one operand more
+abbrev pub with_operand : App → Text → App
+with_operand app name = with_rule app (new_rule name)
 
--- the commands of `run` and of `soak`
+-- the command of a first word with these options and operands
+abbrev pub command_app : Text → List Text → List Text → App
+command_app name options operands = fold with_operand (fold with_option (quiet_app name) options) operands
+
+-- the commands of `run`, of `soak` and of `pair`
 abbrev pub run_app : App
-run_app = command_app (codes "run") run_options
+run_app = command_app (codes "run") run_options one_operand
 
 abbrev pub soak_app : App
-soak_app = command_app (codes "soak") soak_options
+soak_app = command_app (codes "soak") soak_options one_operand
+
+abbrev pub pair_app : App
+pair_app = command_app (codes "pair") pair_options pair_operands
 
 -- each value was assigned that the words give, and no other
 abbrev pub Assigns : List (Text × Text) → Found → Type 0

@@ -4,11 +4,13 @@ use Rattle.std.specs.declared.option.Option.{Option}
 use Rattle.std.specs.Str.{bytes_eq}
 use Rattle.hex.specs.Hex.{decode_of}
 use Rattle.client_world.specs.declared.limits.TheConstants.{MAX_STEPS, DEFAULT_BOUND, MAX_PAGES, DEFAULT_PAGES, MAX_TRACE, DEFAULT_TRACE}
-use Rattle.dpmi_words.specs.Reading.{Text, operand_name, given_by, run_options, soak_options, value_given}
+use Rattle.dpmi_words.specs.Reading.{Text, operand_name, first_name, second_name, given_by, one_operand, pair_operands, pair_options, run_options, soak_options, value_given}
 use Rattle.dpmi_words.specs.Numbers.{number_in_text, number_or}
 use Rattle.dpmi_words.specs.declared.meaning.KeySource.{KeySource}
 use Rattle.dpmi_words.specs.declared.meaning.KeySource.TheVariants as source
+use Rattle.dpmi_words.specs.declared.meaning.Pair.{Pair}
 use Rattle.dpmi_words.specs.declared.meaning.Run.{Run}
+use Rattle.dpmi_words.specs.declared.meaning.TheConstants.{MAX_SLICE, DEFAULT_SLICE}
 use Rattle.dpmi_words.specs.declared.meaning.Words.{Words}
 use Rattle.dpmi_words.specs.declared.meaning.Words.TheVariants as words
 
@@ -25,10 +27,20 @@ pub record RunMeaning : Type 0 where
   pub pages : ℕ
   pub trace : ℕ
 
--- a run, or the run of the client that is made from a number
+-- a pair: the names of its two files, the turns of a slice, the most turns of each client, and the pages of memory of each
+pub record PairMeaning : Type 0 where
+  pub first : Text
+  pub second : Text
+  pub slice : ℕ
+  pub bound : ℕ
+  pub pages_a : ℕ
+  pub pages_b : ℕ
+
+-- a run, the run of the client that is made from a number, or a pair of runs in turns
 pub data Meaning : Type 0 where
   Runs : RunMeaning → Meaning
   Soaks : ℕ → Meaning
+  Pairs : PairMeaning → Meaning
 
 -- the bytes that were decoded
 abbrev pub pressed : {E : Type 0} → Result (List ℕ) E → Option Keys
@@ -61,12 +73,31 @@ run_of_values value = run_with
 abbrev pub soak_of_values : (Text → Option Text) → Option ℕ
 soak_of_values value = option_and_then (number_in_text 20 0 (2 ^ 64 - 1)) (value operand_name)
 
--- the words after `run`, and after `soak`
+-- the pair of these values
+abbrev pub pair_with : Option Text → Option Text → Option ℕ → Option ℕ → Option ℕ → Option ℕ → Option PairMeaning
+pair_with first second slice bound pages_a pages_b =
+    option_and_then (λ f. option_and_then (λ g. option_and_then (λ s. option_and_then (λ b. option_and_then (λ p.
+    option_map (λ q. record { first = f; second = g; slice = s; bound = b; pages_a = p; pages_b = q }) pages_b) pages_a) bound) slice) second) first
+
+-- the pair of the value of each name, each number in its range
+abbrev pub pair_of_values : (Text → Option Text) → Option PairMeaning
+pair_of_values value = pair_with
+    (value first_name)
+    (value second_name)
+    (number_or DEFAULT_SLICE 1 MAX_SLICE (value (codes "slice")))
+    (number_or DEFAULT_BOUND 1 MAX_STEPS (value (codes "bound")))
+    (number_or DEFAULT_PAGES 1 MAX_PAGES (value (codes "pages-a")))
+    (number_or DEFAULT_PAGES 1 MAX_PAGES (value (codes "pages-b")))
+
+-- the words after `run`, after `soak` and after `pair`
 abbrev pub run_meaning : List Text → Option RunMeaning
-run_meaning words = option_and_then (λ given. run_of_values (λ name. value_given name given)) (given_by run_options words)
+run_meaning words = option_and_then (λ given. run_of_values (λ name. value_given name given)) (given_by run_options one_operand words)
 
 abbrev pub soak_meaning : List Text → Option ℕ
-soak_meaning words = option_and_then (λ given. soak_of_values (λ name. value_given name given)) (given_by soak_options words)
+soak_meaning words = option_and_then (λ given. soak_of_values (λ name. value_given name given)) (given_by soak_options one_operand words)
+
+abbrev pub pair_meaning : List Text → Option PairMeaning
+pair_meaning words = option_and_then (λ given. pair_of_values (λ name. value_given name given)) (given_by pair_options pair_operands words)
 
 -- the meaning of the words, by the first; none where they mean nothing
 abbrev pub meaning : List Text → Option Meaning
@@ -74,6 +105,7 @@ meaning [] = None
 meaning (first ∷ rest) =
     if bytes_eq first (codes "run") then option_map Runs (run_meaning rest) else
     if bytes_eq first (codes "soak") then option_map Soaks (soak_meaning rest) else
+    if bytes_eq first (codes "pair") then option_map Pairs (pair_meaning rest) else
     None
 
 -- what values of the code's own types mean
@@ -84,6 +116,10 @@ keys_in (source.Stored name) = Stored name.now
 abbrev pub run_in : Run → RunMeaning
 run_in r = record { file = r.file.now; keys = keys_in r.keys; bound = r.bound; pages = r.pages; trace = r.trace }
 
+abbrev pub pair_in : Pair → PairMeaning
+pair_in p = record { first = p.first.now; second = p.second.now; slice = p.slice; bound = p.bound; pages_a = p.pages_a; pages_b = p.pages_b }
+
 abbrev pub meaning_in : Words → Meaning
 meaning_in (words.Run r) = Runs (run_in r)
 meaning_in (words.Soak seed) = Soaks seed
+meaning_in (words.Pair p) = Pairs (pair_in p)

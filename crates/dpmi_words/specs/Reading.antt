@@ -1,4 +1,4 @@
--- What the words after the first one give: each option its value, and the one word that is no option, the operand.
+-- What the words after the first one give: each option its value, and the words that are no options, the operands, in their order.
 -- The words are read one by one. Source: own.
 use Rattle.std.specs.Prelude.{◌==◌, ◌&&◌, ◌||◌, not, Bool, true, false, ℕ, List, [], ◌∷◌, ◌++◌, codes, Some, None, if◌then◌else◌, option_map, option_and_then, find}
 use Rattle.std.specs.declared.option.Option.{Option}
@@ -9,18 +9,26 @@ use Rattle.std.specs.Str.{bytes_eq}
 abbrev pub Text : Type 0
 Text = List ℕ
 
--- the name under which the operand, FILE or N, is kept; no option has it
+-- the name under which the one operand of `run` and `soak`, FILE or N, is kept; no option has it
 abbrev pub operand_name : Text
 operand_name = codes "operand"
 
--- what the words so far gave: the option that waits for its value, and each value with its name
+-- the names under which the two operands of `pair` are kept
+abbrev pub first_name : Text
+first_name = codes "first"
+
+abbrev pub second_name : Text
+second_name = codes "second"
+
+-- what the words so far gave: the option that waits for its value, the operands that are still to come, and each value with its name
 pub record Reading : Type 0 where
   pub waiting : Option Text
+  pub left : List Text
   pub given : List (Text × Text)
 
--- nothing was read
-abbrev pub nothing_read : Reading
-nothing_read = record { waiting = None; given = [] }
+-- nothing was read, and these operands are to come
+abbrev pub nothing_read : List Text → Reading
+nothing_read operands = record { waiting = None; left = operands; given = [] }
 
 -- the word begins with a hyphen
 abbrev pub is_hyphened : Text → Bool
@@ -65,11 +73,11 @@ is_option_name names name = list_any (λ n. bytes_eq n name) names
 abbrev pub gives : Text → Text → Reading → Option Reading
 gives name value r =
     if has_given name r.given || is_blank value then None
-    else Some (record { waiting = None; given = r.given ++ (name, value) ∷ [] })
+    else Some (record r { waiting = None; given = r.given ++ (name, value) ∷ [] })
 
 -- an option with its value, or an option that waits for it
 abbrev pub with_value : Text → Option Text → Reading → Option Reading
-with_value name None r = Some (record { waiting = Some name; given = r.given })
+with_value name None r = Some (record r { waiting = Some name })
 with_value name (Some value) r = gives name value r
 
 -- the option is listed, and wasn't given before
@@ -82,10 +90,15 @@ abbrev pub option_word : List Text → Option (Text × Option Text) → Reading 
 option_word names None r = None
 option_word names (Some p) r = names_option names p.0 p.1 r
 
--- a word is the value of the option that waits, which begins with no hyphen; or it is an option; or the operand
+-- a word is the next operand; none where no operand is left
+abbrev pub operand_word : List Text → Text → Reading → Option Reading
+operand_word [] word r = None
+operand_word (name ∷ rest) word r = gives name word (record r { left = rest })
+
+-- a word is the value of the option that waits, which begins with no hyphen; or it is an option; or an operand
 abbrev pub step_by : List Text → Option Text → Text → Reading → Option Reading
 step_by names (Some name) word r = if is_hyphened word then None else gives name word r
-step_by names None word r = if is_hyphened word then option_word names (option_of word) r else gives operand_name word r
+step_by names None word r = if is_hyphened word then option_word names (option_of word) r else operand_word r.left word r
 
 -- one word more; none where it breaks a rule
 abbrev pub step : List Text → Text → Reading → Option Reading
@@ -96,17 +109,18 @@ unfoldable pub reads : List Text → List Text → Reading → Option Reading
 reads names [] r = Some r
 reads names (word ∷ rest) r = option_and_then (reads names rest) (step names word r)
 
--- at the end no option waits, and the operand is there
-abbrev pub finished_by : Option Text → List (Text × Text) → Option (List (Text × Text))
-finished_by (Some name) given = None
-finished_by None given = if has_given operand_name given then Some given else None
+-- at the end no option waits, and no operand is left
+abbrev pub finished_by : Option Text → List Text → List (Text × Text) → Option (List (Text × Text))
+finished_by (Some name) left given = None
+finished_by None [] given = Some given
+finished_by None (name ∷ rest) given = None
 
 abbrev pub finished : Reading → Option (List (Text × Text))
-finished r = finished_by r.waiting r.given
+finished r = finished_by r.waiting r.left r.given
 
--- the values that the words give, each with its name, where the options have these names; none where the words break a rule
-abbrev pub given_by : List Text → List Text → Option (List (Text × Text))
-given_by names words = option_and_then finished (reads names words nothing_read)
+-- the values that the words give, each with its name, where the options and the operands have these names; none where the words break a rule
+abbrev pub given_by : List Text → List Text → List Text → Option (List (Text × Text))
+given_by names operands words = option_and_then finished (reads names words (nothing_read operands))
 
 -- the value of a name
 abbrev pub value_given : Text → List (Text × Text) → Option Text
@@ -119,3 +133,14 @@ run_options = codes "keys" ∷ codes "keys-file" ∷ codes "bound" ∷ codes "pa
 -- `soak` has none
 abbrev pub soak_options : List Text
 soak_options = []
+
+-- each has one operand
+abbrev pub one_operand : List Text
+one_operand = operand_name ∷ []
+
+-- the options and the operands of `pair`
+abbrev pub pair_options : List Text
+pair_options = codes "slice" ∷ codes "bound" ∷ codes "pages-a" ∷ codes "pages-b" ∷ []
+
+abbrev pub pair_operands : List Text
+pair_operands = first_name ∷ second_name ∷ []

@@ -15,4 +15,4 @@ texts = map (λ s. s.now)
 
 -- the reading
 abbrev pub reading_of : Seen → Reading
-reading_of s = record { waiting = option_map (λ n. n.now) s.waiting; given = pairs s.given.items }
+reading_of s = record { waiting = option_map (λ n. n.now) s.waiting; left = texts s.left.now; given = pairs s.given.items }

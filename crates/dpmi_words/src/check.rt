@@ -1,4 +1,4 @@
-// The check of the words: what is an option, what is its value, and what is the operand.
+// The check of the words: what is an option, what is its value, and what is an operand.
 ghost use Rattle.std.specs.Prelude.{◌≡◌, IfOk, map, option_map, Some, None, is_some, cond};
 ghost use Rattle.std.specs.String.{string_bytes};
 ghost use Rattle.dpmi_words.specs.Reading.{
@@ -9,6 +9,7 @@ ghost use Rattle.dpmi_words.specs.Reading.{
   gives,
   is_hyphened,
   is_option_name,
+  operand_word,
   option_word,
   step,
   finished,
@@ -18,11 +19,20 @@ ghost use Rattle.dpmi_words.specs.Seen.{pairs, reading_of, texts};
 
 use std::alloc::{AllocError, Global};
 
-/// The name under which the operand, FILE or N, is kept.
+/// The name under which the operand of `run` and `soak`, FILE or N, is kept.
 pub const OPERAND: &str = "operand";
+
+/// The operands of `run` and of `soak`.
+pub const ONE_OPERAND: [&str; 1] = [OPERAND];
+
+/// The operands of `pair`.
+pub const PAIR_OPERANDS: [&str; 2] = ["first", "second"];
 
 /// The options of `run`.
 pub const RUN_OPTIONS: [&str; 5] = ["keys", "keys-file", "bound", "pages", "trace"];
+
+/// The options of `pair`.
+pub const PAIR_OPTIONS: [&str; 4] = ["slice", "bound", "pages-a", "pages-b"];
 
 /// A value with its name.
 #[derive(Drop)]
@@ -31,10 +41,11 @@ pub struct Given<'a> {
     pub value: &'a str,
 }
 
-/// What the words so far gave: the option that waits for its value, and the values.
+/// What the words so far gave: the option that waits for its value, the operands that are still to come, and the values.
 #[derive(Drop)]
 pub struct Seen<'a> {
     pub waiting: Option<&'a str>,
+    pub left: &'a [&'a str],
     pub given: Vec<Given<'a>>,
 }
 
@@ -130,6 +141,18 @@ fn take_option<'a>(seen: &mut Seen<'a>, names: &[&str], word: &'a str) -> Result
     }
 }
 
+// Takes the next operand, unless none is left. Returns whether it did.
+fn take_operand<'a>(seen: &mut Seen<'a>, word: &'a str) -> Result<bool, AllocError>
+    ensures { IfOk result (λ is_taken.
+        operand_word (texts seen.old.left.now) word.now (reading_of seen.old) ≡ cond is_taken (Some (reading_of seen.new)) None) }
+{
+    let [name, rest @ ..] = seen.left else {
+        return Ok(false);
+    };
+    seen.left = rest;
+    give(seen, *name, word)
+}
+
 // Takes one word. Returns whether it did.
 fn take_word<'a>(seen: &mut Seen<'a>, names: &[&str], word: &'a str) -> Result<bool, AllocError>
     ensures { IfOk result (λ is_taken.
@@ -147,26 +170,32 @@ fn take_word<'a>(seen: &mut Seen<'a>, names: &[&str], word: &'a str) -> Result<b
             if is_option {
                 return take_option(seen, names, word);
             }
-            give(seen, OPERAND, word)
+            take_operand(seen, word)
         }
     }
 }
 
-// Whether no option waits, and the operand is there.
+// Whether no option waits, and no operand is left.
 fn is_finished(seen: &Seen<'_>) -> bool
     ensures { result ≡ is_some (finished (reading_of seen.now)) }
 {
-    seen.waiting.is_none() && has(seen.given.as_slice(), OPERAND)
+    seen.waiting.is_none() && seen.left.is_empty()
 }
 
-/// Whether the words give values as the rules ask, where the options have these names.
+/// Whether the words give values as the rules ask, where the options and the operands have these names.
 /// Fails where memory is out.
 #[tactic(auto, using(crate::proofs::InTurn::reads_none, crate::proofs::InTurn::reads_more))]
-pub fn passes(alloc: Global, names: &[&str], words: &[String]) -> Result<bool, AllocError>
-    ensures { IfOk result (λ passes. passes ≡ is_some (given_by (texts names.now) (map string_bytes words.now))) }
+pub fn passes<'a>(
+    alloc: Global,
+    names: &[&str],
+    operands: &'a [&'a str],
+    words: &'a [String],
+) -> Result<bool, AllocError>
+    ensures { IfOk result (λ passes. passes ≡ is_some (given_by (texts names.now) (texts operands.now) (map string_bytes words.now))) }
 {
     let mut seen = Seen {
         waiting: None,
+        left: operands,
         given: Vec::new(alloc),
     };
     for word in words {

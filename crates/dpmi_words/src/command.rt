@@ -5,11 +5,11 @@ ghost use Rattle.clap.specs.Simple.{app_of, new_rule, with_rule};
 ghost use Rattle.clap.specs.Walk.{rule_of};
 ghost use Rattle.clap.specs.Values.{kind_of};
 ghost use Rattle.clap.specs.Matches.{found_of};
-ghost use Rattle.dpmi_words.specs.Reading.{operand_name, given_by, run_options, soak_options};
+ghost use Rattle.dpmi_words.specs.Reading.{given_by, one_operand, pair_operands, pair_options, run_options, soak_options};
 ghost use Rattle.dpmi_words.specs.Command.{command_app, quiet_app, option_rule, Assigns};
 ghost use Rattle.dpmi_words.specs.Seen.{texts};
 
-use crate::check::{OPERAND, RUN_OPTIONS};
+use crate::check::{ONE_OPERAND, PAIR_OPERANDS, PAIR_OPTIONS, RUN_OPTIONS};
 use clap::error::ErrorKind;
 use clap::{Arg, ArgMatches, Command, Error};
 use std::alloc::{AllocError, Global};
@@ -22,12 +22,12 @@ fn option<'a>(alloc: Global, name: &'a str) -> Arg<'a>
     Arg::new(alloc, name).long(name)
 }
 
-// The operand.
-fn positional<'a>(alloc: Global) -> Arg<'a>
-    ensures rule { rule_of result ≡ new_rule operand_name }
+// An operand, under a name.
+fn positional<'a>(alloc: Global, name: &'a str) -> Arg<'a>
+    ensures rule { rule_of result ≡ new_rule name.now }
     ensures local { result.global ≡ false }
 {
-    Arg::new(alloc, OPERAND)
+    Arg::new(alloc, name)
 }
 
 // A command without help, over words without the program's name.
@@ -47,39 +47,54 @@ fn with<'a>(command: Command<'a>, arg: Arg<'a>) -> Result<Command<'a>, AllocErro
     command.arg(arg)
 }
 
-// The command of a first word with these options and the operand.
+// The command of a first word with these options and operands.
 fn command_of<'a>(
     alloc: Global,
     name: &'a str,
     options: &[&'a str],
+    operands: &[&'a str],
 ) -> Result<Command<'a>, AllocError>
-    ensures { IfOk result (λ command. app_of command ≡ command_app name.now (texts options.now)) }
+    ensures { IfOk result (λ command. app_of command ≡ command_app name.now (texts options.now) (texts operands.now)) }
 {
     let mut command = quiet(alloc, name);
     for option_name in options {
         command = with(command, option(alloc, *option_name))?;
     }
-    with(command, positional(alloc))
+    for operand_name in operands {
+        command = with(command, positional(alloc, *operand_name))?;
+    }
+    Ok(command)
 }
 
 /// Assigns the words after `run`. Of words that break no rule it fails only where memory is out.
 pub fn assign_run<'a>(alloc: Global, words: &'a [String]) -> Result<ArgMatches<'a>, Error>
-    ensures values { IfSome (given_by run_options (map string_bytes words.now)) (λ given.
+    ensures values { IfSome (given_by run_options one_operand (map string_bytes words.now)) (λ given.
         IfOk result (λ matches. Assigns given (found_of matches))) }
-    ensures memory { IfSome (given_by run_options (map string_bytes words.now)) (λ given.
+    ensures memory { IfSome (given_by run_options one_operand (map string_bytes words.now)) (λ given.
         IfErr result (λ e. kind_of e ≡ ErrorKind.OutOfMemory)) }
 {
-    let command = command_of(alloc, "run", &RUN_OPTIONS)?;
+    let command = command_of(alloc, "run", &RUN_OPTIONS, &ONE_OPERAND)?;
     command.try_get_matches_from(words)
 }
 
 /// Assigns the words after `soak`. Of words that break no rule it fails only where memory is out.
 pub fn assign_soak<'a>(alloc: Global, words: &'a [String]) -> Result<ArgMatches<'a>, Error>
-    ensures values { IfSome (given_by soak_options (map string_bytes words.now)) (λ given.
+    ensures values { IfSome (given_by soak_options one_operand (map string_bytes words.now)) (λ given.
         IfOk result (λ matches. Assigns given (found_of matches))) }
-    ensures memory { IfSome (given_by soak_options (map string_bytes words.now)) (λ given.
+    ensures memory { IfSome (given_by soak_options one_operand (map string_bytes words.now)) (λ given.
         IfErr result (λ e. kind_of e ≡ ErrorKind.OutOfMemory)) }
 {
-    let command = command_of(alloc, "soak", &[])?;
+    let command = command_of(alloc, "soak", &[], &ONE_OPERAND)?;
+    command.try_get_matches_from(words)
+}
+
+/// Assigns the words after `pair`. Of words that break no rule it fails only where memory is out.
+pub fn assign_pair<'a>(alloc: Global, words: &'a [String]) -> Result<ArgMatches<'a>, Error>
+    ensures values { IfSome (given_by pair_options pair_operands (map string_bytes words.now)) (λ given.
+        IfOk result (λ matches. Assigns given (found_of matches))) }
+    ensures memory { IfSome (given_by pair_options pair_operands (map string_bytes words.now)) (λ given.
+        IfErr result (λ e. kind_of e ≡ ErrorKind.OutOfMemory)) }
+{
+    let command = command_of(alloc, "pair", &PAIR_OPTIONS, &PAIR_OPERANDS)?;
     command.try_get_matches_from(words)
 }

@@ -6,7 +6,7 @@ ghost use Rattle.dpmi_words.specs.OptionWords.{IsName, option_with_value, option
 /// `--name=value` and `--name value` give the same wherever they are, unless the value begins with a hyphen.
 #[tactic(auto, using(crate::proofs::EitherWay::either_way))]
 pub fn an_option_is_written_either_way()
-    ensures { (names before after : List Text) (name value : Text) → IsName name → is_hyphened value ≡ false →
-        given_by names (before ++ option_with_value name value ∷ after)
-        ≡ given_by names (before ++ option_word_of name ∷ value ∷ after) }
+    ensures { (names operands before after : List Text) (name value : Text) → IsName name → is_hyphened value ≡ false →
+        given_by names operands (before ++ option_with_value name value ∷ after)
+        ≡ given_by names operands (before ++ option_word_of name ∷ value ∷ after) }
 {}

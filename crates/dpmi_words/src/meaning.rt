@@ -7,15 +7,18 @@ ghost use Rattle.dpmi_words.specs.Meaning.{
   keys_in,
   run_of_values,
   soak_of_values,
+  pair_of_values,
   run_in,
+  pair_in,
   run_meaning,
   soak_meaning,
+  pair_meaning,
   meaning,
   meaning_in,
 };
 
-use crate::check::{OPERAND, RUN_OPTIONS, passes};
-use crate::command::{assign_run, assign_soak};
+use crate::check::{ONE_OPERAND, OPERAND, PAIR_OPERANDS, PAIR_OPTIONS, RUN_OPTIONS, passes};
+use crate::command::{assign_pair, assign_run, assign_soak};
 use crate::number::{optional_number, seed};
 use clap::ArgMatches;
 use client_world::limits::{
@@ -48,6 +51,29 @@ pub struct Run<'a> {
     pub trace: u32,
 }
 
+/// The most turns of a slice.
+pub const MAX_SLICE: u32 = 1_000_000;
+
+/// The turns of a slice, where no other number is given.
+pub const DEFAULT_SLICE: u32 = 1000;
+
+/// Two runs in turns.
+#[derive(Drop)]
+pub struct Pair<'a> {
+    /// The name of the first client's file.
+    pub first: &'a str,
+    /// The name of the second client's file.
+    pub second: &'a str,
+    /// The turns of a slice.
+    pub slice: u32,
+    /// The most turns of each client.
+    pub bound: u32,
+    /// The most pages, of 4096 bytes, that the first client's memory blocks take together.
+    pub pages_a: u32,
+    /// The most pages of the second client.
+    pub pages_b: u32,
+}
+
 /// What words mean.
 #[derive(Drop)]
 pub enum Words<'a> {
@@ -55,6 +81,8 @@ pub enum Words<'a> {
     Run(Run<'a>),
     /// The run of the client that is made from this number.
     Soak(u64),
+    /// The runs of two clients' files in turns.
+    Pair(Pair<'a>),
 }
 
 // The keystrokes of the values of `keys` and `keys-file`.
@@ -116,11 +144,26 @@ fn soak_of(values: &ArgMatches<'_>) -> Option<u64>
     }
 }
 
+// The pair of the values that were assigned.
+fn pair_of<'a>(values: &ArgMatches<'a>) -> Option<Pair<'a>>
+    ensures { option_map pair_in result ≡ pair_of_values (first_value (found_of values.now)) }
+{
+    let [first_name, second_name] = PAIR_OPERANDS;
+    Some(Pair {
+        first: values.get_str(first_name)?,
+        second: values.get_str(second_name)?,
+        slice: optional_number(values.get_str("slice"), DEFAULT_SLICE, 1, MAX_SLICE)?,
+        bound: optional_number(values.get_str("bound"), DEFAULT_BOUND, 1, MAX_STEPS)?,
+        pages_a: optional_number(values.get_str("pages-a"), DEFAULT_PAGES, 1, MAX_PAGES)?,
+        pages_b: optional_number(values.get_str("pages-b"), DEFAULT_PAGES, 1, MAX_PAGES)?,
+    })
+}
+
 // What the words after `run` mean.
 fn read_run<'a>(alloc: Global, words: &'a [String]) -> Result<Option<Run<'a>>, AllocError>
     ensures { IfOk result (λ r. option_map run_in r ≡ run_meaning (map string_bytes words.now)) }
 {
-    if !passes(alloc, &RUN_OPTIONS, words)? {
+    if !passes(alloc, &RUN_OPTIONS, &ONE_OPERAND, words)? {
         return Ok(None);
     }
     match assign_run(alloc, words) {
@@ -133,7 +176,7 @@ fn read_run<'a>(alloc: Global, words: &'a [String]) -> Result<Option<Run<'a>>, A
 fn read_soak(alloc: Global, words: &[String]) -> Result<Option<u64>, AllocError>
     ensures { IfOk result (λ r. r ≡ soak_meaning (map string_bytes words.now)) }
 {
-    if !passes(alloc, &[], words)? {
+    if !passes(alloc, &[], &ONE_OPERAND, words)? {
         return Ok(None);
     }
     match assign_soak(alloc, words) {
@@ -142,8 +185,22 @@ fn read_soak(alloc: Global, words: &[String]) -> Result<Option<u64>, AllocError>
     }
 }
 
+// What the words after `pair` mean.
+fn read_pair<'a>(alloc: Global, words: &'a [String]) -> Result<Option<Pair<'a>>, AllocError>
+    ensures { IfOk result (λ r. option_map pair_in r ≡ pair_meaning (map string_bytes words.now)) }
+{
+    if !passes(alloc, &PAIR_OPTIONS, &PAIR_OPERANDS, words)? {
+        return Ok(None);
+    }
+    match assign_pair(alloc, words) {
+        Ok(values) => Ok(pair_of(&values)),
+        Err(_) => Err(AllocError),
+    }
+}
+
 /// Reads the words after the program's name: `run FILE` with `--keys HEX`, `--keys-file NAME`, `--bound N`, `--pages N` and
-/// `--trace N`, or `soak N`. Returns `None` exactly where they mean nothing.
+/// `--trace N`, or `soak N`, or `pair A B` with `--slice N`, `--bound N`, `--pages-a N` and `--pages-b N`. Returns `None` exactly
+/// where they mean nothing.
 /// Fails where memory is out. Source: own.
 pub fn read_words<'a>(alloc: Global, words: &'a [String]) -> Result<Option<Words<'a>>, AllocError>
     ensures { IfOk result (λ r. option_map meaning_in r ≡ meaning (map string_bytes words.now)) }
@@ -160,6 +217,12 @@ pub fn read_words<'a>(alloc: Global, words: &'a [String]) -> Result<Option<Words
     if first.as_str() == "soak" {
         return match read_soak(alloc, rest)? {
             Some(number) => Ok(Some(Words::Soak(number))),
+            None => Ok(None),
+        };
+    }
+    if first.as_str() == "pair" {
+        return match read_pair(alloc, rest)? {
+            Some(pair) => Ok(Some(Words::Pair(pair))),
             None => Ok(None),
         };
     }

@@ -102,8 +102,61 @@ fn words_mean_a_soak(rt: HostRuntime) -> Result<(), Fail> {
     Ok(())
 }
 
+// A pair: its words, its two files, and the slice, the bound and the pages of each.
+const PAIRS: [(&str, [&str; 2], [u32; 4]); 6] = [
+    (
+        "pair A.EXE B.EXE",
+        ["A.EXE", "B.EXE"],
+        [1000, 10_000_000, 1024, 1024],
+    ),
+    (
+        "pair A.EXE A.EXE --slice 3",
+        ["A.EXE", "A.EXE"],
+        [3, 10_000_000, 1024, 1024],
+    ),
+    (
+        "pair --slice=1000000 A.EXE --bound 1 B.EXE",
+        ["A.EXE", "B.EXE"],
+        [1_000_000, 1, 1024, 1024],
+    ),
+    (
+        "pair --pages-b 16 A.EXE B.EXE --pages-a=4096",
+        ["A.EXE", "B.EXE"],
+        [1000, 10_000_000, 4096, 16],
+    ),
+    (
+        "pair B.EXE --bound=1000000000 --slice 1 A.EXE --pages-a 1",
+        ["B.EXE", "A.EXE"],
+        [1, 1_000_000_000, 1, 1024],
+    ),
+    (
+        "pair pair run",
+        ["pair", "run"],
+        [1000, 10_000_000, 1024, 1024],
+    ),
+];
+
+#[test]
+fn words_mean_a_pair(rt: HostRuntime) -> Result<(), Fail> {
+    for (text, files, numbers) in PAIRS {
+        let words = words_of(&rt, text)?;
+        match read_words(rt.alloc(), words.as_slice())? {
+            Some(Words::Pair(pair)) => {
+                assert_eq!(rt; [pair.first, pair.second], files, "{text}");
+                assert_eq!(rt;
+                    [pair.slice, pair.bound, pair.pages_a, pair.pages_b],
+                    numbers,
+                    "{text}"
+                );
+            }
+            _ => assert!(rt; false, "{text}"),
+        }
+    }
+    Ok(())
+}
+
 // Words that mean nothing.
-const NOTHING: [&str; 44] = [
+const NOTHING: [&str; 56] = [
     "",
     "run",
     "run ",
@@ -148,6 +201,18 @@ const NOTHING: [&str; 44] = [
     "soak 18446744073709551616",
     "soak 000000000000000000007",
     "soak x",
+    "pair",
+    "pair A.EXE",
+    "pair A.EXE B.EXE C.EXE",
+    "pair A.EXE ",
+    "pair A.EXE B.EXE --slice 0",
+    "pair A.EXE B.EXE --slice 1000001",
+    "pair A.EXE B.EXE --bound 0",
+    "pair A.EXE B.EXE --pages-a 0",
+    "pair A.EXE B.EXE --pages-b 4097",
+    "pair A.EXE B.EXE --pages 1",
+    "pair A.EXE B.EXE --keys 58",
+    "pair A.EXE B.EXE --first=C.EXE",
 ];
 
 #[test]

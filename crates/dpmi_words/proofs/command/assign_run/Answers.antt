@@ -4,14 +4,14 @@ use Rattle.std.proofs.lemmas.Result.{IfOk-weaker, IfErr-weaker}
 use Rattle.clap.specs.Matches.{found_of}
 use Rattle.clap.specs.Simple.{is_simple, matches_of}
 use Rattle.clap.specs.Takes.{takes}
-use Rattle.dpmi_words.specs.Reading.{given_by, run_options}
+use Rattle.dpmi_words.specs.Reading.{given_by, one_operand, run_options}
 use Rattle.dpmi_words.proofs.Commands.{run_simple, run_takes, run_matches, if_given, rows_assign}
 use Rattle.dpmi_words.proofs.command.assign_run.Goals as goal
 
 pub returns-clause-values : goal.returns-clause-values
 returns-clause-values c =
     let words = map string_bytes c.args.words.now in
-    if_given (given_by run_options words) _ (λ given e.
+    if_given (given_by run_options one_operand words) _ (λ given e.
     IfOk-weaker c.try_get_matches_from.result _ _ (λ matches h.
     rows_assign (found_of matches) given
     ((h (ap is_simple c.in_ok-command.ensures ∙ run_simple)).0
@@ -21,6 +21,6 @@ returns-clause-values c =
 pub returns-clause-memory : goal.returns-clause-memory
 returns-clause-memory c =
     let words = map string_bytes c.args.words.now in
-    if_given (given_by run_options words) _ (λ given e.
+    if_given (given_by run_options one_operand words) _ (λ given e.
     IfErr-weaker c.try_get_matches_from.result _ _ (λ error h.
     h (ap (λ a. takes a words) c.in_ok-command.ensures ∙ run_takes words given e)) c.try_get_matches_from.ensures.passes)

@@ -5,7 +5,7 @@ use Rattle.std.specs.String.{string_bytes}
 use Rattle.std.proofs.lemmas.Result.{IfOk-weaker}
 use Rattle.clap.specs.Matches.{found_of, first_value}
 use Rattle.clap.specs.declared.parser.matches.Found.{Found}
-use Rattle.dpmi_words.specs.Reading.{Text, operand_name, given_by, run_options, value_given}
+use Rattle.dpmi_words.specs.Reading.{Text, operand_name, given_by, one_operand, run_options, value_given}
 use Rattle.dpmi_words.specs.Command.{Assigns}
 use Rattle.dpmi_words.specs.Meaning.{run_of_values}
 use Rattle.dpmi_words.proofs.meaning.read_run.Goals as goal
@@ -20,5 +20,5 @@ same_run (Some given) found some h =
 pub returns-in-Ok : goal.returns-in-Ok
 returns-in-Ok c =
     let words = map string_bytes c.args.words.now in
-    IfOk-weaker c.run_of.result _ _ (λ r h. h ∙ same_run (given_by run_options words) (found_of c.in-Ok.values)
+    IfOk-weaker c.run_of.result _ _ (λ r h. h ∙ same_run (given_by run_options one_operand words) (found_of c.in-Ok.values)
     (sym c.in_ok-passes.ensures ∙ c.if-not-branch.false) c.in-Ok.ensures.values) c.run_of.ensures

@@ -1,42 +1,9 @@
-// A line of text, in a buffer of its own.
+// Numbers in hexadecimal digits, added to a line.
 ghost use Rattle.std.specs.Prelude.{◌≡◌, ◌≤◌, ◌<◌, ◌+◌, ◌++◌, ◌∷◌, [], length};
-ghost use Rattle.std.specs.Fmt.{decimal};
 ghost use Rattle.hex.specs.Hex.{encode_lower};
 ghost use Rattle.dpmi_report.specs.Digits.{hex_digit, hex_byte, hex_word, hex_doubleword};
 
-use arrayvec::ArrayVec;
-
-/// The room of a line, in bytes. The longest, of a record, has about 200.
-pub const LINE_ROOM: usize = 256;
-
-/// A line of text as it is made.
-pub type Line = ArrayVec<u8, LINE_ROOM>;
-
-/// Adds bytes to a line.
-pub fn add(line: &mut Line, bytes: &[u8])
-    requires { length line.old.items + length bytes.now ≤ 256 }
-    ensures added { line.new.items ≡ line.old.items ++ bytes.now }
-    ensures len { length line.new.items ≡ length line.old.items + length bytes.now }
-{
-    for byte in bytes {
-        line.push(*byte);
-    }
-}
-
-/// Adds a number in decimal digits.
-#[tactic(auto, using(crate::proofs::Decimal::decimal_more, crate::proofs::Decimal::decimal_more_length, crate::proofs::Decimal::decimal_one))]
-pub fn add_decimal(line: &mut Line, n: u64)
-    requires { length line.old.items + length (decimal n) ≤ 256 }
-    ensures added { line.new.items ≡ line.old.items ++ decimal n }
-    ensures len { length line.new.items ≡ length line.old.items + length (decimal n) }
-{
-    if n >= 10 {
-        add_decimal(line, n / 10);
-        add(line, &[b'0' + (n % 10) as u8]);
-    } else {
-        add(line, &[b'0' + (n % 10) as u8]);
-    }
-}
+use dpmi_io::{Line, add};
 
 // A hexadecimal digit.
 fn digit(n: u8) -> u8

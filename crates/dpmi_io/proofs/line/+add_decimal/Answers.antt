@@ -1,6 +1,6 @@
 use Rattle.std.proofs.Common.{arith, ◌%◌, ◌+◌, ◌++◌, ◌∷◌, [], ap, ◌∙◌, sym, append_assoc}
-use Rattle.dpmi_report.proofs.Decimal.{decimal_more}
-use Rattle.dpmi_report.proofs.line.+add_decimal.Goals as goal
+use Rattle.dpmi_io.proofs.Decimal.{decimal_more}
+use Rattle.dpmi_io.proofs.line.+add_decimal.Goals as goal
 
 pub returns-then-n-ge10-clause-added : goal.returns-then-n-ge10-clause-added
 returns-then-n-ge10-clause-added t c =

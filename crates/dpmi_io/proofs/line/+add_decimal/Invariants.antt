@@ -1,4 +1,4 @@
-use Rattle.dpmi_report.proofs.line.+add_decimal.Given as goal
+use Rattle.dpmi_io.proofs.line.+add_decimal.Given as goal
 
 abbrev pub decreases-add_decimal : goal.decreases-add_decimal
 decreases-add_decimal l = l.n

@@ -1,5 +1,5 @@
 use Rattle.std.proofs.Common.{◌≡◌, ◌++◌, take}
-use Rattle.dpmi_report.proofs.line.add.Given as goal
+use Rattle.dpmi_io.proofs.line.add.Given as goal
 
 abbrev pub invariant-loop-byte : goal.invariant-loop-byte
 invariant-loop-byte l = l.line.items ≡ l.initial.line.items ++ take l.byte-index l.bytes

@@ -1,0 +1,48 @@
+-- A host as a client that takes turns, which has set no watchpoint; and the text of two of them. Source: own.
+use Rattle.std.specs.Prelude.{ℕ, List, ◌++◌, codes, Some}
+use Rattle.std.specs.declared.option.Option.{Option}
+use Rattle.client_world.specs.declared.outcome.Exit.{Exit}
+use Rattle.client_world.specs.declared.outcome.Exit.TheVariants.{Bound}
+use Rattle.client_world.specs.World.{HostWorld}
+use Rattle.host_run.specs.Run.{run}
+use Rattle.host_run.specs.Turn.{turn}
+use Rattle.dpmi_report.specs.Lines.{line_end}
+use Rattle.dpmi_report.specs.Text.{text}
+use Rattle.pair_run.specs.declared.lines.Letter.{Letter}
+use Rattle.pair_run.specs.declared.lines.Letter.TheVariants.{A, B}
+use Rattle.pair_run.specs.Slices.{OwnRun, letter_text, own_run, slices_text}
+use Rattle.pair_run.specs.WatchWorld.{WatchWorld, unwatched}
+
+-- one turn
+abbrev pub host_turn : WatchWorld → WatchWorld
+host_turn w = record w { host = turn w.host }
+
+-- the run ends at its bound
+abbrev pub host_closed : WatchWorld → WatchWorld
+host_closed w = record w { host = record w.host { exit = Some Bound } }
+
+abbrev pub host_console : WatchWorld → List ℕ
+host_console w = w.host.console
+
+abbrev pub host_exit : WatchWorld → Option Exit
+host_exit w = w.host.exit
+
+abbrev pub host_steps : WatchWorld → ℕ
+host_steps w = w.host.steps
+
+-- the run from a host's world up to a bound, as far as its slices show it
+abbrev pub sliced : ℕ → HostWorld → OwnRun
+sliced bound w = own_run host_turn host_console host_steps bound (unwatched w)
+
+-- the line before the text of a client
+abbrev pub client_line : Letter → List ℕ
+client_line client = codes "client " ++ letter_text client ++ line_end
+
+-- the text of a client's own run
+abbrev pub client_part : Letter → HostWorld → List ℕ
+client_part client end = client_line client ++ text end
+
+-- the text of two clients: what they wrote slice by slice, and then the text of the run of each
+abbrev pub pair_text : ℕ → ℕ → HostWorld → HostWorld → List ℕ
+pair_text slice bound a b =
+    slices_text slice (sliced bound a) (sliced bound b) ++ (client_part A (run a bound) ++ client_part B (run b bound))

@@ -1,0 +1,87 @@
+// Two hosts that take turns, and what they write.
+ghost use Rattle.std.specs.Prelude.{◌≡◌, OnOk, OnErr, IsSome};
+ghost use Rattle.dpmi_io.specs.Causes.{Rose};
+ghost use Rattle.dpmi_io.specs.Content.{Gains, GainsPart};
+ghost use Rattle.host_run.specs.Run.{run};
+ghost use Rattle.dpmi_cli.specs.Answer.Verdict.{StartsPair};
+ghost use Rattle.dpmi_cli.specs.Load.{IsNew};
+ghost use Rattle.dpmi_cli.specs.Pairs.{client_line, client_part, pair_text};
+
+use crate::client::Client;
+use dpmi_io::{Line, Sink, SinkFail, add, put_all};
+use dpmi_report::write_all_of;
+use host_run::Host;
+use pair_run::{Letter, pair};
+
+// The line before the text of a client.
+fn client_line_of(client: Letter) -> Line
+    ensures { result.items ≡ client_line client }
+{
+    let mut line = Line::new();
+    add(&mut line, b"client ");
+    match client {
+        Letter::A => add(&mut line, b"a"),
+        Letter::B => add(&mut line, b"b"),
+    }
+    add(&mut line, b"\n");
+    line
+}
+
+// Puts the line before the text of a client.
+fn put_client_line<O: Sink>(client: Letter, out: &mut O) -> Result<(), SinkFail>
+    ensures whole { OnOk result (Gains (O.taken out.old) (O.taken out.new) (client_line client)) }
+    ensures part { OnErr result (GainsPart (O.taken out.old) (O.taken out.new) (client_line client)) }
+    ensures quiet { OnOk result (O.faults out.new ≡ O.faults out.old) }
+    ensures failed { OnErr result (Rose (O.faults out.old) (O.faults out.new)) }
+{
+    let line = client_line_of(client);
+    put_all(out, line.as_slice())
+}
+
+// Writes the text of a client whose run has ended.
+fn write_client<O: Sink>(client: Letter, host: &Host, out: &mut O) -> Result<(), SinkFail>
+    requires { IsSome host.now.world.exit }
+    ensures whole { OnOk result (Gains (O.taken out.old) (O.taken out.new) (client_part client host.now.world)) }
+    ensures part { OnErr result (GainsPart (O.taken out.old) (O.taken out.new) (client_part client host.now.world)) }
+    ensures quiet { OnOk result (O.faults out.new ≡ O.faults out.old) }
+    ensures failed { OnErr result (Rose (O.faults out.old) (O.faults out.new)) }
+{
+    match put_client_line(client, out) {
+        Ok(()) => {}
+        Err(fail) => return Err(fail),
+    }
+    match write_all_of(host, out) {
+        Ok(()) => Ok(()),
+        Err(fail) => Err(fail),
+    }
+}
+
+/// Runs two clients that are loaded in turns, and writes what they wrote slice by slice and then the text of each. Where it fails a first
+/// part of that was written, and the output's count of faults rose. Source: own.
+pub fn write_turns<O: Sink>(
+    a: &mut Client,
+    b: &mut Client,
+    slice: u32,
+    bound: u32,
+    out: &mut O,
+) -> Result<(), SinkFail>
+    requires { IsNew (StartsPair slice bound a.old.host.world b.old.host.world) }
+    ensures end_a { OnOk result (a.new.host.world ≡ run a.old.host.world bound) }
+    ensures end_b { OnOk result (b.new.host.world ≡ run b.old.host.world bound) }
+    ensures whole { OnOk result (Gains (O.taken out.old) (O.taken out.new) (pair_text slice bound a.old.host.world b.old.host.world)) }
+    ensures part { OnErr result (GainsPart (O.taken out.old) (O.taken out.new) (pair_text slice bound a.old.host.world b.old.host.world)) }
+    ensures failed { OnErr result (Rose (O.faults out.old) (O.faults out.new)) }
+{
+    match pair(a, b, slice, bound, out) {
+        Ok(()) => {}
+        Err(fail) => return Err(fail),
+    }
+    match write_client(Letter::A, &a.host, out) {
+        Ok(()) => {}
+        Err(fail) => return Err(fail),
+    }
+    match write_client(Letter::B, &b.host, out) {
+        Ok(()) => Ok(()),
+        Err(fail) => Err(fail),
+    }
+}

@@ -1,0 +1,3 @@
+pub mod OwnRuns
+pub mod PairTexts
+pub mod SliceTexts

@@ -1,0 +1,7 @@
+use Rattle.pair_run.proofs.OwnRuns.{client_of}
+use Rattle.pair_run.proofs.SliceTexts.{silent_slice}
+use Rattle.pair_run.proofs.laws.an_ended_client_is_silent.Goals as goal
+
+pub returns : goal.returns
+returns g c w n bound k m le ended =
+    silent_slice (client_of g.met.T.Turns.ended_stays g.met.T.Turns.turn_is_counted g.met.T.Turns.console_extends) w n bound k m le ended

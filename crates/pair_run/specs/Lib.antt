@@ -1,0 +1,4 @@
+pub mod Run
+pub mod Scripted
+pub mod Slices
+pub mod WatchWorld

@@ -1,0 +1,21 @@
+//! Two clients that take turns.
+//! It promises the text that their slices write, each from the client's own run, and that each client is left at the end of its run.
+//! It uses `client_world`, in whose data it speaks of clients, and `dpmi_io`; `dpmi_cli` uses it.
+#![tactic(auto)]
+
+mod laws;
+mod lines;
+mod slices;
+#[cfg(test)]
+mod tests;
+mod turns;
+mod watch_world;
+
+pub use laws::{
+    a_slice_adds_its_gain, an_ended_client_is_silent, each_client_writes_its_own_lines,
+    own_lines_hold_the_console,
+};
+pub use lines::Letter;
+pub use slices::{MAX_SLICE, pair};
+pub use turns::Turns;
+pub use watch_world::{Watch, WatchKind};
