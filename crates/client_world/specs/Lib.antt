@@ -1,5 +1,6 @@
 pub mod Access
 pub mod CodeWords
+pub mod Console
 pub mod Descriptor
 pub mod DosMemory
 pub mod FreeRuns
@@ -10,4 +11,5 @@ pub mod Segments
 pub mod Selector
 pub mod Services
 pub mod Soundness
+pub mod WatchWorld
 pub mod World

@@ -6,6 +6,9 @@ ghost use Rattle.std.specs.Prelude.{◌≡◌};
 /// The divide error: a divisor that is 0, or a quotient that doesn't fit.
 pub const DIVIDE_ERROR: u8 = 0x00;
 
+/// The debug exception: here the hit of a watchpoint.
+pub const DEBUG: u8 = 0x01;
+
 /// The bounds check: an index that BOUND finds outside of its bounds.
 pub const BOUNDS_CHECK: u8 = 0x05;
 

@@ -21,6 +21,7 @@ pub mod selectors;
 mod services;
 mod trace;
 pub mod traps;
+mod watchpoints;
 
 pub use blocks::BlockRow;
 pub use calls::{Call, Deep, Record, What};
@@ -38,3 +39,4 @@ pub use registers::{
 pub use segments::{FarPtr, SegReg};
 pub use services::{Begun, Carry, DosDone};
 pub use trace::TraceLine;
+pub use watchpoints::{Touch, Watch, WatchKind};

@@ -24,6 +24,15 @@ pub const MAX_TRACE: u32 = 10_000;
 /// The lines of the trace that are kept, where no other number is given.
 pub const DEFAULT_TRACE: u32 = 1_000;
 
+/// The most rounds after which a timer's interrupt becomes due.
+pub const GREATEST_TIMER: u32 = 1_000_000_000;
+
+/// The most turns of a slice, where two clients take turns.
+pub const MAX_SLICE: u32 = 1_000_000;
+
+/// The turns of a slice, where no other number is given.
+pub const DEFAULT_SLICE: u32 = 1_000;
+
 /// The most bytes of a client's file.
 pub const MAX_FILE: u32 = 4_194_304;
 
@@ -38,6 +47,9 @@ pub const GREATEST_LOCK_COUNT: u32 = 65_535;
 
 /// The real-mode callbacks.
 pub const CALLBACKS: u32 = 16;
+
+/// The watchpoints; their handles are 1 to this.
+pub const WATCHES: u16 = 16;
 
 /// The interrupt vectors of either mode.
 pub const INTERRUPT_VECTORS: u32 = 256;

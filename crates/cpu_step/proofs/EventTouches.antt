@@ -9,7 +9,7 @@ use Rattle.guest_space.specs.declared.pending.Write.{Write}
 use Rattle.guest_space.specs.Pending.{byte_count, first_refusal, write_refusal, all_written}
 use Rattle.host_memory.specs.View.{MachineView}
 use Rattle.insn_plan.specs.declared.accesses.Access.{Access}
-use Rattle.insn_plan.specs.declared.accesses.Touch.{Touch}
+use Rattle.client_world.specs.declared.watchpoints.Touch.{Touch}
 use Rattle.insn_plan.specs.Accesses.{and_read, and_writes, accesses_after, granted, touch_of, touches_after, touches_where, touches}
 use Rattle.insn_plan.specs.Act.{Act, End, Read, Done, Raise, Interrupt, Input, Given, From, Pending, value_of}
 use Rattle.insn_plan.specs.Plan.{planned, carried_out, after_commit, with_state}

@@ -23,7 +23,7 @@ use Rattle.guest_space.specs.Pending.{byte_count}
 use Rattle.guest_space.specs.SegmentRows.{first_byte, base_of_row}
 use Rattle.guest_space.specs.Transfer.{access_fault, fault_of, places_of_access, read_result, bytes_at}
 use Rattle.insn_plan.specs.declared.accesses.Access.{Access}
-use Rattle.insn_plan.specs.declared.accesses.Touch.{Touch}
+use Rattle.client_world.specs.declared.watchpoints.Touch.{Touch}
 use Rattle.insn_plan.specs.Accesses.{and_read, and_writes, accesses_after, granted, touch_of, touches_after, touches_where, touches}
 use Rattle.insn_plan.specs.Act.{Act, End, Read, Done, Raise, Interrupt, Input, Given, From, Pending, value_of, number_read}
 use Rattle.insn_plan.specs.Plan.{planned}

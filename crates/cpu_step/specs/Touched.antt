@@ -19,7 +19,7 @@ use Rattle.guest_space.specs.Pending.{byte_count, first_refusal}
 use Rattle.insn_decode.specs.declared.decoding.Decoded.{Decoded}
 use Rattle.insn_decode.specs.declared.decoding.Decoded.TheVariants.{Whole, More, Invalid}
 use Rattle.insn_decode.specs.Decode.{decoded}
-use Rattle.insn_plan.specs.declared.accesses.Touch.{Touch}
+use Rattle.client_world.specs.declared.watchpoints.Touch.{Touch}
 use Rattle.insn_plan.specs.Accesses.{moved}
 use Rattle.insn_plan.specs.Act.{Act, End, Read, Input, Given, From, Pending, value_of}
 use Rattle.insn_plan.specs.Plan.{planned}

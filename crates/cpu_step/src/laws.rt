@@ -8,7 +8,7 @@ ghost use Rattle.client_world.specs.World.{World};
 ghost use Rattle.host_memory.specs.View.{MachineView};
 ghost use Rattle.cpu_step.specs.Step.{IsStep, client_step};
 ghost use Rattle.cpu_step.specs.Touched.{IsInside, executed_touches, touch_places, touched};
-ghost use Rattle.insn_plan.specs.declared.accesses.Touch.{Touch};
+ghost use Rattle.client_world.specs.declared.watchpoints.Touch.{Touch};
 ghost use Rattle.insn_plan.specs.Accesses.{touches};
 ghost use Rattle.insn_plan.specs.Act.{Act};
 ghost use Rattle.insn_plan.specs.Plan.{carried_out, planned};

@@ -17,7 +17,8 @@ use Rattle.dos_calls.specs.Calls as calls
 use Rattle.dos_calls.specs.Calls.{CallResult, CallState, served, ended, printed, poll_key, line_read, line_of, keys_read, memory_refused, memory_given, memory_changed, dos_call}
 use Rattle.dos_calls.specs.DosBytes.{byte_at}
 use Rattle.dos_calls.specs.Multiplex.{multiplex_call, with_entry}
-use Rattle.dos_calls.specs.Kept.{Extends, HasOtherDosMemory, HasSameStack}
+use Rattle.dos_calls.specs.Kept.{HasOtherDosMemory, HasSameStack}
+use Rattle.client_world.specs.Console.{Extends}
 
 -- what no call changes, as one value: DOS memory and the registers that some call changes are blank
 abbrev pub rest_of : World → World

@@ -11,7 +11,3 @@ pub record HasSameStack (w u : World) : Type 0 where
   pub mode : u.mode ≡ w.mode
   pub segment : u.regs.ss ≡ w.regs.ss
   pub pointer : u.regs.esp ≡ w.regs.esp
-
--- the second list is the first one with more bytes at its end
-abbrev pub Extends : List ℕ → List ℕ → Type 0
-Extends before after = (more : List ℕ) × (after ≡ before ++ more)

@@ -8,7 +8,8 @@ ghost use Rattle.client_world.specs.World.{World};
 ghost use Rattle.dos_calls.specs.Calls.{CallState, dos_call};
 ghost use Rattle.guest_ram.specs.Bytes.{AreBytes};
 ghost use Rattle.dos_calls.specs.Multiplex.{multiplex_call};
-ghost use Rattle.dos_calls.specs.Kept.{Extends, HasOtherDosMemory, HasSameStack};
+ghost use Rattle.client_world.specs.Console.{Extends};
+ghost use Rattle.dos_calls.specs.Kept.{HasOtherDosMemory, HasSameStack};
 
 /// A call leads from a sound world to a sound one, where the keys are bytes. Those that are left are bytes, and a console of bytes stays one.
 pub fn every_dos_call_is_sound()

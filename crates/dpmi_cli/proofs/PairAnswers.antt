@@ -9,10 +9,10 @@ use Rattle.host_run.specs.Run.{bounded, run, turns}
 use Rattle.dpmi_io.specs.Causes.{Rose}
 use Rattle.dpmi_io.specs.Content.{Shown, Gains, GainsPart}
 use Rattle.pair_run.specs.Run.{IsFirst, closed_by, run_of, turns_of}
-use Rattle.pair_run.specs.WatchWorld.{WatchWorld, unwatched}
+use Rattle.client_world.specs.WatchWorld.{WatchWorld, unwatched}
 use Rattle.dpmi_cli.specs.Answer.{StartsPair, pair_status, run_status}
 use Rattle.dpmi_cli.specs.Causes.{Answers}
-use Rattle.dpmi_cli.specs.Laws.{KeepsTheLaws}
+use Rattle.dpmi_cli.specs.Laws.{RunKeepsTheLaws}
 use Rattle.dpmi_cli.specs.Load.{IsReady}
 use Rattle.dpmi_cli.specs.Pairs.{host_closed, host_console, host_exit, host_steps, host_turn, pair_text}
 use Rattle.dpmi_cli.proofs.RunAnswers.{cut, whole}
@@ -49,7 +49,7 @@ first w ready = record { no_exit = ready.no_exit; no_steps = ready.no_turn; no_b
 -- ---- the answer
 
 -- the runs of two clients in turns ended so, and their text was written
-pub gives_pair : (slice bound : ℕ) (a b end_a end_b : HostWorld) (before now : Shown) (m n result : ℕ) → KeepsTheLaws a → KeepsTheLaws b →
+pub gives_pair : (slice bound : ℕ) (a b end_a end_b : HostWorld) (before now : Shown) (m n result : ℕ) → RunKeepsTheLaws a → RunKeepsTheLaws b →
     end_a ≡ run a bound → end_b ≡ run b bound → Gains before now (pair_text slice bound a b) → result ≡ max (run_status end_a) (run_status end_b) →
     Answers (StartsPair slice bound a b) before now m n result
 gives_pair slice bound a b end_a end_b before now m n result laws_a laws_b is_a is_b written status =
@@ -57,7 +57,7 @@ gives_pair slice bound a b end_a end_b before now m n result laws_a laws_b is_a 
     (status ∙ ap (λ (w : HostWorld). pair_status w end_b) is_a ∙ ap (λ (w : HostWorld). pair_status (run a bound) w) is_b)
     written
 
-pub gives_pair_cut : (slice bound : ℕ) (a b : HostWorld) (before now : Shown) (m n : ℕ) → KeepsTheLaws a → KeepsTheLaws b →
+pub gives_pair_cut : (slice bound : ℕ) (a b : HostWorld) (before now : Shown) (m n : ℕ) → RunKeepsTheLaws a → RunKeepsTheLaws b →
     GainsPart before now (pair_text slice bound a b) → Rose m n → Answers (StartsPair slice bound a b) before now m n 4
 gives_pair_cut slice bound a b before now m n laws_a laws_b part rose =
     cut (StartsPair slice bound a b) before now m n (laws_a, laws_b) (pair_status-small (run a bound) (run b bound)) part rose

@@ -8,7 +8,7 @@ use Rattle.client_world.specs.declared.limits.TheConstants.{MAX_STEPS, DEFAULT_B
 use Rattle.dpmi_words.specs.Meaning.{Keys, PairMeaning, RunMeaning, Runs, Soaks, Pairs, pair_meaning, pair_of_values, pair_with, run_with, run_of_values, run_meaning, soak_meaning, meaning}
 use Rattle.dpmi_words.specs.Numbers.{is_between, is_decimal, number_in_text, number_or}
 use Rattle.dpmi_words.specs.Reading.{Text, first_name, second_name, given_by, one_operand, pair_operands, pair_options, run_options, value_given}
-use Rattle.dpmi_words.specs.declared.meaning.TheConstants.{DEFAULT_SLICE, MAX_SLICE}
+use Rattle.client_world.specs.declared.limits.TheConstants.{DEFAULT_SLICE, MAX_SLICE}
 use Rattle.dpmi_cli.specs.Load.{HasPairRanges, HasRanges}
 
 in_text : (digits least most n : ℕ) (text : Text) → number_in_text digits least most text ≡ Some n → (least ≤ n) × (n ≤ most)

@@ -5,7 +5,7 @@ use Rattle.client_world.specs.declared.limits.TheConstants.{MAX_KEYS, MAX_PAGES,
 use Rattle.client_world.specs.World.{HostWorld}
 use Rattle.client_world.specs.Soundness.{IsSound}
 use Rattle.host_run.specs.Keys.{HasKeys}
-use Rattle.pair_run.specs.declared.slices.TheConstants.{MAX_SLICE}
+use Rattle.client_world.specs.declared.limits.TheConstants.{MAX_SLICE}
 use Rattle.dpmi_words.specs.Meaning.{Keys, PairMeaning, RunMeaning}
 use Rattle.dpmi_io.specs.Causes.{Rose}
 use Rattle.dpmi_io.specs.Content.{Files, Lacks}

@@ -11,7 +11,7 @@ use Rattle.dpmi_report.specs.Text.{text}
 use Rattle.pair_run.specs.declared.lines.Letter.{Letter}
 use Rattle.pair_run.specs.declared.lines.Letter.TheVariants.{A, B}
 use Rattle.pair_run.specs.Slices.{OwnRun, letter_text, own_run, slices_text}
-use Rattle.pair_run.specs.WatchWorld.{WatchWorld, unwatched}
+use Rattle.client_world.specs.WatchWorld.{WatchWorld, unwatched}
 
 -- one turn
 abbrev pub host_turn : WatchWorld → WatchWorld

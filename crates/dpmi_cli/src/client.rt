@@ -25,7 +25,7 @@ impl Client {
 
 impl Turns for Client {
     ghost use Rattle.std.proofs.Common.{refl};
-    ghost use Rattle.pair_run.specs.WatchWorld.{unwatched};
+    ghost use Rattle.client_world.specs.WatchWorld.{unwatched};
     ghost use Rattle.dpmi_cli.specs.Pairs.{host_closed, host_console, host_exit, host_steps, host_turn};
     ghost use Rattle.dpmi_cli.specs.TurnGains.{counts, extends, stays};
 

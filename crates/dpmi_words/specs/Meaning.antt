@@ -10,7 +10,7 @@ use Rattle.dpmi_words.specs.declared.meaning.KeySource.{KeySource}
 use Rattle.dpmi_words.specs.declared.meaning.KeySource.TheVariants as source
 use Rattle.dpmi_words.specs.declared.meaning.Pair.{Pair}
 use Rattle.dpmi_words.specs.declared.meaning.Run.{Run}
-use Rattle.dpmi_words.specs.declared.meaning.TheConstants.{MAX_SLICE, DEFAULT_SLICE}
+use Rattle.client_world.specs.declared.limits.TheConstants.{MAX_SLICE, DEFAULT_SLICE}
 use Rattle.dpmi_words.specs.declared.meaning.Words.{Words}
 use Rattle.dpmi_words.specs.declared.meaning.Words.TheVariants as words
 

@@ -12,4 +12,4 @@ mod number;
 mod tests;
 
 pub use laws::an_option_is_written_either_way;
-pub use meaning::{DEFAULT_SLICE, KeySource, MAX_SLICE, Pair, Run, Words, read_words};
+pub use meaning::{KeySource, Pair, Run, Words, read_words};

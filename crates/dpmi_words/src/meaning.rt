@@ -22,7 +22,8 @@ use crate::command::{assign_pair, assign_run, assign_soak};
 use crate::number::{optional_number, seed};
 use clap::ArgMatches;
 use client_world::limits::{
-    DEFAULT_BOUND, DEFAULT_PAGES, DEFAULT_TRACE, MAX_PAGES, MAX_STEPS, MAX_TRACE,
+    DEFAULT_BOUND, DEFAULT_PAGES, DEFAULT_SLICE, DEFAULT_TRACE, MAX_PAGES, MAX_SLICE, MAX_STEPS,
+    MAX_TRACE,
 };
 use hex::FromHexError;
 use std::alloc::{AllocError, Global};
@@ -50,12 +51,6 @@ pub struct Run<'a> {
     /// The most lines of the trace that are kept.
     pub trace: u32,
 }
-
-/// The most turns of a slice.
-pub const MAX_SLICE: u32 = 1_000_000;
-
-/// The turns of a slice, where no other number is given.
-pub const DEFAULT_SLICE: u32 = 1000;
 
 /// Two runs in turns.
 #[derive(Drop)]

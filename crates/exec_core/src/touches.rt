@@ -22,10 +22,10 @@ use crate::moves::cut;
 use crate::products::{Sign, Signed, Unsigned, divide_error, high_register, word_in};
 use arrayvec::ArrayVec;
 use client_world::general::EAX;
-use client_world::{Event, Regs, SegReg};
+use client_world::{Event, Regs, SegReg, Touch};
 use guest_space::{Machine, byte_count};
 use insn_forms::{Insn, Op, Operand, Rep};
-use insn_plan::{Accesses, MAX_ACCESSES, Touch, cut_address, esp_up};
+use insn_plan::{Accesses, MAX_ACCESSES, cut_address, esp_up};
 
 // Reads the first two operands, and puts into the first.
 #[tactic(auto, unfolding(crate::specs::Arithmetic::binary, crate::specs::Products::multiply_two, insn_plan::specs::Accesses::accesses_after), using(insn_plan::proofs::AccessLists::put_accesses))]

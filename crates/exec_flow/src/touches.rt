@@ -26,10 +26,10 @@ use crate::segments::check_load;
 use crate::transfers::{at_operand_size, check_transfer, immediate};
 use arrayvec::ArrayVec;
 use client_world::faults::{BOUNDS_CHECK, GENERAL_PROTECTION, INVALID_OPCODE};
-use client_world::{Event, Fault, Mode, SegReg};
+use client_world::{Event, Fault, Mode, SegReg, Touch};
 use guest_space::{Machine, byte_count};
 use insn_forms::{Insn, Op, Operand};
-use insn_plan::{Accesses, MAX_ACCESSES, Touch, condition, cut_address, offset_of};
+use insn_plan::{Accesses, MAX_ACCESSES, condition, cut_address, offset_of};
 
 // Whether a transfer may go to an offset of a segment.
 fn check_code(a: &Accesses<'_>, sel: u16, off: u32, ret: bool) -> Result<(), Fault>

@@ -21,7 +21,7 @@ use Rattle.client_world.specs.Services.{Served, is_set}
 use Rattle.client_world.specs.World.{World, HostWorld}
 use Rattle.callbacks.specs.Callbacks.{enter_callback, leave_callback}
 use Rattle.dos_calls.specs.Calls.{CallResult, dos_call}
-use Rattle.dos_calls.specs.Kept.{Extends}
+use Rattle.client_world.specs.Console.{Extends}
 use Rattle.dos_calls.specs.Multiplex.{multiplex_call}
 use Rattle.dos_calls.proofs.LeftCalls as left
 use Rattle.fault_service.specs.Worlds.{world_step, world_interrupt, world_delivery, world_popped}

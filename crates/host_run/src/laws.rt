@@ -10,7 +10,7 @@ ghost use Rattle.client_world.specs.declared.services.Carry.{Carry as ACarry};
 ghost use Rattle.client_world.specs.Access.{IsHeld, fault_with};
 ghost use Rattle.client_world.specs.Soundness.{IsSound, IsSoundHost};
 ghost use Rattle.client_world.specs.World.{HostWorld, World};
-ghost use Rattle.dos_calls.specs.Kept.{Extends};
+ghost use Rattle.client_world.specs.Console.{Extends};
 ghost use Rattle.fault_service.specs.Worlds.{world_interrupt, world_step};
 ghost use Rattle.guest_ram.specs.Bytes.{AreBytes};
 ghost use Rattle.host_memory.specs.View.{MachineView};

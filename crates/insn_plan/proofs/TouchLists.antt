@@ -4,7 +4,7 @@ use Rattle.std.specs.Prelude.{slice_index_or}
 use Rattle.std.proofs.lemmas.List.{drop_all}
 use Rattle.client_world.specs.World.{World}
 use Rattle.insn_plan.specs.declared.accesses.Access.{Access}
-use Rattle.insn_plan.specs.declared.accesses.Touch.{Touch}
+use Rattle.client_world.specs.declared.watchpoints.Touch.{Touch}
 use Rattle.insn_plan.specs.Accesses.{granted, touches_after}
 
 touches_none : (w : World) (done : List Touch) (a : Access) (rest : List Access) → granted w a ≡ None →

@@ -16,7 +16,7 @@ use Rattle.guest_space.specs.Transfer.{access_fault}
 use Rattle.insn_forms.specs.declared.insn.Operand.{Operand}
 use Rattle.insn_forms.specs.declared.insn.Operand.TheVariants.{Empty, Reg, Seg, Mem, Imm, Far}
 use Rattle.insn_plan.specs.declared.accesses.Access.{Access}
-use Rattle.insn_plan.specs.declared.accesses.Touch.{Touch}
+use Rattle.client_world.specs.declared.watchpoints.Touch.{Touch}
 use Rattle.insn_plan.specs.Act.{Act, End, Read, Done, Raise, Interrupt, Input, Given, From, value_of}
 use Rattle.insn_plan.specs.Registers.{offset_of, cut_address}
 use Rattle.insn_plan.specs.Stack.{has_big_stack, with_pointer}

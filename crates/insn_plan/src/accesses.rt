@@ -12,7 +12,7 @@ use crate::read::{read_number, read_width};
 use crate::registers::{cut_address, offset_of};
 use crate::stack::{has_big_stack, pointer_down, with_pointer};
 use arrayvec::ArrayVec;
-use client_world::{Event, Regs, SegReg};
+use client_world::{Event, Regs, SegReg, Touch};
 use guest_space::{Machine, byte_count};
 use insn_forms::Operand;
 use std::marker::Model;
@@ -38,14 +38,6 @@ impl Default for Access {
             write: false,
         }
     }
-}
-
-/// A run of bytes that an instruction reads or writes, from a linear address on.
-#[derive(Clone, Copy, Debug, Default, PartialEq, Eq)]
-pub struct Touch {
-    pub lin: u32,
-    pub len: u8,
-    pub write: bool,
 }
 
 /// The accesses of an instruction, one after another. The machine stands at the instruction, and is seen with EIP past it.

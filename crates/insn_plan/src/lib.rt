@@ -12,7 +12,7 @@ mod read;
 mod registers;
 mod stack;
 
-pub use accesses::{Access, Accesses, MAX_ACCESSES, Touch};
+pub use accesses::{Access, Accesses, MAX_ACCESSES};
 pub use conditions::condition;
 pub use loop_counter::{counter, with_address};
 pub use next::{MAX_WRITES, Next};

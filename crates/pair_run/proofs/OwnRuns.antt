@@ -3,8 +3,9 @@ use Rattle.std.proofs.Common.{arith, inl, inr, ◌⊎◌, ◌≡◌, ◌≤◌, 
 use Rattle.std.specs.Prelude.{IsSome, min}
 use Rattle.std.specs.declared.option.Option.{Option}
 use Rattle.client_world.specs.declared.outcome.Exit.{Exit}
-use Rattle.pair_run.specs.Run.{Extends, closed_by, run_of, turns_of}
-use Rattle.pair_run.specs.WatchWorld.{WatchWorld}
+use Rattle.client_world.specs.Console.{Extends}
+use Rattle.pair_run.specs.Run.{closed_by, run_of, turns_of}
+use Rattle.client_world.specs.WatchWorld.{WatchWorld}
 
 -- the laws of a client
 pub record Client (turn : WatchWorld → WatchWorld) (console : WatchWorld → List ℕ) (exit : WatchWorld → Option Exit) (steps : WatchWorld → ℕ) : Type 0 where

@@ -11,7 +11,7 @@ use Rattle.pair_run.specs.declared.lines.Letter.{Letter}
 use Rattle.pair_run.specs.declared.lines.Letter.TheVariants.{A, B}
 use Rattle.pair_run.specs.Run.{turns_of}
 use Rattle.pair_run.specs.Slices.{OwnRun, SliceLine, own_run, gain, slices, written, slice_line, both_lines, lines_up_to, pair_lines, slice_head, line_end, lines_text}
-use Rattle.pair_run.specs.WatchWorld.{WatchWorld}
+use Rattle.client_world.specs.WatchWorld.{WatchWorld}
 use Rattle.pair_run.proofs.OwnRuns.{Client, few_turns, turns_add}
 use Rattle.pair_run.proofs.SliceTexts.{lines_next, lines_none, next_start, no_line, not_fewer, silent, text_append}
 

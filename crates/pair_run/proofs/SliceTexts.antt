@@ -13,7 +13,7 @@ use Rattle.pair_run.specs.declared.lines.Letter.{Letter}
 use Rattle.pair_run.specs.declared.lines.Letter.TheVariants.{A, B}
 use Rattle.pair_run.specs.Run.{closed_by, run_of, turns_of}
 use Rattle.pair_run.specs.Slices.{OwnRun, SliceLine, own_run, gain, slices, written, slice_line, both_lines, lines_up_to, own_lines, pair_lines, line_text, lines_text, is_letter, is_of, all_bytes}
-use Rattle.pair_run.specs.WatchWorld.{WatchWorld}
+use Rattle.client_world.specs.WatchWorld.{WatchWorld}
 use Rattle.pair_run.proofs.OwnRuns.{Client, few_turns, grown, last_turns, past, turns_add, turns_none}
 
 -- ---- where slices begin and end

@@ -1,4 +1,3 @@
 pub mod Run
 pub mod Scripted
 pub mod Slices
-pub mod WatchWorld

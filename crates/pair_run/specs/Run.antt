@@ -2,7 +2,7 @@
 use Rattle.std.specs.Prelude.{◌≡◌, ◌++◌, ℕ, zero, suc, List, [], None, Some}
 use Rattle.std.specs.declared.option.Option.{Option}
 use Rattle.client_world.specs.declared.outcome.Exit.{Exit}
-use Rattle.pair_run.specs.WatchWorld.{WatchWorld}
+use Rattle.client_world.specs.WatchWorld.{WatchWorld}
 
 -- the world after n turns; a turn leaves a world with an exit, so these are n turns or those up to the exit
 unfoldable pub turns_of : (WatchWorld → WatchWorld) → ℕ → WatchWorld → WatchWorld
@@ -16,10 +16,6 @@ closed_by close exit w = elim (exit w) [ None ↦ close w | Some _ ↦ w ]
 -- the world at the end of a run of at most n turns
 abbrev pub run_of : (WatchWorld → WatchWorld) → (WatchWorld → WatchWorld) → (WatchWorld → Option Exit) → ℕ → WatchWorld → WatchWorld
 run_of turn close exit n w = closed_by close exit (turns_of turn n w)
-
--- the second list is the first one with more bytes at its end
-abbrev pub Extends : List ℕ → List ℕ → Type 0
-Extends before after = (more : List ℕ) × (after ≡ before ++ more)
 
 -- the world of a client that has made no turn
 pub record IsFirst (console : WatchWorld → List ℕ) (exit : WatchWorld → Option Exit) (steps : WatchWorld → ℕ) (w : WatchWorld) : Type 0 where

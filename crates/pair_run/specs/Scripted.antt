@@ -9,8 +9,8 @@ use Rattle.client_world.specs.declared.registers.Mode.TheVariants.{Real}
 use Rattle.client_world.specs.declared.registers.Flags.{Flags}
 use Rattle.client_world.specs.declared.registers.Regs.{Regs}
 use Rattle.client_world.specs.World.{HostWorld, World}
-use Rattle.pair_run.specs.Run.{Extends}
-use Rattle.pair_run.specs.WatchWorld.{WatchWorld}
+use Rattle.client_world.specs.Console.{Extends}
+use Rattle.client_world.specs.WatchWorld.{WatchWorld}
 
 -- the byte of a turn that writes nothing
 abbrev pub dot : ℕ

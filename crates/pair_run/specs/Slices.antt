@@ -4,7 +4,7 @@ use Rattle.std.specs.Fmt.{decimal}
 use Rattle.pair_run.specs.declared.lines.Letter.{Letter}
 use Rattle.pair_run.specs.declared.lines.Letter.TheVariants.{A, B}
 use Rattle.pair_run.specs.Run.{turns_of}
-use Rattle.pair_run.specs.WatchWorld.{WatchWorld}
+use Rattle.client_world.specs.WatchWorld.{WatchWorld}
 
 -- a client's own run, as far as the slices show it: what its console holds after each number of turns, and how many turns there are
 pub record OwnRun : Type 0 where

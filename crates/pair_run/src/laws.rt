@@ -5,7 +5,7 @@ ghost use Rattle.pair_run.specs.declared.lines.Letter.{Letter as ALetter};
 ghost use Rattle.pair_run.specs.declared.lines.Letter.TheVariants.{A, B};
 ghost use Rattle.pair_run.specs.Run.{IsFirst, run_of, turns_of};
 ghost use Rattle.pair_run.specs.Slices.{OwnRun, all_bytes, gain, is_of, own_lines, own_run, pair_lines};
-ghost use Rattle.pair_run.specs.WatchWorld.{WatchWorld};
+ghost use Rattle.client_world.specs.WatchWorld.{WatchWorld};
 
 use crate::Turns;
 

@@ -9,13 +9,11 @@ mod slices;
 #[cfg(test)]
 mod tests;
 mod turns;
-mod watch_world;
 
 pub use laws::{
     a_slice_adds_its_gain, an_ended_client_is_silent, each_client_writes_its_own_lines,
     own_lines_hold_the_console,
 };
 pub use lines::Letter;
-pub use slices::{MAX_SLICE, pair};
+pub use slices::pair;
 pub use turns::Turns;
-pub use watch_world::{Watch, WatchKind};

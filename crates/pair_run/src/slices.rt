@@ -1,18 +1,15 @@
 // Two clients that take turns in slices.
 ghost use Rattle.std.specs.Prelude.{◌≡◌, ◌≤◌, ◌<◌, ◌+◌, ◌-◌, ◌++◌, ℕ, length, drop, is_some, None, IfOk, OnOk, OnErr, IsSome};
-ghost use Rattle.client_world.specs.declared.limits.TheConstants.{MAX_STEPS};
+ghost use Rattle.client_world.specs.declared.limits.TheConstants.{MAX_SLICE, MAX_STEPS};
 ghost use Rattle.dpmi_io.specs.Causes.{Rose};
 ghost use Rattle.dpmi_io.specs.Content.{Gains, GainsPart};
-ghost use Rattle.pair_run.specs.declared.slices.TheConstants.{MAX_SLICE};
-ghost use Rattle.pair_run.specs.Run.{Extends, IsFirst, run_of, turns_of};
+ghost use Rattle.client_world.specs.Console.{Extends};
+ghost use Rattle.pair_run.specs.Run.{IsFirst, run_of, turns_of};
 ghost use Rattle.pair_run.specs.Slices.{lines_text, own_run, pair_head, pair_lines, slice_head, slices_text, written};
 
 use crate::Turns;
 use crate::lines::{Letter, head_line, slice_line};
 use dpmi_io::{Sink, SinkFail, put_all};
-
-/// The most turns of a slice.
-pub const MAX_SLICE: u32 = 1_000_000;
 
 // Puts the first line.
 fn put_head<O: Sink>(slice: u32, out: &mut O) -> Result<(), SinkFail>

@@ -4,8 +4,9 @@ ghost use Rattle.std.specs.declared.option.Option.{Option};
 ghost use Rattle.client_world.specs.declared.limits.TheConstants.{MAX_STEPS};
 ghost use Rattle.client_world.specs.declared.outcome.Exit.{Exit as AnExit};
 ghost use Rattle.client_world.specs.declared.outcome.Exit.TheVariants.{Bound};
-ghost use Rattle.pair_run.specs.Run.{Extends, turns_of};
-ghost use Rattle.pair_run.specs.WatchWorld.{WatchWorld};
+ghost use Rattle.client_world.specs.Console.{Extends};
+ghost use Rattle.pair_run.specs.Run.{turns_of};
+ghost use Rattle.client_world.specs.WatchWorld.{WatchWorld};
 
 use client_world::Exit;
 

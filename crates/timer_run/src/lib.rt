@@ -11,4 +11,4 @@ pub use laws::{
     every_round_changes_the_innermost_record_at_most, every_round_is_sound,
     every_touch_of_a_round_is_held,
 };
-pub use timer::{GREATEST_TIMER, TIMER_INTERRUPT, Timer};
+pub use timer::{TIMER_INTERRUPT, Timer};

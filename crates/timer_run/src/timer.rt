@@ -1,9 +1,8 @@
 // The timer.
 ghost use Rattle.std.specs.Prelude.{◌≡◌, ◌≢◌, ◌≤◌, ◌<◌, true, false, None, Ok};
-ghost use Rattle.client_world.specs.declared.limits.TheConstants.{GREATEST_DEPTH, MAX_STEPS};
+ghost use Rattle.client_world.specs.declared.limits.TheConstants.{GREATEST_DEPTH, GREATEST_TIMER, MAX_STEPS};
 ghost use Rattle.client_world.specs.declared.registers.Mode.TheVariants.{Protected as protected};
 ghost use Rattle.client_world.specs.World.{depth};
-ghost use Rattle.timer_run.specs.declared.timer.TheConstants.{GREATEST_TIMER};
 ghost use Rattle.timer_run.specs.Timer.{TimerState, takes_interrupts, ticked, timer_answer, timer_part};
 
 use client_world::limits::GREATEST_DEPTH;
@@ -15,9 +14,6 @@ use std::marker::Model;
 
 /// The interrupt of the timer. Source: own.
 pub const TIMER_INTERRUPT: u8 = 8;
-
-/// The most rounds after which a timer's interrupt becomes due. Source: own.
-pub const GREATEST_TIMER: u32 = 1_000_000_000;
 
 /// A timer, whose interrupt becomes due again and again after the same number of rounds.
 #[derive(Drop)]

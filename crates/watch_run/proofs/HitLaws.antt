@@ -4,8 +4,8 @@ use Rattle.std.specs.Prelude.{slice_index_or, cond, ◌||◌}
 use Rattle.std.proofs.lemmas.List.{drop_all, length-drop}
 use Rattle.std.proofs.Math.Seq.{drop-cons}
 use Rattle.std.proofs.Math.Nat.{pow-suc, pow-le-pow_right}
-use Rattle.insn_plan.specs.declared.accesses.Touch.{Touch}
-use Rattle.watch_run.specs.declared.watch.Watch.{Watch}
+use Rattle.client_world.specs.declared.watchpoints.Touch.{Touch}
+use Rattle.client_world.specs.declared.watchpoints.Watch.{Watch}
 use Rattle.watch_run.specs.Hits.{hit_bits, slot_hit, watches_for, watches_one}
 
 -- ---- touches

@@ -1,11 +1,13 @@
 -- Runs in which no function on watchpoints is served.
-use Rattle.std.proofs.Common.{◌≡◌, ℕ, zero, suc, ◌+◌, ◌<◌, Bool, None, Some, Option, refl, ap, sym, ◌∙◌, arith}
+use Rattle.std.proofs.Common.{◌≡◌, ℕ, zero, suc, ◌+◌, ◌<◌, Bool, true, false, if◌then◌else◌, None, Some, Option, refl, ap, sym, ◌∙◌, arith}
 use Rattle.client_world.specs.declared.outcome.Exit.{Exit}
 use Rattle.client_world.specs.World.{World, HostWorld}
+use Rattle.client_world.specs.WatchWorld.{WatchWorld, Watching, no_watches, unwatched}
+use Rattle.host_run.specs.OtherTurns.{int31_call}
 use Rattle.host_run.specs.Run.{bounded, run, turns}
 use Rattle.host_run.specs.Turn.{settled, turn, with_turn_counted, work}
-use Rattle.watch_run.specs.Turn.{WatchWorld, run_with_watchpoints, turn_with_watchpoints, turned, turns_with_watchpoints, unwatched, watch_call, watched}
-use Rattle.watch_run.specs.Watches.{Watching, no_watches}
+use Rattle.watch_run.specs.Services.{watch_service}
+use Rattle.watch_run.specs.Turn.{answered, is_watch_call, run_with_watchpoints, turn_with_watchpoints, turned, turns_with_watchpoints, watched}
 
 nothing_watched : (w : World) → watched w no_watches ≡ no_watches
 unfolding watched
@@ -30,16 +32,19 @@ by_exit : (o : Option Exit) (h : HostWorld) (x : WatchWorld) → x ≡ unwatched
 by_exit None h x e t = e
 by_exit (Some exit) h x e t = ap unwatched (sym t)
 
-plain_turn : (h : HostWorld) → watch_call h.machine ≡ None → turn_with_watchpoints (unwatched h) ≡ unwatched (turn h)
+-- a function is served, or the turn is the host's
+by_call : (h : HostWorld) (served : WatchWorld) (b : Bool) → b ≡ false →
+    (if b then served else record { host = turn h; watching = watched h.machine no_watches }) ≡ unwatched (turn h)
+by_call h served true e = cc
+by_call h served false e = ap (λ (s : Watching). let w : WatchWorld = record { host = turn h; watching = s } in w) (nothing_watched h.machine)
+
+plain_turn : (h : HostWorld) → is_watch_call (int31_call h) ≡ false → turn_with_watchpoints (unwatched h) ≡ unwatched (turn h)
 unfolding turn_with_watchpoints
 plain_turn h none =
-    let x = turned (unwatched h) (watch_call h.machine) in
-    let is : x ≡ unwatched (turn h) =
-    ap (turned (unwatched h)) none
-    ∙ ap (λ (s : Watching). record { host = turn h; watching = s }) (nothing_watched h.machine) in
-    by_exit h.exit h x is (turn_of h)
+    let served = answered (unwatched h) (watch_service h.machine.regs no_watches) in
+    by_exit h.exit h (turned (unwatched h)) (by_call h served (is_watch_call (int31_call h)) none) (turn_of h)
 
-plain_turns : (h : HostWorld) (n : ℕ) → ((k : ℕ) → k < n → watch_call (turns h k).machine ≡ None) →
+plain_turns : (h : HostWorld) (n : ℕ) → ((k : ℕ) → k < n → is_watch_call (int31_call (turns h k)) ≡ false) →
     turns_with_watchpoints (unwatched h) n ≡ unwatched (turns h n)
 unfolding turns_with_watchpoints turns
 plain_turns h zero none = refl
@@ -47,6 +52,6 @@ plain_turns h (suc n) none =
     ap turn_with_watchpoints (plain_turns h n (λ k less. none k (omega (arith, less))))
     ∙ plain_turn (turns h n) (none n (omega arith))
 
-pub plain_run : (h : HostWorld) (n : ℕ) → ((k : ℕ) → k < n → watch_call (turns h k).machine ≡ None) →
+pub plain_run : (h : HostWorld) (n : ℕ) → ((k : ℕ) → k < n → is_watch_call (int31_call (turns h k)) ≡ false) →
     run_with_watchpoints (unwatched h) n ≡ unwatched (run h n)
 plain_run h n none = ap (λ (w : WatchWorld). record w { host = bounded w.host }) (plain_turns h n none)

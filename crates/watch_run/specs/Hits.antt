@@ -7,11 +7,11 @@ use Rattle.guest_space.specs.SegmentRows.{first_byte}
 use Rattle.insn_decode.specs.declared.decoding.Decoded.{Decoded}
 use Rattle.insn_decode.specs.declared.decoding.Decoded.TheVariants.{Whole, More, Invalid}
 use Rattle.insn_decode.specs.Decode.{decoded}
-use Rattle.insn_plan.specs.declared.accesses.Touch.{Touch}
+use Rattle.client_world.specs.declared.watchpoints.Touch.{Touch}
 use Rattle.insn_plan.specs.Accesses.{moved, touches}
 use Rattle.cpu_step.specs.Step.{has_big_code, code, client_row}
-use Rattle.watch_run.specs.declared.watch.Watch.{Watch}
-use Rattle.watch_run.specs.declared.watch.WatchKind.TheVariants.{Execute, Write, ReadOrWrite}
+use Rattle.client_world.specs.declared.watchpoints.Watch.{Watch}
+use Rattle.client_world.specs.declared.watchpoints.WatchKind.TheVariants.{Execute, Write, ReadOrWrite}
 
 -- the touches of what the code bytes are; none where they are no instruction, or it is an event
 abbrev pub decoded_runs : World → Decoded → Option (List Touch)

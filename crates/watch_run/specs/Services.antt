@@ -1,5 +1,5 @@
 -- INT 31h functions 0B00h to 0B03h. A refusal returns its number in AX.
--- Source: DPMI 0.9, INT 31h functions 0B00h to 0B03h; that there are 16 watchpoints without debug registers, and the numbers, are own.
+-- Source: DPMI 0.9, INT 31h functions 0B00h to 0B03h; that there are 16 watchpoints without debug registers is own.
 use Rattle.std.specs.Prelude.{ℕ, ◌+◌, ◌-◌, ◌^◌, Bool, true, false, not, cond, ◌||◌, nat_eq, nat_lt, None, Some, if◌then◌else◌, slice_set}
 use Rattle.std.specs.declared.option.Option.{Option}
 use Rattle.client_world.specs.declared.registers.Regs.{Regs}
@@ -7,10 +7,14 @@ use Rattle.client_world.specs.declared.services.Carry.{Carry}
 use Rattle.client_world.specs.declared.services.Carry.TheVariants.{Clear, Set}
 use Rattle.client_world.specs.Registers.{high_byte, low_byte, low_half, with_low_half}
 use Rattle.client_world.specs.Services.{two_words}
-use Rattle.watch_run.specs.declared.watch.Watch.{Watch}
-use Rattle.watch_run.specs.declared.watch.WatchKind.{WatchKind}
-use Rattle.watch_run.specs.declared.watch.WatchKind.TheVariants.{Execute, Write, ReadOrWrite}
-use Rattle.watch_run.specs.Watches.{Watching, watch_at, lowest_free}
+use Rattle.client_world.specs.declared.watchpoints.Watch.{Watch}
+use Rattle.client_world.specs.declared.watchpoints.WatchKind.{WatchKind}
+use Rattle.client_world.specs.declared.watchpoints.WatchKind.TheVariants.{Execute, Write, ReadOrWrite}
+use Rattle.client_world.specs.WatchWorld.{Watching}
+use Rattle.service_rows.specs.declared.refusal.Refusal.{Refusal}
+use Rattle.service_rows.specs.declared.refusal.Refusal.TheVariants.{HandleUnavailable, InvalidAddress, InvalidHandle, InvalidValue}
+use Rattle.service_rows.specs.Reasons.{number_of}
+use Rattle.watch_run.specs.Watches.{watch_at, lowest_free}
 
 -- what a function returns: the registers, the carry, and the watchpoints after it
 pub record Answer : Type 0 where
@@ -22,22 +26,9 @@ pub record Answer : Type 0 where
 abbrev pub served : Regs → Watching → Answer
 served r w = record { regs = r; carry = Clear; watching = w }
 
--- it is refused: AX is the number, and nothing else changes
-abbrev pub refused : ℕ → Regs → Watching → Answer
-refused number r w = record { regs = record r { eax = with_low_half r.eax number }; carry = Set; watching = w }
-
--- the numbers of the refusals
-abbrev pub invalid_value : ℕ
-invalid_value = 0x8021
-
-abbrev pub invalid_handle : ℕ
-invalid_handle = 0x8023
-
-abbrev pub invalid_address : ℕ
-invalid_address = 0x8025
-
-abbrev pub no_handle : ℕ
-no_handle = 0x8016
+-- it is refused: AX is the number of the refusal, and nothing else changes
+abbrev pub refused : Refusal → Regs → Watching → Answer
+refused refusal r w = record { regs = record r { eax = with_low_half r.eax (number_of refusal) }; carry = Set; watching = w }
 
 -- the sizes of watchpoints
 abbrev pub is_size : ℕ → Bool
@@ -61,19 +52,19 @@ abbrev pub with_watch : ℕ → Option Watch → Watching → Watching
 with_watch handle watch w = record w { watches = slice_set w.watches (handle - 1) watch }
 
 abbrev pub made : Regs → Watching → Option ℕ → Answer
-made r w None = refused no_handle r w
+made r w None = refused HandleUnavailable r w
 made r w (Some handle) = served (record r { ebx = with_low_half r.ebx handle }) (with_watch handle (Some (described r)) w)
 
 -- 0B00h: a watchpoint on DL bytes at BX:CX, of the kind DH; BX becomes its handle, the lowest that is free
 unfoldable pub set_watch : Regs → Watching → Answer
 set_watch r w =
-    if not (is_size (low_byte r.edx)) || nat_lt 2 (high_byte r.edx) then refused invalid_value r w else
-    if nat_lt (2 ^ 32) ((described r).at + low_byte r.edx) then refused invalid_address r w else
+    if not (is_size (low_byte r.edx)) || nat_lt 2 (high_byte r.edx) then refused InvalidValue r w else
+    if nat_lt (2 ^ 32) ((described r).at + low_byte r.edx) then refused InvalidAddress r w else
     made r w (lowest_free w.watches)
 
 -- what is done to the watchpoint BX, if it is held
 abbrev pub held : Regs → Watching → Option Watch → (Watch → Answer) → Answer
-held r w None answer = refused invalid_handle r w
+held r w None answer = refused InvalidHandle r w
 held r w (Some watch) answer = answer watch
 
 abbrev pub asked : Regs → Watching → Option Watch

@@ -1,29 +1,22 @@
 -- One turn of a host with watchpoints, and runs. A hit sets the watchpoint's status, and in protected mode raises exception 1 in a turn of its
 -- own after the instruction; one in real mode waits for protected mode. Source: own.
-use Rattle.std.specs.Prelude.{ℕ, zero, suc, ◌+◌, Bool, true, false, not, ◌&&◌, ◌||◌, List, [], ◌∷◌, nat_eq, if◌then◌else◌, None, Some, Ok, Err}
+use Rattle.std.specs.Prelude.{ℕ, zero, suc, ◌+◌, Bool, true, false, not, ◌&&◌, ◌||◌, List, [], ◌∷◌, if◌then◌else◌, None, Some}
 use Rattle.std.specs.declared.option.Option.{Option}
-use Rattle.std.specs.declared.result.Result.{Result}
-use Rattle.client_world.specs.declared.faults.Fault.{Fault}
-use Rattle.client_world.specs.declared.outcome.Exit.{Exit}
+use Rattle.client_world.specs.declared.faults.TheConstants.{DEBUG}
 use Rattle.client_world.specs.declared.registers.Mode.TheVariants.{Real, Protected}
+use Rattle.client_world.specs.declared.watchpoints.Touch.{Touch}
+use Rattle.client_world.specs.declared.watchpoints.Watch.{Watch}
 use Rattle.client_world.specs.Access.{fault_with}
-use Rattle.client_world.specs.Registers.{low_half}
-use Rattle.client_world.specs.World.{World, HostWorld}
-use Rattle.fault_service.specs.Worlds.{world_popped}
-use Rattle.insn_plan.specs.declared.accesses.Touch.{Touch}
+use Rattle.client_world.specs.WatchWorld.{WatchWorld, Watching}
+use Rattle.client_world.specs.World.{World}
 use Rattle.host_run.specs.declared.traps.Trap.{Trap}
-use Rattle.host_run.specs.declared.traps.Trap.TheVariants.{NoTrap, ProtectedVector}
+use Rattle.host_run.specs.declared.traps.Trap.TheVariants.{NoTrap}
+use Rattle.host_run.specs.OtherTurns.{exception_turn, int31_call, int31_turn}
 use Rattle.host_run.specs.Run.{bounded}
 use Rattle.host_run.specs.Traps.{current_trap}
-use Rattle.host_run.specs.Turn.{after_service, delivered, settled, turn, with_turn_counted}
-use Rattle.watch_run.specs.declared.watch.Watch.{Watch}
+use Rattle.host_run.specs.Turn.{turn}
 use Rattle.watch_run.specs.Hits.{instruction_address, next_touches, slot_hit}
 use Rattle.watch_run.specs.Services.{Answer, is_watch_function, watch_service}
-use Rattle.watch_run.specs.Watches.{Watching, no_watches}
-
-pub record WatchWorld : Type 0 where
-  pub host : HostWorld
-  pub watching : Watching
 
 -- ---- hits
 
@@ -62,39 +55,26 @@ watched w s = record {
 
 -- ---- the functions on watchpoints
 
--- the machine after a frame is popped, where it asks for one of them
-abbrev pub if_asked : Result World Exit → Option World
-if_asked (Ok v) = if is_watch_function (low_half v.regs.eax) then Some v else None
-if_asked (Err exit) = None
+-- the next turn would serve a call of INT 31h, and it is one of them
+abbrev pub is_watch_call : Option ℕ → Bool
+is_watch_call None = false
+is_watch_call (Some ax) = is_watch_function ax
 
-abbrev pub asked_at : World → Trap → Option World
-asked_at w (ProtectedVector n) = if nat_eq n 0x31 then if_asked (world_popped w) else None
-asked_at w _ = None
-
--- INT 31h stands at its trap and asks for one of them, and its frame can be popped: the machine after that
-unfoldable pub watch_call : World → Option World
-watch_call w = asked_at w (current_trap w)
-
--- the host after one of them: EAX and EBX are those that it returns, and the carry goes into the flags that were popped
-abbrev pub function_done : HostWorld → World → Answer → HostWorld
-function_done h v a = settled (after_service (with_turn_counted h) (low_half v.regs.eax)
-    (record { carry = a.carry; world = record v { regs = record v.regs { eax = a.regs.eax; ebx = a.regs.ebx } } }))
+-- one of them is served: EAX, EBX and the carry are those that it returns
+abbrev pub answered : WatchWorld → Answer → WatchWorld
+answered w a = record { host = int31_turn w.host a.regs a.carry; watching = a.watching }
 
 -- ---- turns
 
 -- exception 1 is delivered, and nothing is due
-unfoldable pub hit_told : WatchWorld → WatchWorld
-hit_told w = record {
-  host = settled (delivered (with_turn_counted w.host) (fault_with 1 0));
-  watching = record w.watching { due = false };
-}
+abbrev pub hit_told : WatchWorld → WatchWorld
+hit_told w = record { host = exception_turn w.host (fault_with DEBUG 0); watching = record w.watching { due = false } }
 
 -- a turn of the host, or a function on watchpoints
-abbrev pub turned : WatchWorld → Option World → WatchWorld
-turned w None = record { host = turn w.host; watching = watched w.host.machine w.watching }
-turned w (Some v) =
-    let answer = watch_service w.host.machine.regs w.watching in
-    record { host = function_done w.host v answer; watching = answer.watching }
+abbrev pub turned : WatchWorld → WatchWorld
+turned w =
+    if is_watch_call (int31_call w.host) then answered w (watch_service w.host.machine.regs w.watching)
+    else record { host = turn w.host; watching = watched w.host.machine w.watching }
 
 -- a hit is told in protected mode
 abbrev pub tells : WatchWorld → Bool
@@ -104,7 +84,7 @@ tells w = w.watching.due && elim w.host.machine.mode [ Real ↦ false | Protecte
 unfoldable pub turn_with_watchpoints : WatchWorld → WatchWorld
 turn_with_watchpoints w = elim w.host.exit [
   | Some _ ↦ w
-  | None ↦ if tells w then hit_told w else turned w (watch_call w.host.machine)
+  | None ↦ if tells w then hit_told w else turned w
 ]
 
 -- ---- runs
@@ -119,7 +99,3 @@ abbrev pub run_with_watchpoints : WatchWorld → ℕ → WatchWorld
 run_with_watchpoints w n =
     let end = turns_with_watchpoints w n in
     record end { host = bounded end.host }
-
--- a host with no watchpoint
-abbrev pub unwatched : HostWorld → WatchWorld
-unwatched h = record { host = h; watching = no_watches }

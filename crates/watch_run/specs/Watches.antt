@@ -1,20 +1,8 @@
--- The watchpoints that are held. Source: DPMI 0.9, "Debug Register Support".
+-- The handles of watchpoints. Source: DPMI 0.9, "Debug Register Support".
 use Rattle.std.specs.Prelude.{ℕ, zero, suc, ◌+◌, ◌-◌, Bool, true, false, List, [], ◌∷◌, None, Some, is_none, ◌||◌, nat_eq, nat_lt, if◌then◌else◌, slice_index_or}
 use Rattle.std.specs.declared.option.Option.{Option}
-use Rattle.watch_run.specs.declared.watch.Watch.{Watch}
+use Rattle.client_world.specs.declared.watchpoints.Watch.{Watch}
 use Rattle.service_rows.specs.FirstIndex.{first_index}
-
--- the watchpoints, the one of handle h at place h - 1; and whether a hit is still to be told to the client
-pub record Watching : Type 0 where
-  pub watches : List (Option Watch)
-  pub due : Bool
-
--- none is held, and nothing is due
-abbrev pub no_watches : Watching
-no_watches = record {
-  watches = None ∷ None ∷ None ∷ None ∷ None ∷ None ∷ None ∷ None ∷ None ∷ None ∷ None ∷ None ∷ None ∷ None ∷ None ∷ None ∷ [];
-  due = false;
-}
 
 -- the watchpoint of a handle; the handles are 1 to 16
 abbrev pub watch_at : List (Option Watch) → ℕ → Option Watch

@@ -15,16 +15,17 @@ ghost use Rattle.watch_run.specs.Hits.{
   watches_one,
 };
 
-use crate::watch::{WATCHES, Watch, WatchKind, Watches};
+use crate::watch::Watches;
 use arrayvec::ArrayVec;
-use client_world::SegReg;
+use client_world::limits::WATCHES;
+use client_world::{SegReg, Touch, Watch, WatchKind};
 use cpu_step::has_big_code;
 use exec_core::{is_core, touches_core};
 use exec_flow::touches_flow;
 use guest_space::Machine;
 use insn_decode::{Decoded, decode};
 use insn_forms::{Insn, every_instruction_is_well_formed};
-use insn_plan::{MAX_ACCESSES, Touch};
+use insn_plan::MAX_ACCESSES;
 
 // The touches of an instruction, by the crate that has it.
 #[tactic(auto, unfolding(cpu_step::specs::Step::client_row), using(cpu_step::proofs::CoreOrFlow::flow_where_not_core))]

@@ -9,4 +9,4 @@ mod services;
 mod watch;
 
 pub use laws::a_run_without_watchpoints_is_the_hosts_run;
-pub use watch::{WATCHES, Watch, WatchKind, Watches};
+pub use watch::Watches;

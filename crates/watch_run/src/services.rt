@@ -1,6 +1,8 @@
 // INT 31h functions 0B00h to 0B03h.
 ghost use Rattle.std.specs.Prelude.{◌≡◌, ◌<◌, ◌≤◌, IsTrue, MatchOption, MatchResult, None, Some};
+ghost use Rattle.client_world.specs.declared.limits.TheConstants.{WATCHES};
 ghost use Rattle.client_world.specs.Registers.{low_half};
+ghost use Rattle.service_rows.specs.declared.refusal.Refusal.TheVariants.{InvalidHandle};
 ghost use Rattle.watch_run.specs.Services.{
   asked,
   clear_watch,
@@ -17,19 +19,11 @@ ghost use Rattle.watch_run.specs.Services.{
 };
 ghost use Rattle.watch_run.specs.Watches.{lowest_free};
 
-use crate::watch::{WATCHES, Watch, WatchKind, Watches};
-use client_world::{Carry, Regs};
+use crate::watch::Watches;
+use client_world::limits::WATCHES;
+use client_world::{Carry, Regs, Watch, WatchKind};
 use guest_space::Machine;
-use service_rows::{high_byte, low_byte, low_half, two_words, with_low_half};
-
-// The numbers of the refusals.
-const INVALID_VALUE: u16 = 0x8021;
-
-const INVALID_HANDLE: u16 = 0x8023;
-
-const INVALID_ADDRESS: u16 = 0x8025;
-
-const NO_HANDLE: u16 = 0x8016;
+use service_rows::{Refusal, high_byte, low_byte, low_half, two_words, with_low_half};
 
 // Whether a watchpoint may have that many bytes.
 fn is_size(n: u8) -> bool
@@ -76,21 +70,21 @@ impl Watches {
         None
     }
 
-    // Function 0B00h: the registers after it, or the number of the refusal.
+    // Function 0B00h: the registers after it, or why it is refused.
     #[tactic(auto, unfolding(crate::specs::Services::set_watch))]
-    fn set_watch(&mut self, r: Regs) -> Result<Regs, u16>
+    fn set_watch(&mut self, r: Regs) -> Result<Regs, Refusal>
         ensures { MatchResult result (λ regs. set_watch r self.old ≡ served regs self.new)
-            (λ number. (set_watch r self.old ≡ refused number r self.old) × (self.new ≡ self.old)) }
+            (λ refusal. (set_watch r self.old ≡ refused refusal r self.old) × (self.new ≡ self.old)) }
     {
         let watch = described(&r);
         if !is_size(watch.size) || high_byte(r.edx) > 2 {
-            return Err(INVALID_VALUE);
+            return Err(Refusal::InvalidValue);
         }
         if u64::from(watch.at) + u64::from(watch.size) > 0x1_0000_0000 {
-            return Err(INVALID_ADDRESS);
+            return Err(Refusal::InvalidAddress);
         }
         let Some(handle) = self.lowest_free() else {
-            return Err(NO_HANDLE);
+            return Err(Refusal::HandleUnavailable);
         };
         self.put(handle, Some(watch));
         Ok(Regs {
@@ -99,23 +93,23 @@ impl Watches {
         })
     }
 
-    // The watchpoint BX, or the number of the refusal.
-    fn asked(&self, r: &Regs) -> Result<Watch, u16>
+    // The watchpoint BX, or why it is refused.
+    fn asked(&self, r: &Regs) -> Result<Watch, Refusal>
         ensures { MatchResult result
             (λ watch. (asked r.now self.now ≡ Some watch) × (0 < low_half r.now.ebx) × (low_half r.now.ebx ≤ WATCHES))
-            (λ number. (asked r.now self.now ≡ None) × (number ≡ 0x8023)) }
+            (λ refusal. (asked r.now self.now ≡ None) × (refusal ≡ InvalidHandle)) }
     {
         match self.watch(low_half(r.ebx)) {
             Some(watch) => Ok(watch),
-            None => Err(INVALID_HANDLE),
+            None => Err(Refusal::InvalidHandle),
         }
     }
 
     // Function 0B01h.
     #[tactic(auto, unfolding(crate::specs::Services::clear_watch))]
-    fn clear_watch(&mut self, r: Regs) -> Result<Regs, u16>
+    fn clear_watch(&mut self, r: Regs) -> Result<Regs, Refusal>
         ensures { MatchResult result (λ regs. clear_watch r self.old ≡ served regs self.new)
-            (λ number. (clear_watch r self.old ≡ refused number r self.old) × (self.new ≡ self.old)) }
+            (λ refusal. (clear_watch r self.old ≡ refused refusal r self.old) × (self.new ≡ self.old)) }
     {
         self.asked(&r)?;
         self.put(low_half(r.ebx), None);
@@ -124,9 +118,9 @@ impl Watches {
 
     // Function 0B02h.
     #[tactic(auto, unfolding(crate::specs::Services::watch_state))]
-    fn watch_state(&mut self, r: Regs) -> Result<Regs, u16>
+    fn watch_state(&mut self, r: Regs) -> Result<Regs, Refusal>
         ensures { MatchResult result (λ regs. watch_state r self.old ≡ served regs self.new)
-            (λ number. (watch_state r self.old ≡ refused number r self.old) × (self.new ≡ self.old)) }
+            (λ refusal. (watch_state r self.old ≡ refused refusal r self.old) × (self.new ≡ self.old)) }
     {
         let watch = self.asked(&r)?;
         Ok(Regs {
@@ -137,9 +131,9 @@ impl Watches {
 
     // Function 0B03h.
     #[tactic(auto, unfolding(crate::specs::Services::reset_watch))]
-    fn reset_watch(&mut self, r: Regs) -> Result<Regs, u16>
+    fn reset_watch(&mut self, r: Regs) -> Result<Regs, Refusal>
         ensures { MatchResult result (λ regs. reset_watch r self.old ≡ served regs self.new)
-            (λ number. (reset_watch r self.old ≡ refused number r self.old) × (self.new ≡ self.old)) }
+            (λ refusal. (reset_watch r self.old ≡ refused refusal r self.old) × (self.new ≡ self.old)) }
     {
         let watch = self.asked(&r)?;
         self.put(
@@ -167,8 +161,8 @@ impl Watches {
         };
         match result {
             Ok(regs) => (regs, Carry::Clear),
-            Err(number) => {
-                let eax = with_low_half(r.eax, number);
+            Err(refusal) => {
+                let eax = with_low_half(r.eax, refusal.number());
                 (Regs { eax, ..r }, Carry::Set)
             }
         }

@@ -1,28 +1,12 @@
 // The watchpoints that are held.
 ghost use Rattle.std.specs.Prelude.{◌≡◌, ◌<◌, ◌≤◌, ◌-◌, IfSome, None, false, length, slice_set};
-ghost use Rattle.watch_run.specs.Watches.{no_watches, watch_at};
+ghost use Rattle.client_world.specs.declared.limits.TheConstants.{WATCHES};
+ghost use Rattle.client_world.specs.WatchWorld.{no_watches};
+ghost use Rattle.watch_run.specs.Watches.{watch_at};
 
+use client_world::Watch;
+use client_world::limits::WATCHES;
 use std::marker::Model;
-
-/// The most watchpoints.
-pub const WATCHES: u16 = 16;
-
-/// What a watchpoint watches for. Source: DPMI 0.9, INT 31h function 0B00h.
-#[derive(Clone, Copy, Debug, PartialEq, Eq)]
-pub enum WatchKind {
-    Execute,
-    Write,
-    ReadOrWrite,
-}
-
-/// A watchpoint: its linear address, its size in bytes, what it watches for, and whether it was hit since it was made or reset.
-#[derive(Clone, Copy, Debug, PartialEq, Eq)]
-pub struct Watch {
-    pub at: u32,
-    pub size: u8,
-    pub kind: WatchKind,
-    pub hit: bool,
-}
 
 /// The watchpoints, by their handles 1 to 16, and whether a hit is still to be told to the client.
 #[derive(Drop)]
@@ -33,7 +17,7 @@ pub struct Watches {
 
 impl Model for Watches {
     ghost use Rattle.std.specs.Prelude.{◌≡◌, length};
-    ghost use Rattle.watch_run.specs.Watches.{Watching};
+    ghost use Rattle.client_world.specs.WatchWorld.{Watching};
 
     ghost Value = { Watching };
 
