@@ -2,6 +2,7 @@
 use Rattle.std.specs.Prelude.{◌≡◌, ◌≢◌, ◌⊎◌, ℕ, ◌+◌, ◌-◌, ◌*◌, ◌/◌, ◌%◌, ⊤, ◌<◌, ◌≤◌, min, nat_eq, nat_lt, if◌then◌else◌, List, [], ◌∷◌, ◌++◌, None, Some, take, length, slice_index, slice_index_or, slice_set}
 use Rattle.std.specs.List.{range_with_len}
 use Rattle.std.specs.declared.option.Option.{Option}
+use Rattle.client_world.specs.declared.blocks.BlockRow.{BlockRow}
 use Rattle.client_world.specs.declared.host_frames.TheConstants.{PAGE_SIZE}
 use Rattle.client_world.specs.declared.limits.TheConstants.{MAX_BLOCKS}
 use Rattle.client_world.specs.declared.memory_map.TheConstants.{BLOCK_REGION, BLOCK_REGION_END}
@@ -186,6 +187,6 @@ unfoldable pub all_locked : List ℕ → List ℕ → ℕ
 all_locked handles locks = total (locked_of handles locks) (range_with_len 0 MAX_BLOCKS)
 
 -- the linear address and the pages of a block, if there is one
-abbrev pub row_seen : Option MemoryBlock → Option (ℕ × ℕ)
+abbrev pub row_seen : Option MemoryBlock → Option BlockRow
 row_seen None = None
-row_seen (Some block) = Some (block.base, length block.locks)
+row_seen (Some block) = Some (record { base = block.base; pages = length block.locks })

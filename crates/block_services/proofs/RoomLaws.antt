@@ -2,6 +2,7 @@
 use Rattle.std.proofs.Common.{◌≡◌, ◌≢◌, ◌≤◌, ◌<◌, ◌+◌, ◌-◌, ◌*◌, ◌%◌, ◌⊎◌, inl, inr, ℕ, true, false, not, List, length, refl, sym, ◌∙◌, ap, subst, arith, Option, None, Some, nat_eq, nat_lt, nat_le}
 use Rattle.std.specs.Option.{is_none}
 use Rattle.std.proofs.lemmas.Bool.{and_cases, and_parts, cases_Bool, leb-true, ltb-false, ne_eqb, not_from_false, true≢false}
+use Rattle.client_world.specs.declared.blocks.BlockRow.{BlockRow}
 use Rattle.client_world.specs.declared.host_frames.TheConstants.{PAGE_SIZE}
 use Rattle.client_world.specs.declared.limits.TheConstants.{MAX_BLOCKS}
 use Rattle.client_world.specs.declared.memory_map.TheConstants.{BLOCK_REGION, BLOCK_REGION_END}
@@ -130,6 +131,6 @@ can_size blocks budget handle base pages sound held e some few =
       room = omega arith;
     }
 
-pub seen_held : (b : Option MemoryBlock) (row : ℕ × ℕ) → row_seen b ≡ Some row → b ≢ None
+pub seen_held : (b : Option MemoryBlock) (row : BlockRow) → row_seen b ≡ Some row → b ≢ None
 seen_held None row e none = absurd cc
 seen_held (Some block) row e none = absurd cc

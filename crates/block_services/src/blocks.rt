@@ -121,16 +121,16 @@ pub(crate) fn resize_block(m: &mut Machine) -> Result<(), Refusal>
 {
     let handle = si_di(m);
     match row_of(m, handle) {
-        Some((at, count)) => {
+        Some(row) => {
             let size = bx_cx(m);
             if size == 0 {
                 return Err(Refusal::InvalidValue);
             }
             let pages = pages_for(size);
-            if free_pages(m) < pages.saturating_sub(count) {
+            if free_pages(m) < pages.saturating_sub(row.pages) {
                 return Err(Refusal::PhysicalMemoryUnavailable);
             }
-            let base = new_base(m, handle, at, pages)?;
+            let base = new_base(m, handle, row.base, pages)?;
             m.soundness();
             m.block_size(handle as u16, base, pages);
             set_outputs(m, base, handle);

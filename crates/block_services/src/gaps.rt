@@ -9,6 +9,7 @@ ghost use Rattle.block_memory.specs.BlockSizes.{base_of_held, row_seen};
 ghost use Rattle.service_rows.specs.declared.refusal.Refusal.TheVariants.{LinearMemoryUnavailable as no_gap, HandleUnavailable as no_handle};
 ghost use Rattle.block_services.specs.Gaps.{block_in_way, first_gap, is_gap, is_in_way, lowest_handle, overlaps, page_address, page_after};
 
+use client_world::BlockRow;
 use client_world::host_frames::PAGE_SIZE;
 use client_world::limits::MAX_BLOCKS;
 use client_world::memory_map::{BLOCK_REGION, BLOCK_REGION_END, BLOCK_REGION_PAGES};
@@ -16,14 +17,14 @@ use guest_space::Machine;
 use service_rows::Refusal;
 
 /// The linear address of the memory block of a handle and its number of pages, all in the block region.
-pub(crate) fn row_of(m: &Machine, handle: u32) -> Option<(u32, u32)>
+pub(crate) fn row_of(m: &Machine, handle: u32) -> Option<BlockRow>
     ensures row { result ≡ row_seen (block_at m.now.world.blocks handle) }
-    ensures from { IfSome result (λ row. BLOCK_REGION ≤ row.0) }
-    ensures whole { IfSome result (λ row. row.0 % PAGE_SIZE ≡ 0) }
-    ensures to { IfSome result (λ row. row.0 + PAGE_SIZE * row.1 ≤ BLOCK_REGION_END) }
+    ensures from { IfSome result (λ row. BLOCK_REGION ≤ row.base) }
+    ensures whole { IfSome result (λ row. row.base % PAGE_SIZE ≡ 0) }
+    ensures to { IfSome result (λ row. row.base + PAGE_SIZE * row.pages ≤ BLOCK_REGION_END) }
     ensures handle { IfSome result (λ row. handle ≤ MAX_BLOCKS) }
-    ensures base { IfSome result (λ row. row.0 ≡ base_of_held (block_at m.now.world.blocks handle)) }
-    ensures pages { IfSome result (λ row. row.1 ≡ pages_of_block (block_at m.now.world.blocks handle)) }
+    ensures base { IfSome result (λ row. row.base ≡ base_of_held (block_at m.now.world.blocks handle)) }
+    ensures pages { IfSome result (λ row. row.pages ≡ pages_of_block (block_at m.now.world.blocks handle)) }
 {
     m.soundness();
     if handle > MAX_BLOCKS {
@@ -33,13 +34,13 @@ pub(crate) fn row_of(m: &Machine, handle: u32) -> Option<(u32, u32)>
 }
 
 // Whether a block overlaps a run of pages from an address.
-fn overlaps(row: Option<(u32, u32)>, base: u32, pages: u32) -> bool
-    requires row { IfSome row (λ row. row.0 + PAGE_SIZE * row.1 ≤ BLOCK_REGION_END) }
+fn overlaps(row: Option<BlockRow>, base: u32, pages: u32) -> bool
+    requires row { IfSome row (λ row. row.base + PAGE_SIZE * row.pages ≤ BLOCK_REGION_END) }
     requires run { base + PAGE_SIZE * pages < 2 ^ 32 }
     ensures { result ≡ overlaps row base pages }
 {
     match row {
-        Some((at, count)) => at < base + PAGE_SIZE * pages && base < at + PAGE_SIZE * count,
+        Some(row) => row.base < base + PAGE_SIZE * pages && base < row.base + PAGE_SIZE * row.pages,
         None => false,
     }
 }
@@ -75,12 +76,12 @@ pub(crate) fn is_gap(m: &Machine, own: u32, base: u32, pages: u32) -> bool
 }
 
 // The page after a block's last one, counted from the start of the block region.
-fn page_after(row: Option<(u32, u32)>) -> u32
-    requires row { IfSome row (λ row. row.0 + PAGE_SIZE * row.1 ≤ BLOCK_REGION_END) }
+fn page_after(row: Option<BlockRow>) -> u32
+    requires row { IfSome row (λ row. row.base + PAGE_SIZE * row.pages ≤ BLOCK_REGION_END) }
     ensures { result ≡ page_after row }
 {
     match row {
-        Some((at, count)) => at.saturating_sub(BLOCK_REGION) / PAGE_SIZE + count,
+        Some(row) => row.base.saturating_sub(BLOCK_REGION) / PAGE_SIZE + row.pages,
         None => 0,
     }
 }

@@ -12,6 +12,9 @@ pub const CONSOLE_ROOM: u32 = 0x10_0000;
 /// The most pages, of 4096 bytes, that a client's memory blocks may take together.
 pub const MAX_PAGES: u32 = 16_384;
 
+/// The most pages of each of two clients that take turns.
+pub const MAX_PAIR_PAGES: u32 = 8_192;
+
 /// The pages of a budget, where no other number is given.
 pub const DEFAULT_PAGES: u32 = 1024;
 

@@ -3,9 +3,6 @@
 /// The trap bytes of the default real vectors 0 to FFh.
 pub const REAL_VECTOR_TRAPS: u32 = 0xF_0000;
 
-/// The trap byte of the default real vector 21h, where the host serves DOS calls.
-pub const DOS_CALL_TRAP: u32 = 0xF_0021;
-
 /// The trap byte of the entry to protected mode.
 pub const ENTRY_TRAP: u32 = 0xF_0100;
 

@@ -2,6 +2,7 @@
 use Rattle.std.proofs.Common.{◌≡◌, ◌≢◌, ℕ, zero, suc, ◌+◌, ◌-◌, ◌*◌, ◌/◌, ◌%◌, ◌<◌, ◌≤◌, inl, inr, List, length, slice_index, slice_index_or, refl, ap, ◌∙◌, sym, subst, arith, Option, None, Some}
 use Rattle.std.proofs.lemmas.Bool.{cases_lt}
 use Rattle.std.proofs.lemmas.List.{get_or_past}
+use Rattle.client_world.specs.declared.blocks.BlockRow.{BlockRow}
 use Rattle.client_world.specs.declared.host_frames.TheConstants.{PAGE_SIZE, BLOCK_TABLES, BLOCK_ROWS, BLOCK_ROW_SIZE, PAGE_ENTRY_SIZE}
 use Rattle.client_world.specs.declared.limits.TheConstants.{MAX_BLOCKS}
 use Rattle.client_world.specs.declared.memory_map.TheConstants.{BLOCK_REGION, BLOCK_REGION_END, BLOCK_REGION_PAGES}
@@ -25,14 +26,17 @@ use Rattle.guest_space.proofs.BlockCalls.{at_handle}
 
 -- the row of a handle that is held
 
+abbrev seen : ℕ → ℕ → Option BlockRow
+seen base pages = Some (record { base = base; pages = pages })
+
 row_at_place : (k : Processor) (b : List ℕ) (v : MachineView) → IsView k b v → Holds b k.budget → IsSound (held_world k b) → (handle place base pages : ℕ) →
     handle ≡ suc place → place < MAX_BLOCKS → pages_of (handles_part b) place ≢ 0 → base ≡ base_of (handles_part b) place → pages ≡ pages_of (handles_part b) place →
-    Some (base, pages) ≡ row_seen (block_at v.world.blocks handle)
+    Some (record { base = base; pages = pages }) ≡ row_seen (block_at v.world.blocks handle)
 row_at_place k b v is holds sound handle place base pages same within some first second =
     let block = held_block (handles_part b) (tables_part b) (locks_part b) (budget_part b k.budget) place in
     let there = block_there (handles_part b) (tables_part b) (locks_part b) (budget_part b k.budget) place within some in
-    ap (λ (x : ℕ). Some (x, pages)) (first ∙ sym (held_base (handles_part b) (tables_part b) (locks_part b) (budget_part b k.budget) place))
-    ∙ ap (λ (x : ℕ). Some (block.base, x)) (second ∙ sym (length-held_locks (handles_part b) (tables_part b) (locks_part b) (budget_part b k.budget) place))
+    ap (λ (x : ℕ). seen x pages) (first ∙ sym (held_base (handles_part b) (tables_part b) (locks_part b) (budget_part b k.budget) place))
+    ∙ ap (λ (x : ℕ). seen block.base x) (second ∙ sym (length-held_locks (handles_part b) (tables_part b) (locks_part b) (budget_part b k.budget) place))
     ∙ sym (ap (λ (h : ℕ). row_seen (block_at v.world.blocks h)) same
     ∙ sym (ap (λ (x : MachineView). row_seen (block_at x.world.blocks (suc place))) is)
     ∙ ap (λ (bs : List (Option MemoryBlock)). row_seen (block_at bs (suc place))) (held_blocks k b)
@@ -40,7 +44,7 @@ row_at_place k b v is holds sound handle place base pages same within some first
 
 pub some_row : (k : Processor) (b : List ℕ) (v : MachineView) → IsView k b v → Holds b k.budget → IsSound (held_world k b) → (handle base pages : ℕ) → handle ≢ 0 →
     handle ≤ MAX_BLOCKS → base ≡ dword b (PAGE_SIZE * BLOCK_ROWS + BLOCK_ROW_SIZE * (handle - 1)) → pages ≡ dword b (PAGE_SIZE * BLOCK_ROWS + BLOCK_ROW_SIZE * (handle - 1) + 4) → pages ≢ 0 →
-    Some (base, pages) ≡ row_seen (block_at v.world.blocks handle)
+    Some (record { base = base; pages = pages }) ≡ row_seen (block_at v.world.blocks handle)
 some_row k b v is holds sound handle base pages held few e f some =
     let within : handle - 1 < MAX_BLOCKS = omega arith in
     let second = row_pages_read b (handle - 1) pages within f in

@@ -13,6 +13,7 @@ use crate::machine::Machine;
 use block_memory::{
     block_row, drop_block, extend_block, locked_pages, region_page, resize_block, used_pages,
 };
+use client_world::BlockRow;
 use client_world::host_frames::{
     BLOCK_ROW_SIZE, BLOCK_ROWS, BLOCK_TABLES, LOCK_COUNT_SIZE, LOCK_COUNTS, PAGE_ENTRY_SIZE,
     PAGE_SIZE,
@@ -122,7 +123,7 @@ impl Machine {
     }
 
     /// The linear address and the number of pages of the memory block of a handle, or `None` where it isn't held. Source: own.
-    pub fn block(&self, handle: u16) -> Option<(u32, u32)>
+    pub fn block(&self, handle: u16) -> Option<BlockRow>
         ensures { result ≡ row_seen (block_at self.now.world.blocks handle) }
     {
         self.soundness();
@@ -138,7 +139,7 @@ impl Machine {
             return None;
         }
         let base = self.ram.get32(row);
-        Some((base, pages))
+        Some(BlockRow { base, pages })
     }
 
     /// A byte of the memory block of a handle. Source: own.

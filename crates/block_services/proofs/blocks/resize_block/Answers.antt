@@ -14,5 +14,5 @@ block_size-requires-clause-room c =
     let pages = c.pages_for-pages.ensures in
     let count = c.in-Some.ensures.pages in
     can_size w.blocks w.budget handle c.in_ok-base-in-Some.base c.pages_for-pages.result c.soundness.ensures.blocks
-    (seen_held (block_at w.blocks handle) (c.in-Some.at, c.in-Some.count) (sym c.in-Some.ensures.row))
+    (seen_held (block_at w.blocks handle) c.in-Some.row (sym c.in-Some.ensures.row))
     c.in_ok-base-in-Some.ensures (omega arith) (omega arith)
