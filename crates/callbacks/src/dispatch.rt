@@ -1,7 +1,7 @@
 // INT 31h, functions 0303h and 0304h.
 ghost use Rattle.std.specs.Prelude.{◌≡◌, ◌≢◌, None};
 ghost use Rattle.client_world.specs.declared.registers.Mode.TheVariants.{Protected as protected};
-ghost use Rattle.client_world.specs.declared.services.Carry.TheVariants.{Set as refused};
+ghost use Rattle.client_world.specs.declared.services.Carry.TheVariants.{Set as set};
 ghost use Rattle.service_rows.specs.Reasons.{Does};
 ghost use Rattle.callbacks.specs.Services.{callback_function, callback_service};
 
@@ -28,7 +28,7 @@ fn ask(m: &mut Machine, ax: u16) -> Result<(), Refusal>
 pub fn serve(m: &mut Machine, ax: u16) -> Carry
     requires { m.old.world.mode ≡ protected }
     ensures served { record { carry = result; world = m.new.world } ≡ callback_service ax m.old.world }
-    ensures bytes { result ≡ refused → m.new.bytes ≡ m.old.bytes }
+    ensures bytes { result ≡ set → m.new.bytes ≡ m.old.bytes }
 {
     m.soundness();
     match ask(m, ax) {

@@ -20,7 +20,7 @@ use Rattle.guest_space.specs.Far.{far_bytes}
 use Rattle.service_rows.specs.FreeRun.{first_free_run}
 use Rattle.service_rows.specs.Reasons.{Service, first_reason, unsupported}
 use Rattle.desc_services.specs.Rows.{with_new_alias, alias_of, descriptor_function, free_descriptor, fresh, get_segment_base, get_descriptor, is_freeable_origin, is_freeable_row, limited, with_new_run, allocate_descriptors, create_alias, allocate_specific, segment_to_descriptor, packed_of, redescribed, with_segment, segment_index, with_new_segment, descriptor_service, set_segment_base, set_segment_limit, set_descriptor, set_access_rights, selector_increment, with_base, with_desc, with_limit, with_rights, with_row, with_run}
-use Rattle.service_rows.specs.Rows.{data_at, with_ax}
+use Rattle.service_rows.specs.Rows.{data_at}
 use Rattle.service_rows.proofs.AnswerLaws.{no_reason, of_answer, sound_ax}
 use Rattle.guest_space.proofs.FarPuts.{sound_far_put}
 use Rattle.desc_services.proofs.EachService.{of_each_service}

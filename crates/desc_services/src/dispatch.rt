@@ -1,7 +1,7 @@
 // INT 31h, functions 0000h to 000Dh.
 ghost use Rattle.std.specs.Prelude.{◌≡◌, ◌≢◌, None};
 ghost use Rattle.client_world.specs.declared.registers.Mode.TheVariants.{Protected as protected};
-ghost use Rattle.client_world.specs.declared.services.Carry.TheVariants.{Set as refused};
+ghost use Rattle.client_world.specs.declared.services.Carry.TheVariants.{Set as set};
 ghost use Rattle.service_rows.specs.Reasons.{Does};
 ghost use Rattle.desc_services.specs.Rows.{descriptor_function, descriptor_service};
 
@@ -44,7 +44,7 @@ fn ask(m: &mut Machine, ax: u16) -> Result<(), Refusal>
 pub fn serve(m: &mut Machine, ax: u16) -> Carry
     requires { m.old.world.mode ≡ protected }
     ensures served { record { carry = result; world = m.new.world } ≡ descriptor_service ax m.old.world }
-    ensures bytes { result ≡ refused → m.new.bytes ≡ m.old.bytes }
+    ensures bytes { result ≡ set → m.new.bytes ≡ m.old.bytes }
 {
     m.soundness();
     match ask(m, ax) {

@@ -7,13 +7,11 @@ use Rattle.client_world.specs.declared.dos_memory.DosEntry.{DosEntry}
 use Rattle.client_world.specs.declared.dos_memory.DosRun.{DosRun}
 use Rattle.client_world.specs.declared.dos_memory.DosState.TheVariants.{Dpmi}
 use Rattle.client_world.specs.declared.host_frames.TheConstants.{DESCRIPTORS}
-use Rattle.client_world.specs.DosMemory.{block_segment}
 use Rattle.client_world.specs.Selector.{Row, index_of, row_at_index}
 use Rattle.client_world.specs.Soundness.{IsSound, HasRun, IsRunOf, descriptors_for}
 use Rattle.client_world.specs.World.{World}
 use Rattle.guest_space.specs.Arena.{with_entries}
 use Rattle.guest_space.specs.DosRuns.{CanPutRun, with_entries_and_run}
-use Rattle.service_rows.specs.FirstIndex.{first_index}
 use Rattle.service_rows.specs.FreeRun.{first_free_run}
 use Rattle.service_rows.proofs.IndexLaws.{is_first}
 use Rattle.service_rows.proofs.RunLaws.{free_run_of, run_of_test}

@@ -1,10 +1,10 @@
 -- What each call puts into the arena leaves one, and neither takes out nor puts in a block of INT 31h function 0100h.
-use Rattle.std.proofs.Common.{◌≡◌, ℕ, ◌+◌, ◌-◌, ◌<◌, ◌≤◌, Bool, true, false, List, [], ◌∷◌, length, take, drop, refl, ap, ◌∙◌, sym, arith}
+use Rattle.std.proofs.Common.{◌≡◌, ℕ, ◌+◌, ◌-◌, ◌<◌, ◌≤◌, Bool, true, false, List, [], ◌∷◌, length, refl, ap, ◌∙◌, sym, arith}
 use Rattle.std.proofs.lemmas.Bool.{false≢true}
 use Rattle.client_world.specs.declared.dos_memory.DosEntry.{DosEntry}
 use Rattle.client_world.specs.declared.memory_map.TheConstants.{ARENA_END}
 use Rattle.client_world.specs.DosMemory.{is_free, is_dpmi, Fills, IsArena}
-use Rattle.guest_space.specs.Arena.{spliced, NoneMade}
+use Rattle.guest_space.specs.Arena.{spliced}
 use Rattle.dos_blocks.specs.Blocks.{nowhere, entry_of_place, block_state, split, is_of_kind, free_behind, possible, free_before, room_before, joined}
 use Rattle.dos_blocks.specs.Puts.{CanPut}
 use Rattle.dos_blocks.proofs.Founds.{HasFit, HasBlock}

@@ -18,7 +18,7 @@ use Rattle.service_rows.specs.FreeRun.{first_free_run}
 use Rattle.service_rows.proofs.RunLaws.{free_run_of, run_of_test}
 use Rattle.service_rows.proofs.WidthLaws.{protected_width}
 use Rattle.dos_blocks.specs.Blocks.{Done, entry_of_place, first_fit, freed, freed_at, place_of_block, possible, resized, resized_at, run_of_block}
-use Rattle.dos_blocks.specs.Services.{allocate_dos_block, reported, can_have, dos_service, free_dos_block, freed_named, given_from, place_of_selector, resize_dos_block, resized_from, resized_named, segment_of_selector, with_refusal}
+use Rattle.dos_blocks.specs.Services.{allocate_dos_block, reported, can_have, dos_service, free_dos_block, freed_named, place_of_selector, resize_dos_block, resized_from, resized_named, segment_of_selector, with_refusal}
 use Rattle.dos_blocks.proofs.Founds.{found_fit}
 use Rattle.dos_blocks.proofs.NeighbourLaws.{entry_within}
 use Rattle.dos_blocks.proofs.RunPuts.{can_free_run, can_give_run, can_resize_run}

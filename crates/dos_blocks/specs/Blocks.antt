@@ -1,6 +1,6 @@
 -- Blocks of DOS memory: which is given, resized or freed, and what becomes of the arena. A block of INT 31h function 0100h has descriptors, which
 -- are made, changed and freed with it.
--- Source: MS-DOS functions 48h, 49h and 4Ah; the first fit, that neighbouring free entries are always joined, and that a refusal changes nothing are own.
+-- Source: MS-DOS functions 48h, 49h and 4Ah, and DPMI 0.9, INT 31h functions 0100h to 0102h; the first fit, that neighbouring free entries are always joined, and that a refusal changes nothing are own.
 use Rattle.std.specs.Prelude.{ℕ, ◌≡◌, ◌≢◌, ◌≤◌, ◌+◌, ◌-◌, Bool, true, false, ◌&&◌, nat_eq, nat_le, max, if◌then◌else◌, List, [], ◌∷◌, Some, None, Ok, Err, slice_index_or}
 use Rattle.std.specs.declared.option.Option.{Option}
 use Rattle.std.specs.declared.result.Result.{Result}
@@ -40,11 +40,11 @@ block_state for_dpmi = if for_dpmi then Dpmi else Used
 
 -- ---- the descriptors of a block of function 0100h
 
--- the run of the block at a place, and of as many paragraphs before and after
+-- the run of the block in an entry: the index of its first descriptor, and the block's paragraphs before and after the call
 abbrev pub run_of_block : DosEntry → ℕ → ℕ → ℕ → DosRun
 run_of_block entry first before after = record { seg = block_segment entry; first = first; before = before; after = after }
 
--- the world with other entries in place of some, and for a block of function 0100h with its run of descriptors
+-- the world with entries replaced, and for a block of function 0100h its descriptors with them
 abbrev pub with_block : Bool → World → ℕ → ℕ → List DosEntry → DosRun → World
 with_block false w place old new run = with_entries w place old new
 with_block true w place old new run = with_entries_and_run w place old new run
@@ -53,7 +53,7 @@ abbrev pub index_or_zero : Option ℕ → ℕ
 index_or_zero None = 0
 index_or_zero (Some index) = index
 
--- the first descriptor of a block of n paragraphs that is made; a block of a DOS call has none
+-- the index of the first descriptor of a new block of n paragraphs; 0 for a block of a DOS call, which has none
 abbrev pub new_descriptor : Bool → List Row → ℕ → ℕ
 new_descriptor false rows n = 0
 new_descriptor true rows n = index_or_zero (first_free_run rows (descriptors_for n))
@@ -77,10 +77,11 @@ abbrev pub is_of_segment : Option ℕ → ℕ → Bool
 is_of_segment None segment = false
 is_of_segment (Some own) segment = nat_eq own segment
 
--- the first descriptor of the block at a segment, where it has one
+-- the index of the first descriptor of the block at a segment, where it has one
 unfoldable pub descriptor_of_block : List Row → ℕ → Option ℕ
 descriptor_of_block rows segment = first_index (λ index. is_of_segment (segment_of_row (row_at_index rows index)) segment) 0 DESCRIPTORS
 
+-- the same, and 0 for a block of a DOS call
 abbrev pub first_descriptor : Bool → List Row → ℕ → ℕ
 first_descriptor false rows segment = 0
 first_descriptor true rows segment = index_or_zero (descriptor_of_block rows segment)

@@ -1,7 +1,7 @@
 -- The services of INT 31h on DOS memory: a block with descriptors for each 64 KB of it, one after another.
 -- Source: DPMI 0.9, INT 31h functions 0100h to 0102h, and for the errors in AX MS-DOS functions 48h to 4Ah; that DX must name the first descriptor of a
 -- block, and what BX reports where descriptors are missing, is own.
-use Rattle.std.specs.Prelude.{ℕ, ◌+◌, ◌-◌, Bool, true, false, ◌&&◌, [], ◌∷◌, None, Some, Ok, Err, nat_eq, nat_le, nat_lt, if◌then◌else◌, List}
+use Rattle.std.specs.Prelude.{ℕ, ◌-◌, Bool, true, ◌&&◌, None, Some, Ok, Err, nat_eq, nat_le, nat_lt, if◌then◌else◌, List}
 use Rattle.std.specs.declared.option.Option.{Option}
 use Rattle.client_world.specs.declared.dos_memory.DosEntry.{DosEntry}
 use Rattle.client_world.specs.declared.dos_memory.DosRefusal.{DosRefusal}

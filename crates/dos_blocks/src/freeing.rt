@@ -34,7 +34,8 @@ pub(crate) fn joined(m: &Machine, place: u16) -> DosEntry
     }
 }
 
-/// Frees the block at a segment, and with `for_dpmi` its descriptors. Source: MS-DOS function 49h, INT 31h function 0101h.
+/// Frees the block at a segment, and with `for_dpmi` its descriptors. `WrongBlock` where no block of that kind starts there; then nothing
+/// changes. Source: MS-DOS function 49h, INT 31h function 0101h.
 #[tactic(auto, unfolding(crate::specs::Blocks::freed))]
 pub fn dos_free(m: &mut Machine, seg: u16, for_dpmi: bool) -> Result<(), DosRefusal>
     requires { for_dpmi ≡ true → m.old.world.width ≢ None }

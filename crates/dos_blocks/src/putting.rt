@@ -27,7 +27,7 @@ pub(crate) fn put_block(
     }
 }
 
-/// The first descriptor of a block of n paragraphs that is made.
+/// The index of the first descriptor of a new block of n paragraphs; 0 for a block of a DOS call.
 pub(crate) fn new_descriptor(m: &Machine, for_dpmi: bool, n: u16) -> u16
     ensures { result ≡ new_descriptor for_dpmi m.now.world.descriptors n }
 {
@@ -38,7 +38,7 @@ pub(crate) fn new_descriptor(m: &Machine, for_dpmi: bool, n: u16) -> u16
     }
 }
 
-/// The first descriptor of the block at a segment.
+/// The index of the first descriptor of the block at a segment; 0 for a block of a DOS call.
 pub(crate) fn first_descriptor(m: &Machine, for_dpmi: bool, segment: u16) -> u16
     ensures { result ≡ first_descriptor for_dpmi m.now.world.descriptors segment }
 {

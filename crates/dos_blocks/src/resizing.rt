@@ -9,8 +9,9 @@ use crate::putting::{first_descriptor, put_block};
 use client_world::{DosRefusal, DosRun};
 use guest_space::Machine;
 
-/// Gives the block at a segment `paras` paragraphs, without moving it, and with `for_dpmi` the descriptors of as many. Source: MS-DOS function
-/// 4Ah, INT 31h function 0102h.
+/// Resizes the block at a segment to `paras` paragraphs in place, and with `for_dpmi` gives it the descriptors of that size. `WrongBlock` where
+/// no block of that kind starts there, `NoMemory` with the largest size where it can't have that many; then nothing changes.
+/// Source: MS-DOS function 4Ah, INT 31h function 0102h.
 #[tactic(auto, unfolding(crate::specs::Blocks::resized))]
 pub fn dos_resize(m: &mut Machine, seg: u16, paras: u16, for_dpmi: bool) -> Result<(), DosRefusal>
     requires { for_dpmi ≡ true → CanResize m.old.world seg paras }

@@ -64,7 +64,7 @@ fn is_of_block(m: &Machine, index: u16, segment: u16) -> bool
     }
 }
 
-/// The first descriptor of the block at a segment.
+/// The index of the first descriptor of the block at a segment.
 pub(crate) fn descriptor_of_block(m: &Machine, segment: u16) -> Option<u16>
     ensures { result ≡ descriptor_of_block m.now.world.descriptors segment }
 {

@@ -1,6 +1,6 @@
--- What a call keeps: all of the machine but registers and DOS memory; for the return from its interrupt the mode and the place of the stack;
--- and what the client wrote before. Source: own.
-use Rattle.std.specs.Prelude.{◌≡◌, ℕ, List, ◌++◌}
+-- What a call keeps: all of the machine but registers and DOS memory; for the return from its interrupt the mode and the place of the stack.
+-- Source: own.
+use Rattle.std.specs.Prelude.{◌≡◌}
 use Rattle.client_world.specs.World.{World}
 
 -- the world differs at most in its registers, the bytes of the DOS megabyte and the entries of DOS memory

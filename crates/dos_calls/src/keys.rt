@@ -43,7 +43,7 @@ impl Keys {
         &self.typed[self.next..]
     }
 
-    /// Those that are left are bytes.
+    /// The keystrokes that are left are bytes.
     pub fn soundness(&self)
         ensures { AreBytes self.now }
     {

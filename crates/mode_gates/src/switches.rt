@@ -3,7 +3,7 @@ ghost use Rattle.std.specs.Prelude.{◌≡◌, ◌≤◌, ◌<◌, ◌+◌, fals
 ghost use Rattle.client_world.specs.declared.memory_map.TheConstants.{ROM_START as rom_start};
 ghost use Rattle.client_world.specs.Loading.{is_loadable};
 ghost use Rattle.client_world.specs.declared.registers.Mode.TheVariants.{Protected as protected, Real as real};
-ghost use Rattle.client_world.specs.declared.services.Carry.TheVariants.{Set as refused};
+ghost use Rattle.client_world.specs.declared.services.Carry.TheVariants.{Set as set};
 ghost use Rattle.service_rows.specs.Reasons.{Does};
 ghost use Rattle.mode_gates.specs.FarFrames.{world_after_far_return};
 ghost use Rattle.mode_gates.specs.Switches.{
@@ -185,7 +185,7 @@ fn ask(m: &mut Machine, ax: u16) -> Result<(), Refusal>
 pub fn serve(m: &mut Machine, ax: u16) -> Carry
     requires { m.old.world.mode ≡ protected }
     ensures served { record { carry = result; world = m.new.world } ≡ gate_service ax m.old.world }
-    ensures same { result ≡ refused → m.new ≡ m.old }
+    ensures same { result ≡ set → m.new ≡ m.old }
 {
     match ask(m, ax) {
         Ok(()) => Carry::Clear,

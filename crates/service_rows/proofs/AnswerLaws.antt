@@ -7,7 +7,7 @@ use Rattle.client_world.specs.World.{World}
 use Rattle.client_world.proofs.SoundWrites.{IsSound-regs}
 use Rattle.service_rows.specs.declared.refusal.Refusal.{Refusal}
 use Rattle.service_rows.specs.declared.refusal.Refusal.TheVariants.{Unsupported}
-use Rattle.service_rows.specs.Reasons.{HasOtherAx, Service, family_answer, first_reason, number_of, service_answer}
+use Rattle.service_rows.specs.Reasons.{HasOtherAx, Service, family_answer, first_reason, refusal_number, service_answer}
 use Rattle.service_rows.specs.Rows.{with_ax}
 
 pub if_has : (P : Service → Type 0) (b : Bool) (x y : Service) → P x → P y → P (if b then x else y)
@@ -19,7 +19,7 @@ pub of_answer : (P : World → Type 0) (o : Option Refusal) (w after : World) �
     P (family_answer o w after).world
 of_answer P None w after before refused done = done refl
 of_answer P (Some Unsupported) w after before refused done = before
-of_answer P (Some r) w after before refused done = refused (number_of r)
+of_answer P (Some r) w after before refused done = refused (refusal_number r)
 
 -- AX may hold anything
 pub sound_ax : (w : World) (n : ℕ) → IsSound w → IsSound (with_ax n w)
@@ -41,12 +41,12 @@ same_ax w = (low_half w.regs.eax, ap (λ (eax : ℕ). record w { regs = record w
 
 pub refused_answer : (o : Option Refusal) (w after : World) → (service_answer o w after).carry ≡ Set → HasOtherAx w (service_answer o w after).world
 refused_answer None w after e = absurd cc
-refused_answer (Some r) w after e = (number_of r, refl)
+refused_answer (Some r) w after e = (refusal_number r, refl)
 
 pub refused_by_family : (o : Option Refusal) (w after : World) → (family_answer o w after).carry ≡ Set → HasOtherAx w (family_answer o w after).world
 refused_by_family None w after e = absurd cc
 refused_by_family (Some Unsupported) w after e = same_ax w
-refused_by_family (Some r) w after e = (number_of r, refl)
+refused_by_family (Some r) w after e = (refusal_number r, refl)
 
 -- none of the reasons applies
 abbrev pub NoneApplies : List (Refusal × Bool) → Type 0

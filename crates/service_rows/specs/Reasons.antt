@@ -20,29 +20,29 @@ pub record Service : Type 0 where
   pub reasons : List (Refusal × Bool)
   pub after : World
 
--- a number that has no service in its family
+-- a function number that its family doesn't have
 unfoldable pub unsupported : World → Service
 unsupported w = record { reasons = (Unsupported, true) ∷ []; after = w }
 
--- the number of a refusal, in AX
-abbrev pub number_of : Refusal → ℕ
-number_of Unsupported = 0x8001
-number_of DescriptorUnavailable = 0x8011
-number_of LinearMemoryUnavailable = 0x8012
-number_of PhysicalMemoryUnavailable = 0x8013
-number_of CallbackUnavailable = 0x8015
-number_of HandleUnavailable = 0x8016
-number_of InvalidValue = 0x8021
-number_of InvalidSelector = 0x8022
-number_of InvalidHandle = 0x8023
-number_of InvalidCallback = 0x8024
-number_of InvalidAddress = 0x8025
+-- the number that a refusal puts in AX
+abbrev pub refusal_number : Refusal → ℕ
+refusal_number Unsupported = 0x8001
+refusal_number DescriptorUnavailable = 0x8011
+refusal_number LinearMemoryUnavailable = 0x8012
+refusal_number PhysicalMemoryUnavailable = 0x8013
+refusal_number CallbackUnavailable = 0x8015
+refusal_number HandleUnavailable = 0x8016
+refusal_number InvalidValue = 0x8021
+refusal_number InvalidSelector = 0x8022
+refusal_number InvalidHandle = 0x8023
+refusal_number InvalidCallback = 0x8024
+refusal_number InvalidAddress = 0x8025
 
 -- a refusal sets the carry, and AX to its number
 abbrev pub refused : Refusal → World → Served
-refused refusal w = record { carry = Set; world = with_ax (number_of refusal) w }
+refused refusal w = record { carry = Set; world = with_ax (refusal_number refusal) w }
 
--- AX is the only register that may differ, and nothing else does
+-- the second world is the first one but for AX
 abbrev pub HasOtherAx : World → World → Type 0
 HasOtherAx w u = (number : ℕ) × (u ≡ with_ax number w)
 
@@ -54,7 +54,7 @@ service_answer (Some refusal) before after = refused refusal before
 abbrev pub outcome : Service → World → Served
 outcome s before = service_answer (first_reason s.reasons) before s.after
 
--- the same in a family of services: a number that it doesn't have sets the carry and changes nothing, since the host answers it
+-- the same in a family: a function number that the family doesn't have sets the carry and changes nothing, since the host answers it
 abbrev pub family_answer : Option Refusal → World → World → Served
 family_answer None before after = record { carry = Clear; world = after }
 family_answer (Some Unsupported) before after = record { carry = Set; world = before }

@@ -1,6 +1,6 @@
 // Why a service refuses, and the number that the client gets.
 ghost use Rattle.std.specs.Prelude.{◌≡◌};
-ghost use Rattle.service_rows.specs.Reasons.{number_of, refused};
+ghost use Rattle.service_rows.specs.Reasons.{refusal_number, refused};
 
 use crate::registers::set_ax;
 use client_world::Carry;
@@ -27,7 +27,7 @@ pub enum Refusal {
 impl Refusal {
     /// The number that AX holds after the refusal. Source: own.
     pub fn number(self) -> u16
-        ensures { result ≡ number_of self }
+        ensures { result ≡ refusal_number self }
     {
         match self {
             Refusal::Unsupported => 0x8001,

@@ -1,6 +1,6 @@
 // INT 31h, functions 0200h to 0205h, 0400h and 0900h to 0902h.
 ghost use Rattle.std.specs.Prelude.{◌≡◌};
-ghost use Rattle.client_world.specs.declared.services.Carry.TheVariants.{Set as refused};
+ghost use Rattle.client_world.specs.declared.services.Carry.TheVariants.{Set as set};
 ghost use Rattle.service_rows.specs.Reasons.{Does};
 ghost use Rattle.vector_services.specs.Rows.{vector_function, vector_service};
 
@@ -38,7 +38,7 @@ fn ask(m: &mut Machine, ax: u16) -> Result<(), Refusal>
 #[tactic(auto, unfolding(crate::specs::Rows::vector_service))]
 pub fn serve(m: &mut Machine, ax: u16) -> Carry
     ensures served { record { carry = result; world = m.new.world } ≡ vector_service ax m.old.world }
-    ensures bytes { result ≡ refused → m.new.bytes ≡ m.old.bytes }
+    ensures bytes { result ≡ set → m.new.bytes ≡ m.old.bytes }
 {
     match ask(m, ax) {
         Ok(()) => Carry::Clear,

@@ -1,4 +1,4 @@
-use Rattle.std.proofs.Common.{◌≡◌, ◌∙◌, sym, true, false}
+use Rattle.std.proofs.Common.{◌∙◌, sym}
 use Rattle.client_world.specs.declared.host_frames.TheConstants.{DESCRIPTORS}
 use Rattle.dos_blocks.specs.Blocks.{descriptor_of_block}
 use Rattle.service_rows.proofs.IndexLaws.{index_found, index_missed, index_passed}

@@ -1,4 +1,4 @@
-use Rattle.std.proofs.Common.{◌≡◌, ◌+◌, ◌∙◌, ap, refl, sym, arith, ℕ, true}
+use Rattle.std.proofs.Common.{◌≡◌, ◌∙◌, ap, sym, arith, ℕ, true}
 use Rattle.client_world.specs.declared.dos_memory.DosEntry.{DosEntry}
 use Rattle.client_world.specs.Selector.{index_of}
 use Rattle.dos_blocks.specs.Blocks.{nowhere, entry_of_place, has_room_to_grow, run_of_block}
