@@ -1,12 +1,12 @@
 -- An instruction has touches exactly where it is no event.
-use Rattle.std.proofs.Common.{◌≡◌, ℕ, ◌+◌, Bool, true, false, List, [], ◌∷◌, ◌++◌, refl, ap, sym, ◌∙◌, subst, Option, None, Some, Result, Ok, Err}
+use Rattle.std.proofs.Common.{◌≡◌, ℕ, List, [], ◌∷◌, ◌++◌, refl, ap, sym, ◌∙◌, subst, Option, None, Some, Result, Ok, Err}
 use Rattle.std.specs.Prelude.{IsErr, IsOk, is_err, is_ok}
 use Rattle.client_world.specs.declared.faults.Event.{Event}
-use Rattle.client_world.specs.declared.faults.Event.TheVariants.{Fault as fault, Soft}
+use Rattle.client_world.specs.declared.faults.Event.TheVariants.{Fault as fault}
 use Rattle.client_world.specs.declared.faults.Fault.{Fault}
 use Rattle.client_world.specs.World.{World}
 use Rattle.guest_space.specs.declared.pending.Write.{Write}
-use Rattle.guest_space.specs.Pending.{byte_count, first_refusal, write_refusal, all_written}
+use Rattle.guest_space.specs.Pending.{first_refusal, write_refusal, all_written}
 use Rattle.host_memory.specs.View.{MachineView}
 use Rattle.insn_plan.specs.declared.accesses.Access.{Access}
 use Rattle.client_world.specs.declared.watchpoints.Touch.{Touch}

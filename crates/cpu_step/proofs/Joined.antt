@@ -1,20 +1,19 @@
 -- The touches of an instruction are the places that it reads and writes.
-use Rattle.std.proofs.Common.{◌≡◌, ℕ, zero, suc, ◌+◌, ◌%◌, ◌^◌, ◌<◌, ◌≤◌, Bool, true, false, List, [], ◌∷◌, ◌++◌, refl, ap, sym, ◌∙◌, append_assoc, append-nil, subst, if◌then◌else◌, Option, None, Some, Result, Ok, Err, arith}
+use Rattle.std.proofs.Common.{◌≡◌, ℕ, zero, suc, ◌+◌, ◌^◌, ◌<◌, ◌≤◌, Bool, true, false, List, [], ◌∷◌, ◌++◌, refl, ap, sym, ◌∙◌, append_assoc, append-nil, subst, if◌then◌else◌, Option, None, Some, Result, Ok, Err, arith}
 use Rattle.std.specs.Prelude.{All, nat_lt, nat_le, not, ◌&&◌, ◌*◌}
 use Rattle.std.proofs.lemmas.Bool.Decides.{nat_tests}
 use Rattle.std.proofs.lemmas.List.Elements.{All-nil, All-cons, All-append}
 use Rattle.client_world.specs.declared.faults.Event.{Event}
-use Rattle.client_world.specs.declared.faults.Event.TheVariants.{Fault as fault, Soft}
 use Rattle.client_world.specs.declared.faults.Fault.{Fault}
 use Rattle.client_world.specs.declared.place.Place.{Place}
-use Rattle.client_world.specs.declared.place.Place.TheVariants.{Dos, Block, Host, Nothing}
+use Rattle.client_world.specs.declared.place.Place.TheVariants.{Nothing}
 use Rattle.client_world.specs.declared.registers.Mode.{Mode}
 use Rattle.client_world.specs.declared.registers.Mode.TheVariants.{Real, Protected}
 use Rattle.client_world.specs.declared.registers.Regs.{Regs}
 use Rattle.client_world.specs.declared.segments.SegReg.{SegReg}
 use Rattle.client_world.specs.declared.memory_map.TheConstants.{PARAGRAPH_SIZE, SEGMENT_SIZE}
 use Rattle.client_world.specs.Descriptor.{is_inside, is_writable}
-use Rattle.client_world.specs.Access.{access, suits_register, segment_base, real_base, base_in_row, protected_base, places_at, places_from, place_in, linear, first_forbidden, unless_forbidden, touched_places, may_touch}
+use Rattle.client_world.specs.Access.{access, suits_register, segment_base, base_in_row, places_at, places_from, place_in, linear, first_forbidden, unless_forbidden, may_touch}
 use Rattle.client_world.specs.Segments.{selector}
 use Rattle.client_world.specs.Selector.{Row, is_null, row_of_selector}
 use Rattle.client_world.specs.World.{World, MemoryBlock}
@@ -27,7 +26,7 @@ use Rattle.client_world.specs.declared.watchpoints.Touch.{Touch}
 use Rattle.insn_plan.specs.Accesses.{and_read, and_writes, accesses_after, granted, touch_of, touches_after, touches_where, touches}
 use Rattle.insn_plan.specs.Act.{Act, End, Read, Done, Raise, Interrupt, Input, Given, From, Pending, value_of, number_read}
 use Rattle.insn_plan.specs.Plan.{planned}
-use Rattle.cpu_step.specs.Touched.{and_then, input_read, read_places, write_places, places_behind, executed_touches, touch_places, IsInside}
+use Rattle.cpu_step.specs.Touched.{and_then, input_read, read_places, write_places, places_behind, executed_touches, touch_places, DoesNotWrap}
 
 -- ---- one access
 
@@ -150,7 +149,7 @@ run_inside blocks at (suc n) write less e =
 record IsTouch (w : World) (a : Access) (t : Touch) : Type 0 where
   granted : IsGranted w a
   places : places_from w.blocks t.lin t.len ≡ access_places w a
-  inside : IsInside t
+  inside : DoesNotWrap t
 
 granted_by : (o : Option Fault) (t u : Touch) → elim o as (λ _. Option Touch) [ None ↦ Some u | Some f ↦ None ] ≡ Some t → (o ≡ None) × (t ≡ u)
 granted_by None t u e = (refl, cc)
@@ -208,7 +207,7 @@ granted_front w (a ∷ front) back all =
 pub record AreTouches (w : World) (done : List Touch) (accesses : List Access) (list : List Touch) : Type 0 where
   pub granted : AllGranted w accesses
   pub places : touch_places w list ≡ touch_places w done ++ all_places w accesses
-  pub inside : All IsInside list
+  pub inside : All DoesNotWrap list
 
 record First (w : World) (done : List Touch) (a : Access) (rest : List Access) (list : List Touch) : Type 0 where
   touch : Touch
@@ -221,7 +220,7 @@ first_by : (o : Option Touch) (w : World) (done : List Touch) (a : Access) (rest
 first_by None w done a rest list is e = absurd cc
 first_by (Some touch) w done a rest list is e = record { touch = touch; is = sym is; others = e }
 
-are_touches : (w : World) (done : List Touch) (accesses : List Access) (list : List Touch) → All IsInside done →
+are_touches : (w : World) (done : List Touch) (accesses : List Access) (list : List Touch) → All DoesNotWrap done →
     touches_after w done accesses ≡ Some list → AreTouches w done accesses list
 unfolding touches_after
 are_touches w done [] list inside e =
@@ -229,13 +228,13 @@ are_touches w done [] list inside e =
     record {
       granted = tt;
       places = ap (touch_places w) (sym same) ∙ sym (append-nil (touch_places w done));
-      inside = subst (λ (ts : List Touch). All IsInside ts) same inside;
+      inside = subst (λ (ts : List Touch). All DoesNotWrap ts) same inside;
     }
 are_touches w done (a ∷ rest) list inside e =
     let first = first_by (granted w a) w done a rest list refl e in
     let touch = granted_touch w a first.touch first.is in
-    let one = All-cons IsInside first.touch [] touch.inside (All-nil IsInside) in
-    let others = are_touches w (done ++ first.touch ∷ []) rest list (All-append IsInside done (first.touch ∷ []) inside one) first.others in
+    let one = All-cons DoesNotWrap first.touch [] touch.inside (All-nil DoesNotWrap) in
+    let others = are_touches w (done ++ first.touch ∷ []) rest list (All-append DoesNotWrap done (first.touch ∷ []) inside one) first.others in
     let run = places_from w.blocks first.touch.lin first.touch.len in
     record {
       granted = (touch.granted, others.granted);
@@ -346,7 +345,7 @@ unfolding touches
 known w act list e = known_by (accesses_after w [] act) w act list refl e
 
 pub known_touches : (w : World) (act : Act) (list : List Touch) (k : Known w act list) → AreTouches w [] k.accesses list
-known_touches w act list k = are_touches w [] k.accesses list (All-nil IsInside) k.touch
+known_touches w act list k = are_touches w [] k.accesses list (All-nil DoesNotWrap) k.touch
 
 pub touches_join : (w : World) (act : Act) (list : List Touch) → touches w act ≡ Some list → executed_touches w act ≡ touch_places w list
 touches_join w act list e =
@@ -354,5 +353,5 @@ touches_join w act list e =
     let are = known_touches w act list k in
     sym (are.places ∙ accesses_join w [] act k.accesses are.granted k.follow)
 
-pub touches_inside : (w : World) (act : Act) (list : List Touch) → touches w act ≡ Some list → All IsInside list
+pub touches_inside : (w : World) (act : Act) (list : List Touch) → touches w act ≡ Some list → All DoesNotWrap list
 touches_inside w act list e = (known_touches w act list (known w act list e)).inside

@@ -87,5 +87,5 @@ touch_places w [] = []
 touch_places w (t ∷ rest) = places_from w.blocks t.lin t.len ++ touch_places w rest
 
 -- the run has no byte past the last address
-abbrev pub IsInside : Touch → Type 0
-IsInside t = t.lin + t.len ≤ 2 ^ 32
+abbrev pub DoesNotWrap : Touch → Type 0
+DoesNotWrap t = t.lin + t.len ≤ 2 ^ 32

@@ -7,7 +7,7 @@ ghost use Rattle.client_world.specs.Soundness.{IsSound};
 ghost use Rattle.client_world.specs.World.{World};
 ghost use Rattle.host_memory.specs.View.{MachineView};
 ghost use Rattle.cpu_step.specs.Step.{IsStep, client_step};
-ghost use Rattle.cpu_step.specs.Touched.{IsInside, executed_touches, touch_places, touched};
+ghost use Rattle.cpu_step.specs.Touched.{DoesNotWrap, executed_touches, touch_places, touched};
 ghost use Rattle.client_world.specs.declared.watchpoints.Touch.{Touch};
 ghost use Rattle.insn_plan.specs.Accesses.{touches};
 ghost use Rattle.insn_plan.specs.Act.{Act};
@@ -29,7 +29,7 @@ pub fn every_touched_place_is_held()
 /// The touches of an instruction are what it reads and writes: they have the same places, in the same order, and no run wraps.
 pub fn every_touch_is_an_access()
     ensures places { (w : World) (act : Act) (list : List Touch) → touches w act ≡ Some list → executed_touches w act ≡ touch_places w list }
-    ensures inside { (w : World) (act : Act) (list : List Touch) → touches w act ≡ Some list → All IsInside list }
+    ensures inside { (w : World) (act : Act) (list : List Touch) → touches w act ≡ Some list → All DoesNotWrap list }
 {}
 
 /// An instruction has touches exactly where it is no event.

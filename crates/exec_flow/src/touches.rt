@@ -533,8 +533,8 @@ fn follow(a: &mut Accesses<'_>, insn: &Insn, len: u8) -> Result<(), Event>
     }
 }
 
-/// The runs of bytes that an instruction of this crate reads and writes, in their order, where the machine stands at the instruction; none
-/// where the instruction faults or is a software interrupt.
+/// The bytes that an instruction of this crate reads and writes, one touch for each access, reads first. The machine is at the instruction.
+/// `None` where the instruction faults, also where only a write is refused, or is a software interrupt.
 #[tactic(auto, unfolding(insn_plan::specs::Accesses::touches))]
 pub fn touches_flow(m: &Machine, insn: &Insn, len: u8) -> Option<ArrayVec<Touch, MAX_ACCESSES>>
     requires flow { IsFlow insn.now }

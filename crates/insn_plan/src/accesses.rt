@@ -40,7 +40,7 @@ impl Default for Access {
     }
 }
 
-/// The accesses of an instruction, one after another. The machine stands at the instruction, and is seen with EIP past it.
+/// The accesses of an instruction, in order. The machine is at the instruction; contracts see it with EIP past it.
 #[derive(Drop)]
 pub struct Accesses<'a> {
     machine: &'a Machine,
@@ -60,7 +60,7 @@ impl<'a> Model for Accesses<'a> {
 }
 
 impl<'a> Accesses<'a> {
-    /// None yet, of an instruction of `len` bytes.
+    /// No accesses yet, for an instruction of `len` bytes.
     pub fn new(machine: &'a Machine, len: u8) -> Accesses<'a>
         ensures { result ≡ record { world = moved len machine.now.world; accesses = [] } }
     {
@@ -71,7 +71,7 @@ impl<'a> Accesses<'a> {
         }
     }
 
-    /// The machine, which is as it is seen but for EIP.
+    /// The machine. It differs from the world that contracts see in EIP alone.
     pub fn machine(&self) -> &Machine
         ensures { self.now.world ≡ record result.now.world { regs = record result.now.world.regs { eip = self.now.world.regs.eip } } }
     {
