@@ -5,7 +5,7 @@ mod Frames
 pub mod Growth
 mod HandOver
 mod KindModes
-mod Nested
+pub mod Nested
 mod NoTraps
 mod PoppedInterrupts
 mod RealCalls

@@ -20,7 +20,7 @@ use Rattle.protected_faults.specs.Worlds.{world_protected_delivery}
 use Rattle.translation.specs.SimulatedCall.{reflect}
 use Rattle.host_run.specs.Keys.{HasKeys}
 use Rattle.host_run.specs.Nested.{Stacked, kept}
-use Rattle.host_run.specs.OtherTurns.{IsOneQuietTurn, after_answer, answered, exception_turn, int31_turn, interrupt_turn, interrupted_in, is_hosts_vector, with_interrupts_off}
+use Rattle.host_run.specs.OtherTurns.{IsOneQuietTurn, after_answer, with_answer, exception_turn, int31_turn, interrupt_turn, interrupted_in, is_hosts_vector, with_interrupts_off}
 use Rattle.host_run.specs.RealCalls.{InterruptSource, from_anywhere, from_client}
 use Rattle.host_run.specs.Run.{bounded}
 use Rattle.host_run.specs.Turn.{Outcome, after_interrupt, after_protected_delivery, after_reflection, after_service, delivered, delivered_in, settled, turn, with_machine, with_turn_counted}
@@ -124,7 +124,7 @@ answer_keeps : (h : HostWorld) (r : Regs) (carry : Carry) (p : Result World Exit
     TurnKeeps from_client h (after_answer h r carry p)
 answer_keeps h r carry (Ok w) is s =
     let sound = sound_world_popped h.machine w s.machine is in
-    service_keeps h (low_half h.machine.regs.eax) (answered w r carry) s (record {
+    service_keeps h (low_half h.machine.regs.eax) (with_answer w r carry) s (record {
       sound = with_regs_sound w (record w.regs { eax = r.eax; ebx = r.ebx }) sound refl refl refl refl refl refl;
       calls = ap (λ (x : World). x.calls) (kept_world_popped h.machine w is);
     })
@@ -197,6 +197,13 @@ bounded_calls_by w None = kept refl
 
 pub bounded_calls : (w : HostWorld) → Stacked from_client w (bounded w)
 bounded_calls w = bounded_calls_by w w.exit
+
+bounded_sound_by : (w : HostWorld) (o : Option Exit) → IsSoundHost w → IsSoundHost (elim o [ Some _ ↦ w | None ↦ record w { exit = Some Bound } ])
+bounded_sound_by w (Some exit) s = s
+bounded_sound_by w None s = record { machine = s.machine; lines = s.lines }
+
+pub bounded_sound : (w : HostWorld) → IsSoundHost w → IsSoundHost (bounded w)
+bounded_sound w s = bounded_sound_by w w.exit s
 
 -- ---- of hosts
 

@@ -15,21 +15,21 @@ use Rattle.host_run.specs.declared.families.Family.{Family}
 use Rattle.host_run.specs.declared.families.Family.TheVariants.{Descriptors, DosMemory, Vectors, Callbacks, Gates, Blocks}
 
 -- the number is one of those from first to last
-abbrev pub is_within : ℕ → ℕ → ℕ → Bool
-is_within first last ax = nat_le first ax && nat_le ax last
+abbrev pub is_between : ℕ → ℕ → ℕ → Bool
+is_between first last ax = nat_le first ax && nat_le ax last
 
--- the family of a function number, where one has it; functions 0300h to 0302h are the host's own
+-- the family of a function number, where one has it; functions 0300h to 0302h have none: the host begins those calls itself
 unfoldable pub family_of : ℕ → Option Family
 family_of ax =
-    if is_within 0x0000 0x0003 ax || is_within 0x0006 0x000D ax then Some Descriptors else
-    if is_within 0x0100 0x0102 ax then Some DosMemory else
-    if is_within 0x0200 0x0205 ax || nat_eq ax 0x0400 || is_within 0x0900 0x0902 ax then Some Vectors else
-    if is_within 0x0303 0x0304 ax then Some Callbacks else
-    if is_within 0x0305 0x0306 ax then Some Gates else
-    if is_within 0x0500 0x0503 ax || is_within 0x0600 0x0604 ax || is_within 0x0702 0x0703 ax then Some Blocks else
+    if is_between 0x0000 0x0003 ax || is_between 0x0006 0x000D ax then Some Descriptors else
+    if is_between 0x0100 0x0102 ax then Some DosMemory else
+    if is_between 0x0200 0x0205 ax || nat_eq ax 0x0400 || is_between 0x0900 0x0902 ax then Some Vectors else
+    if is_between 0x0303 0x0304 ax then Some Callbacks else
+    if is_between 0x0305 0x0306 ax then Some Gates else
+    if is_between 0x0500 0x0503 ax || is_between 0x0600 0x0604 ax || is_between 0x0702 0x0703 ax then Some Blocks else
     None
 
--- a function in its family; a number that no family has is refused
+-- a function in its family; a function number that no family has is refused
 abbrev pub service_of : Option Family → ℕ → World → Served
 service_of (Some Descriptors) ax w = descriptor_service ax w
 service_of (Some DosMemory) ax w = dos_service ax w

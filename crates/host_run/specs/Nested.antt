@@ -42,7 +42,7 @@ host_depth w = depth w.machine
 abbrev pub HasTurns : InterruptSource → (ℕ → HostWorld) → ℕ → Type 0
 HasTurns source w n = (k : ℕ) → k < n → Stacked source (w k) (w (k + 1))
 
--- turn j takes away what turn i added, or what came in its place: between them the depth is greater than before turn i
+-- turn j is the first to come back to the depth before turn i: between them the depth is greater
 pub record Matched (w : ℕ → HostWorld) (i j : ℕ) : Type 0 where
   pub before : i < j
   pub above : (k : ℕ) → i < k → k ≤ j → host_depth (w i) < host_depth (w k)

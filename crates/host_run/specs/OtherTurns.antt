@@ -1,6 +1,6 @@
 -- Turns that are made in place of the host's own: INT 31h that is served from outside, an exception and an interrupt that come from outside. Each
 -- is counted as a turn. Source: own.
-use Rattle.std.specs.Prelude.{◌≡◌, ℕ, ◌+◌, Bool, false, ◌&&◌, is_ok, nat_eq, if◌then◌else◌, None, Some, Ok, Err}
+use Rattle.std.specs.Prelude.{◌≡◌, ℕ, ◌+◌, Bool, true, false, ◌&&◌, is_ok, nat_eq, if◌then◌else◌, None, Some, Ok, Err}
 use Rattle.std.specs.declared.option.Option.{Option}
 use Rattle.std.specs.declared.result.Result.{Result}
 use Rattle.client_world.specs.declared.faults.Fault.{Fault}
@@ -22,7 +22,7 @@ use Rattle.host_run.specs.Traps.{current_trap}
 use Rattle.host_run.specs.Turn.{Outcome, after_interrupt, after_reflection, after_service, delivered, ends, settled, with_turn_counted}
 use Rattle.translation.specs.SimulatedCall.{reflect}
 
--- it is counted as one turn, takes no keystroke and writes nothing
+-- the second host is one turn later, with the same keystrokes and the same console
 abbrev pub IsOneQuietTurn : HostWorld → HostWorld → Type 0
 IsOneQuietTurn w v = (v.keys ≡ w.keys) × (v.console ≡ w.console) × (v.steps ≡ w.steps + 1)
 
@@ -42,12 +42,12 @@ unfoldable pub int31_call : HostWorld → Option ℕ
 int31_call h = elim h.exit [ Some _ ↦ None | None ↦ int31_at h.machine ]
 
 -- a service that answers in EAX, EBX and the carry; w is the machine after the frame is popped
-abbrev pub answered : World → Regs → Carry → Served
-answered w r carry = record { carry = carry; world = record w { regs = record w.regs { eax = r.eax; ebx = r.ebx } } }
+abbrev pub with_answer : World → Regs → Carry → Served
+with_answer w r carry = record { carry = carry; world = record w { regs = record w.regs { eax = r.eax; ebx = r.ebx } } }
 
 -- the line of the trace has the AX of the call
 abbrev pub after_answer : HostWorld → Regs → Carry → Result World Exit → Outcome
-after_answer h r carry (Ok w) = after_service h (low_half h.machine.regs.eax) (answered w r carry)
+after_answer h r carry (Ok w) = after_service h (low_half h.machine.regs.eax) (with_answer w r carry)
 after_answer h r carry (Err exit) = ends h exit
 
 -- the host after such a turn

@@ -43,7 +43,7 @@ abbrev pub ReflectedFrom : InterruptSource → World → World → Type 0
 ReflectedFrom from_client w client = world_popped w ≡ Ok client
 ReflectedFrom from_anywhere w client = (world_popped w ≡ Ok client) ⊎ (client ≡ w)
 
--- an interrupt that no handler of the client takes is reflected
+-- an interrupt that no handler of the client takes is reflected; `client` is the machine that it is reflected from
 pub record StartsReflection (source : InterruptSource) (w : HostWorld) (n : ℕ) (r : Record) (v : HostWorld) : Type 0 where
   pub client : World
   pub from : ReflectedFrom source w.machine client

@@ -1,6 +1,6 @@
 -- The trap bytes: bytes of read-only memory that the host serves instead of running them. They are known by the mode and by the linear
 -- address of CS:EIP, where a fetch there is allowed. Source: own.
-use Rattle.std.specs.Prelude.{ℕ, ◌+◌, ◌-◌, Bool, ◌&&◌, nat_le, nat_lt, nat_eq, if◌then◌else◌, None, Some, Ok, Err}
+use Rattle.std.specs.Prelude.{ℕ, ◌+◌, ◌-◌, Bool, true, false, ◌&&◌, nat_le, nat_lt, nat_eq, if◌then◌else◌, None, Some, Ok, Err}
 use Rattle.std.specs.declared.option.Option.{Option}
 use Rattle.client_world.specs.declared.limits.TheConstants.{CALLBACKS, INTERRUPT_VECTORS, EXCEPTION_VECTORS}
 use Rattle.client_world.specs.declared.registers.Mode.{Mode}
@@ -16,6 +16,11 @@ use Rattle.host_run.specs.declared.traps.Trap.TheVariants.{RealVector, Entry, To
 -- an address is one of the n from another on
 abbrev pub is_among : ℕ → ℕ → ℕ → Bool
 is_among from n at = nat_le from at && nat_lt at (from + n)
+
+-- there is a trap: the host serves it in place of an instruction
+abbrev pub is_trap : Trap → Bool
+is_trap NoTrap = false
+is_trap _ = true
 
 -- the traps of real mode
 unfoldable pub real_trap_at : ℕ → Trap

@@ -18,7 +18,7 @@ pub enum Family {
     Vectors,
     /// Real-mode callbacks.
     Callbacks,
-    /// The addresses of the switches between the modes.
+    /// The addresses of the raw switches and of the save/restore calls.
     Gates,
     /// Memory blocks and their pages.
     Blocks,
@@ -40,7 +40,7 @@ fn family_of(ax: u16) -> Option<Family>
     }
 }
 
-/// A function of INT 31h, by its family. A number that no family has is refused.
+/// Serves a function of INT 31h by its family. A function number that no family has is refused: carry, and AX = 8001h.
 #[tactic(auto, unfolding(crate::specs::Families::service))]
 pub(crate) fn serve_function(m: &mut Machine, ax: u16) -> Carry
     requires { m.old.world.mode ≡ protected }

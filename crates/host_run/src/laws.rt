@@ -78,8 +78,8 @@ pub fn every_run_is_sound()
 {}
 
 /// A turn leaves the records of the nested calls as they are, or adds one as it starts a call of real mode or a callback or delivers an exception
-/// of protected mode, or takes the innermost one away as its call, callback or exception returns; and so does each turn of a run. What holds
-/// where the client's interrupts alone are reflected holds where those from outside are too.
+/// of protected mode, or takes the innermost one away as its call, callback or exception returns; and so does each turn of a run. A turn
+/// that meets this where only the client's interrupts are reflected meets it where interrupts from outside are reflected too.
 pub fn every_turn_changes_the_innermost_record_at_most()
     ensures turn { (w : HostWorld) → IsSound w.machine → HasKeys w → Stacked from_client w (turn w) }
     ensures turns { (w : HostWorld) → IsSound w.machine → HasKeys w → (n : ℕ) → Stacked from_client (turns w n) (turns w (n + 1)) }
@@ -119,8 +119,8 @@ pub fn every_turn_extends_the_console()
     ensures end { (w : HostWorld) (m n : ℕ) → m ≤ n → Extends (turns w m).console (run w n).console }
 {}
 
-/// The turns that are made in place of the host's own change the innermost record at most, too. So each row of hosts nests that is made of these
-/// turns and of the host's own.
+/// The turns made in place of the host's own change the innermost record at most, too. So every sequence of hosts made by these turns and the
+/// host's own nests.
 pub fn every_other_turn_changes_the_innermost_record_at_most()
     ensures int31 { (w : HostWorld) (r : AnyRegs) (carry : ACarry) → Stacked from_client w (int31_turn w r carry) }
     ensures exception { (w : HostWorld) (f : AFault) → IsSound w.machine → HasKeys w → Stacked from_client w (exception_turn w f) }
@@ -128,8 +128,8 @@ pub fn every_other_turn_changes_the_innermost_record_at_most()
     ensures bound { (w : HostWorld) → Stacked from_client w (bounded w) }
 {}
 
-/// They lead from a sound host to a sound host. Each is counted as one turn, takes no keystroke and writes nothing, and where it ends the run it leaves
-/// the machine.
+/// They lead from a sound host to a sound host. Each is counted as one turn, takes no keystroke and adds nothing to the console. One that ends
+/// the run leaves the machine as it was.
 pub fn every_other_turn_is_sound()
     ensures int31 { (w : HostWorld) (r : AnyRegs) (carry : ACarry) → IsSoundHost w → HasKeys w → IsSoundHost (int31_turn w r carry) }
     ensures exception { (w : HostWorld) (f : AFault) → IsSoundHost w → HasKeys w → IsSoundHost (exception_turn w f) }
@@ -141,7 +141,7 @@ pub fn every_other_turn_is_sound()
     ensures interrupt_exit { (w : HostWorld) (n : ℕ) → IsSome (interrupt_turn w n).exit → (interrupt_turn w n).machine ≡ w.machine }
 {}
 
-/// A turn of a run that goes on adds 1 to the count of turns; after an exit it adds none.
+/// A turn of a run that goes on adds 1 to the count of turns, whatever the world; n turns add n at most.
 pub fn every_turn_is_counted()
     ensures turn { (w : HostWorld) → w.exit ≡ None → (turn w).steps ≡ w.steps + 1 }
     ensures turns { (w : HostWorld) (n : ℕ) → (turns w n).steps ≤ w.steps + n }

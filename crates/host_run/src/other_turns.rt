@@ -23,6 +23,7 @@ use guest_space::Machine;
 use protected_faults::a_machine_changes_only_what_is_written;
 
 // Whether the machine is at the trap byte of INT 31h.
+#[inline(always)]
 fn is_at_int31(m: &Machine) -> bool
     ensures { result ≡ is_int31 (current_trap m.now.world) }
 {
@@ -43,6 +44,7 @@ fn is_hosts_vector(m: &Machine, n: u8) -> bool
 impl Host {
     /// AX of the call of INT 31h that the next turn would serve; `None` after an exit, where CS:EIP isn't at that vector's trap byte, and where
     /// the interrupt's frame can't be popped.
+    #[inline(always)]
     #[tactic(auto, unfolding(crate::specs::OtherTurns::int31_call))]
     pub fn int31_here(&self) -> Option<u16>
         ensures { result ≡ int31_call self.now.world }
@@ -54,7 +56,8 @@ impl Host {
         }
     }
 
-    /// Makes that turn in place of a service: the frame is popped, EAX and EBX are those of `r`, and the carry goes into the flags that were popped.
+    /// Makes the turn that serves the call of `int31_here`, with an answer from outside: the frame is popped, EAX and EBX become those of `r`, the
+    /// carry goes into the popped flags, and the line of the call is noted.
     #[tactic(auto, unfolding(crate::specs::OtherTurns::int31_call, crate::specs::OtherTurns::int31_turn))]
     pub fn int31_done(&mut self, r: Regs, carry: Carry)
         requires here { IsSome (int31_call self.old.world) }
@@ -113,9 +116,9 @@ impl Host {
         self.exit = Some(Exit::Bound);
     }
 
-    /// An interrupt from outside, as a turn of its own. In real mode, and to a handler that the client has set, it pushes the address of the present
-    /// instruction; else it is reflected to real mode. It ends the run where a fault of that push or load can't be delivered; the machine
-    /// then stays as it was.
+    /// Raises an interrupt from outside, as a turn of its own. In real mode, and for a handler that the client has set, it pushes the address of
+    /// the present instruction, and the handler starts with virtual interrupts off; otherwise it is reflected to real mode. A fault of the
+    /// push or load is delivered as an exception; where that can't be done the run ends, and the machine stays as it was.
     #[tactic(auto, unfolding(crate::specs::OtherTurns::interrupt_turn))]
     pub fn int_turn(&mut self, n: u8) -> Result<(), Exit>
         requires no_exit { self.old.world.exit ≡ None }

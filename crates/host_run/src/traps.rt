@@ -1,6 +1,6 @@
 // The trap bytes.
 ghost use Rattle.std.specs.Prelude.{◌≡◌};
-ghost use Rattle.host_run.specs.Traps.{address_in, code_address, is_among, protected_trap_at, real_trap_at, current_trap, trap_at};
+ghost use Rattle.host_run.specs.Traps.{address_in, code_address, is_among, is_trap, protected_trap_at, real_trap_at, current_trap, trap_at};
 ghost use Rattle.client_world.specs.declared.registers.Mode.TheVariants.{Protected as protected};
 
 use client_world::limits::{CALLBACKS, EXCEPTION_VECTORS, INTERRUPT_VECTORS};
@@ -154,5 +154,15 @@ pub(crate) fn current_trap(m: &Machine) -> Trap
         Trap::NoTrap
     } else {
         trap_in_rom(m)
+    }
+}
+
+/// Whether the machine is at a trap, which the host serves in place of an instruction.
+pub fn is_at_trap(m: &Machine) -> bool
+    ensures { result ≡ is_trap (current_trap m.now.world) }
+{
+    match current_trap(m) {
+        Trap::NoTrap => false,
+        _ => true,
     }
 }
