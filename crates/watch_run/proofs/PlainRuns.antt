@@ -6,11 +6,12 @@ use Rattle.client_world.specs.WatchWorld.{WatchWorld, Watching, no_watches, unwa
 use Rattle.host_run.specs.OtherTurns.{int31_call}
 use Rattle.host_run.specs.Run.{bounded, run, turns}
 use Rattle.host_run.specs.Turn.{settled, turn, with_turn_counted, work}
+use Rattle.watch_run.specs.Hits.{with_hits}
 use Rattle.watch_run.specs.Services.{watch_service}
-use Rattle.watch_run.specs.Turn.{answered, is_watch_call, run_with_watchpoints, turn_with_watchpoints, turned, turns_with_watchpoints, watched}
+use Rattle.watch_run.specs.Turn.{after_watch_call, is_watch_call, run_with_watchpoints, turn_with_watchpoints, after_turn_or_call, turns_with_watchpoints, watches_after}
 
-nothing_watched : (w : World) → watched w no_watches ≡ no_watches
-unfolding watched
+nothing_watched : (w : World) → watches_after w no_watches ≡ no_watches
+unfolding watches_after with_hits
 nothing_watched w = refl
 
 -- a turn of the host, by its exit
@@ -34,15 +35,15 @@ by_exit (Some exit) h x e t = ap unwatched (sym t)
 
 -- a function is served, or the turn is the host's
 by_call : (h : HostWorld) (served : WatchWorld) (b : Bool) → b ≡ false →
-    (if b then served else record { host = turn h; watching = watched h.machine no_watches }) ≡ unwatched (turn h)
+    (if b then served else record { host = turn h; watching = watches_after h.machine no_watches }) ≡ unwatched (turn h)
 by_call h served true e = cc
 by_call h served false e = ap (λ (s : Watching). let w : WatchWorld = record { host = turn h; watching = s } in w) (nothing_watched h.machine)
 
 plain_turn : (h : HostWorld) → is_watch_call (int31_call h) ≡ false → turn_with_watchpoints (unwatched h) ≡ unwatched (turn h)
 unfolding turn_with_watchpoints
 plain_turn h none =
-    let served = answered (unwatched h) (watch_service h.machine.regs no_watches) in
-    by_exit h.exit h (turned (unwatched h)) (by_call h served (is_watch_call (int31_call h)) none) (turn_of h)
+    let served = after_watch_call (unwatched h) (watch_service h.machine.regs no_watches) in
+    by_exit h.exit h (after_turn_or_call (unwatched h)) (by_call h served (is_watch_call (int31_call h)) none) (turn_of h)
 
 plain_turns : (h : HostWorld) (n : ℕ) → ((k : ℕ) → k < n → is_watch_call (int31_call (turns h k)) ≡ false) →
     turns_with_watchpoints (unwatched h) n ≡ unwatched (turns h n)

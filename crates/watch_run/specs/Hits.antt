@@ -1,7 +1,8 @@
 -- Which watchpoints the next instruction hits. Addresses are compared as linear numbers, before the instruction runs. Source: own.
-use Rattle.std.specs.Prelude.{ℕ, ◌+◌, ◌*◌, Bool, true, false, cond, ◌&&◌, ◌||◌, List, [], ◌∷◌, nat_le, nat_lt, None, Some}
+use Rattle.std.specs.Prelude.{ℕ, ◌+◌, ◌*◌, Bool, true, false, cond, not, ◌&&◌, ◌||◌, List, [], ◌∷◌, nat_le, nat_lt, None, Some}
 use Rattle.std.specs.declared.option.Option.{Option}
 use Rattle.client_world.specs.Access.{linear}
+use Rattle.client_world.specs.WatchWorld.{Watching}
 use Rattle.client_world.specs.World.{World}
 use Rattle.guest_space.specs.SegmentRows.{first_byte}
 use Rattle.insn_decode.specs.declared.decoding.Decoded.{Decoded}
@@ -14,14 +15,14 @@ use Rattle.client_world.specs.declared.watchpoints.Watch.{Watch}
 use Rattle.client_world.specs.declared.watchpoints.WatchKind.TheVariants.{Execute, Write, ReadOrWrite}
 
 -- the touches of what the code bytes are; none where they are no instruction, or it is an event
-abbrev pub decoded_runs : World → Decoded → Option (List Touch)
-decoded_runs w (Whole insn len) = touches (moved len w) (client_row (moved len w) insn len)
-decoded_runs w More = None
-decoded_runs w Invalid = None
+abbrev pub touches_of_code : World → Decoded → Option (List Touch)
+touches_of_code w (Whole insn len) = touches (moved len w) (client_row (moved len w) insn len)
+touches_of_code w More = None
+touches_of_code w Invalid = None
 
 -- those of the instruction at CS:EIP
 unfoldable pub next_touches : World → Option (List Touch)
-next_touches w = decoded_runs w (decoded (has_big_code w) (code w))
+next_touches w = touches_of_code w (decoded (has_big_code w) (code w))
 
 -- the linear address of CS:EIP
 abbrev pub instruction_address : World → ℕ
@@ -66,3 +67,30 @@ hit_bits at touched (slot ∷ slots) = cond (slot_hit at touched slot) 1 0 + 2 *
 -- the handles that the instruction at CS:EIP hits, from bit 0 on
 abbrev pub hits : World → List (Option Watch) → ℕ
 hits w slots = hit_bits (instruction_address w) (next_touches w) slots
+
+-- ---- what a hit leaves
+
+-- a hit sets the status
+abbrev pub marked : ℕ → Option (List Touch) → Option Watch → Option Watch
+marked at touched None = None
+marked at touched (Some x) = Some (record x { hit = x.hit || slot_hit at touched (Some x) })
+
+abbrev pub all_marked : ℕ → Option (List Touch) → List (Option Watch) → List (Option Watch)
+all_marked at touched [] = []
+all_marked at touched (slot ∷ slots) = marked at touched slot ∷ all_marked at touched slots
+
+-- a hit where the status was clear
+abbrev pub is_first_hit : ℕ → Option (List Touch) → Option Watch → Bool
+is_first_hit at touched None = false
+is_first_hit at touched (Some x) = not x.hit && slot_hit at touched (Some x)
+
+abbrev pub has_first_hit : ℕ → Option (List Touch) → List (Option Watch) → Bool
+has_first_hit at touched [] = false
+has_first_hit at touched (slot ∷ slots) = is_first_hit at touched slot || has_first_hit at touched slots
+
+-- the watchpoints after an instruction at an address with those touches
+unfoldable pub with_hits : ℕ → Option (List Touch) → Watching → Watching
+with_hits at touched s = record {
+  watches = all_marked at touched s.watches;
+  due = s.due || has_first_hit at touched s.watches;
+}

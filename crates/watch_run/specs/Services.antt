@@ -13,37 +13,37 @@ use Rattle.client_world.specs.declared.watchpoints.WatchKind.TheVariants.{Execut
 use Rattle.client_world.specs.WatchWorld.{Watching}
 use Rattle.service_rows.specs.declared.refusal.Refusal.{Refusal}
 use Rattle.service_rows.specs.declared.refusal.Refusal.TheVariants.{HandleUnavailable, InvalidAddress, InvalidHandle, InvalidValue}
-use Rattle.service_rows.specs.Reasons.{number_of}
+use Rattle.service_rows.specs.Reasons.{refusal_number}
 use Rattle.watch_run.specs.Watches.{watch_at, lowest_free}
 
 -- what a function returns: the registers, the carry, and the watchpoints after it
-pub record Answer : Type 0 where
+pub record WatchAnswer : Type 0 where
   pub regs : Regs
   pub carry : Carry
   pub watching : Watching
 
 -- it is done
-abbrev pub served : Regs → Watching → Answer
-served r w = record { regs = r; carry = Clear; watching = w }
+abbrev pub watch_served : Regs → Watching → WatchAnswer
+watch_served r w = record { regs = r; carry = Clear; watching = w }
 
 -- it is refused: AX is the number of the refusal, and nothing else changes
-abbrev pub refused : Refusal → Regs → Watching → Answer
-refused refusal r w = record { regs = record r { eax = with_low_half r.eax (number_of refusal) }; carry = Set; watching = w }
+abbrev pub watch_refused : Refusal → Regs → Watching → WatchAnswer
+watch_refused refusal r w = record { regs = record r { eax = with_low_half r.eax (refusal_number refusal) }; carry = Set; watching = w }
 
 -- the sizes of watchpoints
-abbrev pub is_size : ℕ → Bool
-is_size n = nat_eq n 1 || nat_eq n 2 || nat_eq n 4
+abbrev pub is_watch_size : ℕ → Bool
+is_watch_size n = nat_eq n 1 || nat_eq n 2 || nat_eq n 4
 
 -- what a number of a kind watches for; those above 2 are refused
-abbrev pub kind_of : ℕ → WatchKind
-kind_of n = if nat_eq n 0 then Execute else if nat_eq n 1 then Write else ReadOrWrite
+abbrev pub watch_kind : ℕ → WatchKind
+watch_kind n = if nat_eq n 0 then Execute else if nat_eq n 1 then Write else ReadOrWrite
 
 -- the watchpoint that BX:CX, DL and DH describe
-abbrev pub described : Regs → Watch
-described r = record {
+abbrev pub described_watch : Regs → Watch
+described_watch r = record {
   at = two_words (low_half r.ebx) (low_half r.ecx);
   size = low_byte r.edx;
-  kind = kind_of (high_byte r.edx);
+  kind = watch_kind (high_byte r.edx);
   hit = false;
 }
 
@@ -51,43 +51,43 @@ described r = record {
 abbrev pub with_watch : ℕ → Option Watch → Watching → Watching
 with_watch handle watch w = record w { watches = slice_set w.watches (handle - 1) watch }
 
-abbrev pub made : Regs → Watching → Option ℕ → Answer
-made r w None = refused HandleUnavailable r w
-made r w (Some handle) = served (record r { ebx = with_low_half r.ebx handle }) (with_watch handle (Some (described r)) w)
+abbrev pub with_new_watch : Regs → Watching → Option ℕ → WatchAnswer
+with_new_watch r w None = watch_refused HandleUnavailable r w
+with_new_watch r w (Some handle) = watch_served (record r { ebx = with_low_half r.ebx handle }) (with_watch handle (Some (described_watch r)) w)
 
 -- 0B00h: a watchpoint on DL bytes at BX:CX, of the kind DH; BX becomes its handle, the lowest that is free
-unfoldable pub set_watch : Regs → Watching → Answer
+unfoldable pub set_watch : Regs → Watching → WatchAnswer
 set_watch r w =
-    if not (is_size (low_byte r.edx)) || nat_lt 2 (high_byte r.edx) then refused InvalidValue r w else
-    if nat_lt (2 ^ 32) ((described r).at + low_byte r.edx) then refused InvalidAddress r w else
-    made r w (lowest_free w.watches)
+    if not (is_watch_size (low_byte r.edx)) || nat_lt 2 (high_byte r.edx) then watch_refused InvalidValue r w else
+    if nat_lt (2 ^ 32) ((described_watch r).at + low_byte r.edx) then watch_refused InvalidAddress r w else
+    with_new_watch r w (lowest_free w.watches)
 
 -- what is done to the watchpoint BX, if it is held
-abbrev pub held : Regs → Watching → Option Watch → (Watch → Answer) → Answer
-held r w None answer = refused InvalidHandle r w
-held r w (Some watch) answer = answer watch
+abbrev pub if_held : Regs → Watching → Option Watch → (Watch → WatchAnswer) → WatchAnswer
+if_held r w None answer = watch_refused InvalidHandle r w
+if_held r w (Some watch) answer = answer watch
 
-abbrev pub asked : Regs → Watching → Option Watch
-asked r w = watch_at w.watches (low_half r.ebx)
+abbrev pub watch_in_bx : Regs → Watching → Option Watch
+watch_in_bx r w = watch_at w.watches (low_half r.ebx)
 
 -- 0B01h: watchpoint BX is freed
-unfoldable pub clear_watch : Regs → Watching → Answer
-clear_watch r w = held r w (asked r w) (λ watch. served r (with_watch (low_half r.ebx) None w))
+unfoldable pub clear_watch : Regs → Watching → WatchAnswer
+clear_watch r w = if_held r w (watch_in_bx r w) (λ watch. watch_served r (with_watch (low_half r.ebx) None w))
 
 -- 0B02h: AX is 1 where it was hit since it was made or reset, else 0
-unfoldable pub watch_state : Regs → Watching → Answer
-watch_state r w = held r w (asked r w) (λ watch. served (record r { eax = with_low_half r.eax (cond watch.hit 1 0) }) w)
+unfoldable pub watch_state : Regs → Watching → WatchAnswer
+watch_state r w = if_held r w (watch_in_bx r w) (λ watch. watch_served (record r { eax = with_low_half r.eax (cond watch.hit 1 0) }) w)
 
 -- 0B03h: it counts as not hit
-unfoldable pub reset_watch : Regs → Watching → Answer
-reset_watch r w = held r w (asked r w) (λ watch. served r (with_watch (low_half r.ebx) (Some (record watch { hit = false })) w))
+unfoldable pub reset_watch : Regs → Watching → WatchAnswer
+reset_watch r w = if_held r w (watch_in_bx r w) (λ watch. watch_served r (with_watch (low_half r.ebx) (Some (record watch { hit = false })) w))
 
 -- the functions
 abbrev pub is_watch_function : ℕ → Bool
 is_watch_function ax = nat_eq ax 0x0B00 || nat_eq ax 0x0B01 || nat_eq ax 0x0B02 || nat_eq ax 0x0B03
 
 -- the function in AX
-unfoldable pub watch_service : Regs → Watching → Answer
+unfoldable pub watch_service : Regs → Watching → WatchAnswer
 watch_service r w =
     if nat_eq (low_half r.eax) 0x0B00 then set_watch r w else
     if nat_eq (low_half r.eax) 0x0B01 then clear_watch r w else

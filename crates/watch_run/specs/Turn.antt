@@ -1,57 +1,34 @@
 -- One turn of a host with watchpoints, and runs. A hit sets the watchpoint's status, and in protected mode raises exception 1 in a turn of its
 -- own after the instruction; one in real mode waits for protected mode. Source: own.
-use Rattle.std.specs.Prelude.{ℕ, zero, suc, ◌+◌, Bool, true, false, not, ◌&&◌, ◌||◌, List, [], ◌∷◌, if◌then◌else◌, None, Some}
+use Rattle.std.specs.Prelude.{ℕ, zero, suc, Bool, true, false, ◌&&◌, ◌||◌, List, [], if◌then◌else◌, None, Some}
 use Rattle.std.specs.declared.option.Option.{Option}
 use Rattle.client_world.specs.declared.faults.TheConstants.{DEBUG}
+use Rattle.client_world.specs.declared.outcome.Exit.{Exit}
 use Rattle.client_world.specs.declared.registers.Mode.TheVariants.{Real, Protected}
 use Rattle.client_world.specs.declared.watchpoints.Touch.{Touch}
 use Rattle.client_world.specs.declared.watchpoints.Watch.{Watch}
 use Rattle.client_world.specs.Access.{fault_with}
-use Rattle.client_world.specs.WatchWorld.{WatchWorld, Watching}
-use Rattle.client_world.specs.World.{World}
-use Rattle.host_run.specs.declared.traps.Trap.{Trap}
-use Rattle.host_run.specs.declared.traps.Trap.TheVariants.{NoTrap}
+use Rattle.client_world.specs.declared.place.Place.{Place}
+use Rattle.client_world.specs.WatchWorld.{WatchWorld, Watching, unwatched}
+use Rattle.client_world.specs.World.{HostWorld, World}
+use Rattle.host_run.specs.Footprint.{Footprint, at_places, delivery_footprint, turn_footprint}
 use Rattle.host_run.specs.OtherTurns.{exception_turn, int31_call, int31_turn}
 use Rattle.host_run.specs.Run.{bounded}
-use Rattle.host_run.specs.Traps.{current_trap}
+use Rattle.host_run.specs.Touched.{touched_by_turn}
+use Rattle.host_run.specs.Traps.{current_trap, is_trap}
 use Rattle.host_run.specs.Turn.{turn}
-use Rattle.watch_run.specs.Hits.{instruction_address, next_touches, slot_hit}
-use Rattle.watch_run.specs.Services.{Answer, is_watch_function, watch_service}
+use Rattle.watch_run.specs.Hits.{instruction_address, next_touches, with_hits}
+use Rattle.watch_run.specs.Services.{WatchAnswer, is_watch_function, watch_service}
 
 -- ---- hits
 
 -- the touches of the client instruction that a turn runs; none at a trap, or where the instruction is an event
-abbrev pub touches_at : World → Trap → Option (List Touch)
-touches_at w NoTrap = next_touches w
-touches_at w _ = None
-
 abbrev pub turn_touches : World → Option (List Touch)
-turn_touches w = touches_at w (current_trap w)
-
--- a hit sets the status
-abbrev pub marked : ℕ → Option (List Touch) → Option Watch → Option Watch
-marked at touched None = None
-marked at touched (Some x) = Some (record x { hit = x.hit || slot_hit at touched (Some x) })
-
-abbrev pub all_marked : ℕ → Option (List Touch) → List (Option Watch) → List (Option Watch)
-all_marked at touched [] = []
-all_marked at touched (slot ∷ slots) = marked at touched slot ∷ all_marked at touched slots
-
--- a hit where the status was clear
-abbrev pub is_first_hit : ℕ → Option (List Touch) → Option Watch → Bool
-is_first_hit at touched None = false
-is_first_hit at touched (Some x) = not x.hit && slot_hit at touched (Some x)
-
-abbrev pub has_first_hit : ℕ → Option (List Touch) → List (Option Watch) → Bool
-has_first_hit at touched [] = false
-has_first_hit at touched (slot ∷ slots) = is_first_hit at touched slot || has_first_hit at touched slots
+turn_touches w = if is_trap (current_trap w) then None else next_touches w
 
 -- the watchpoints after a turn from a world
-unfoldable pub watched : World → Watching → Watching
-watched w s = record {
-  watches = all_marked (instruction_address w) (turn_touches w) s.watches;
-  due = s.due || has_first_hit (instruction_address w) (turn_touches w) s.watches;
-}
+unfoldable pub watches_after : World → Watching → Watching
+watches_after w s = with_hits (instruction_address w) (turn_touches w) s
 
 -- ---- the functions on watchpoints
 
@@ -61,31 +38,41 @@ is_watch_call None = false
 is_watch_call (Some ax) = is_watch_function ax
 
 -- one of them is served: EAX, EBX and the carry are those that it returns
-abbrev pub answered : WatchWorld → Answer → WatchWorld
-answered w a = record { host = int31_turn w.host a.regs a.carry; watching = a.watching }
+abbrev pub after_watch_call : WatchWorld → WatchAnswer → WatchWorld
+after_watch_call w a = record { host = int31_turn w.host a.regs a.carry; watching = a.watching }
 
 -- ---- turns
 
--- exception 1 is delivered, and nothing is due
-abbrev pub hit_told : WatchWorld → WatchWorld
-hit_told w = record { host = exception_turn w.host (fault_with DEBUG 0); watching = record w.watching { due = false } }
+-- exception 1 is delivered, and no hit waits any more
+abbrev pub after_hit_exception : WatchWorld → WatchWorld
+after_hit_exception w = record { host = exception_turn w.host (fault_with DEBUG 0); watching = record w.watching { due = false } }
 
 -- a turn of the host, or a function on watchpoints
-abbrev pub turned : WatchWorld → WatchWorld
-turned w =
-    if is_watch_call (int31_call w.host) then answered w (watch_service w.host.machine.regs w.watching)
-    else record { host = turn w.host; watching = watched w.host.machine w.watching }
+abbrev pub after_turn_or_call : WatchWorld → WatchWorld
+after_turn_or_call w =
+    if is_watch_call (int31_call w.host) then after_watch_call w (watch_service w.host.machine.regs w.watching)
+    else record { host = turn w.host; watching = watches_after w.host.machine w.watching }
 
--- a hit is told in protected mode
-abbrev pub tells : WatchWorld → Bool
-tells w = w.watching.due && elim w.host.machine.mode [ Real ↦ false | Protected ↦ true ]
+-- a hit is due, and the mode is protected
+abbrev pub delivers_hit : WatchWorld → Bool
+delivers_hit w = w.watching.due && elim w.host.machine.mode [ Real ↦ false | Protected ↦ true ]
 
 -- one turn; a world with an exit stays as it is
 unfoldable pub turn_with_watchpoints : WatchWorld → WatchWorld
 turn_with_watchpoints w = elim w.host.exit [
   | Some _ ↦ w
-  | None ↦ if tells w then hit_told w else turned w
+  | None ↦ if delivers_hit w then after_hit_exception w else after_turn_or_call w
 ]
+
+-- the bytes of the memory that it may change, by the exit that there is, whether a hit is delivered, and whether a function on watchpoints is served
+abbrev pub footprint_by : Option Exit → Bool → Bool → HostWorld → Footprint
+footprint_by (Some exit) delivers serves h = at_places []
+footprint_by None true serves h = delivery_footprint Protected h.machine
+footprint_by None false true h = at_places []
+footprint_by None false false h = turn_footprint h
+
+abbrev pub watch_footprint : WatchWorld → Footprint
+watch_footprint w = footprint_by w.host.exit (delivers_hit w) (is_watch_call (int31_call w.host)) w.host
 
 -- ---- runs
 
@@ -99,3 +86,17 @@ abbrev pub run_with_watchpoints : WatchWorld → ℕ → WatchWorld
 run_with_watchpoints w n =
     let end = turns_with_watchpoints w n in
     record end { host = bounded end.host }
+
+-- ---- from a host whose client has set no watchpoint
+
+-- the host after that many turns
+abbrev pub watched_turns : HostWorld → ℕ → HostWorld
+watched_turns h n = (turns_with_watchpoints (unwatched h) n).host
+
+-- the host at the end of a run of at most that many turns
+unfoldable pub watched_run : HostWorld → ℕ → HostWorld
+watched_run h n = (run_with_watchpoints (unwatched h) n).host
+
+-- the places that the client instruction of a turn touches: none where a hit is delivered or a function on watchpoints is served
+abbrev pub touched_by_watch_turn : WatchWorld → List Place
+touched_by_watch_turn w = if delivers_hit w || is_watch_call (int31_call w.host) then [] else touched_by_turn w.host

@@ -7,8 +7,11 @@ ghost use Rattle.watch_run.specs.Hits.{
   covers,
   hits,
   instruction_address,
+  is_first_hit,
   is_hit,
+  marked,
   next_touches,
+  with_hits,
   overlaps,
   slot_hit,
   watches_for,
@@ -42,7 +45,7 @@ fn row_touches(m: &Machine, insn: &Insn, len: u8) -> Option<ArrayVec<Touch, MAX_
     }
 }
 
-// Those of the instruction at CS:EIP, or none where there is none, or it is an event.
+// Those of the instruction at CS:EIP; `None` where there is none, or where it is an event.
 #[tactic(auto, unfolding(crate::specs::Hits::next_touches))]
 fn next_touches(m: &Machine) -> Option<ArrayVec<Touch, MAX_ACCESSES>>
     ensures { MatchOption result (next_touches m.now.world ≡ None) (λ list. next_touches m.now.world ≡ Some list.items) }
@@ -109,7 +112,48 @@ fn slot_hit(at: u32, touches: &[Touch], slot: Option<Watch>) -> bool
     }
 }
 
+// A handle's watchpoint after that; a hit sets the status.
+fn marked(at: u32, touches: &[Touch], slot: Option<Watch>) -> Option<Watch>
+    ensures { result ≡ marked at (Some touches.now) slot }
+{
+    match slot {
+        None => None,
+        Some(x) => Some(Watch {
+            hit: x.hit || is_hit(at, touches, &x),
+            ..x
+        }),
+    }
+}
+
+// Whether it is hit where its status was clear.
+fn is_first_hit(at: u32, touches: &[Touch], slot: Option<Watch>) -> bool
+    ensures { result ≡ is_first_hit at (Some touches.now) slot }
+{
+    match slot {
+        None => false,
+        Some(x) => !x.hit && is_hit(at, touches, &x),
+    }
+}
+
 impl Watches {
+    /// Sets the status of each watchpoint that the instruction at CS:EIP hits. A hit is due where the status of one was clear.
+    #[inline(never)]
+    #[tactic(auto, unfolding(crate::specs::Hits::with_hits), using(crate::proofs::NoteLaws::marked_none, crate::proofs::NoteLaws::none_due, crate::proofs::NoteLaws::step_marked, crate::proofs::NoteLaws::step_due, crate::proofs::NoteLaws::end_marked, crate::proofs::NoteLaws::end_due))]
+    pub(crate) fn note_hits(&mut self, m: &Machine)
+        ensures { self.new ≡ with_hits (instruction_address m.now.world) (next_touches m.now.world) self.old }
+    {
+        let Some(touches) = next_touches(m) else {
+            return;
+        };
+        let at = m.first_byte(SegReg::Cs).wrapping_add(m.registers().eip);
+        let count = self.slots().len();
+        for k in 0..count {
+            let slot = self.slots()[k];
+            let due = is_first_hit(at, touches.as_slice(), slot);
+            self.put_hit(k, marked(at, touches.as_slice(), slot), due);
+        }
+    }
+
     /// The handles that the instruction at CS:EIP hits: bit h − 1 is set exactly for each such handle h.
     #[tactic(auto, using(crate::proofs::HitLaws::bits_none, crate::proofs::HitLaws::bits_start, crate::proofs::HitLaws::bits_next, crate::proofs::HitLaws::bits_room, crate::proofs::HitLaws::bits_all))]
     pub fn hits(&self, m: &Machine) -> u16

@@ -1,18 +1,18 @@
 // INT 31h functions 0B00h to 0B03h.
-ghost use Rattle.std.specs.Prelude.{◌≡◌, ◌<◌, ◌≤◌, IsTrue, MatchOption, MatchResult, None, Some};
+ghost use Rattle.std.specs.Prelude.{◌≡◌, ◌<◌, ◌≤◌, IfOk, IsTrue, MatchOption, MatchResult, None, Some};
 ghost use Rattle.client_world.specs.declared.limits.TheConstants.{WATCHES};
 ghost use Rattle.client_world.specs.Registers.{low_half};
 ghost use Rattle.service_rows.specs.declared.refusal.Refusal.TheVariants.{InvalidHandle};
 ghost use Rattle.watch_run.specs.Services.{
-  asked,
+  watch_in_bx,
   clear_watch,
-  described,
-  is_size,
+  described_watch,
+  is_watch_size,
   is_watch_function,
-  kind_of,
-  refused,
+  watch_kind,
+  watch_refused,
   reset_watch,
-  served,
+  watch_served,
   set_watch,
   watch_service,
   watch_state,
@@ -26,15 +26,15 @@ use guest_space::Machine;
 use service_rows::{Refusal, high_byte, low_byte, low_half, two_words, with_low_half};
 
 // Whether a watchpoint may have that many bytes.
-fn is_size(n: u8) -> bool
-    ensures { result ≡ is_size n }
+fn is_watch_size(n: u8) -> bool
+    ensures { result ≡ is_watch_size n }
 {
     n == 1 || n == 2 || n == 4
 }
 
 // What a number of a kind watches for.
-fn kind_of(n: u8) -> WatchKind
-    ensures { result ≡ kind_of n }
+fn watch_kind(n: u8) -> WatchKind
+    ensures { result ≡ watch_kind n }
 {
     match n {
         0 => WatchKind::Execute,
@@ -44,13 +44,13 @@ fn kind_of(n: u8) -> WatchKind
 }
 
 // The watchpoint that BX:CX, DL and DH describe.
-fn described(r: &Regs) -> Watch
-    ensures { result ≡ described r.now }
+fn described_watch(r: &Regs) -> Watch
+    ensures { result ≡ described_watch r.now }
 {
     Watch {
         at: two_words(low_half(r.ebx), low_half(r.ecx)),
         size: low_byte(r.edx),
-        kind: kind_of(high_byte(r.edx)),
+        kind: watch_kind(high_byte(r.edx)),
         hit: false,
     }
 }
@@ -73,11 +73,12 @@ impl Watches {
     // Function 0B00h: the registers after it, or why it is refused.
     #[tactic(auto, unfolding(crate::specs::Services::set_watch))]
     fn set_watch(&mut self, r: Regs) -> Result<Regs, Refusal>
-        ensures { MatchResult result (λ regs. set_watch r self.old ≡ served regs self.new)
-            (λ refusal. (set_watch r self.old ≡ refused refusal r self.old) × (self.new ≡ self.old)) }
+        ensures answer { MatchResult result (λ regs. set_watch r self.old ≡ watch_served regs self.new)
+            (λ refusal. (set_watch r self.old ≡ watch_refused refusal r self.old) × (self.new ≡ self.old)) }
+        ensures alone { IfOk result (λ regs. regs ≡ record r { eax = regs.eax; ebx = regs.ebx }) }
     {
-        let watch = described(&r);
-        if !is_size(watch.size) || high_byte(r.edx) > 2 {
+        let watch = described_watch(&r);
+        if !is_watch_size(watch.size) || high_byte(r.edx) > 2 {
             return Err(Refusal::InvalidValue);
         }
         if u64::from(watch.at) + u64::from(watch.size) > 0x1_0000_0000 {
@@ -94,10 +95,10 @@ impl Watches {
     }
 
     // The watchpoint BX, or why it is refused.
-    fn asked(&self, r: &Regs) -> Result<Watch, Refusal>
+    fn watch_in_bx(&self, r: &Regs) -> Result<Watch, Refusal>
         ensures { MatchResult result
-            (λ watch. (asked r.now self.now ≡ Some watch) × (0 < low_half r.now.ebx) × (low_half r.now.ebx ≤ WATCHES))
-            (λ refusal. (asked r.now self.now ≡ None) × (refusal ≡ InvalidHandle)) }
+            (λ watch. (watch_in_bx r.now self.now ≡ Some watch) × (0 < low_half r.now.ebx) × (low_half r.now.ebx ≤ WATCHES))
+            (λ refusal. (watch_in_bx r.now self.now ≡ None) × (refusal ≡ InvalidHandle)) }
     {
         match self.watch(low_half(r.ebx)) {
             Some(watch) => Ok(watch),
@@ -108,10 +109,11 @@ impl Watches {
     // Function 0B01h.
     #[tactic(auto, unfolding(crate::specs::Services::clear_watch))]
     fn clear_watch(&mut self, r: Regs) -> Result<Regs, Refusal>
-        ensures { MatchResult result (λ regs. clear_watch r self.old ≡ served regs self.new)
-            (λ refusal. (clear_watch r self.old ≡ refused refusal r self.old) × (self.new ≡ self.old)) }
+        ensures answer { MatchResult result (λ regs. clear_watch r self.old ≡ watch_served regs self.new)
+            (λ refusal. (clear_watch r self.old ≡ watch_refused refusal r self.old) × (self.new ≡ self.old)) }
+        ensures alone { IfOk result (λ regs. regs ≡ record r { eax = regs.eax; ebx = regs.ebx }) }
     {
-        self.asked(&r)?;
+        self.watch_in_bx(&r)?;
         self.put(low_half(r.ebx), None);
         Ok(r)
     }
@@ -119,10 +121,11 @@ impl Watches {
     // Function 0B02h.
     #[tactic(auto, unfolding(crate::specs::Services::watch_state))]
     fn watch_state(&mut self, r: Regs) -> Result<Regs, Refusal>
-        ensures { MatchResult result (λ regs. watch_state r self.old ≡ served regs self.new)
-            (λ refusal. (watch_state r self.old ≡ refused refusal r self.old) × (self.new ≡ self.old)) }
+        ensures answer { MatchResult result (λ regs. watch_state r self.old ≡ watch_served regs self.new)
+            (λ refusal. (watch_state r self.old ≡ watch_refused refusal r self.old) × (self.new ≡ self.old)) }
+        ensures alone { IfOk result (λ regs. regs ≡ record r { eax = regs.eax; ebx = regs.ebx }) }
     {
-        let watch = self.asked(&r)?;
+        let watch = self.watch_in_bx(&r)?;
         Ok(Regs {
             eax: with_low_half(r.eax, u16::from(watch.hit)),
             ..r
@@ -132,10 +135,11 @@ impl Watches {
     // Function 0B03h.
     #[tactic(auto, unfolding(crate::specs::Services::reset_watch))]
     fn reset_watch(&mut self, r: Regs) -> Result<Regs, Refusal>
-        ensures { MatchResult result (λ regs. reset_watch r self.old ≡ served regs self.new)
-            (λ refusal. (reset_watch r self.old ≡ refused refusal r self.old) × (self.new ≡ self.old)) }
+        ensures answer { MatchResult result (λ regs. reset_watch r self.old ≡ watch_served regs self.new)
+            (λ refusal. (reset_watch r self.old ≡ watch_refused refusal r self.old) × (self.new ≡ self.old)) }
+        ensures alone { IfOk result (λ regs. regs ≡ record r { eax = regs.eax; ebx = regs.ebx }) }
     {
-        let watch = self.asked(&r)?;
+        let watch = self.watch_in_bx(&r)?;
         self.put(
             low_half(r.ebx),
             Some(Watch {
@@ -150,7 +154,8 @@ impl Watches {
     #[tactic(auto, unfolding(crate::specs::Services::watch_service))]
     pub fn serve(&mut self, m: &Machine) -> (Regs, Carry)
         requires { IsTrue (is_watch_function (low_half m.now.world.regs.eax)) }
-        ensures { record { regs = result.0; carry = result.1; watching = self.new } ≡ watch_service m.now.world.regs self.old }
+        ensures answer { record { regs = result.0; carry = result.1; watching = self.new } ≡ watch_service m.now.world.regs self.old }
+        ensures alone { result.0 ≡ record m.now.world.regs { eax = result.0.eax; ebx = result.0.ebx } }
     {
         let r = m.regs();
         let result = match low_half(r.eax) {

@@ -1,0 +1,91 @@
+-- Hits noted, one handle after another.
+use Rattle.std.proofs.Common.{◌≡◌, ℕ, zero, suc, ◌+◌, ◌<◌, ◌≤◌, Bool, true, false, List, [], ◌∷◌, ◌++◌, None, Some, Option, refl, ap, sym, ◌∙◌, append_assoc, drop, take, length, arith}
+use Rattle.std.specs.Prelude.{slice_index_or, slice_set, not, ◌&&◌, ◌||◌}
+use Rattle.std.proofs.lemmas.List.{append-nil, drop_all, drop-set-lt}
+use Rattle.std.proofs.Math.Seq.{drop-cons, take-suc-set}
+use Rattle.client_world.specs.declared.watchpoints.Touch.{Touch}
+use Rattle.client_world.specs.declared.watchpoints.Watch.{Watch}
+use Rattle.watch_run.specs.Hits.{all_marked, has_first_hit, is_first_hit, marked, slot_hit}
+
+or_false : (c : Bool) → (c || false) ≡ c
+or_false true = refl
+or_false false = refl
+
+and_false : (c : Bool) → (c && false) ≡ false
+and_false true = refl
+and_false false = refl
+
+or_assoc : (a b c : Bool) → ((a || b) || c) ≡ (a || (b || c))
+or_assoc true b c = refl
+or_assoc false b c = refl
+
+-- an event hits nothing
+pub marked_none : (at : ℕ) (slots : List (Option Watch)) → all_marked at None slots ≡ slots
+marked_none at [] = refl
+marked_none at (None ∷ slots) = cc (marked_none at slots)
+marked_none at (Some x ∷ slots) =
+    ap (λ (c : Bool). Some (record x { hit = c }) ∷ all_marked at None slots) (or_false x.hit)
+    ∙ ap (λ (rest : List (Option Watch)). Some x ∷ rest) (marked_none at slots)
+
+first_none : (at : ℕ) (slots : List (Option Watch)) → has_first_hit at None slots ≡ false
+first_none at [] = refl
+first_none at (None ∷ slots) = first_none at slots
+first_none at (Some x ∷ slots) = ap (λ (c : Bool). c || has_first_hit at None slots) (and_false (not x.hit)) ∙ first_none at slots
+
+pub none_due : (at : ℕ) (slots : List (Option Watch)) (due : Bool) → (due || has_first_hit at None slots) ≡ due
+none_due at slots due = ap (λ (c : Bool). due || c) (first_none at slots) ∙ or_false due
+
+slot_from : (slots : List (Option Watch)) (i : ℕ) → i < length slots → drop i slots ≡ slice_index_or slots i None ∷ drop (i + 1) slots
+slot_from slots i within =
+    let next : suc i ≡ i + 1 = omega arith in
+    drop-cons slots i None within ∙ ap (λ (n : ℕ). slice_index_or slots i None ∷ drop n slots) next
+
+after_set : (slots : List (Option Watch)) (k : ℕ) (v : Option Watch) → drop (k + 1) (slice_set slots k v) ≡ drop (k + 1) slots
+after_set slots k v = drop-set-lt (k + 1) slots k v (omega arith)
+
+before_set : (slots : List (Option Watch)) (k : ℕ) (v : Option Watch) → k < length slots → take (k + 1) (slice_set slots k v) ≡ take k slots ++ v ∷ []
+before_set slots k v within =
+    let next : k + 1 ≡ suc k = omega arith in
+    ap (λ (n : ℕ). take n (slice_set slots k v)) next ∙ take-suc-set slots k v within
+
+-- those before place k are marked, and those from it on will be
+pub step_marked : (at : ℕ) (touched : Option (List Touch)) (slots : List (Option Watch)) (k : ℕ) → k < length slots →
+    take (k + 1) (slice_set slots k (marked at touched (slice_index_or slots k None)))
+    ++ all_marked at touched (drop (k + 1) (slice_set slots k (marked at touched (slice_index_or slots k None))))
+    ≡ take k slots ++ all_marked at touched (drop k slots)
+step_marked at touched slots k within =
+    let v = marked at touched (slice_index_or slots k None) in
+    let rest = all_marked at touched (drop (k + 1) slots) in
+    let front = before_set slots k v within in
+    let back = ap (all_marked at touched) (after_set slots k v) in
+    let here = ap (all_marked at touched) (slot_from slots k within) in
+    let joined = append_assoc (take k slots) (v ∷ []) rest in
+    cc (front, back, here, joined)
+
+pub step_due : (at : ℕ) (touched : Option (List Touch)) (slots : List (Option Watch)) (k : ℕ) (due : Bool) (v : Option Watch) → k < length slots →
+    ((due || is_first_hit at touched (slice_index_or slots k None)) || has_first_hit at touched (drop (k + 1) (slice_set slots k v)))
+    ≡ (due || has_first_hit at touched (drop k slots))
+step_due at touched slots k due v within =
+    let x = slice_index_or slots k None in
+    let rest = has_first_hit at touched (drop (k + 1) slots) in
+    ap (λ (more : List (Option Watch)). (due || is_first_hit at touched x) || has_first_hit at touched more) (after_set slots k v)
+    ∙ or_assoc due (is_first_hit at touched x) rest
+    ∙ ap (λ (more : List (Option Watch)). due || has_first_hit at touched more) (sym (slot_from slots k within))
+
+take_all : (slots : List (Option Watch)) (k : ℕ) → length slots ≤ k → take k slots ≡ slots
+take_all [] zero done = refl
+take_all [] (suc k) done = refl
+take_all (x ∷ slots) zero done = absurd (omega arith)
+take_all (x ∷ slots) (suc k) done = ap (λ (rest : List (Option Watch)). x ∷ rest) (take_all slots k (omega arith))
+
+pub end_marked : (at : ℕ) (touched : Option (List Touch)) (slots : List (Option Watch)) (k : ℕ) → length slots ≤ k →
+    take k slots ++ all_marked at touched (drop k slots) ≡ slots
+end_marked at touched slots k done =
+    let front = take_all slots k done in
+    let back = ap (all_marked at touched) (drop_all k slots done) in
+    cc (front, back, append-nil slots)
+
+pub end_due : (at : ℕ) (touched : Option (List Touch)) (slots : List (Option Watch)) (k : ℕ) (due : Bool) → length slots ≤ k →
+    (due || has_first_hit at touched (drop k slots)) ≡ due
+end_due at touched slots k due done =
+    ap (λ (more : List (Option Watch)). due || has_first_hit at touched more) (drop_all k slots done) ∙ or_false due

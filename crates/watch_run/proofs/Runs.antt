@@ -1,0 +1,38 @@
+-- Turns with watchpoints change nothing after an exit.
+use Rattle.std.proofs.Common.{arith, ◌≡◌, ◌≤◌, ◌<◌, ◌+◌, ◌-◌, ℕ, None, Some, Option, zero, suc, refl, sym, ◌∙◌, ap, subst, add-zero, add-suc}
+use Rattle.std.specs.Prelude.{IsSome}
+use Rattle.client_world.specs.declared.outcome.Exit.{Exit}
+use Rattle.client_world.specs.WatchWorld.{WatchWorld}
+use Rattle.client_world.specs.World.{HostWorld}
+use Rattle.host_run.specs.Run.{bounded}
+use Rattle.watch_run.specs.Turn.{run_with_watchpoints, turn_with_watchpoints, turns_with_watchpoints}
+use Rattle.watch_run.proofs.WatchedTurns.{stays}
+
+some_is : (o : Option Exit) (e : Exit) → o ≡ Some e → IsSome o
+some_is None e is = cc
+some_is (Some x) e is = refl
+
+turns_stop : (w : WatchWorld) (i k : ℕ) → IsSome (turns_with_watchpoints w i).host.exit →
+    turns_with_watchpoints w (i + k) ≡ turns_with_watchpoints w i
+unfolding turns_with_watchpoints
+turns_stop w i zero some = rw add-zero refl
+turns_stop w i (suc k) some = rw add-suc (ap turn_with_watchpoints (turns_stop w i k some) ∙ stays (turns_with_watchpoints w i) some)
+
+turns_past : (w : WatchWorld) (i n : ℕ) → i ≤ n → IsSome (turns_with_watchpoints w i).host.exit →
+    turns_with_watchpoints w n ≡ turns_with_watchpoints w i
+turns_past w i n le some =
+    let split : i + (n - i) ≡ n = omega arith in
+    subst (λ m. turns_with_watchpoints w m ≡ turns_with_watchpoints w i) split (turns_stop w i (n - i) some)
+
+bounded_ended : (h : HostWorld) (e : Exit) → h.exit ≡ Some e → bounded h ≡ h
+bounded_ended h e is = rw is refl
+
+-- a run that ends with turn i + 1 is over there
+pub run_ended : (w new : WatchWorld) (n i : ℕ) (e : Exit) → new ≡ turns_with_watchpoints w (i + 1) → i < n →
+    new.host.exit ≡ Some e → new ≡ run_with_watchpoints w n
+run_ended w new n i e is lt ends =
+    let there : (turns_with_watchpoints w (i + 1)).host.exit ≡ Some e = sym (ap (λ (v : WatchWorld). v.host.exit) is) ∙ ends in
+    let past = turns_past w (i + 1) n (omega arith) (some_is _ e there) in
+    let same : turns_with_watchpoints w n ≡ new = past ∙ sym is in
+    sym (ap (λ (v : WatchWorld). let x : WatchWorld = record v { host = bounded v.host } in x) same
+    ∙ ap (λ (h : HostWorld). let x : WatchWorld = record new { host = h } in x) (bounded_ended new.host e ends))

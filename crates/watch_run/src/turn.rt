@@ -1,0 +1,140 @@
+// Turns of a host with its client's watchpoints, and runs.
+ghost use Rattle.std.specs.Prelude.{◌≡◌, ◌≤◌, ◌<◌, ◌+◌, IfErr, IsTrue, OnOk, None, Some, Err};
+ghost use Rattle.client_world.specs.declared.limits.TheConstants.{MAX_STEPS};
+ghost use Rattle.client_world.specs.Registers.{low_half};
+ghost use Rattle.client_world.specs.WatchWorld.{WatchWorld};
+ghost use Rattle.host_run.specs.Footprint.{ChangesOnly};
+ghost use Rattle.host_run.specs.OtherTurns.{int31_call};
+ghost use Rattle.watch_run.specs.Services.{is_watch_function, watch_service};
+ghost use Rattle.watch_run.specs.Turn.{after_watch_call, is_watch_call, run_with_watchpoints, delivers_hit, turn_with_watchpoints, watch_footprint, watches_after, watched_run};
+
+use crate::watch::Watches;
+use client_world::faults::DEBUG;
+use client_world::{Exit, Fault, Mode};
+use guest_space::Machine;
+use host_run::{Host, is_at_trap};
+
+// Whether a function of INT 31h is one of those on watchpoints.
+fn is_watch_function(ax: u16) -> bool
+    ensures { result ≡ is_watch_function ax }
+{
+    ax == 0x0B00 || ax == 0x0B01 || ax == 0x0B02 || ax == 0x0B03
+}
+
+// Whether the next turn would serve one of them.
+#[inline(always)]
+fn is_watch_call(h: &Host) -> bool
+    ensures { result ≡ is_watch_call (int31_call h.now.world) }
+{
+    match h.int31_here() {
+        Some(ax) => is_watch_function(ax),
+        None => false,
+    }
+}
+
+// Whether this turn delivers a hit.
+#[inline(always)]
+fn delivers_hit(h: &Host, w: &Watches) -> bool
+    ensures { result ≡ delivers_hit (record { host = h.now.world; watching = w.now }) }
+{
+    if !w.is_due() {
+        return false;
+    }
+    match h.machine().mode() {
+        Mode::Real => false,
+        Mode::Protected => true,
+    }
+}
+
+// Serves a function on watchpoints, as a turn.
+#[inline(never)]
+#[tactic(auto, using(crate::proofs::TurnParts::asked_function, crate::proofs::TurnParts::served_steps, crate::proofs::TurnParts::answered_by))]
+fn serve_call(h: &mut Host, w: &mut Watches)
+    requires call { IsTrue (is_watch_call (int31_call h.old.world)) }
+    requires room { h.old.world.steps < MAX_STEPS }
+    ensures world { record { host = h.new.world; watching = w.new }
+        ≡ after_watch_call (record { host = h.old.world; watching = w.old }) (watch_service h.old.world.machine.regs w.old) }
+    ensures bytes { h.new.bytes ≡ h.old.bytes }
+    ensures goes_on { h.new.world.exit ≡ None }
+    ensures steps { h.new.world.steps ≡ h.old.world.steps + 1 }
+{
+    let (r, carry) = w.serve(h.machine());
+    h.int31_done(r, carry);
+}
+
+// Notes the hits of the client instruction that a turn runs. Where no watchpoint was ever made, nothing is decoded.
+#[inline(always)]
+#[tactic(auto, unfolding(crate::specs::Turn::watches_after), using(crate::proofs::TurnParts::none_watched, crate::proofs::TurnParts::event_watched, crate::proofs::TurnParts::step_watched))]
+fn note_turn(m: &Machine, w: &mut Watches)
+    ensures { w.new ≡ watches_after m.now.world w.old }
+{
+    if !w.is_unused() && !is_at_trap(m) {
+        w.note_hits(m);
+    }
+}
+
+/// One turn of a host with its client's watchpoints. In protected mode a hit that is due is delivered as exception 1, in a turn of its own; INT 31h
+/// functions 0B00h to 0B03h are served here; any other turn is the host's, and what its instruction hits is noted. After an exit it returns
+/// that exit again and changes nothing. Source: own.
+#[inline(always)]
+#[tactic(auto, unfolding(crate::specs::Turn::turn_with_watchpoints), using(crate::proofs::TurnParts::told_steps))]
+pub fn watch_turn(h: &mut Host, w: &mut Watches) -> Result<(), Exit>
+    requires { h.old.world.exit ≡ None → h.old.world.steps < MAX_STEPS }
+    ensures world { record { host = h.new.world; watching = w.new }
+        ≡ turn_with_watchpoints (record { host = h.old.world; watching = w.old }) }
+    ensures bytes { ChangesOnly (watch_footprint (record { host = h.old.world; watching = w.old })) h.old.bytes h.new.bytes }
+    ensures kept { IfErr result (λ _. h.new.bytes ≡ h.old.bytes) }
+    ensures goes_on { OnOk result (h.new.world.exit ≡ None) }
+    ensures ends { IfErr result (λ exit. h.new.world.exit ≡ Some exit) }
+    ensures steps { h.new.world.steps ≤ h.old.world.steps + 1 }
+    ensures was_on { h.new.world.exit ≡ None → h.old.world.exit ≡ None }
+{
+    if let Some(exit) = h.exit() {
+        return Err(exit);
+    }
+    if delivers_hit(h, w) {
+        w.clear_due();
+        return h.deliver_turn(Fault {
+            number: DEBUG,
+            code: 0,
+        });
+    }
+    if is_watch_call(h) {
+        serve_call(h, w);
+        return Ok(());
+    }
+    note_turn(h.machine(), w);
+    h.turn()
+}
+
+/// Turns up to an exit, or as many as the bound, with the exit `Bound` then. Source: own.
+pub fn run_with_watchpoints(h: &mut Host, w: &mut Watches, bound: u32) -> Exit
+    requires { h.old.world.exit ≡ None → h.old.world.steps + bound ≤ MAX_STEPS }
+    ensures world { record { host = h.new.world; watching = w.new }
+        ≡ run_with_watchpoints (record { host = h.old.world; watching = w.old }) bound }
+    ensures answer { h.new.world.exit ≡ Some result }
+{
+    for count in 0..bound {
+        if let Err(exit) = watch_turn(h, w) {
+            return exit;
+        }
+    }
+    match h.exit() {
+        Some(exit) => exit,
+        None => {
+            h.stop_bound();
+            Exit::Bound
+        }
+    }
+}
+
+/// The same, from a host whose client has set no watchpoint.
+#[tactic(auto, unfolding(crate::specs::Turn::watched_run), using(crate::proofs::TurnParts::host_part))]
+pub fn watched_run(h: &mut Host, bound: u32) -> Exit
+    requires { h.old.world.exit ≡ None → h.old.world.steps + bound ≤ MAX_STEPS }
+    ensures world { h.new.world ≡ watched_run h.old.world bound }
+    ensures answer { h.new.world.exit ≡ Some result }
+{
+    let mut w = Watches::new();
+    run_with_watchpoints(h, &mut w, bound)
+}
