@@ -1,1 +1,4 @@
-pub mod Rounds
+pub mod Parts
+pub mod RoundLaws
+pub mod RoundParts
+pub mod Runs

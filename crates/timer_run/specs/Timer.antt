@@ -19,7 +19,7 @@ pub record TimerState : Type 0 where
 abbrev pub ticked : TimerState → TimerState
 ticked t = if nat_eq (t.count + 1) t.every then record t { count = 0; waits = true } else record t { count = t.count + 1 }
 
--- the client can be interrupted: virtual interrupts are enabled, and in protected mode calls aren't nested too deeply
+-- the client can be interrupted: virtual interrupts are enabled, and in protected mode the depth is below the greatest
 abbrev pub takes_interrupts : World → Bool
 takes_interrupts w = w.vif && elim w.mode [ Real ↦ true | Protected ↦ nat_lt (depth w) GREATEST_DEPTH ]
 

@@ -1,33 +1,53 @@
-// The laws of runs with a timer. Each is a function with nothing to do: its contract is the law.
-ghost use Rattle.std.specs.Prelude.{◌+◌, ℕ, All};
+// What holds of every round and of every run with a timer. Each is a function with nothing to do: its contract is the law.
+ghost use Rattle.std.specs.Prelude.{◌≡◌, ◌+◌, ℕ, All, None};
 ghost use Rattle.client_world.specs.Access.{IsHeld};
-ghost use Rattle.client_world.specs.Soundness.{IsSoundHost};
+ghost use Rattle.client_world.specs.Console.{Extends};
+ghost use Rattle.client_world.specs.Soundness.{IsSound, IsSoundHost};
 ghost use Rattle.client_world.specs.World.{HostWorld};
+ghost use Rattle.host_run.specs.HandOver.{HandsOver};
 ghost use Rattle.host_run.specs.Keys.{HasKeys};
-ghost use Rattle.host_run.specs.Nested.{Stacked};
+ghost use Rattle.host_run.specs.Nested.{IsHandedOver, Stacked};
 ghost use Rattle.host_run.specs.RealCalls.{from_anywhere};
-ghost use Rattle.timer_run.specs.Rounds.{host_turns, rounds, touched_by_round, untimed};
+ghost use Rattle.timer_run.specs.Rounds.{TimedWorld, round_with_timer, timed_run, timed_turns, touched_by_round};
 ghost use Rattle.timer_run.specs.Timer.{TimerState as ATimer, timer_part};
 
-use host_run::every_touch_is_held;
+use host_run::every_nested_call_hands_over;
+use watch_run::every_touch_of_a_watched_turn_is_held;
 
-/// The timer's part of a round leads from a sound host to a sound host. In each run with a timer all hosts are sound.
+/// The timer's part of a round leads from a sound host to a sound host. So do the rounds of a run, and the whole run.
 pub fn every_round_is_sound()
     ensures part { (t : ATimer) (h : HostWorld) → IsSoundHost h → HasKeys h → IsSoundHost (timer_part t h).host }
-    ensures rounds { (every : ℕ) (h : HostWorld) (n : ℕ) → IsSoundHost h → HasKeys h → IsSoundHost (rounds host_turns every (untimed h) n).world }
+    ensures rounds { (every : ℕ) (h : HostWorld) (n : ℕ) → IsSound h.machine → HasKeys h → IsSound (timed_turns every h n).machine }
+    ensures host_rounds { (every : ℕ) (h : HostWorld) (n : ℕ) → IsSoundHost h → HasKeys h → IsSoundHost (timed_turns every h n) }
+    ensures host_end { (every : ℕ) (h : HostWorld) (n : ℕ) → IsSoundHost h → HasKeys h → IsSoundHost (timed_run every h n) }
 {}
 
 /// The timer's part of a round changes the innermost record of a call at most, and so does each round of a run.
 pub fn every_round_changes_the_innermost_record_at_most()
     ensures part { (t : ATimer) (h : HostWorld) → IsSoundHost h → HasKeys h → Stacked from_anywhere h (timer_part t h).host }
-    ensures rounds { (every : ℕ) (h : HostWorld) (n : ℕ) → IsSoundHost h → HasKeys h →
-        Stacked from_anywhere (rounds host_turns every (untimed h) n).world (rounds host_turns every (untimed h) (n + 1)).world }
+    ensures rounds { (every : ℕ) (h : HostWorld) (n : ℕ) → IsSound h.machine → HasKeys h →
+        Stacked from_anywhere (timed_turns every h n) (timed_turns every h (n + 1)) }
+{}
+
+/// A round is counted as one turn, unless there is an exit, and adds bytes at the console's end alone.
+pub fn every_round_is_counted()
+    ensures counted { (every : ℕ) (w : TimedWorld) → w.watched.host.exit ≡ None →
+        (round_with_timer every w).watched.host.steps ≡ w.watched.host.steps + 1 }
+    ensures console { (every : ℕ) (w : TimedWorld) → Extends w.watched.host.console (round_with_timer every w).watched.host.console }
 {}
 
 /// Each place that the client instruction of a round touches lies in memory that the client holds.
 pub fn every_touch_of_a_round_is_held()
-    ensures { (every : ℕ) (h : HostWorld) (n : ℕ) →
-        All (IsHeld (rounds host_turns every (untimed h) n).world.machine) (touched_by_round host_turns every (rounds host_turns every (untimed h) n)) }
+    ensures { (every : ℕ) (w : TimedWorld) → All (IsHeld w.watched.host.machine) (touched_by_round every w) }
 {
-    every_touch_is_held();
+    every_touch_of_a_watched_turn_is_held();
+}
+
+/// Of two rounds of a run of which the second takes away the record that the first added, each call, reflection, callback and exception hands over what
+/// it should. So does each interrupt of the timer that is reflected.
+pub fn every_nested_call_of_a_timed_run_hands_over()
+    ensures { (every : ℕ) (h : HostWorld) (i j : ℕ) → IsSound h.machine → HasKeys h → (m : IsHandedOver from_anywhere (timed_turns every h) i j) →
+        HandsOver from_anywhere (timed_turns every h i) (timed_turns every h (i + 1)) (timed_turns every h j) (timed_turns every h (j + 1)) m.innermost }
+{
+    every_nested_call_hands_over();
 }

@@ -1,14 +1,17 @@
-//! The virtual timer: after a number of rounds its interrupt becomes due, and it takes the next round in which the client can be interrupted.
-//! It promises that its part of a round is the one defined, that this part changes the innermost record of a call at most, that it leads from a
-//! sound host to a sound host, and that a round of turns and interrupts nests as a run of turns alone does.
-//! It is built on `host_run`, whose calls make the interrupt.
+//! The virtual timer: after a number of rounds its interrupt becomes due, and it is the whole of the next round in which the client can be
+//! interrupted. Every other round is a turn with the client's watchpoints.
+//! It promises that the timer's part of a round, a round and a run are the model's, and that a round keeps what a turn keeps: the host stays sound,
+//! the round counts as one turn, the console only grows, the instruction touches memory that the client holds, and nested calls hand over what they should.
+//! It is built on `watch_run`, which makes the turns, and on `host_run`, whose call raises the interrupt.
 #![tactic(auto)]
 
 mod laws;
+mod rounds;
 mod timer;
 
 pub use laws::{
-    every_round_changes_the_innermost_record_at_most, every_round_is_sound,
-    every_touch_of_a_round_is_held,
+    every_nested_call_of_a_timed_run_hands_over, every_round_changes_the_innermost_record_at_most,
+    every_round_is_counted, every_round_is_sound, every_touch_of_a_round_is_held,
 };
+pub use rounds::{round_with_timer, timed_run};
 pub use timer::{TIMER_INTERRUPT, Timer};

@@ -32,22 +32,22 @@ impl Model for Timer {
 }
 
 // Whether the client can be interrupted.
-fn takes_interrupts(m: &Machine) -> bool
-    ensures answer { result ≡ takes_interrupts m.now.world }
-    ensures enabled { result ≡ true → m.now.world.vif ≡ true }
-    ensures shallow { result ≡ true → m.now.world.mode ≡ protected → depth m.now.world < GREATEST_DEPTH }
+fn takes_interrupts(machine: &Machine) -> bool
+    ensures answer { result ≡ takes_interrupts machine.now.world }
+    ensures enabled { result ≡ true → machine.now.world.vif ≡ true }
+    ensures shallow { result ≡ true → machine.now.world.mode ≡ protected → depth machine.now.world < GREATEST_DEPTH }
 {
-    if !m.vif() {
+    if !machine.vif() {
         return false;
     }
-    match m.mode() {
+    match machine.mode() {
         Mode::Real => true,
-        Mode::Protected => u32::from(depth(m)) < GREATEST_DEPTH,
+        Mode::Protected => u32::from(depth(machine)) < GREATEST_DEPTH,
     }
 }
 
 impl Timer {
-    /// A timer whose interrupt becomes due after every so many rounds.
+    /// A timer whose interrupt becomes due every `every` rounds, from 1 to 1,000,000,000. Source: own.
     pub fn new(every: u32) -> Timer
         requires some { 0 < every }
         requires most { every ≤ GREATEST_TIMER }

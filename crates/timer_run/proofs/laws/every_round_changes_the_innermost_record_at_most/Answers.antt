@@ -1,8 +1,8 @@
-use Rattle.timer_run.proofs.Rounds.{host_rounds_calls, part_keeps, reached}
+use Rattle.timer_run.proofs.RoundLaws.{part_calls, timed_calls}
 use Rattle.timer_run.proofs.laws.every_round_changes_the_innermost_record_at_most.Goals as goal
 
 pub returns-clause-part : goal.returns-clause-part
-returns-clause-part c = λ t h s keys. (part_keeps t h (reached h s keys)).calls
+returns-clause-part c = part_calls
 
 pub returns-clause-rounds : goal.returns-clause-rounds
-returns-clause-rounds c = host_rounds_calls
+returns-clause-rounds c = timed_calls

@@ -1,0 +1,140 @@
+-- What rounds keep, count and write. Each is the timer's interrupt, or a turn with watchpoints.
+use Rattle.std.proofs.Common.{◌≡◌, ◌∙◌, ◌+◌, ℕ, zero, suc, Bool, true, false, List, [], Option, None, Some, refl, sym, subst}
+use Rattle.std.specs.Prelude.{All, if◌then◌else◌}
+use Rattle.std.proofs.lemmas.List.{append-nil}
+use Rattle.std.proofs.lemmas.List.Elements.{All-nil}
+use Rattle.client_world.specs.declared.outcome.Exit.{Exit}
+use Rattle.client_world.specs.Access.{IsHeld}
+use Rattle.client_world.specs.Console.{Extends}
+use Rattle.client_world.specs.Soundness.{IsSound, IsSoundHost}
+use Rattle.client_world.specs.WatchWorld.{WatchWorld, unwatched}
+use Rattle.client_world.specs.World.{HostWorld}
+use Rattle.host_run.specs.Keys.{HasKeys}
+use Rattle.host_run.specs.Nested.{Stacked, kept}
+use Rattle.host_run.specs.OtherTurns.{interrupt_turn}
+use Rattle.host_run.specs.RealCalls.{from_anywhere}
+use Rattle.host_run.proofs.Nested.{anywhere}
+use Rattle.host_run.proofs.OtherTurns.{bounded_sound, host_sound, interrupt_keeps, interrupt_quiet, reached}
+use Rattle.host_run.proofs.TurnLaws.{IsReached}
+use Rattle.timer_run.specs.declared.timer.TheConstants.{TIMER_INTERRUPT}
+use Rattle.timer_run.specs.Rounds.{TimedWorld, after_part, round_with_timer, rounds, timed_run, timed_turns, timer_of, touched_by_round, with_new_timer}
+use Rattle.timer_run.specs.Timer.{TimerState, timer_part}
+use Rattle.timer_run.proofs.Parts.{part_has}
+use Rattle.timer_run.proofs.RoundParts.{round_on, round_over}
+use Rattle.timer_run.proofs.Runs.{one_more}
+use Rattle.watch_run.specs.Turn.{touched_by_watch_turn, turn_with_watchpoints}
+use Rattle.watch_run.proofs.WatchedTurns.{counts, extends, turn_keeps_all}
+
+-- ---- what each kind of round has, every round has
+
+round_by : (P : HostWorld → Type 0) (every : ℕ) (w : TimedWorld) (o : Option Exit) → w.watched.host.exit ≡ o →
+    ((exit : Exit) → w.watched.host.exit ≡ Some exit → P w.watched.host) → P (interrupt_turn w.watched.host TIMER_INTERRUPT) →
+    P (turn_with_watchpoints w.watched).host → P (round_with_timer every w).watched.host
+round_by P every w (Some exit) is ended interrupt turn =
+    subst (λ (v : TimedWorld). P v.watched.host) (sym (round_over every w exit is)) (ended exit is)
+round_by P every w None is ended interrupt turn =
+    subst (λ (v : TimedWorld). P v.watched.host) (sym (round_on every w is))
+    (part_has (λ p. P (after_part w p).watched.host) (timer_of every w) w.watched.host (λ _ _. turn) (λ _. interrupt) (λ _. turn))
+
+round_has : (P : HostWorld → Type 0) (every : ℕ) (w : TimedWorld) → ((exit : Exit) → w.watched.host.exit ≡ Some exit → P w.watched.host) →
+    P (interrupt_turn w.watched.host TIMER_INTERRUPT) → P (turn_with_watchpoints w.watched).host → P (round_with_timer every w).watched.host
+round_has P every w ended interrupt turn = round_by P every w w.watched.host.exit refl ended interrupt turn
+
+-- ---- the count of turns and the console
+
+pub round_counted : (every : ℕ) (w : TimedWorld) → w.watched.host.exit ≡ None →
+    (round_with_timer every w).watched.host.steps ≡ w.watched.host.steps + 1
+round_counted every w none =
+    round_has (λ h. h.steps ≡ w.watched.host.steps + 1) every w (λ exit is. cc) (interrupt_quiet w.watched.host TIMER_INTERRUPT).2
+    (counts w.watched none)
+
+same_console : (before after : List ℕ) → after ≡ before → Extends before after
+same_console before after same = ([], same ∙ sym (append-nil before))
+
+pub round_extends : (every : ℕ) (w : TimedWorld) → Extends w.watched.host.console (round_with_timer every w).watched.host.console
+round_extends every w =
+    let h = w.watched.host in
+    round_has (λ (after : HostWorld). Extends h.console after.console) every w (λ _ _. same_console h.console h.console refl)
+    (same_console h.console (interrupt_turn h TIMER_INTERRUPT).console (interrupt_quiet h TIMER_INTERRUPT).1)
+    (extends w.watched)
+
+-- ---- soundness, and the records of calls
+
+-- what a round keeps of the host
+record KeepsRound (h after : HostWorld) : Type 0 where
+  reached : IsReached after
+  calls : Stacked from_anywhere h after
+  sound : IsSoundHost h → IsSoundHost after
+
+same_keeps : (h : HostWorld) → IsReached h → KeepsRound h h
+same_keeps h s = record { reached = s; calls = kept refl; sound = λ sound. sound }
+
+interrupt_round : (h : HostWorld) → IsReached h → KeepsRound h (interrupt_turn h TIMER_INTERRUPT)
+interrupt_round h s =
+    let k = interrupt_keeps h TIMER_INTERRUPT s in
+    record { reached = k.reached; calls = k.calls; sound = λ sound. host_sound h (interrupt_turn h TIMER_INTERRUPT) sound k }
+
+turn_round : (w : WatchWorld) → IsReached w.host → KeepsRound w.host (turn_with_watchpoints w).host
+turn_round w s =
+    let k = turn_keeps_all w s in
+    record { reached = k.reached; calls = anywhere w.host (turn_with_watchpoints w).host k.calls; sound = k.sound }
+
+part_keeps : (t : TimerState) (h : HostWorld) → IsReached h → KeepsRound h (timer_part t h).host
+part_keeps t h s =
+    part_has (λ p. KeepsRound h p.host) t h (λ _ _. same_keeps h s) (λ _. interrupt_round h s) (λ _. same_keeps h s)
+
+pub part_sound : (t : TimerState) (h : HostWorld) → IsSoundHost h → HasKeys h → IsSoundHost (timer_part t h).host
+part_sound t h s keys = (part_keeps t h (reached h s keys)).sound s
+
+pub part_calls : (t : TimerState) (h : HostWorld) → IsSoundHost h → HasKeys h → Stacked from_anywhere h (timer_part t h).host
+part_calls t h s keys = (part_keeps t h (reached h s keys)).calls
+
+round_keeps : (every : ℕ) (w : TimedWorld) → IsReached w.watched.host → KeepsRound w.watched.host (round_with_timer every w).watched.host
+round_keeps every w s =
+    let h = w.watched.host in
+    round_has (KeepsRound h) every w (λ _ _. same_keeps h s) (interrupt_round h s) (turn_round w.watched s)
+
+rounds_reached : (every : ℕ) (w : TimedWorld) (n : ℕ) → IsReached w.watched.host → IsReached (rounds every w n).watched.host
+unfolding rounds
+rounds_reached every w zero s = s
+rounds_reached every w (suc n) s = (round_keeps every (rounds every w n) (rounds_reached every w n s)).reached
+
+rounds_sound : (every : ℕ) (w : TimedWorld) (n : ℕ) → IsSoundHost w.watched.host → HasKeys w.watched.host →
+    IsSoundHost (rounds every w n).watched.host
+unfolding rounds
+rounds_sound every w zero s keys = s
+rounds_sound every w (suc n) s keys =
+    (round_keeps every (rounds every w n) (rounds_reached every w n (reached w.watched.host s keys))).sound (rounds_sound every w n s keys)
+
+-- ---- from a host whose client has set no watchpoint
+
+timed_reached : (every : ℕ) (h : HostWorld) (n : ℕ) → IsSound h.machine → HasKeys h → IsReached (timed_turns every h n)
+timed_reached every h n sound keys = rounds_reached every (with_new_timer (unwatched h)) n (record { machine = sound; keys = keys })
+
+pub timed_sound : (every : ℕ) (h : HostWorld) (n : ℕ) → IsSound h.machine → HasKeys h → IsSound (timed_turns every h n).machine
+timed_sound every h n sound keys = (timed_reached every h n sound keys).machine
+
+pub timed_sound_host : (every : ℕ) (h : HostWorld) (n : ℕ) → IsSoundHost h → HasKeys h → IsSoundHost (timed_turns every h n)
+timed_sound_host every h n s keys = rounds_sound every (with_new_timer (unwatched h)) n s keys
+
+pub run_sound_host : (every : ℕ) (h : HostWorld) (n : ℕ) → IsSoundHost h → HasKeys h → IsSoundHost (timed_run every h n)
+unfolding timed_run
+run_sound_host every h n s keys = bounded_sound (timed_turns every h n) (timed_sound_host every h n s keys)
+
+pub timed_calls : (every : ℕ) (h : HostWorld) (n : ℕ) → IsSound h.machine → HasKeys h →
+    Stacked from_anywhere (timed_turns every h n) (timed_turns every h (n + 1))
+timed_calls every h n sound keys =
+    let w = rounds every (with_new_timer (unwatched h)) n in
+    subst (λ (v : TimedWorld). Stacked from_anywhere w.watched.host v.watched.host) (sym (one_more every (with_new_timer (unwatched h)) n))
+    (round_keeps every w (timed_reached every h n sound keys)).calls
+
+-- ---- what is touched
+
+touched_by : (w : WatchWorld) (taken : Bool) → All (IsHeld w.host.machine) (touched_by_watch_turn w) →
+    All (IsHeld w.host.machine) (if taken then [] else touched_by_watch_turn w)
+touched_by w true held = All-nil (IsHeld w.host.machine)
+touched_by w false held = held
+
+pub round_touches : ((w : WatchWorld) → All (IsHeld w.host.machine) (touched_by_watch_turn w)) → (every : ℕ) (w : TimedWorld) →
+    All (IsHeld w.watched.host.machine) (touched_by_round every w)
+round_touches law every w = touched_by w.watched (timer_part (timer_of every w) w.watched.host).taken (law w.watched)

@@ -1,0 +1,83 @@
+-- The round that is made, by what `Timer::before` returns.
+use Rattle.std.proofs.Common.{◌≡◌, ◌∙◌, ℕ, Bool, true, false, Option, None, Some, Ok, Err, refl, ap, sym}
+use Rattle.std.specs.Prelude.{if◌then◌else◌}
+use Rattle.client_world.specs.declared.outcome.Exit.{Exit}
+use Rattle.client_world.specs.WatchWorld.{WatchWorld}
+use Rattle.client_world.specs.World.{HostWorld}
+use Rattle.timer_run.specs.Rounds.{TimedWorld, after_part, round_with_timer, timer_of}
+use Rattle.timer_run.specs.Timer.{TimerPart, TimerState, timer_answer, timer_part}
+use Rattle.timer_run.proofs.Parts.{answered_exit, answered_on, part_ended, part_over, part_passed, part_was_on}
+use Rattle.watch_run.specs.Turn.{turn_with_watchpoints}
+
+-- a timer with a host and its watchpoints
+abbrev pub timed : TimerState → WatchWorld → TimedWorld
+timed t w = record { watched = w; count = t.count; waits = t.waits }
+
+-- ---- after an exit, and without one
+
+round_is : (every : ℕ) (w : TimedWorld) (o : Option Exit) → w.watched.host.exit ≡ o →
+    round_with_timer every w
+    ≡ elim o as (λ _. TimedWorld) [ Some _ ↦ w | None ↦ after_part w (timer_part (timer_of every w) w.watched.host) ]
+unfolding round_with_timer
+round_is every w o is =
+    ap (λ (x : Option Exit). elim x as (λ _. TimedWorld) [ Some _ ↦ w | None ↦ after_part w (timer_part (timer_of every w) w.watched.host) ]) is
+
+pub round_over : (every : ℕ) (w : TimedWorld) (exit : Exit) → w.watched.host.exit ≡ Some exit → round_with_timer every w ≡ w
+round_over every w exit is = round_is every w (Some exit) is
+
+pub round_on : (every : ℕ) (w : TimedWorld) → w.watched.host.exit ≡ None →
+    round_with_timer every w ≡ after_part w (timer_part (timer_of every w) w.watched.host)
+round_on every w none = round_is every w None none
+
+-- ---- the three kinds of rounds
+
+after_taken : (w : TimedWorld) (p : TimerPart) (taken : Bool) → p.taken ≡ taken →
+    after_part w p ≡ timed p.timer (if taken then record w.watched { host = p.host } else turn_with_watchpoints w.watched)
+after_taken w p taken is =
+    ap (λ (b : Bool). timed p.timer (if b then record w.watched { host = p.host } else turn_with_watchpoints w.watched)) is
+
+answered_round : (t : TimerState) (w : WatchWorld) (taken : Bool) → Ok taken ≡ timer_answer (timer_part t w.host) →
+    let p = timer_part t w.host in
+    round_with_timer t.every (timed t w) ≡ timed p.timer (if taken then record w { host = p.host } else turn_with_watchpoints w)
+answered_round t w taken answer =
+    let p = timer_part t w.host in
+    let is = answered_on p taken answer in
+    round_on t.every (timed t w) (part_was_on t w.host is.0) ∙ after_taken (timed t w) p taken is.1
+
+ended_by : (t : TimerState) (w : WatchWorld) (exit : Exit) (o : Option Exit) → w.host.exit ≡ o → (timer_part t w.host).host.exit ≡ Some exit →
+    let p = timer_part t w.host in round_with_timer t.every (timed t w) ≡ timed p.timer (record w { host = p.host })
+ended_by t w exit (Some other) is ended =
+    round_over t.every (timed t w) other is
+    ∙ sym (ap (λ (p : TimerPart). timed p.timer (record w { host = p.host })) (part_over t w.host other is))
+ended_by t w exit None is ended =
+    round_on t.every (timed t w) is ∙ after_taken (timed t w) (timer_part t w.host) true (part_ended t w.host exit ended is)
+
+-- the timer and the host after the part, and the watchpoints as they were
+part_made : (p : TimerPart) (w : WatchWorld) (t : TimerState) (h : HostWorld) → t ≡ p.timer → h ≡ p.host →
+    timed t (record w { host = h }) ≡ timed p.timer (record w { host = p.host })
+part_made p w t h timer host =
+    ap (λ (u : TimerState). timed u (record w { host = h })) timer ∙ ap (λ (g : HostWorld). timed p.timer (record w { host = g })) host
+
+pub interrupt_made : (t next : TimerState) (w : WatchWorld) (h : HostWorld) → next ≡ (timer_part t w.host).timer → h ≡ (timer_part t w.host).host →
+    Ok true ≡ timer_answer (timer_part t w.host) → timed next (record w { host = h }) ≡ round_with_timer t.every (timed t w)
+interrupt_made t next w h timer host answer = part_made (timer_part t w.host) w next h timer host ∙ sym (answered_round t w true answer)
+
+pub exit_made : (t next : TimerState) (w : WatchWorld) (h : HostWorld) (exit : Exit) → next ≡ (timer_part t w.host).timer →
+    h ≡ (timer_part t w.host).host → Err exit ≡ timer_answer (timer_part t w.host) →
+    timed next (record w { host = h }) ≡ round_with_timer t.every (timed t w)
+exit_made t next w h exit timer host answer =
+    part_made (timer_part t w.host) w next h timer host
+    ∙ sym (ended_by t w exit w.host.exit refl (answered_exit (timer_part t w.host) exit answer))
+
+-- the turn is made from the host as it was
+pub turn_from : (t : TimerState) (before h : HostWorld) → h ≡ (timer_part t before).host → Ok false ≡ timer_answer (timer_part t before) → h ≡ before
+turn_from t before h host answer = host ∙ part_passed t before (answered_on (timer_part t before) false answer).1
+
+pub turn_made : (t next : TimerState) (w : WatchWorld) (h : HostWorld) (after : WatchWorld) → next ≡ (timer_part t w.host).timer →
+    h ≡ (timer_part t w.host).host → Ok false ≡ timer_answer (timer_part t w.host) → after ≡ turn_with_watchpoints (record w { host = h }) →
+    timed next after ≡ round_with_timer t.every (timed t w)
+turn_made t next w h after timer host answer made =
+    ap (timed next) made
+    ∙ ap (λ (g : HostWorld). timed next (turn_with_watchpoints (record w { host = g }))) (turn_from t w.host h host answer)
+    ∙ ap (λ (u : TimerState). timed u (turn_with_watchpoints w)) timer
+    ∙ sym (answered_round t w false answer)

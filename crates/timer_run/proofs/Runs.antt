@@ -1,0 +1,75 @@
+-- A run: how it starts, one round after another, and how it ends.
+use Rattle.std.proofs.Common.{arith, ◌≡◌, ◌∙◌, ◌≤◌, ◌<◌, ◌+◌, ◌-◌, ℕ, zero, suc, false, None, Some, refl, sym, ap, subst, add-zero, add-suc, add-one}
+use Rattle.client_world.specs.declared.outcome.Exit.{Exit}
+use Rattle.client_world.specs.declared.outcome.Exit.TheVariants.{Bound}
+use Rattle.client_world.specs.WatchWorld.{WatchWorld, Watching, no_watches, unwatched}
+use Rattle.client_world.specs.World.{HostWorld}
+use Rattle.host_run.specs.Run.{bounded}
+use Rattle.timer_run.specs.Rounds.{TimedWorld, round_with_timer, rounds, timed_rounds, timed_run, with_new_timer}
+use Rattle.timer_run.specs.Timer.{TimerState}
+use Rattle.timer_run.proofs.RoundParts.{round_over, timed}
+
+-- ---- its start
+
+pub run_starts : (every : ℕ) (h : HostWorld) (t : TimerState) (s : Watching) → t ≡ record { every = every; count = 0; waits = false } →
+    s ≡ no_watches → timed t (record { host = h; watching = s }) ≡ timed_rounds every h 0
+unfolding rounds
+run_starts every h t s timer watches =
+    ap (λ (u : TimerState). timed u (record { host = h; watching = s })) timer
+    ∙ ap (λ (x : Watching). let w : WatchWorld = record { host = h; watching = x } in with_new_timer w) watches
+
+-- ---- one more round
+
+pub one_more : (every : ℕ) (w : TimedWorld) (n : ℕ) → rounds every w (n + 1) ≡ round_with_timer every (rounds every w n)
+unfolding rounds
+one_more every w n = rw add-one refl
+
+pub run_goes_on : (every at : ℕ) (h : HostWorld) (n : ℕ) (before after : TimedWorld) → before ≡ timed_rounds every h n → at ≡ every →
+    after ≡ round_with_timer at before → after ≡ timed_rounds every h (n + 1)
+run_goes_on every at h n before after so_far same made =
+    made ∙ ap (λ (e : ℕ). round_with_timer e before) same ∙ ap (round_with_timer every) so_far
+    ∙ sym (one_more every (with_new_timer (unwatched h)) n)
+
+-- ---- rounds after an exit change nothing
+
+rounds_stop : (every : ℕ) (w : TimedWorld) (i k : ℕ) (exit : Exit) → (rounds every w i).watched.host.exit ≡ Some exit →
+    rounds every w (i + k) ≡ rounds every w i
+unfolding rounds
+rounds_stop every w i zero exit is = rw add-zero refl
+rounds_stop every w i (suc k) exit is =
+    rw add-suc (ap (round_with_timer every) (rounds_stop every w i k exit is) ∙ round_over every (rounds every w i) exit is)
+
+rounds_past : (every : ℕ) (w : TimedWorld) (i n : ℕ) (exit : Exit) → i ≤ n → (rounds every w i).watched.host.exit ≡ Some exit →
+    rounds every w n ≡ rounds every w i
+rounds_past every w i n exit le is =
+    let split : i + (n - i) ≡ n = omega arith in
+    subst (λ m. rounds every w m ≡ rounds every w i) split (rounds_stop every w i (n - i) exit is)
+
+-- ---- its end
+
+bounded_ended : (h : HostWorld) (exit : Exit) → h.exit ≡ Some exit → bounded h ≡ h
+bounded_ended h exit is = rw is refl
+
+pub bounded_exit : (h : HostWorld) → h.exit ≡ None → (bounded h).exit ≡ Some Bound
+bounded_exit h is = rw is refl
+
+-- a run that ends with round i + 1 is over there
+pub run_ended : (every : ℕ) (h : HostWorld) (n i : ℕ) (exit : Exit) (last : TimedWorld) → last ≡ timed_rounds every h (i + 1) → i < n →
+    last.watched.host.exit ≡ Some exit → last.watched.host ≡ timed_run every h n
+unfolding timed_run
+run_ended every h n i exit last is less ends =
+    let start = with_new_timer (unwatched h) in
+    let there : (rounds every start (i + 1)).watched.host.exit ≡ Some exit = sym (ap (λ (w : TimedWorld). w.watched.host.exit) is) ∙ ends in
+    let same : rounds every start n ≡ last = rounds_past every start (i + 1) n exit (omega arith) there ∙ sym is in
+    sym (ap (λ (w : TimedWorld). bounded w.watched.host) same ∙ bounded_ended last.watched.host exit ends)
+
+-- a run that makes as many rounds as its bound
+pub run_bounded : (every : ℕ) (h : HostWorld) (n i : ℕ) (last : TimedWorld) → last ≡ timed_rounds every h i → i ≡ n →
+    bounded last.watched.host ≡ timed_run every h n
+unfolding timed_run
+run_bounded every h n i last is all = ap (λ (w : TimedWorld). bounded w.watched.host) (is ∙ ap (timed_rounds every h) all)
+
+-- the same where its last round ends it
+pub run_over : (every : ℕ) (h : HostWorld) (n i : ℕ) (exit : Exit) (last : TimedWorld) → last ≡ timed_rounds every h i → i ≡ n →
+    last.watched.host.exit ≡ Some exit → last.watched.host ≡ timed_run every h n
+run_over every h n i exit last is all ends = sym (bounded_ended last.watched.host exit ends) ∙ run_bounded every h n i last is all

@@ -1,0 +1,8 @@
+use Rattle.timer_run.proofs.RoundLaws.{round_counted, round_extends}
+use Rattle.timer_run.proofs.laws.every_round_is_counted.Goals as goal
+
+pub returns-clause-counted : goal.returns-clause-counted
+returns-clause-counted c = round_counted
+
+pub returns-clause-console : goal.returns-clause-console
+returns-clause-console c = round_extends
