@@ -4,7 +4,7 @@ ghost use Rattle.std.specs.Fmt.{decimal};
 
 use arrayvec::ArrayVec;
 
-/// The most bytes of a line. The longest one, that of a record, has about 200.
+/// The most bytes of a line. The longest one, of the trace, has about 200.
 pub const LINE_ROOM: usize = 256;
 
 /// A line of text as it is made.

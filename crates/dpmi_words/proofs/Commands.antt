@@ -13,7 +13,7 @@ use Rattle.clap.proofs.OnLiterals.{clap_on_literals}
 use Rattle.clap.proofs.TakesLemmas.{leaf_takes}
 use Rattle.clap.specs.declared.parser.matches.Found.{Found}
 use Rattle.clap.proofs.WalkLemmas.{first_value-rows}
-use Rattle.dpmi_words.specs.Reading.{Text, Reading, nothing_read, has_given, is_option_name, one_operand, pair_operands, reads, finished, finished_by, given_by, value_given, pair_options, run_options, soak_options}
+use Rattle.dpmi_words.specs.Reading.{Text, Reading, nothing_read, is_option_name, one_operand, pair_operands, reads, finished, finished_by, given_by, value_given, pair_options, run_options, soak_options}
 use Rattle.dpmi_words.specs.Command.{pair_app, run_app, soak_app, Assigns}
 use Rattle.dpmi_words.proofs.Walks.{Rules, Operands, Tied, Idle, row, walk_at, all_steps}
 
@@ -37,8 +37,8 @@ run_simple = refl
 
 run_rules : Rules run_options (built run_app).top.rules
 run_rules = record {
-  long = each_name _ run_options (refl, (refl, (refl, (refl, (refl, tt)))));
-  by_id = each_name _ run_options (refl, (refl, (refl, (refl, (refl, tt)))));
+  long = each_name _ run_options (refl, (refl, (refl, (refl, (refl, (refl, tt))))));
+  by_id = each_name _ run_options (refl, (refl, (refl, (refl, (refl, (refl, tt))))));
 }
 
 run_operands : Operands (built run_app).top.rules 1 one_operand
@@ -133,7 +133,7 @@ pub run_matches : (words : List Text) (given : List (Text × Text)) → given_by
 run_matches words given e =
     let ends = walk_ends run_options one_operand run_app run_rules run_operands refl words given e in
     ap (λ (w : Walk). rows_finished (built run_app).top.rules w.held) ends.is
-    ∙ no_defaults (built run_app).top.rules _ (refl, (refl, (refl, (refl, (refl, (refl, tt))))))
+    ∙ no_defaults (built run_app).top.rules _ (refl, (refl, (refl, (refl, (refl, (refl, (refl, tt)))))))
     ∙ ends.idle_now.rows
 
 pub soak_takes : (words : List Text) (given : List (Text × Text)) → given_by soak_options one_operand words ≡ Some given → takes soak_app words ≡ true

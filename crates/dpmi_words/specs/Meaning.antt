@@ -3,14 +3,13 @@ use Rattle.std.specs.Prelude.{ℕ, ◌-◌, ◌^◌, List, [], ◌∷◌, codes,
 use Rattle.std.specs.declared.option.Option.{Option}
 use Rattle.std.specs.Str.{bytes_eq}
 use Rattle.hex.specs.Hex.{decode_of}
-use Rattle.client_world.specs.declared.limits.TheConstants.{MAX_STEPS, DEFAULT_BOUND, MAX_PAGES, DEFAULT_PAGES, MAX_TRACE, DEFAULT_TRACE}
+use Rattle.client_world.specs.declared.limits.TheConstants.{MAX_STEPS, DEFAULT_BOUND, MAX_PAGES, MAX_PAIR_PAGES, DEFAULT_PAGES, MAX_TRACE, DEFAULT_TRACE, MAX_SLICE, DEFAULT_SLICE, GREATEST_TIMER}
 use Rattle.dpmi_words.specs.Reading.{Text, operand_name, first_name, second_name, given_by, one_operand, pair_operands, pair_options, run_options, soak_options, value_given}
-use Rattle.dpmi_words.specs.Numbers.{number_in_text, number_or}
+use Rattle.dpmi_words.specs.Numbers.{number_if_given, number_in_text, number_or}
 use Rattle.dpmi_words.specs.declared.meaning.KeySource.{KeySource}
 use Rattle.dpmi_words.specs.declared.meaning.KeySource.TheVariants as source
 use Rattle.dpmi_words.specs.declared.meaning.Pair.{Pair}
 use Rattle.dpmi_words.specs.declared.meaning.Run.{Run}
-use Rattle.client_world.specs.declared.limits.TheConstants.{MAX_SLICE, DEFAULT_SLICE}
 use Rattle.dpmi_words.specs.declared.meaning.Words.{Words}
 use Rattle.dpmi_words.specs.declared.meaning.Words.TheVariants as words
 
@@ -19,13 +18,15 @@ pub data Keys : Type 0 where
   Pressed : List ℕ → Keys
   Stored : Text → Keys
 
--- a run: its file's name, its keystrokes, its most turns, its pages of memory, and its trace lines that are kept
+-- a run: its file's name, its keystrokes, its most turns, its pages of memory, its trace lines that are kept, and after how many rounds its
+-- timer's interrupt becomes due, if it has a timer
 pub record RunMeaning : Type 0 where
   pub file : Text
   pub keys : Keys
   pub bound : ℕ
   pub pages : ℕ
   pub trace : ℕ
+  pub timer : Option ℕ
 
 -- a pair: the names of its two files, the turns of a slice, the most turns of each client, and the pages of memory of each
 pub record PairMeaning : Type 0 where
@@ -55,10 +56,11 @@ keys_of (Some digits) None = pressed (decode_of digits)
 keys_of (Some digits) (Some name) = None
 
 -- the run of these values
-abbrev pub run_with : Option Text → Option Keys → Option ℕ → Option ℕ → Option ℕ → Option RunMeaning
-run_with file keys bound pages trace =
+abbrev pub run_with : Option Text → Option Keys → Option ℕ → Option ℕ → Option ℕ → Option (Option ℕ) → Option RunMeaning
+run_with file keys bound pages trace timer =
     option_and_then (λ f. option_and_then (λ k. option_and_then (λ b. option_and_then (λ p.
-    option_map (λ t. record { file = f; keys = k; bound = b; pages = p; trace = t }) trace) pages) bound) keys) file
+    option_and_then (λ t. option_map (λ every. record { file = f; keys = k; bound = b; pages = p; trace = t; timer = every }) timer) trace) pages) bound)
+    keys) file
 
 -- the run of the value of each name, each number in its range
 abbrev pub run_of_values : (Text → Option Text) → Option RunMeaning
@@ -68,6 +70,7 @@ run_of_values value = run_with
     (number_or DEFAULT_BOUND 1 MAX_STEPS (value (codes "bound")))
     (number_or DEFAULT_PAGES 1 MAX_PAGES (value (codes "pages")))
     (number_or DEFAULT_TRACE 0 MAX_TRACE (value (codes "trace")))
+    (number_if_given 1 GREATEST_TIMER (value (codes "timer")))
 
 -- the number of the made client: any number of 64 bits
 abbrev pub soak_of_values : (Text → Option Text) → Option ℕ
@@ -86,8 +89,8 @@ pair_of_values value = pair_with
     (value second_name)
     (number_or DEFAULT_SLICE 1 MAX_SLICE (value (codes "slice")))
     (number_or DEFAULT_BOUND 1 MAX_STEPS (value (codes "bound")))
-    (number_or DEFAULT_PAGES 1 MAX_PAGES (value (codes "pages-a")))
-    (number_or DEFAULT_PAGES 1 MAX_PAGES (value (codes "pages-b")))
+    (number_or DEFAULT_PAGES 1 MAX_PAIR_PAGES (value (codes "pages-a")))
+    (number_or DEFAULT_PAGES 1 MAX_PAIR_PAGES (value (codes "pages-b")))
 
 -- the words after `run`, after `soak` and after `pair`
 abbrev pub run_meaning : List Text → Option RunMeaning
@@ -114,7 +117,7 @@ keys_in (source.Pressed bytes) = Pressed bytes.items
 keys_in (source.Stored name) = Stored name.now
 
 abbrev pub run_in : Run → RunMeaning
-run_in r = record { file = r.file.now; keys = keys_in r.keys; bound = r.bound; pages = r.pages; trace = r.trace }
+run_in r = record { file = r.file.now; keys = keys_in r.keys; bound = r.bound; pages = r.pages; trace = r.trace; timer = r.timer }
 
 abbrev pub pair_in : Pair → PairMeaning
 pair_in p = record { first = p.first.now; second = p.second.now; slice = p.slice; bound = p.bound; pages_a = p.pages_a; pages_b = p.pages_b }

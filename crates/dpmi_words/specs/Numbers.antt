@@ -1,5 +1,5 @@
 -- Numbers in decimal digits. Source: own.
-use Rattle.std.specs.Prelude.{ℕ, Bool, ◌&&◌, nat_le, nat_lt, length, Some, None, if◌then◌else◌}
+use Rattle.std.specs.Prelude.{ℕ, Bool, ◌&&◌, nat_le, nat_lt, length, Some, None, if◌then◌else◌, option_map}
 use Rattle.std.specs.declared.option.Option.{Option}
 use Rattle.std.specs.List.{list_all}
 use Rattle.std.specs.Str.Parse.{digits_value}
@@ -26,3 +26,8 @@ number_in_text most_digits least most text =
 abbrev pub number_or : ℕ → ℕ → ℕ → Option Text → Option ℕ
 number_or usual least most None = Some usual
 number_or usual least most (Some text) = number_in_text 10 least most text
+
+-- Where no text is given, Some(None); else the number of the text, or None where it isn't a number in the range.
+abbrev pub number_if_given : ℕ → ℕ → Option Text → Option (Option ℕ)
+number_if_given least most None = Some None
+number_if_given least most (Some text) = option_map Some (number_in_text 10 least most text)

@@ -128,7 +128,7 @@ value_given name given = option_map (λ p. p.1) (find (λ p. bytes_eq p.0 name) 
 
 -- the options of `run`
 abbrev pub run_options : List Text
-run_options = codes "keys" ∷ codes "keys-file" ∷ codes "bound" ∷ codes "pages" ∷ codes "trace" ∷ []
+run_options = codes "keys" ∷ codes "keys-file" ∷ codes "bound" ∷ codes "pages" ∷ codes "trace" ∷ codes "timer" ∷ []
 
 -- `soak` has none
 abbrev pub soak_options : List Text

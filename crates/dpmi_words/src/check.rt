@@ -29,7 +29,7 @@ pub const ONE_OPERAND: [&str; 1] = [OPERAND];
 pub const PAIR_OPERANDS: [&str; 2] = ["first", "second"];
 
 /// The options of `run`.
-pub const RUN_OPTIONS: [&str; 5] = ["keys", "keys-file", "bound", "pages", "trace"];
+pub const RUN_OPTIONS: [&str; 6] = ["keys", "keys-file", "bound", "pages", "trace", "timer"];
 
 /// The options of `pair`.
 pub const PAIR_OPTIONS: [&str; 4] = ["slice", "bound", "pages-a", "pages-b"];

@@ -19,11 +19,11 @@ ghost use Rattle.dpmi_words.specs.Meaning.{
 
 use crate::check::{ONE_OPERAND, OPERAND, PAIR_OPERANDS, PAIR_OPTIONS, RUN_OPTIONS, passes};
 use crate::command::{assign_pair, assign_run, assign_soak};
-use crate::number::{optional_number, seed};
+use crate::number::{number_if_given, optional_number, seed};
 use clap::ArgMatches;
 use client_world::limits::{
-    DEFAULT_BOUND, DEFAULT_PAGES, DEFAULT_SLICE, DEFAULT_TRACE, MAX_PAGES, MAX_SLICE, MAX_STEPS,
-    MAX_TRACE,
+    DEFAULT_BOUND, DEFAULT_PAGES, DEFAULT_SLICE, DEFAULT_TRACE, GREATEST_TIMER, MAX_PAGES,
+    MAX_PAIR_PAGES, MAX_SLICE, MAX_STEPS, MAX_TRACE,
 };
 use hex::FromHexError;
 use std::alloc::{AllocError, Global};
@@ -50,6 +50,8 @@ pub struct Run<'a> {
     pub pages: u32,
     /// The most lines of the trace that are kept.
     pub trace: u32,
+    /// After how many rounds the timer's interrupt becomes due, if there is a timer.
+    pub timer: Option<u32>,
 }
 
 /// Two runs in turns.
@@ -120,12 +122,16 @@ fn run_of<'a>(alloc: Global, values: &ArgMatches<'a>) -> Result<Option<Run<'a>>,
     let Some(trace) = optional_number(values.get_str("trace"), DEFAULT_TRACE, 0, MAX_TRACE) else {
         return Ok(None);
     };
+    let Some(timer) = number_if_given(values.get_str("timer"), 1, GREATEST_TIMER) else {
+        return Ok(None);
+    };
     Ok(Some(Run {
         file,
         keys,
         bound,
         pages,
         trace,
+        timer,
     }))
 }
 
@@ -149,8 +155,8 @@ fn pair_of<'a>(values: &ArgMatches<'a>) -> Option<Pair<'a>>
         second: values.get_str(second_name)?,
         slice: optional_number(values.get_str("slice"), DEFAULT_SLICE, 1, MAX_SLICE)?,
         bound: optional_number(values.get_str("bound"), DEFAULT_BOUND, 1, MAX_STEPS)?,
-        pages_a: optional_number(values.get_str("pages-a"), DEFAULT_PAGES, 1, MAX_PAGES)?,
-        pages_b: optional_number(values.get_str("pages-b"), DEFAULT_PAGES, 1, MAX_PAGES)?,
+        pages_a: optional_number(values.get_str("pages-a"), DEFAULT_PAGES, 1, MAX_PAIR_PAGES)?,
+        pages_b: optional_number(values.get_str("pages-b"), DEFAULT_PAGES, 1, MAX_PAIR_PAGES)?,
     })
 }
 
@@ -193,9 +199,9 @@ fn read_pair<'a>(alloc: Global, words: &'a [String]) -> Result<Option<Pair<'a>>,
     }
 }
 
-/// Reads the words after the program's name: `run FILE` with `--keys HEX`, `--keys-file NAME`, `--bound N`, `--pages N` and
-/// `--trace N`, or `soak N`, or `pair A B` with `--slice N`, `--bound N`, `--pages-a N` and `--pages-b N`. Returns `None` exactly
-/// where they mean nothing.
+/// Reads the words after the program's name: `run FILE` with `--keys HEX`, `--keys-file NAME`, `--bound N`, `--pages N`, `--trace N` and
+/// `--timer N`; `soak N`; or `pair A B` with `--slice N`, `--bound N`, `--pages-a N` and `--pages-b N`. Returns `None` exactly where they mean
+/// nothing.
 /// Fails where memory is out. Source: own.
 pub fn read_words<'a>(alloc: Global, words: &'a [String]) -> Result<Option<Words<'a>>, AllocError>
     ensures { IfOk result (λ r. option_map meaning_in r ≡ meaning (map string_bytes words.now)) }

@@ -1,7 +1,7 @@
 // Numbers in decimal digits.
 ghost use Rattle.std.specs.Prelude.{◌≡◌, ◌-◌, ◌^◌, cond, Some, None, option_map};
 ghost use Rattle.std.specs.List.{list_all};
-ghost use Rattle.dpmi_words.specs.Numbers.{is_digit, is_between, number_in_text, number_or};
+ghost use Rattle.dpmi_words.specs.Numbers.{is_digit, is_between, number_if_given, number_in_text, number_or};
 
 // Whether the bytes are decimal digits.
 fn are_digits(bytes: &[u8]) -> bool
@@ -46,6 +46,19 @@ pub fn optional_number(text: Option<&str>, usual: u32, least: u32, most: u32) ->
     match text {
         Some(text) => number(text, least, most),
         None => Some(usual),
+    }
+}
+
+/// Where no text is given, Some(None); else the number of the text, or None where it isn't a number in the range.
+pub fn number_if_given(text: Option<&str>, least: u32, most: u32) -> Option<Option<u32>>
+    ensures { result ≡ number_if_given least most (option_map (λ s. s.now) text.entry) }
+{
+    match text {
+        Some(text) => match number(text, least, most) {
+            Some(n) => Some(Some(n)),
+            None => None,
+        },
+        None => Some(None),
     }
 }
 

@@ -82,6 +82,26 @@ fn words_mean_a_run(rt: HostRuntime) -> Result<(), Fail> {
     Ok(())
 }
 
+// The words of a run, and the number of its timer.
+const TIMERS: [(&str, Option<u32>); 4] = [
+    ("run A.EXE", None),
+    ("run A.EXE --timer 1", Some(1)),
+    ("run --timer=1000000000 A.EXE", Some(1_000_000_000)),
+    ("run A.EXE --trace 0 --timer 0000000003", Some(3)),
+];
+
+#[test]
+fn words_mean_a_timer(rt: HostRuntime) -> Result<(), Fail> {
+    for (text, timer) in TIMERS {
+        let words = words_of(&rt, text)?;
+        match read_words(rt.alloc(), words.as_slice())? {
+            Some(Words::Run(run)) => assert_eq!(rt; run.timer, timer, "{text}"),
+            _ => assert!(rt; false, "{text}"),
+        }
+    }
+    Ok(())
+}
+
 // The words after `soak`, and their number.
 const SOAKS: [(&str, u64); 4] = [
     ("soak 7", 7),
@@ -120,9 +140,9 @@ const PAIRS: [(&str, [&str; 2], [u32; 4]); 6] = [
         [1_000_000, 1, 1024, 1024],
     ),
     (
-        "pair --pages-b 16 A.EXE B.EXE --pages-a=4096",
+        "pair --pages-b 16 A.EXE B.EXE --pages-a=8192",
         ["A.EXE", "B.EXE"],
-        [1000, 10_000_000, 4096, 16],
+        [1000, 10_000_000, 8192, 16],
     ),
     (
         "pair B.EXE --bound=1000000000 --slice 1 A.EXE --pages-a 1",
@@ -156,7 +176,7 @@ fn words_mean_a_pair(rt: HostRuntime) -> Result<(), Fail> {
 }
 
 // Words that mean nothing.
-const NOTHING: [&str; 56] = [
+const NOTHING: [&str; 60] = [
     "",
     "run",
     "run ",
@@ -201,6 +221,10 @@ const NOTHING: [&str; 56] = [
     "soak 18446744073709551616",
     "soak 000000000000000000007",
     "soak x",
+    "soak 7 --timer 3",
+    "run A.EXE --timer 0",
+    "run A.EXE --timer 1000000001",
+    "run A.EXE --timer 3 --timer 3",
     "pair",
     "pair A.EXE",
     "pair A.EXE B.EXE C.EXE",
@@ -209,7 +233,7 @@ const NOTHING: [&str; 56] = [
     "pair A.EXE B.EXE --slice 1000001",
     "pair A.EXE B.EXE --bound 0",
     "pair A.EXE B.EXE --pages-a 0",
-    "pair A.EXE B.EXE --pages-b 4097",
+    "pair A.EXE B.EXE --pages-b 8193",
     "pair A.EXE B.EXE --pages 1",
     "pair A.EXE B.EXE --keys 58",
     "pair A.EXE B.EXE --first=C.EXE",

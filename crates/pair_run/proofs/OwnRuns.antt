@@ -1,6 +1,6 @@
 -- What the laws of a client say of its own run: it stays once it has ended, its turns are counted, and its console only grows.
-use Rattle.std.proofs.Common.{arith, inl, inr, ◌⊎◌, ◌≡◌, ◌≤◌, ◌<◌, ◌+◌, ◌-◌, ◌++◌, ℕ, zero, suc, List, [], None, Some, refl, sym, ◌∙◌, ap, subst, add-zero, add-suc, add-one, append_assoc, append-nil, length, length-append}
-use Rattle.std.specs.Prelude.{IsSome, min}
+use Rattle.std.proofs.Common.{arith, inl, inr, ◌⊎◌, ◌≡◌, ◌≤◌, ◌+◌, ◌-◌, ◌++◌, ℕ, zero, suc, List, [], None, Some, refl, sym, ◌∙◌, ap, subst, add-zero, add-suc, add-one, append_assoc, append-nil, length, length-append}
+use Rattle.std.specs.Prelude.{IsSome}
 use Rattle.std.specs.declared.option.Option.{Option}
 use Rattle.client_world.specs.declared.outcome.Exit.{Exit}
 use Rattle.client_world.specs.Console.{Extends}

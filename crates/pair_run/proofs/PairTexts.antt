@@ -1,16 +1,16 @@
 -- The loop over the slices: where it is in each run, and what it has written.
-use Rattle.std.proofs.Common.{arith, ◌≡◌, ◌≤◌, ◌<◌, ◌+◌, ◌-◌, ◌*◌, ◌++◌, ◌∷◌, ℕ, zero, suc, List, [], Bool, true, false, Ok, Err, None, refl, sym, ◌∙◌, ap, subst, add-zero, add-suc, append_assoc, append-nil, length, drop}
-use Rattle.std.specs.Prelude.{IsSome, OnErr, min, max, ◌==◌}
+use Rattle.std.proofs.Common.{arith, ◌≡◌, ◌≤◌, ◌<◌, ◌+◌, ◌-◌, ◌*◌, ◌++◌, ◌∷◌, ℕ, zero, suc, List, [], true, false, Ok, Err, refl, sym, ◌∙◌, ap, subst, add-zero, append_assoc, append-nil, length, drop}
+use Rattle.std.specs.Prelude.{OnErr, min, max, ◌==◌}
 use Rattle.std.specs.declared.option.Option.{Option}
 use Rattle.std.specs.declared.result.Result.{Result}
-use Rattle.std.proofs.Math.Nat.{le-max_left, le-max_right, max-le}
+use Rattle.std.proofs.Math.Nat.{max-le}
 use Rattle.client_world.specs.declared.outcome.Exit.{Exit}
 use Rattle.dpmi_io.specs.Content.{Shown, Gains, GainsPart}
 use Rattle.dpmi_io.proofs.Output.{gained-none, gains_then, part_then, part_longer}
 use Rattle.pair_run.specs.declared.lines.Letter.{Letter}
 use Rattle.pair_run.specs.declared.lines.Letter.TheVariants.{A, B}
 use Rattle.pair_run.specs.Run.{turns_of}
-use Rattle.pair_run.specs.Slices.{OwnRun, SliceLine, own_run, gain, slices, written, slice_line, both_lines, lines_up_to, pair_lines, slice_head, line_end, lines_text}
+use Rattle.pair_run.specs.Slices.{OwnRun, SliceLine, own_run, gain, slices, line_if_any, slice_line, both_lines, lines_up_to, pair_lines, slice_head, line_end, lines_text}
 use Rattle.client_world.specs.WatchWorld.{WatchWorld}
 use Rattle.pair_run.proofs.OwnRuns.{Client, few_turns, turns_add}
 use Rattle.pair_run.proofs.SliceTexts.{lines_next, lines_none, next_start, no_line, not_fewer, silent, text_append}
@@ -54,12 +54,12 @@ when_err (Ok v) p = tt
 when_err (Err e) p = p
 
 -- the line of bytes that there are
-pub written_text : (k : ℕ) (client : Letter) (bytes : List ℕ) → (length bytes == 0) ≡ false →
-    lines_text (written k client bytes) ≡ (slice_head k client (length bytes) ++ bytes) ++ line_end
-written_text k client [] some = cc
-written_text k client (x ∷ xs) some = append-nil ((slice_head k client (length (x ∷ xs)) ++ (x ∷ xs)) ++ line_end)
+pub line_if_any-text : (k : ℕ) (client : Letter) (bytes : List ℕ) → (length bytes == 0) ≡ false →
+    lines_text (line_if_any k client bytes) ≡ (slice_head k client (length bytes) ++ bytes) ++ line_end
+line_if_any-text k client [] some = cc
+line_if_any-text k client (x ∷ xs) some = append-nil ((slice_head k client (length (x ∷ xs)) ++ (x ∷ xs)) ++ line_end)
 
-pub no_text : (k : ℕ) (client : Letter) (bytes : List ℕ) → (length bytes == 0) ≡ true → lines_text (written k client bytes) ≡ []
+pub no_text : (k : ℕ) (client : Letter) (bytes : List ℕ) → (length bytes == 0) ≡ true → lines_text (line_if_any k client bytes) ≡ []
 no_text k client [] none = refl
 no_text k client (x ∷ xs) none = absurd (grind (arith, none))
 
@@ -163,14 +163,14 @@ pair_whole {turn = turn} {console = console} {steps = steps} c v w n bound k don
 -- the line of a slice as the loop makes it is that of the client's own run
 pub line_gained : {turn : WatchWorld → WatchWorld} {first before after : WatchWorld} {n bound k done turns : ℕ}
     (console : WatchWorld → List ℕ) (steps : WatchWorld → ℕ) (client : Letter) (x y : Shown) → Made turn first before after n bound k done turns →
-    Gains x y (lines_text (written k client (drop (length (console before)) (console after)))) →
+    Gains x y (lines_text (line_if_any k client (drop (length (console before)) (console after)))) →
     Gains x y (lines_text (slice_line n client (own_run turn console steps bound first) k))
 line_gained {k = k} console steps client x y s gains =
-    subst (λ l. Gains x y (lines_text (written k client l))) (slice_gains console steps s) gains
+    subst (λ l. Gains x y (lines_text (line_if_any k client l))) (slice_gains console steps s) gains
 
 pub line_failed : {turn : WatchWorld → WatchWorld} {first before after : WatchWorld} {n bound k done turns : ℕ}
     (console : WatchWorld → List ℕ) (steps : WatchWorld → ℕ) (client : Letter) (x y : Shown) → Made turn first before after n bound k done turns →
-    GainsPart x y (lines_text (written k client (drop (length (console before)) (console after)))) →
+    GainsPart x y (lines_text (line_if_any k client (drop (length (console before)) (console after)))) →
     GainsPart x y (lines_text (slice_line n client (own_run turn console steps bound first) k))
 line_failed {k = k} console steps client x y s part =
-    subst (λ l. GainsPart x y (lines_text (written k client l))) (slice_gains console steps s) part
+    subst (λ l. GainsPart x y (lines_text (line_if_any k client l))) (slice_gains console steps s) part

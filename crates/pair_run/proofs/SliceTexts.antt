@@ -1,5 +1,5 @@
 -- The slices of a run, and the lines of two clients that make theirs in turns.
-use Rattle.std.proofs.Common.{arith, inl, inr, ◌⊎◌, ◌≡◌, ◌≤◌, ◌<◌, ◌+◌, ◌-◌, ◌*◌, ◌/◌, ◌++◌, ◌∷◌, ℕ, zero, suc, List, [], None, Some, Bool, true, false, refl, sym, ◌∙◌, ap, subst, add-zero, add-suc, add-one, append_assoc, append-nil, length, drop}
+use Rattle.std.proofs.Common.{arith, inl, inr, ◌⊎◌, ◌≡◌, ◌≤◌, ◌<◌, ◌+◌, ◌-◌, ◌*◌, ◌/◌, ◌++◌, ◌∷◌, ℕ, zero, suc, List, [], None, Some, false, refl, sym, ◌∙◌, ap, subst, add-zero, add-suc, add-one, append_assoc, append-nil, length, drop}
 use Rattle.std.specs.Prelude.{IsSome, min, max}
 use Rattle.std.specs.List.{filter}
 use Rattle.std.specs.declared.option.Option.{Option}
@@ -7,12 +7,10 @@ use Rattle.std.proofs.Math.Nat.{div-lt_iff_lt-mul, eq-or-lt_of_le, le-max_left, 
 use Rattle.std.proofs.Math.Seq.{drop-append_seam, drop-length}
 use Rattle.std.proofs.lemmas.List.Elements.{filter-append}
 use Rattle.client_world.specs.declared.outcome.Exit.{Exit}
-use Rattle.dpmi_io.specs.Content.{Shown, Gains, GainsPart}
-use Rattle.dpmi_io.proofs.Output.{part_longer}
 use Rattle.pair_run.specs.declared.lines.Letter.{Letter}
 use Rattle.pair_run.specs.declared.lines.Letter.TheVariants.{A, B}
 use Rattle.pair_run.specs.Run.{closed_by, run_of, turns_of}
-use Rattle.pair_run.specs.Slices.{OwnRun, SliceLine, own_run, gain, slices, written, slice_line, both_lines, lines_up_to, own_lines, pair_lines, line_text, lines_text, is_letter, is_of, all_bytes}
+use Rattle.pair_run.specs.Slices.{OwnRun, SliceLine, own_run, gain, slices, line_if_any, slice_line, both_lines, lines_up_to, own_lines, pair_lines, line_text, lines_text, is_letter, is_of, all_bytes}
 use Rattle.client_world.specs.WatchWorld.{WatchWorld}
 use Rattle.pair_run.proofs.OwnRuns.{Client, few_turns, grown, last_turns, past, turns_add, turns_none}
 
@@ -53,7 +51,7 @@ no_gain {turn = turn} {console = console} {steps = steps} c w n bound k some fir
 pub no_line : {turn : WatchWorld → WatchWorld} {console : WatchWorld → List ℕ} {exit : WatchWorld → Option Exit} {steps : WatchWorld → ℕ}
     (c : Client turn console exit steps) (w : WatchWorld) (n bound : ℕ) (client : Letter) (k : ℕ) → 0 < n → steps w ≡ 0 →
     slices n (own_run turn console steps bound w) ≤ k → slice_line n client (own_run turn console steps bound w) k ≡ []
-no_line c w n bound client k some first le = ap (written k client) (no_gain c w n bound k some first le)
+no_line c w n bound client k some first le = ap (line_if_any k client) (no_gain c w n bound k some first le)
 
 -- what the console gains from one place of the run to a later one
 gained_between : {turn : WatchWorld → WatchWorld} {console : WatchWorld → List ℕ} {exit : WatchWorld → Option Exit} {steps : WatchWorld → ℕ}
@@ -106,19 +104,19 @@ bytes_append : (xs ys : List SliceLine) → all_bytes (xs ++ ys) ≡ all_bytes x
 bytes_append [] ys = refl
 bytes_append (x ∷ xs) ys = ap (λ l. x.bytes ++ l) (bytes_append xs ys) ∙ sym (append_assoc x.bytes (all_bytes xs) (all_bytes ys))
 
-bytes_written : (k : ℕ) (client : Letter) (bytes : List ℕ) → all_bytes (written k client bytes) ≡ bytes
-bytes_written k client [] = refl
-bytes_written k client (x ∷ xs) = append-nil (x ∷ xs)
+bytes_of_line : (k : ℕ) (client : Letter) (bytes : List ℕ) → all_bytes (line_if_any k client bytes) ≡ bytes
+bytes_of_line k client [] = refl
+bytes_of_line k client (x ∷ xs) = append-nil (x ∷ xs)
 
 -- ---- each client's own lines
 
-own_kept : (client : Letter) (k : ℕ) (bytes : List ℕ) → filter (is_of client) (written k client bytes) ≡ written k client bytes
+own_kept : (client : Letter) (k : ℕ) (bytes : List ℕ) → filter (is_of client) (line_if_any k client bytes) ≡ line_if_any k client bytes
 own_kept client k [] = refl
 own_kept A k (x ∷ xs) = refl
 own_kept B k (x ∷ xs) = refl
 
 -- a client's lines are not the other one's
-other_left : (client other : Letter) (k : ℕ) (bytes : List ℕ) → is_letter client other ≡ false → filter (is_of client) (written k other bytes) ≡ []
+other_left : (client other : Letter) (k : ℕ) (bytes : List ℕ) → is_letter client other ≡ false → filter (is_of client) (line_if_any k other bytes) ≡ []
 other_left client other k [] differ = refl
 other_left A A k (x ∷ xs) differ = cc
 other_left A B k (x ∷ xs) differ = refl
@@ -185,7 +183,7 @@ bytes_so_far {turn = turn} {console = console} {steps = steps} c w n bound clien
     let r = own_run turn console steps bound w in
     bytes_append (lines_up_to (slice_line n client r) count) (slice_line n client r count)
     ∙ ap (λ l. l ++ all_bytes (slice_line n client r count)) (bytes_so_far c w n bound client count empty)
-    ∙ ap (λ l. r.console (count * n) ++ l) (bytes_written count client (gain n r count))
+    ∙ ap (λ l. r.console (count * n) ++ l) (bytes_of_line count client (gain n r count))
     ∙ sym (slice_appends c w n bound count)
     ∙ ap (λ k. r.console (k * n)) (add-one count)
 

@@ -76,7 +76,7 @@ no_machine = record {
   calls = [];
 }
 
--- the client with this script left, that wrote these bytes in so many turns
+-- the client with this script left, that wrote these bytes in this many turns
 abbrev pub scripted_world : List ℕ → List ℕ → ℕ → Option Exit → WatchWorld
 scripted_world script console steps exit = record {
   host = record {
@@ -89,8 +89,7 @@ scripted_world script console steps exit = record {
     steps = steps;
     exit = exit;
   };
-  watches = [];
-  due = false;
+  watching = record { watches = []; due = false };
 }
 
 -- ---- its laws

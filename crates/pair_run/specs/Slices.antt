@@ -32,14 +32,14 @@ pub record SliceLine : Type 0 where
   pub client : Letter
   pub bytes : List ℕ
 
--- there is none for no bytes
-abbrev pub written : ℕ → Letter → List ℕ → List SliceLine
-written k client [] = []
-written k client (byte ∷ bytes) = record { slice = k; client = client; bytes = byte ∷ bytes } ∷ []
+-- the line of these bytes; no line where there are none
+abbrev pub line_if_any : ℕ → Letter → List ℕ → List SliceLine
+line_if_any k client [] = []
+line_if_any k client (byte ∷ bytes) = record { slice = k; client = client; bytes = byte ∷ bytes } ∷ []
 
--- the client of a letter in slice k
+-- the line of slice k of a client's own run, if it has one
 abbrev pub slice_line : ℕ → Letter → OwnRun → ℕ → List SliceLine
-slice_line n client r k = written k client (gain n r k)
+slice_line n client r k = line_if_any k client (gain n r k)
 
 -- the lines that f gives for 0, 1 and so on, c of them. It stays closed, since c may be large
 unfoldable pub lines_up_to : (ℕ → List SliceLine) → ℕ → List SliceLine

@@ -24,7 +24,7 @@ fn name_of(client: Letter) -> &'static [u8]
 
 // The first line: how many turns a slice has.
 #[tactic(auto, using(dpmi_io::proofs::Decimal::decimal_short))]
-pub(crate) fn head_line(slice: u32) -> Line
+pub(crate) fn pair_head(slice: u32) -> Line
     ensures { result.items ≡ pair_head slice }
 {
     let mut line = Line::new();
@@ -36,7 +36,7 @@ pub(crate) fn head_line(slice: u32) -> Line
 
 // The line before a slice's bytes.
 #[tactic(auto, using(dpmi_io::proofs::Decimal::decimal_short, dpmi_io::proofs::Decimal::decimal_long))]
-pub(crate) fn slice_line(number: u32, client: Letter, count: u64) -> Line
+pub(crate) fn slice_head(number: u32, client: Letter, count: u64) -> Line
     ensures { result.items ≡ slice_head number client count }
 {
     let mut line = Line::new();

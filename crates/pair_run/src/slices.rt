@@ -5,10 +5,10 @@ ghost use Rattle.dpmi_io.specs.Causes.{Rose};
 ghost use Rattle.dpmi_io.specs.Content.{Gains, GainsPart};
 ghost use Rattle.client_world.specs.Console.{Extends};
 ghost use Rattle.pair_run.specs.Run.{IsFirst, run_of, turns_of};
-ghost use Rattle.pair_run.specs.Slices.{lines_text, own_run, pair_head, pair_lines, slice_head, slices_text, written};
+ghost use Rattle.pair_run.specs.Slices.{lines_text, own_run, pair_head, pair_lines, slice_head, slices_text, line_if_any};
 
 use crate::Turns;
-use crate::lines::{Letter, head_line, slice_line};
+use crate::lines::{Letter, pair_head, slice_head};
 use dpmi_io::{Sink, SinkFail, put_all};
 
 // Puts the first line.
@@ -18,7 +18,7 @@ fn put_head<O: Sink>(slice: u32, out: &mut O) -> Result<(), SinkFail>
     ensures quiet { OnOk result (O.faults out.new ≡ O.faults out.old) }
     ensures failed { OnErr result (Rose (O.faults out.old) (O.faults out.new)) }
 {
-    let line = head_line(slice);
+    let line = pair_head(slice);
     put_all(out, line.as_slice())
 }
 
@@ -34,7 +34,7 @@ fn put_slice_head<O: Sink>(
     ensures quiet { OnOk result (O.faults out.new ≡ O.faults out.old) }
     ensures failed { OnErr result (Rose (O.faults out.old) (O.faults out.new)) }
 {
-    let line = slice_line(number, client, count);
+    let line = slice_head(number, client, count);
     put_all(out, line.as_slice())
 }
 
@@ -45,8 +45,8 @@ fn put_slice<O: Sink>(
     bytes: &[u8],
     out: &mut O,
 ) -> Result<(), SinkFail>
-    ensures whole { OnOk result (Gains (O.taken out.old) (O.taken out.new) (lines_text (written number client bytes.now))) }
-    ensures part { OnErr result (GainsPart (O.taken out.old) (O.taken out.new) (lines_text (written number client bytes.now))) }
+    ensures whole { OnOk result (Gains (O.taken out.old) (O.taken out.new) (lines_text (line_if_any number client bytes.now))) }
+    ensures part { OnErr result (GainsPart (O.taken out.old) (O.taken out.new) (lines_text (line_if_any number client bytes.now))) }
     ensures quiet { OnOk result (O.faults out.new ≡ O.faults out.old) }
     ensures failed { OnErr result (Rose (O.faults out.old) (O.faults out.new)) }
 {
@@ -59,7 +59,7 @@ fn put_slice<O: Sink>(
 }
 
 // The bytes from a place on.
-fn bytes_from(console: &[u8], at: usize) -> &[u8]
+fn rest_from(console: &[u8], at: usize) -> &[u8]
     requires { at ≤ length console.now }
     ensures { result.now ≡ drop at console.now }
 {
@@ -78,15 +78,15 @@ fn make_slice<T: Turns, O: Sink>(
     ensures world { T.world client.new ≡ turns_of T.turn turns (T.world client.old) }
     ensures ended { IfOk result (λ ended. ended ≡ is_some (T.exit_of (T.world client.new))) }
     ensures whole { OnOk result (Gains (O.taken out.old) (O.taken out.new) (lines_text
-        (written number letter (drop (length (T.console_of (T.world client.old))) (T.console_of (T.world client.new)))))) }
+        (line_if_any number letter (drop (length (T.console_of (T.world client.old))) (T.console_of (T.world client.new)))))) }
     ensures part { OnErr result (GainsPart (O.taken out.old) (O.taken out.new) (lines_text
-        (written number letter (drop (length (T.console_of (T.world client.old))) (T.console_of (T.world client.new)))))) }
+        (line_if_any number letter (drop (length (T.console_of (T.world client.old))) (T.console_of (T.world client.new)))))) }
     ensures quiet { OnOk result (O.faults out.new ≡ O.faults out.old) }
     ensures failed { OnErr result (Rose (O.faults out.old) (O.faults out.new)) }
 {
     let before = client.console().len();
     let ended = client.go(turns).is_some();
-    put_slice(number, letter, bytes_from(client.console(), before), out)?;
+    put_slice(number, letter, rest_from(client.console(), before), out)?;
     Ok(ended)
 }
 
@@ -139,7 +139,7 @@ fn run_slices<T: Turns, O: Sink>(
 
 /// Two clients take turns, a slice of each in its turn, until each has ended or made as many turns as its bound. What each one writes in a
 /// slice is put after the slice, so that the output shows the order. Each client is left at the end of its own run, with its exit.
-/// It takes no memory. Where the output fails a first part of those lines was put, its count of faults rose, and each client has made some
+/// It takes no memory. Where the output fails a prefix of those lines was written, its count of faults rose, and each client has made some
 /// turns of its run. Source: own.
 pub fn pair<T: Turns, O: Sink>(
     a: &mut T,

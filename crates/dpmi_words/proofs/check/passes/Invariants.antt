@@ -1,5 +1,4 @@
-use Rattle.std.proofs.Common.{◌≡◌, drop, map, []}
-use Rattle.std.specs.Prelude.{None}
+use Rattle.std.proofs.Common.{◌≡◌, drop, map}
 use Rattle.std.specs.String.{string_bytes}
 use Rattle.dpmi_words.specs.Reading.{nothing_read, reads}
 use Rattle.dpmi_words.specs.Seen.{texts, reading_of}

@@ -2,7 +2,6 @@ use Rattle.std.proofs.Common.{◌≡◌, ◌∙◌, List, true, true≢false, sy
 use Rattle.std.specs.Prelude.{IfSome, is_some, option_and_then, Some, None}
 use Rattle.std.specs.declared.option.Option.{Option}
 use Rattle.std.specs.String.{string_bytes}
-use Rattle.std.proofs.lemmas.Result.{IfOk-weaker}
 use Rattle.clap.specs.Matches.{found_of, first_value}
 use Rattle.clap.specs.declared.parser.matches.Found.{Found}
 use Rattle.dpmi_words.specs.Reading.{Text, first_name, second_name, given_by, pair_operands, pair_options, value_given}

@@ -15,7 +15,7 @@ same_run : (o : Option (List (Text × Text))) (found : Found) → is_some o ≡ 
     run_of_values (first_value found) ≡ option_and_then (λ given. run_of_values (λ name. value_given name given)) o
 same_run None found some h = absurd (true≢false (sym some))
 same_run (Some given) found some h =
-    rw (h operand_name, h (codes "keys"), h (codes "keys-file"), h (codes "bound"), h (codes "pages"), h (codes "trace")) refl
+    rw (h operand_name, h (codes "keys"), h (codes "keys-file"), h (codes "bound"), h (codes "pages"), h (codes "trace"), h (codes "timer")) refl
 
 pub returns-in-Ok : goal.returns-in-Ok
 returns-in-Ok c =

@@ -1,4 +1,4 @@
-use Rattle.std.proofs.Common.{arith, sym, subst, ◌∙◌, ◌≡◌, ◌≤◌, ◌+◌}
+use Rattle.std.proofs.Common.{arith, sym, subst}
 use Rattle.std.specs.Prelude.{IsSome}
 use Rattle.client_world.specs.declared.outcome.Exit.TheVariants.{Bound}
 use Rattle.dpmi_io.proofs.Output.{gains_then, part_longer, part_then}

@@ -1,9 +1,7 @@
-use Rattle.std.proofs.Common.{arith, refl, sym, ap, subst, ◌∙◌, ◌≡◌, ◌≤◌, ◌+◌, true}
-use Rattle.std.specs.Prelude.{IsSome}
-use Rattle.dpmi_io.specs.Content.{Gains, GainsPart}
+use Rattle.std.proofs.Common.{arith, refl, sym, ap, ◌∙◌, ◌≡◌, ◌≤◌, ◌+◌}
 use Rattle.pair_run.specs.declared.lines.Letter.TheVariants.{A, B}
 use Rattle.pair_run.specs.Run.{turns_of}
-use Rattle.pair_run.specs.Slices.{OwnRun, own_run}
+use Rattle.pair_run.specs.Slices.{own_run}
 use Rattle.pair_run.proofs.OwnRuns.{client_of, over, room, turns_none}
 use Rattle.pair_run.proofs.PairTexts.{Made, a_failed, b_failed, line_failed, line_gained, next_begins, pair_more, pair_none, pair_whole, slice_ends, when_err}
 use Rattle.pair_run.proofs.slices.run_slices.Goals as goal
