@@ -6,7 +6,7 @@ use Rattle.std.specs.declared.option.Option.{Option}
 use Rattle.std.proofs.lemmas.Bool.Decides.{eqb_tells}
 use Rattle.client_world.specs.declared.limits.TheConstants.{DEFAULT_BOUND}
 use Rattle.dpmi_words.specs.Meaning.{meaning}
-use Rattle.host_run.specs.Run.{run}
+use Rattle.watch_run.specs.Turn.{watched_run}
 use Rattle.dpmi_io.specs.Causes.{Rose}
 use Rattle.dpmi_io.specs.Content.{Files, Shown, Gains}
 use Rattle.dpmi_cli.specs.declared.prepare.Prepared.{Prepared}
@@ -14,6 +14,7 @@ use Rattle.dpmi_cli.specs.declared.prepare.Reason.TheVariants.{Words}
 use Rattle.dpmi_cli.specs.Answer.{Verdict, Refuses, Starts, StartsMade, StartsPair, verdict, verdict_of, answer, answer_to}
 use Rattle.dpmi_cli.specs.Causes.{NamedFailed, IsAbsent, HasVerdict, Answers}
 use Rattle.dpmi_cli.specs.Load.{verdict_in}
+use Rattle.dpmi_cli.specs.Runs.{host_at_end}
 use Rattle.dpmi_cli.specs.Words.{file_names, names_in}
 use Rattle.dpmi_cli.proofs.Files.{no_verdict}
 use Rattle.dpmi_cli.proofs.SmallStatus.{pair_status-small, run_status-small}
@@ -26,21 +27,21 @@ gives_whole (Refuses reason) before now m n result gave calm = elim gave.status_
   | inl is ↦ (is, elim (gave.whole_line is) [ inl whole ↦ whole | inr rose ↦ absurd (calm rose) ])
   | inr failed ↦ absurd (calm (gave.output_failure_has_cause failed.0))
 ]
-gives_whole (Starts w bound) before now m n result gave calm = elim gave.status_of_the_answer [
+gives_whole (Starts w timer bound) before now m n result gave calm = elim gave.status_of_the_answer [
   | inl is ↦
-      let small = run_status-small (run w bound) in
+      let small = run_status-small (host_at_end w timer bound) in
       (is, gave.whole_text (subst (λ s. s < 2) (sym is) small))
   | inr failed ↦ absurd (calm (gave.output_failure_has_cause failed.0))
 ]
 gives_whole (StartsPair slice bound a b) before now m n result gave calm = elim gave.status_of_the_answer [
   | inl is ↦
-      let small = pair_status-small (run a bound) (run b bound) in
+      let small = pair_status-small (watched_run a bound) (watched_run b bound) in
       (is, gave.whole_text (subst (λ s. s < 2) (sym is) small))
   | inr failed ↦ absurd (calm (gave.output_failure_has_cause failed.0))
 ]
 gives_whole (StartsMade number w) before now m n result gave calm = elim gave.status_of_the_answer [
   | inl is ↦
-      let small = run_status-small (run w DEFAULT_BOUND) in
+      let small = run_status-small (watched_run w DEFAULT_BOUND) in
       (is, gave.whole_text (subst (λ s. s < 2) (sym is) small))
   | inr failed ↦ absurd (calm (gave.output_failure_has_cause failed.0))
 ]
@@ -94,11 +95,13 @@ ends_without_failure N F m n result file output known named absent calm = elim (
 ]
 
 -- where no named file and no put failed and the files are known, the answer is given whole, or memory was short
-pub answers_of : (words : List (List ℕ)) (files : Option Files) (N : Type 0) (before now : Shown) (m n result : ℕ) → (result ≡ 3 → N ⊎ IsAbsent words files) →
+pub answers_of : (words : List (List ℕ)) (files : Option Files) (N : Type 0) (before now : Shown) (m n result : ℕ) →
+    (result ≡ 3 → N ⊎ IsAbsent words files) →
     (result ≢ 3 → result ≢ 5 → HasVerdict words files (λ v. Answers v before now m n result)) → (N → ⊥) → (Rose m n → ⊥) →
     IfSome files (λ fs. IfSome (answer words fs) (λ a. (result ≡ 5) ⊎ ((result ≡ a.status) × Gains before now a.text)))
 answers_of words None N before now m n result cause gave named calm = tt
-answers_of words (Some fs) N before now m n result cause gave named calm = verdict_sure (verdict words fs) N before now m n result cause gave named calm
+answers_of words (Some fs) N before now m n result cause gave named calm =
+    verdict_sure (verdict words fs) N before now m n result cause gave named calm
 
 no_files : (words : List (List ℕ)) → meaning words ≡ None → file_names words ≡ []
 no_files words none = ap names_in none

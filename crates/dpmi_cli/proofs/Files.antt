@@ -93,7 +93,8 @@ of_front (Some file) most size bytes read has each = ap Some (each file has)
 pub file_short : (files : Option Files) (name : List ℕ) (most size n : ℕ) (buf : List ℕ) → size ≡ most + 1 → n ≤ length buf → n ≤ most →
     HasFront size files name (take n buf) → HasFile most files name (Some (take n buf))
 file_short files name most size n buf is fits few has =
-    of_files_map files (λ fs. IsSomeAnd (fs name) (λ file. take n buf ≡ take size file)) (λ fs. option_map (limited most) (fs name) ≡ Some (Some (take n buf)))
+    of_files_map files (λ fs. IsSomeAnd (fs name) (λ file. take n buf ≡ take size file))
+    (λ fs. option_map (limited most) (fs name) ≡ Some (Some (take n buf)))
     has (λ fs front. of_front (fs name) most size (take n buf) (Some (take n buf)) front
     (λ file e. front_short most n buf file fits few (e ∙ ap (λ k. take k file) is)))
 
@@ -121,7 +122,8 @@ front_of_read (Some files) name left buf n m opens few size read = by_read (file
 
 -- the keystrokes
 
-pub pressed_is : (files : Option Files) (bytes : List ℕ) (read : Option (List ℕ)) → read ≡ limited MAX_KEYS bytes → HasPressed files (Pressed bytes) read
+pub pressed_is : (files : Option Files) (bytes : List ℕ) (read : Option (List ℕ)) → read ≡ limited MAX_KEYS bytes →
+    HasPressed files (Pressed bytes) read
 pressed_is files bytes read is =
     of_files_each files (λ fs. option_map (limited MAX_KEYS) (keys_from (Pressed bytes) fs) ≡ Some read) (λ fs. ap Some (sym is))
 
@@ -132,7 +134,8 @@ lacks_stored (Some fs) name lacks = lacks
 pub first_of : (name : List ℕ) (rest : List (List ℕ)) → Contains (name ∷ rest) name
 first_of name rest = (0, omega arith, refl)
 
-pub blames_first : (blamed : Option (List ℕ)) (name : List ℕ) (rest : List (List ℕ)) → blamed ≡ Some name → IsSomeAnd blamed (λ b. Contains (name ∷ rest) b)
+pub blames_first : (blamed : Option (List ℕ)) (name : List ℕ) (rest : List (List ℕ)) → blamed ≡ Some name →
+    IsSomeAnd blamed (λ b. Contains (name ∷ rest) b)
 blames_first blamed name rest is = subst (λ (o : Option (List ℕ)). IsSomeAnd o (λ b. Contains (name ∷ rest) b)) (sym is) (first_of name rest)
 
 -- a failure at the file with the keystrokes
@@ -143,7 +146,8 @@ stored_fails files name before now blamed (inr lacks) = inr (lacks_stored files 
 
 -- the verdict on the keystrokes that were read
 
-of_pressed : (found : Option (List ℕ)) (r : RunMeaning) (file : List ℕ) (read : Option (List ℕ)) (v : Verdict) → option_map (limited MAX_KEYS) found ≡ Some read →
+of_pressed : (found : Option (List ℕ)) (r : RunMeaning) (file : List ℕ) (read : Option (List ℕ)) (v : Verdict) →
+    option_map (limited MAX_KEYS) found ≡ Some read →
     keys_verdict r file read ≡ v → option_map (λ keys. keys_verdict r file (limited MAX_KEYS keys)) found ≡ Some v
 of_pressed None r file read v has is = absurd cc
 of_pressed (Some keys) r file read v has is =
@@ -158,7 +162,8 @@ keys_come files r file read v has is =
 
 -- the verdict on the file that was read
 
-of_file : (found : Option (List ℕ)) (r : RunMeaning) (second : Files) (read : Option (List ℕ)) (v : Verdict) → option_map (limited MAX_FILE) found ≡ Some read →
+of_file : (found : Option (List ℕ)) (r : RunMeaning) (second : Files) (read : Option (List ℕ)) (v : Verdict) →
+    option_map (limited MAX_FILE) found ≡ Some read →
     file_verdict r second read ≡ Some v → option_and_then (λ file. file_verdict r second (limited MAX_FILE file)) found ≡ Some v
 of_file None r second read v has is = absurd cc
 of_file (Some file) r second read v has is =
@@ -192,22 +197,26 @@ file_fails files r before now blamed (inr lacks) = inr (no_file files r lacks)
 pub later : (name : List ℕ) (rest : List (List ℕ)) (b : List ℕ) → Contains rest b → Contains (name ∷ rest) b
 later name rest b (k, lt, is) = (k + 1, omega arith, rw add-one is)
 
-pub blames_later : (blamed : Option (List ℕ)) (name : List ℕ) (rest : List (List ℕ)) → IsSomeAnd blamed (λ b. Contains rest b) → IsSomeAnd blamed (λ b. Contains (name ∷ rest) b)
+pub blames_later : (blamed : Option (List ℕ)) (name : List ℕ) (rest : List (List ℕ)) → IsSomeAnd blamed (λ b. Contains rest b) →
+    IsSomeAnd blamed (λ b. Contains (name ∷ rest) b)
 blames_later None name rest h = h
 blames_later (Some b) name rest h = later name rest b h
 
-without_keys : (fs : Files) (r : RunMeaning) (read : List ℕ) (found : Option (List ℕ)) → option_map (limited MAX_FILE) found ≡ Some (Some read) → keys_from r.keys fs ≡ None →
+without_keys : (fs : Files) (r : RunMeaning) (read : List ℕ) (found : Option (List ℕ)) → option_map (limited MAX_FILE) found ≡ Some (Some read) →
+    keys_from r.keys fs ≡ None →
     option_and_then (λ file. file_verdict r fs (limited MAX_FILE file)) found ≡ None
 without_keys fs r read None has none = absurd cc
 without_keys fs r read (Some file) has none =
     let same : limited MAX_FILE file ≡ Some read = cc in
     ap (λ k. file_verdict r fs k) same ∙ ap (λ o. option_map (λ keys. keys_verdict r read (limited MAX_KEYS keys)) o) none
 
-no_keys : (files : Option Files) (r : RunMeaning) (read : List ℕ) → HasFile MAX_FILE files r.file (Some read) → LacksKeys files r.keys → LacksFile files r
+no_keys : (files : Option Files) (r : RunMeaning) (read : List ℕ) → HasFile MAX_FILE files r.file (Some read) → LacksKeys files r.keys →
+    LacksFile files r
 no_keys None r read has lacks = lacks
 no_keys (Some fs) r read has lacks = without_keys fs r read (fs r.file) has lacks
 
-pub keys_fail : (files : Option Files) (r : RunMeaning) (read : List ℕ) (before now : ℕ) (blamed : Option (List ℕ)) → HasFile MAX_FILE files r.file (Some read) →
+pub keys_fail : (files : Option Files) (r : RunMeaning) (read : List ℕ) (before now : ℕ) (blamed : Option (List ℕ)) →
+    HasFile MAX_FILE files r.file (Some read) →
     KeysFail files r.keys before now blamed → RunFails files r before now blamed
 keys_fail files r read before now blamed has (inl failed) = inl (failed.0, blames_later blamed r.file (key_file_names r.keys) failed.1)
 keys_fail files r read before now blamed has (inr lacks) = inr (no_keys files r read has lacks)
@@ -222,7 +231,8 @@ pub meaning_comes : (words : List (List ℕ)) (m : Option Meaning) (files : Opti
 meaning_comes words m files v is has =
     of_files_map files (λ first. OfFiles files (λ second. verdict_of m first second ≡ Some v))
     (λ first. OfFiles files (λ second. IsSomeAnd (verdict_of (meaning words) first second) (λ u. u ≡ v))) has
-    (λ first p. of_files_map files (λ second. verdict_of m first second ≡ Some v) (λ second. IsSomeAnd (verdict_of (meaning words) first second) (λ u. u ≡ v)) p
+    (λ first p. of_files_map files (λ second. verdict_of m first second ≡ Some v)
+    (λ second. IsSomeAnd (verdict_of (meaning words) first second) (λ u. u ≡ v)) p
     (λ second q. some_and (verdict_of (meaning words) first second) v (ap (λ x. verdict_of x first second) is ∙ q)))
 
 pub sure_comes : (words : List (List ℕ)) (m : Option Meaning) (files : Option Files) (v : Verdict) → meaning words ≡ m →
@@ -233,14 +243,17 @@ sure_comes words m files v is each =
     (λ first. of_files_each files (λ second. verdict_of m first second ≡ Some v) (λ second. each first second)))
 
 -- words that mean nothing are refused, whatever the files
-pub no_verdict : (words : List (List ℕ)) (first second : Files) → meaning words ≡ None → verdict_of (meaning words) first second ≡ Some (Refuses Words)
+pub no_verdict : (words : List (List ℕ)) (first second : Files) → meaning words ≡ None →
+    verdict_of (meaning words) first second ≡ Some (Refuses Words)
 no_verdict words first second none = ap (λ m. verdict_of m first second) none
 
-absent_run : (words : List (List ℕ)) (files : Option Files) (r : RunMeaning) → meaning words ≡ Some (Runs r) → LacksFile files r → IsAbsent words files
+absent_run : (words : List (List ℕ)) (files : Option Files) (r : RunMeaning) → meaning words ≡ Some (Runs r) → LacksFile files r →
+    IsAbsent words files
 absent_run words None r is lacks = lacks
 absent_run words (Some fs) r is lacks = ap (λ m. option_map answer_to (verdict_of m fs fs)) is ∙ ap (option_map answer_to) lacks
 
-pub run_fails : (words : List (List ℕ)) (files : Option Files) (r : RunMeaning) (before now : ℕ) (blamed : Option (List ℕ)) → meaning words ≡ Some (Runs r) →
+pub run_fails : (words : List (List ℕ)) (files : Option Files) (r : RunMeaning) (before now : ℕ) (blamed : Option (List ℕ)) →
+    meaning words ≡ Some (Runs r) →
     RunFails files r before now blamed → NamedFailed words before now blamed ⊎ IsAbsent words files
 run_fails words files r before now blamed is (inl failed) =
     inl (failed.0, subst (λ m. IsSomeAnd blamed (λ b. Contains (names_in m) b)) (sym is) failed.1)

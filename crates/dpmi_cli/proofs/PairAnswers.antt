@@ -1,63 +1,157 @@
 -- The turns of a host as those of a client of a pair, and the answer that a pair gives.
-use Rattle.std.proofs.Common.{arith, ◌≡◌, ◌≤◌, ◌<◌, ℕ, zero, suc, List, None, Some, refl, sym, ◌∙◌, ap, subst}
+use Rattle.std.proofs.Common.{arith, ◌≡◌, ◌≤◌, ◌<◌, ◌+◌, ◌++◌, ℕ, zero, suc, List, None, Some, refl, sym, ◌∙◌, ap, subst}
 use Rattle.std.specs.Prelude.{IsSome, max}
 use Rattle.std.specs.declared.option.Option.{Option}
 use Rattle.client_world.specs.declared.outcome.Exit.{Exit}
 use Rattle.client_world.specs.declared.outcome.Exit.TheVariants.{Bound}
 use Rattle.client_world.specs.World.{HostWorld}
-use Rattle.host_run.specs.Run.{bounded, run, turns}
+use Rattle.host_run.specs.Run.{bounded}
 use Rattle.dpmi_io.specs.Causes.{Rose}
 use Rattle.dpmi_io.specs.Content.{Shown, Gains, GainsPart}
+use Rattle.dpmi_io.proofs.Output.{gains_then, part_longer, part_then}
+use Rattle.pair_run.specs.declared.lines.Letter.TheVariants.{A, B}
+use Rattle.pair_run.specs.Slices.{OwnRun, own_run, slices_text}
 use Rattle.pair_run.specs.Run.{IsFirst, closed_by, run_of, turns_of}
-use Rattle.client_world.specs.WatchWorld.{WatchWorld, unwatched}
+use Rattle.client_world.specs.WatchWorld.{WatchWorld, Watching, no_watches, unwatched}
+use Rattle.pair_run.proofs.OwnRuns.{client_of, over, turns_more}
 use Rattle.dpmi_cli.specs.Answer.{StartsPair, pair_status, run_status}
 use Rattle.dpmi_cli.specs.Causes.{Answers}
 use Rattle.dpmi_cli.specs.Laws.{RunKeepsTheLaws}
 use Rattle.dpmi_cli.specs.Load.{IsReady}
-use Rattle.dpmi_cli.specs.Pairs.{host_closed, host_console, host_exit, host_steps, host_turn, pair_text}
+use Rattle.dpmi_cli.specs.Pairs.{client_part, host_closed, host_console, host_exit, host_steps, pair_text, sliced}
+use Rattle.watch_run.specs.Turn.{run_with_watchpoints, turn_with_watchpoints, turns_with_watchpoints, watched_run}
+use Rattle.watch_run.proofs.WatchedTurns.{counts, extends, stays}
 use Rattle.dpmi_cli.proofs.RunAnswers.{cut, whole}
 use Rattle.dpmi_cli.proofs.SmallStatus.{pair_status-small}
 
 -- ---- turns
 
--- the turns of a client are those of its host
-pub host_turns : (w : HostWorld) (n : ℕ) → turns_of host_turn n (unwatched w) ≡ unwatched (turns w n)
-unfolding turns_of turns
-host_turns w zero = refl
-host_turns w (suc n) = ap host_turn (host_turns w n)
+-- the turns of a client are those with watchpoints
+pub client_turns : (w : WatchWorld) (n : ℕ) → turns_of turn_with_watchpoints n w ≡ turns_with_watchpoints w n
+unfolding turns_of turns_with_watchpoints
+client_turns w zero = refl
+client_turns w (suc n) = ap turn_with_watchpoints (client_turns w n)
 
-bounded_by : (w : HostWorld) (o : Option Exit) → w.exit ≡ o → closed_by host_closed host_exit (unwatched w) ≡ unwatched (bounded w)
-bounded_by w None none =
-    let closed : closed_by host_closed host_exit (unwatched w) ≡ host_closed (unwatched w) = rw (none, closed_by) refl in
-    let ends : bounded w ≡ record w { exit = Some Bound } = rw none refl in
-    closed ∙ sym (ap unwatched ends)
+abbrev with_host : WatchWorld → HostWorld → WatchWorld
+with_host w h = record w { host = h }
+
+closed_is : (w : WatchWorld) → w.host.exit ≡ None → closed_by host_closed host_exit w ≡ host_closed w
+closed_is w none = ap (λ (o : Option Exit). elim o as (λ _. WatchWorld) [ None ↦ host_closed w | Some _ ↦ w ]) none
+
+ended_is : (w : HostWorld) → w.exit ≡ None → bounded w ≡ record w { exit = Some Bound }
+ended_is w none = ap (λ (o : Option Exit). elim o as (λ _. HostWorld) [ Some _ ↦ w | None ↦ record w { exit = Some Bound } ]) none
+
+bounded_by : (w : WatchWorld) (o : Option Exit) → w.host.exit ≡ o → closed_by host_closed host_exit w ≡ with_host w (bounded w.host)
+bounded_by w None none = closed_is w none ∙ sym (ap (with_host w) (ended_is w.host none))
 bounded_by w (Some exit) some =
-    let closed : closed_by host_closed host_exit (unwatched w) ≡ unwatched w = rw (some, closed_by) refl in
-    let ends : bounded w ≡ w = rw some refl in
-    closed ∙ sym (ap unwatched ends)
+    let closed : closed_by host_closed host_exit w ≡ w =
+    ap (λ (o : Option Exit). elim o as (λ _. WatchWorld) [ None ↦ host_closed w | Some _ ↦ w ]) some in
+    let ends : bounded w.host ≡ w.host =
+    ap (λ (o : Option Exit). elim o as (λ _. HostWorld) [ Some _ ↦ w.host | None ↦ record w.host { exit = Some Bound } ]) some in
+    closed ∙ sym (ap (with_host w) ends)
 
 -- and so is its run
-host_run_is : (w : HostWorld) (n : ℕ) → run_of host_turn host_closed host_exit n (unwatched w) ≡ unwatched (run w n)
-host_run_is w n = ap (closed_by host_closed host_exit) (host_turns w n) ∙ bounded_by (turns w n) (turns w n).exit refl
+client_run : (w : WatchWorld) (n : ℕ) → run_of turn_with_watchpoints host_closed host_exit n w ≡ run_with_watchpoints w n
+client_run w n =
+    ap (closed_by host_closed host_exit) (client_turns w n) ∙ bounded_by (turns_with_watchpoints w n) (turns_with_watchpoints w n).host.exit refl
 
-pub run_ended : (w after : HostWorld) (n : ℕ) → unwatched after ≡ run_of host_turn host_closed host_exit n (unwatched w) → after ≡ run w n
-run_ended w after n is = ap (λ (v : WatchWorld). v.host) (is ∙ host_run_is w n)
+-- the run of a host whose client has set no watchpoint ended so
+pub run_ended : (w : HostWorld) (s : Watching) (after : WatchWorld) (n : ℕ) → s ≡ no_watches →
+    after ≡ run_of turn_with_watchpoints host_closed host_exit n (record { host = w; watching = s }) → after.host ≡ watched_run w n
+unfolding watched_run
+run_ended w s after n none is =
+    let from : run_of turn_with_watchpoints host_closed host_exit n (record { host = w; watching = s })
+    ≡ run_of turn_with_watchpoints host_closed host_exit n (unwatched w) =
+    ap (λ (x : Watching). run_of turn_with_watchpoints host_closed host_exit n (record { host = w; watching = x })) none in
+    ap (λ (v : WatchWorld). v.host) (is ∙ from ∙ client_run (unwatched w) n)
 
-pub first : (w : HostWorld) → IsReady w → IsFirst host_console host_exit host_steps (unwatched w)
-first w ready = record { no_exit = ready.no_exit; no_steps = ready.no_turn; no_bytes = ready.no_bytes }
+-- what a client is after its next turn
+pub next_turn : (first now after : WatchWorld) (n : ℕ) → now ≡ turns_of turn_with_watchpoints n first → after ≡ turn_with_watchpoints now →
+    after ≡ turns_of turn_with_watchpoints (n + 1) first
+next_turn first now after n so_far is = is ∙ ap turn_with_watchpoints so_far ∙ sym (turns_more turn_with_watchpoints n first)
+
+-- the turns up to an exit are all
+pub all_turns : (first after : WatchWorld) (n bound : ℕ) → after ≡ turns_of turn_with_watchpoints n first → n ≤ bound → IsSome after.host.exit →
+    after ≡ turns_of turn_with_watchpoints bound first
+all_turns first after n bound is le ended = is ∙ sym (over (client_of stays counts extends) first after n bound is le ended)
+
+-- a host whose run ends at once is closed
+pub close_is : (w : WatchWorld) → w.host.exit ≡ None → record w { host = bounded w.host } ≡ host_closed w
+close_is w none = ap (with_host w) (ended_is w.host none)
+
+pub first : (w : HostWorld) (s : Watching) → IsReady w → IsFirst host_console host_exit host_steps (record { host = w; watching = s })
+first w s ready = record { no_exit = ready.no_exit; no_steps = ready.no_turn; no_bytes = ready.no_bytes }
 
 -- ---- the answer
 
 -- the runs of two clients in turns ended so, and their text was written
-pub gives_pair : (slice bound : ℕ) (a b end_a end_b : HostWorld) (before now : Shown) (m n result : ℕ) → RunKeepsTheLaws a → RunKeepsTheLaws b →
-    end_a ≡ run a bound → end_b ≡ run b bound → Gains before now (pair_text slice bound a b) → result ≡ max (run_status end_a) (run_status end_b) →
+pub gives_pair : (slice bound : ℕ) (a b end_a end_b : HostWorld) (before now : Shown) (m n result : ℕ) → RunKeepsTheLaws a None →
+    RunKeepsTheLaws b None →
+    end_a ≡ watched_run a bound → end_b ≡ watched_run b bound → Gains before now (pair_text slice bound a b) →
+    result ≡ max (run_status end_a) (run_status end_b) →
     Answers (StartsPair slice bound a b) before now m n result
 gives_pair slice bound a b end_a end_b before now m n result laws_a laws_b is_a is_b written status =
-    whole (StartsPair slice bound a b) before now m n result (laws_a, laws_b) (pair_status-small (run a bound) (run b bound))
-    (status ∙ ap (λ (w : HostWorld). pair_status w end_b) is_a ∙ ap (λ (w : HostWorld). pair_status (run a bound) w) is_b)
+    whole (StartsPair slice bound a b) before now m n result (laws_a, laws_b) (pair_status-small (watched_run a bound) (watched_run b bound))
+    (status ∙ ap (λ (w : HostWorld). pair_status w end_b) is_a ∙ ap (λ (w : HostWorld). pair_status (watched_run a bound) w) is_b)
     written
 
-pub gives_pair_cut : (slice bound : ℕ) (a b : HostWorld) (before now : Shown) (m n : ℕ) → RunKeepsTheLaws a → RunKeepsTheLaws b →
+pub gives_pair_cut : (slice bound : ℕ) (a b : HostWorld) (before now : Shown) (m n : ℕ) → RunKeepsTheLaws a None → RunKeepsTheLaws b None →
     GainsPart before now (pair_text slice bound a b) → Rose m n → Answers (StartsPair slice bound a b) before now m n 4
 gives_pair_cut slice bound a b before now m n laws_a laws_b part rose =
-    cut (StartsPair slice bound a b) before now m n (laws_a, laws_b) (pair_status-small (run a bound) (run b bound)) part rose
+    cut (StartsPair slice bound a b) before now m n (laws_a, laws_b) (pair_status-small (watched_run a bound) (watched_run b bound)) part rose
+
+-- ---- the slices, from hosts whose clients have set no watchpoint
+
+abbrev sliced_from : ℕ → HostWorld → Watching → OwnRun
+sliced_from bound w s = own_run turn_with_watchpoints host_console host_steps bound (record { host = w; watching = s })
+
+same_slices : (slice bound : ℕ) (a b : HostWorld) (s t : Watching) → s ≡ no_watches → t ≡ no_watches →
+    slices_text slice (sliced_from bound a s) (sliced_from bound b t) ≡ slices_text slice (sliced bound a) (sliced bound b)
+same_slices slice bound a b s t none_a none_b =
+    ap (λ x. slices_text slice (sliced_from bound a x) (sliced_from bound b t)) none_a
+    ∙ ap (λ x. slices_text slice (sliced bound a) (sliced_from bound b x)) none_b
+
+pub slices_gained : (slice bound : ℕ) (a b : HostWorld) (s t : Watching) (x y : Shown) → s ≡ no_watches → t ≡ no_watches →
+    Gains x y (slices_text slice (sliced_from bound a s) (sliced_from bound b t)) → Gains x y (slices_text slice (sliced bound a) (sliced bound b))
+slices_gained slice bound a b s t x y none_a none_b whole = subst (λ l. Gains x y l) (same_slices slice bound a b s t none_a none_b) whole
+
+pub slices_part : (slice bound : ℕ) (a b : HostWorld) (s t : Watching) (x y : Shown) → s ≡ no_watches → t ≡ no_watches →
+    GainsPart x y (slices_text slice (sliced_from bound a s) (sliced_from bound b t)) →
+    GainsPart x y (slices_text slice (sliced bound a) (sliced bound b))
+slices_part slice bound a b s t x y none_a none_b part = subst (λ l. GainsPart x y l) (same_slices slice bound a b s t none_a none_b) part
+
+-- ---- the text of a pair, in its three parts
+
+pub pair_written : (slice bound : ℕ) (a b end_a end_b : HostWorld) (x y z u : Shown) → end_a ≡ watched_run a bound → end_b ≡ watched_run b bound →
+    Gains x y (slices_text slice (sliced bound a) (sliced bound b)) → Gains y z (client_part A end_a) → Gains z u (client_part B end_b) →
+    Gains x u (pair_text slice bound a b)
+pair_written slice bound a b end_a end_b x y z u is_a is_b slices first_text second_text =
+    gains_then x y u (slices_text slice (sliced bound a) (sliced bound b))
+    (client_part A (watched_run a bound) ++ client_part B (watched_run b bound)) slices
+    (gains_then y z u (client_part A (watched_run a bound)) (client_part B (watched_run b bound))
+    (subst (λ (w : HostWorld). Gains y z (client_part A w)) is_a first_text)
+    (subst (λ (w : HostWorld). Gains z u (client_part B w)) is_b second_text))
+
+pub slices_cut : (slice bound : ℕ) (a b : HostWorld) (x y : Shown) → GainsPart x y (slices_text slice (sliced bound a) (sliced bound b)) →
+    GainsPart x y (pair_text slice bound a b)
+slices_cut slice bound a b x y part =
+    part_longer x y (slices_text slice (sliced bound a) (sliced bound b))
+    (client_part A (watched_run a bound) ++ client_part B (watched_run b bound)) part
+
+pub first_cut : (slice bound : ℕ) (a b end_a : HostWorld) (x y z : Shown) → end_a ≡ watched_run a bound →
+    Gains x y (slices_text slice (sliced bound a) (sliced bound b)) → GainsPart y z (client_part A end_a) → GainsPart x z (pair_text slice bound a b)
+first_cut slice bound a b end_a x y z is_a slices part =
+    part_then x y z (slices_text slice (sliced bound a) (sliced bound b))
+    (client_part A (watched_run a bound) ++ client_part B (watched_run b bound)) slices
+    (part_longer y z (client_part A (watched_run a bound)) (client_part B (watched_run b bound))
+    (subst (λ (w : HostWorld). GainsPart y z (client_part A w)) is_a part))
+
+pub second_cut : (slice bound : ℕ) (a b end_a end_b : HostWorld) (x y z u : Shown) → end_a ≡ watched_run a bound → end_b ≡ watched_run b bound →
+    Gains x y (slices_text slice (sliced bound a) (sliced bound b)) → Gains y z (client_part A end_a) → GainsPart z u (client_part B end_b) →
+    GainsPart x u (pair_text slice bound a b)
+second_cut slice bound a b end_a end_b x y z u is_a is_b slices first_text part =
+    part_then x y u (slices_text slice (sliced bound a) (sliced bound b))
+    (client_part A (watched_run a bound) ++ client_part B (watched_run b bound)) slices
+    (part_then y z u (client_part A (watched_run a bound)) (client_part B (watched_run b bound))
+    (subst (λ (w : HostWorld). Gains y z (client_part A w)) is_a first_text)
+    (subst (λ (w : HostWorld). GainsPart z u (client_part B w)) is_b part))

@@ -10,10 +10,10 @@ use Rattle.host_run.specs.Start.{started_host}
 use Rattle.dpmi_words.specs.Meaning.{Meaning, PairMeaning, Pairs, meaning}
 use Rattle.dpmi_io.specs.Content.{Files, Lacks}
 use Rattle.pair_run.specs.declared.lines.Letter.TheVariants.{A, B}
-use Rattle.dpmi_cli.specs.declared.prepare.Reason.TheVariants.{FileOf, LoadOf}
+use Rattle.dpmi_cli.specs.declared.prepare.Reason.TheVariants.{FileTooLongOf, LoadOf}
 use Rattle.dpmi_cli.specs.Answer.{Verdict, Refuses, StartsPair, answer_to, first_load, first_verdict, limited, pair_verdict, second_load, second_verdict, verdict_of}
 use Rattle.dpmi_cli.specs.Causes.{IsAbsent, NamedFailed, OfFiles}
-use Rattle.dpmi_cli.specs.Load.{FailsAt, HasFile, HasPairVerdict, HasSecondVerdict, LacksEither, PairFails}
+use Rattle.dpmi_cli.specs.Load.{FailsAt, HasFile, HasPairRanges, HasPairVerdict, HasSecondVerdict, IsNew, IsReady, LacksEither, PairFails}
 use Rattle.dpmi_cli.specs.Words.{names_in}
 use Rattle.dpmi_cli.proofs.Files.{blames_first, blames_later, of_files_each, of_files_map}
 
@@ -51,27 +51,34 @@ first_comes files p read v has next =
     (λ first q. of_files_map files (λ second. first_verdict p second read ≡ Some v) (λ second. pair_verdict p first second ≡ Some v) next
     (λ second r. of_first (first p.first) p second read v q r))
 
-pub first_too_long : (files : Option Files) (p : PairMeaning) → HasFile MAX_FILE files p.first None → HasPairVerdict files p (Refuses (FileOf A))
+pub first_too_long : (files : Option Files) (p : PairMeaning) → HasFile MAX_FILE files p.first None →
+    HasPairVerdict files p (Refuses (FileTooLongOf A))
 first_too_long files p has =
-    first_comes files p None (Refuses (FileOf A)) has
-    (of_files_each files (λ second. first_verdict p second None ≡ Some (Refuses (FileOf A))) (λ second. refl))
+    first_comes files p None (Refuses (FileTooLongOf A)) has
+    (of_files_each files (λ second. first_verdict p second None ≡ Some (Refuses (FileTooLongOf A))) (λ second. refl))
 
 -- the loads
+
+pub second_refused : (p : PairMeaning) (a : HostWorld) (b : List ℕ) (fault : LoadFault) → refusal b ≡ Some fault →
+    second_load p a b (refusal b) ≡ Refuses (LoadOf B fault)
+second_refused p a b fault is = ap (second_load p a b) is
+
+pub second_taken : (p : PairMeaning) (a : HostWorld) (b : List ℕ) (w : HostWorld) → refusal b ≡ None →
+    w ≡ started_host p.pages_b [] DEFAULT_TRACE b → second_load p a b (refusal b) ≡ StartsPair p.slice p.bound a w
+second_taken p a b w taken start = ap (second_load p a b) taken ∙ ap (StartsPair p.slice p.bound a) (sym start)
 
 pub first_refused : (p : PairMeaning) (a b : List ℕ) (fault : LoadFault) → refusal a ≡ Some fault →
     first_load p a b (refusal a) ≡ Refuses (LoadOf A fault)
 first_refused p a b fault is = ap (first_load p a b) is
 
-pub second_refused : (p : PairMeaning) (a b : List ℕ) (fault : LoadFault) → refusal a ≡ None → refusal b ≡ Some fault →
-    first_load p a b (refusal a) ≡ Refuses (LoadOf B fault)
-second_refused p a b fault taken is = ap (first_load p a b) taken ∙ ap (second_load p a b) is
+pub first_taken : (p : PairMeaning) (a b : List ℕ) (w : HostWorld) (v : Verdict) → refusal a ≡ None →
+    w ≡ started_host p.pages_a [] DEFAULT_TRACE a → second_load p w b (refusal b) ≡ v → first_load p a b (refusal a) ≡ v
+first_taken p a b w v taken start second =
+    ap (first_load p a b) taken ∙ ap (λ (x : HostWorld). second_load p x b (refusal b)) (sym start) ∙ second
 
-pub both_taken : (p : PairMeaning) (a b : List ℕ) (v w : HostWorld) → refusal a ≡ None → refusal b ≡ None →
-    v ≡ started_host p.pages_a [] DEFAULT_TRACE a → w ≡ started_host p.pages_b [] DEFAULT_TRACE b →
-    first_load p a b (refusal a) ≡ StartsPair p.slice p.bound v w
-both_taken p a b v w first second start_a start_b =
-    ap (first_load p a b) first ∙ ap (second_load p a b) second
-    ∙ ap (λ x. StartsPair p.slice p.bound x (started_host p.pages_b [] DEFAULT_TRACE b)) (sym start_a) ∙ ap (StartsPair p.slice p.bound v) (sym start_b)
+-- two clients that are loaded may take turns
+pub new_pair : (p : PairMeaning) (a b : HostWorld) → HasPairRanges p → IsReady a → IsReady b → IsNew (StartsPair p.slice p.bound a b)
+new_pair p a b ranges first second = (first, second, ranges.turns)
 
 -- failures at the files of a pair
 
@@ -91,7 +98,8 @@ without_second fs p read (Some a) has none =
     let same : limited MAX_FILE a ≡ Some read = cc in
     ap (λ k. first_verdict p fs k) same ∙ ap (λ o. option_map (λ b. second_verdict p read (limited MAX_FILE b)) o) none
 
-no_second : (files : Option Files) (p : PairMeaning) (read : List ℕ) → HasFile MAX_FILE files p.first (Some read) → Lacks files p.second → LacksEither files p
+no_second : (files : Option Files) (p : PairMeaning) (read : List ℕ) → HasFile MAX_FILE files p.first (Some read) → Lacks files p.second →
+    LacksEither files p
 no_second None p read has lacks = lacks
 no_second (Some fs) p read has lacks = without_second fs p read (fs p.first) has lacks
 
@@ -101,11 +109,13 @@ second_fails files p read before now blamed has (inl failed) =
     inl (failed.0, blames_later blamed p.first (p.second ∷ []) (blames_first blamed p.second [] failed.1))
 second_fails files p read before now blamed has (inr lacks) = inr (no_second files p read has lacks)
 
-absent_pair : (words : List (List ℕ)) (files : Option Files) (p : PairMeaning) → meaning words ≡ Some (Pairs p) → LacksEither files p → IsAbsent words files
+absent_pair : (words : List (List ℕ)) (files : Option Files) (p : PairMeaning) → meaning words ≡ Some (Pairs p) → LacksEither files p →
+    IsAbsent words files
 absent_pair words None p is lacks = lacks
 absent_pair words (Some fs) p is lacks = ap (λ m. option_map answer_to (verdict_of m fs fs)) is ∙ ap (option_map answer_to) lacks
 
-pub pair_fails : (words : List (List ℕ)) (files : Option Files) (p : PairMeaning) (before now : ℕ) (blamed : Option (List ℕ)) → meaning words ≡ Some (Pairs p) →
+pub pair_fails : (words : List (List ℕ)) (files : Option Files) (p : PairMeaning) (before now : ℕ) (blamed : Option (List ℕ)) →
+    meaning words ≡ Some (Pairs p) →
     PairFails files p before now blamed → NamedFailed words before now blamed ⊎ IsAbsent words files
 pair_fails words files p before now blamed is (inl failed) =
     inl (failed.0, subst (λ m. IsSomeAnd blamed (λ b. Contains (names_in m) b)) (sym is) failed.1)

@@ -4,17 +4,17 @@ use Rattle.std.specs.Prelude.{◌&&◌, codes, option_map, option_and_then}
 use Rattle.std.specs.Str.{bytes_eq}
 use Rattle.std.specs.Str.Parse.{digits_value}
 use Rattle.std.proofs.lemmas.Bool.{and_parts, cases_Bool, leb-true}
-use Rattle.client_world.specs.declared.limits.TheConstants.{MAX_STEPS, DEFAULT_BOUND, MAX_PAGES, DEFAULT_PAGES, MAX_TRACE, DEFAULT_TRACE}
+use Rattle.client_world.specs.declared.limits.TheConstants.{MAX_STEPS, DEFAULT_BOUND, MAX_PAGES, MAX_PAIR_PAGES, DEFAULT_PAGES, MAX_TRACE, DEFAULT_TRACE, DEFAULT_SLICE, GREATEST_TIMER, MAX_SLICE}
 use Rattle.dpmi_words.specs.Meaning.{Keys, PairMeaning, RunMeaning, Runs, Soaks, Pairs, pair_meaning, pair_of_values, pair_with, run_with, run_of_values, run_meaning, soak_meaning, meaning}
-use Rattle.dpmi_words.specs.Numbers.{is_between, is_decimal, number_in_text, number_or}
+use Rattle.dpmi_words.specs.Numbers.{number_if_given, is_between, is_decimal, number_in_text, number_or}
 use Rattle.dpmi_words.specs.Reading.{Text, first_name, second_name, given_by, one_operand, pair_operands, pair_options, run_options, value_given}
-use Rattle.client_world.specs.declared.limits.TheConstants.{DEFAULT_SLICE, MAX_SLICE}
-use Rattle.dpmi_cli.specs.Load.{HasPairRanges, HasRanges}
+use Rattle.dpmi_cli.specs.Load.{CanTick, HasPairRanges, HasRanges}
 
 in_text : (digits least most n : ℕ) (text : Text) → number_in_text digits least most text ≡ Some n → (least ≤ n) × (n ≤ most)
 in_text digits least most n text e = elim (cases_Bool (is_decimal digits text && is_between least most (digits_value 10 text))) [
   | inl t ↦
-      let both = and_parts (nat_le least (digits_value 10 text)) (nat_le (digits_value 10 text) most) (and_parts (is_decimal digits text) (is_between least most (digits_value 10 text)) t).1 in
+      let both = and_parts (nat_le least (digits_value 10 text)) (nat_le (digits_value 10 text) most)
+      (and_parts (is_decimal digits text) (is_between least most (digits_value 10 text)) t).1 in
       let is : Some (digits_value 10 text) ≡ Some n = rw t at e in
       let same : digits_value 10 text ≡ n = cc in
       let low = leb-true least (digits_value 10 text) both.0 in
@@ -23,38 +23,61 @@ in_text digits least most n text e = elim (cases_Bool (is_decimal digits text &&
   | inr f ↦ let is : None ≡ Some n = rw f at e in absurd cc
 ]
 
-in_range : (usual least most n : ℕ) (text : Option Text) → least ≤ usual → usual ≤ most → number_or usual least most text ≡ Some n → (least ≤ n) × (n ≤ most)
+in_range : (usual least most n : ℕ) (text : Option Text) → least ≤ usual → usual ≤ most → number_or usual least most text ≡ Some n →
+    (least ≤ n) × (n ≤ most)
 in_range usual least most n None low high e = let same : usual ≡ n = cc in (omega arith, omega arith)
 in_range usual least most n (Some text) low high e = in_text 10 least most n text e
 
-abbrev Parts : Option ℕ → Option ℕ → Option ℕ → RunMeaning → Type 0
-Parts bound pages trace r = (bound ≡ Some r.bound) × (pages ≡ Some r.pages) × (trace ≡ Some r.trace)
+of_map : (o : Option ℕ) (n : ℕ) → option_map Some o ≡ Some (Some n) → o ≡ Some n
+of_map None n e = absurd cc
+of_map (Some m) n e = let same : m ≡ n = cc in ap Some same
 
-parts : (file : Option Text) (keys : Option Keys) (bound pages trace : Option ℕ) (r : RunMeaning) → run_with file keys bound pages trace ≡ Some r →
-    Parts bound pages trace r
-parts None keys bound pages trace r e = absurd cc
-parts (Some f) None bound pages trace r e = absurd cc
-parts (Some f) (Some k) None pages trace r e = absurd cc
-parts (Some f) (Some k) (Some b) None trace r e = absurd cc
-parts (Some f) (Some k) (Some b) (Some p) None r e = absurd cc
-parts (Some f) (Some k) (Some b) (Some p) (Some t) r e =
-    let same : record { file = f; keys = k; bound = b; pages = p; trace = t } ≡ r = cc in
-    (ap (λ (x : RunMeaning). Some x.bound) same, ap (λ (x : RunMeaning). Some x.pages) same, ap (λ (x : RunMeaning). Some x.trace) same)
+timer_range : (timer : Option ℕ) (text : Option Text) → number_if_given 1 GREATEST_TIMER text ≡ Some timer → CanTick timer
+timer_range None text e = tt
+timer_range (Some every) None e = absurd cc
+timer_range (Some every) (Some text) e =
+    let n = in_text 10 1 GREATEST_TIMER every text (of_map (number_in_text 10 1 GREATEST_TIMER text) every e) in
+    (omega (arith, n.0), n.1)
+
+record Parts (bound pages trace : Option ℕ) (timer : Option (Option ℕ)) (r : RunMeaning) : Type 0 where
+  bound_is : bound ≡ Some r.bound
+  pages_is : pages ≡ Some r.pages
+  trace_is : trace ≡ Some r.trace
+  timer_is : timer ≡ Some r.timer
+
+parts : (file : Option Text) (keys : Option Keys) (bound pages trace : Option ℕ) (timer : Option (Option ℕ)) (r : RunMeaning) →
+    run_with file keys bound pages trace timer ≡ Some r → Parts bound pages trace timer r
+parts None keys bound pages trace timer r e = absurd cc
+parts (Some f) None bound pages trace timer r e = absurd cc
+parts (Some f) (Some k) None pages trace timer r e = absurd cc
+parts (Some f) (Some k) (Some b) None trace timer r e = absurd cc
+parts (Some f) (Some k) (Some b) (Some p) None timer r e = absurd cc
+parts (Some f) (Some k) (Some b) (Some p) (Some t) None r e = absurd cc
+parts (Some f) (Some k) (Some b) (Some p) (Some t) (Some every) r e =
+    let same : record { file = f; keys = k; bound = b; pages = p; trace = t; timer = every } ≡ r = cc in
+    record {
+      bound_is = ap (λ (x : RunMeaning). Some x.bound) same;
+      pages_is = ap (λ (x : RunMeaning). Some x.pages) same;
+      trace_is = ap (λ (x : RunMeaning). Some x.trace) same;
+      timer_is = ap (λ (x : RunMeaning). Some x.timer) same;
+    }
 
 of_values : (value : Text → Option Text) (r : RunMeaning) → run_of_values value ≡ Some r → HasRanges r
 of_values value r e =
-    let each = parts _ _ _ _ _ r e in
-    let bound = in_range DEFAULT_BOUND 1 MAX_STEPS r.bound (value (codes "bound")) (omega arith) (omega arith) each.0 in
-    let pages = in_range DEFAULT_PAGES 1 MAX_PAGES r.pages (value (codes "pages")) (omega arith) (omega arith) each.1 in
-    let trace = in_range DEFAULT_TRACE 0 MAX_TRACE r.trace (value (codes "trace")) (omega arith) (omega arith) each.2 in
+    let each = parts _ _ _ _ _ _ r e in
+    let bound = in_range DEFAULT_BOUND 1 MAX_STEPS r.bound (value (codes "bound")) (omega arith) (omega arith) each.bound_is in
+    let pages = in_range DEFAULT_PAGES 1 MAX_PAGES r.pages (value (codes "pages")) (omega arith) (omega arith) each.pages_is in
+    let trace = in_range DEFAULT_TRACE 0 MAX_TRACE r.trace (value (codes "trace")) (omega arith) (omega arith) each.trace_is in
     record {
       some_pages = omega (arith, pages.0);
       pages = pages.1;
       trace = trace.1;
       bound = bound.1;
+      timer = timer_range r.timer (value (codes "timer")) each.timer_is;
     }
 
-of_given : (given : Option (List (Text × Text))) (r : RunMeaning) → option_and_then (λ g. run_of_values (λ name. value_given name g)) given ≡ Some r → HasRanges r
+of_given : (given : Option (List (Text × Text))) (r : RunMeaning) →
+    option_and_then (λ g. run_of_values (λ name. value_given name g)) given ≡ Some r → HasRanges r
 of_given None r e = absurd cc
 of_given (Some g) r e = of_values (λ name. value_given name g) r e
 
@@ -120,17 +143,14 @@ of_pair_values value p e =
     let each = pair_parts _ _ _ _ _ _ p e in
     let slice = in_range DEFAULT_SLICE 1 MAX_SLICE p.slice (value (codes "slice")) (omega arith) (omega arith) each.slice_is in
     let bound = in_range DEFAULT_BOUND 1 MAX_STEPS p.bound (value (codes "bound")) (omega arith) (omega arith) each.bound_is in
-    let pages_a = in_range DEFAULT_PAGES 1 MAX_PAGES p.pages_a (value (codes "pages-a")) (omega arith) (omega arith) each.pages_a_is in
-    let pages_b = in_range DEFAULT_PAGES 1 MAX_PAGES p.pages_b (value (codes "pages-b")) (omega arith) (omega arith) each.pages_b_is in
+    let pages_a = in_range DEFAULT_PAGES 1 MAX_PAIR_PAGES p.pages_a (value (codes "pages-a")) (omega arith) (omega arith) each.pages_a_is in
+    let pages_b = in_range DEFAULT_PAGES 1 MAX_PAIR_PAGES p.pages_b (value (codes "pages-b")) (omega arith) (omega arith) each.pages_b_is in
     record {
-      some_turns = omega (arith, slice.0);
-      slice = slice.1;
-      some_bound = omega (arith, bound.0);
-      bound = bound.1;
+      turns = record { some_turns = omega (arith, slice.0); few_turns = slice.1; some_bound = omega (arith, bound.0); few_steps = bound.1 };
       some_pages_a = omega (arith, pages_a.0);
-      pages_a = pages_a.1;
+      pages_a = omega (arith, pages_a.1);
       some_pages_b = omega (arith, pages_b.0);
-      pages_b = pages_b.1;
+      pages_b = omega (arith, pages_b.1);
     }
 
 of_pair_given : (given : Option (List (Text × Text))) (p : PairMeaning) →

@@ -1,6 +1,7 @@
 -- The answer that a run gives, written whole or cut off.
 use Rattle.std.proofs.Common.{arith, ◌≡◌, ◌<◌, ◌≤◌, ◌+◌, inl, inr, ℕ, List, length, sym, ◌∙◌, subst, refl, ap}
-use Rattle.std.specs.Prelude.{Some, Result, Ok, Err, OnOk, OnErr}
+use Rattle.std.specs.Prelude.{None, Some, Result, Ok, Err, OnOk, OnErr}
+use Rattle.std.specs.declared.option.Option.{Option}
 use Rattle.std.proofs.lemmas.List.{take_all}
 use Rattle.client_world.specs.declared.outcome.Exit.{Exit}
 use Rattle.client_world.specs.declared.limits.TheConstants.{DEFAULT_BOUND}
@@ -9,7 +10,7 @@ use Rattle.client_world.specs.Soundness.{IsSound}
 use Rattle.host_run.specs.HandOver.{HandsOver}
 use Rattle.host_run.specs.Nested.{HasTurns, IsHandedOver, LastPush, Matched, host_depth}
 use Rattle.host_run.specs.RealCalls.{InterruptSource}
-use Rattle.host_run.specs.Run.{run}
+use Rattle.watch_run.specs.Turn.{watched_run}
 use Rattle.dpmi_io.specs.Causes.{Rose}
 use Rattle.dpmi_io.specs.Content.{Shown, Gains, GainsPart}
 use Rattle.dpmi_report.specs.Summary.{summary, summary_at}
@@ -18,6 +19,7 @@ use Rattle.dpmi_cli.specs.declared.prepare.Reason.{Reason}
 use Rattle.dpmi_cli.specs.Answer.{Verdict, Refuses, Starts, StartsMade, answer_to, exit_status, run_status}
 use Rattle.dpmi_cli.specs.Causes.{Answers}
 use Rattle.dpmi_cli.specs.Laws.{OfItsRun, KeepsTheLaws, NestsByOneRecord, ReturnsInOrder, RunKeepsTheLaws, RunSeen, TouchesWhatIsHeld}
+use Rattle.dpmi_cli.specs.Runs.{host_at_end}
 use Rattle.dpmi_cli.specs.Text.{refused}
 use Rattle.dpmi_cli.proofs.SmallStatus.{run_status-small}
 
@@ -77,31 +79,35 @@ cut v before now m n laws small part rose = record {
 }
 
 -- the run of a client up to a bound ended so, and its text was written
-pub gives_run : (w after : HostWorld) (bound : ℕ) (e : Exit) (before now : Shown) (m n result : ℕ) → RunKeepsTheLaws w →
-    after ≡ run w bound → after.exit ≡ Some e → Gains before now (text after) → result ≡ exit_status e →
-    Answers (Starts w bound) before now m n result
-gives_run w after bound e before now m n result laws is ended written status =
-    whole (Starts w bound) before now m n result laws (run_status-small (run w bound)) (status ∙ sym (status_is after e ended) ∙ ap run_status is)
+pub gives_run : (w after : HostWorld) (timer : Option ℕ) (bound : ℕ) (e : Exit) (before now : Shown) (m n result : ℕ) → RunKeepsTheLaws w timer →
+    after ≡ host_at_end w timer bound → after.exit ≡ Some e → Gains before now (text after) → result ≡ exit_status e →
+    Answers (Starts w timer bound) before now m n result
+gives_run w after timer bound e before now m n result laws is exited written status =
+    whole (Starts w timer bound) before now m n result laws (run_status-small (host_at_end w timer bound))
+    (status ∙ sym (status_is after e exited) ∙ ap run_status is)
     (subst (λ (v : HostWorld). Gains before now (text v)) is written)
 
-pub gives_cut : (w after : HostWorld) (bound : ℕ) (before now : Shown) (m n : ℕ) → RunKeepsTheLaws w → after ≡ run w bound →
-    GainsPart before now (text after) → Rose m n → Answers (Starts w bound) before now m n 4
-gives_cut w after bound before now m n laws is part rose =
-    cut (Starts w bound) before now m n laws (run_status-small (run w bound)) (subst (λ (v : HostWorld). GainsPart before now (text v)) is part) rose
+pub gives_cut : (w after : HostWorld) (timer : Option ℕ) (bound : ℕ) (before now : Shown) (m n : ℕ) → RunKeepsTheLaws w timer →
+    after ≡ host_at_end w timer bound →
+    GainsPart before now (text after) → Rose m n → Answers (Starts w timer bound) before now m n 4
+gives_cut w after timer bound before now m n laws is part rose =
+    cut (Starts w timer bound) before now m n laws (run_status-small (host_at_end w timer bound))
+    (subst (λ (v : HostWorld). GainsPart before now (text v)) is part) rose
 
 -- the same of a made client and its summary
-pub gives_summary : (number : ℕ) (w after : HostWorld) (e : Exit) (before now : Shown) (m n result : ℕ) → RunKeepsTheLaws w →
-    after ≡ run w DEFAULT_BOUND → after.exit ≡ Some e → Gains before now (summary_at number after e) → result ≡ exit_status e →
+pub gives_summary : (number : ℕ) (w after : HostWorld) (e : Exit) (before now : Shown) (m n result : ℕ) → RunKeepsTheLaws w None →
+    after ≡ watched_run w DEFAULT_BOUND → after.exit ≡ Some e → Gains before now (summary_at number after e) → result ≡ exit_status e →
     Answers (StartsMade number w) before now m n result
 gives_summary number w after e before now m n result laws is ended written status =
-    whole (StartsMade number w) before now m n result laws (run_status-small (run w DEFAULT_BOUND)) (status ∙ sym (status_is after e ended) ∙ ap run_status is)
+    whole (StartsMade number w) before now m n result laws (run_status-small (watched_run w DEFAULT_BOUND))
+    (status ∙ sym (status_is after e ended) ∙ ap run_status is)
     (subst (λ l. Gains before now l) (summary_is number after e ended ∙ ap (summary number) is) written)
 
-pub gives_summary_cut : (number : ℕ) (w after : HostWorld) (e : Exit) (before now : Shown) (m n : ℕ) → RunKeepsTheLaws w →
-    after ≡ run w DEFAULT_BOUND → after.exit ≡ Some e → GainsPart before now (summary_at number after e) → Rose m n →
+pub gives_summary_cut : (number : ℕ) (w after : HostWorld) (e : Exit) (before now : Shown) (m n : ℕ) → RunKeepsTheLaws w None →
+    after ≡ watched_run w DEFAULT_BOUND → after.exit ≡ Some e → GainsPart before now (summary_at number after e) → Rose m n →
     Answers (StartsMade number w) before now m n 4
 gives_summary_cut number w after e before now m n laws is ended part rose =
-    cut (StartsMade number w) before now m n laws (run_status-small (run w DEFAULT_BOUND))
+    cut (StartsMade number w) before now m n laws (run_status-small (watched_run w DEFAULT_BOUND))
     (subst (λ l. GainsPart before now l) (summary_is number after e ended ∙ ap (summary number) is) part) rose
 
 -- ---- the laws over rows of hosts, for one run
@@ -128,7 +134,8 @@ in_order source r nests depth partner stays = record {
 }
 
 -- a run of sound hosts whose instructions touch what the client holds and whose turns nest keeps them all
-pub keeps_the_laws : (source : InterruptSource) (r : RunSeen) → TouchesWhatIsHeld r → NestsByOneRecord source r → ((n : ℕ) → IsSound (r.host n).machine) →
+pub keeps_the_laws : (source : InterruptSource) (r : RunSeen) → TouchesWhatIsHeld r → NestsByOneRecord source r →
+    ((n : ℕ) → IsSound (r.host n).machine) →
     EachDepth → EachPartner → EachStays → EachHandsOver → KeepsTheLaws source r
 keeps_the_laws source r touches nests sound depth partner stays hands = record {
   every_touch_is_held = touches;

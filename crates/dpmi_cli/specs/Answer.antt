@@ -10,22 +10,23 @@ use Rattle.client_maker.specs.Made.{made}
 use Rattle.dpmi_words.specs.Meaning.{Keys, Pressed, Stored, RunMeaning, PairMeaning, Meaning, Runs, Soaks, Pairs, meaning}
 use Rattle.host_run.specs.Start.{started_host}
 use Rattle.mz_loader.specs.Refusal.{refusal}
-use Rattle.host_run.specs.Run.{run}
+use Rattle.watch_run.specs.Turn.{watched_run}
 use Rattle.dpmi_io.specs.Content.{Files}
 use Rattle.dpmi_report.specs.Summary.{summary}
 use Rattle.dpmi_report.specs.Text.{text}
 use Rattle.dpmi_cli.specs.declared.prepare.Reason.{Reason}
-use Rattle.dpmi_cli.specs.declared.prepare.Reason.TheVariants.{Words, FileTooLong, KeysTooLong, Load, FileOf, LoadOf}
+use Rattle.dpmi_cli.specs.declared.prepare.Reason.TheVariants.{Words, FileTooLong, KeysTooLong, Load, FileTooLongOf, LoadOf}
 use Rattle.dpmi_cli.specs.declared.status.TheConstants.{EXITED, ENDED_OTHERWISE, REFUSED}
 use Rattle.pair_run.specs.declared.lines.Letter.TheVariants.{A, B}
 use Rattle.dpmi_cli.specs.Pairs.{pair_text}
+use Rattle.dpmi_cli.specs.Runs.{host_at_end}
 use Rattle.dpmi_cli.specs.Text.{refused}
 
--- what comes of the words and the files: a refusal; the world in which a run starts and its bound; the number of a made client and
--- the world in which its run starts; or the turns of a slice, the bound and the worlds in which the runs of two clients start
+-- what comes of the words and the files: a refusal; the world in which a run starts, its timer, if it has one, and its bound; the number of a
+-- made client and the world in which its run starts; or the turns of a slice, the bound and the worlds in which the runs of two clients start
 pub data Verdict : Type 0 where
   Refuses : Reason → Verdict
-  Starts : HostWorld → ℕ → Verdict
+  Starts : HostWorld → Option ℕ → ℕ → Verdict
   StartsMade : ℕ → HostWorld → Verdict
   StartsPair : ℕ → ℕ → HostWorld → HostWorld → Verdict
 
@@ -41,7 +42,7 @@ keys_from (Stored name) files = files name
 -- the verdict on a client's file with these keystrokes
 abbrev pub load_verdict : RunMeaning → List ℕ → List ℕ → Verdict
 load_verdict r file keys = elim (refusal file) [
-  | None ↦ Starts (started_host r.pages keys r.trace file) r.bound
+  | None ↦ Starts (started_host r.pages keys r.trace file) r.timer r.bound
   | Some fault ↦ Refuses (Load fault)
 ]
 
@@ -66,27 +67,24 @@ made_verdict number = elim (refusal (made number)) [
   | Some fault ↦ Refuses (Load fault)
 ]
 
--- two clients that are loaded. They have no keystrokes, and the usual number of trace lines
-abbrev pub pair_start : PairMeaning → List ℕ → List ℕ → Verdict
-pair_start p a b = StartsPair p.slice p.bound (started_host p.pages_a [] DEFAULT_TRACE a) (started_host p.pages_b [] DEFAULT_TRACE b)
-
--- the first client's file is loaded, and then the second one's
-abbrev pub second_load : PairMeaning → List ℕ → List ℕ → Option LoadFault → Verdict
-second_load p a b None = pair_start p a b
+-- the load of the second client's file, once the first client is in this world. They have no keystrokes, and the usual number of trace lines
+abbrev pub second_load : PairMeaning → HostWorld → List ℕ → Option LoadFault → Verdict
+second_load p a b None = StartsPair p.slice p.bound a (started_host p.pages_b [] DEFAULT_TRACE b)
 second_load p a b (Some fault) = Refuses (LoadOf B fault)
 
+-- the load of the first one's file, and then of the second one's
 abbrev pub first_load : PairMeaning → List ℕ → List ℕ → Option LoadFault → Verdict
-first_load p a b None = second_load p a b (refusal b)
+first_load p a b None = second_load p (started_host p.pages_a [] DEFAULT_TRACE a) b (refusal b)
 first_load p a b (Some fault) = Refuses (LoadOf A fault)
 
 -- the verdict on the second client's file, and then on the loads
 abbrev pub second_verdict : PairMeaning → List ℕ → Option (List ℕ) → Verdict
-second_verdict p a None = Refuses (FileOf B)
+second_verdict p a None = Refuses (FileTooLongOf B)
 second_verdict p a (Some b) = first_load p a b (refusal a)
 
 -- the verdict on the first client's file, and then on the second one's; none where that isn't there
 abbrev pub first_verdict : PairMeaning → Files → Option (List ℕ) → Option Verdict
-first_verdict p files None = Some (Refuses (FileOf A))
+first_verdict p files None = Some (Refuses (FileTooLongOf A))
 first_verdict p files (Some a) = option_map (λ b. second_verdict p a (limited MAX_FILE b)) (files p.second)
 
 -- the verdict on a pair: both files are read first, and loaded then
@@ -133,11 +131,11 @@ pub record Answer : Type 0 where
 -- the answer to a verdict: the line of a refusal, the text of a run, the summary of the run of a made client, or the text of a pair
 abbrev pub answer_to : Verdict → Answer
 answer_to (Refuses reason) = record { text = refused reason; status = REFUSED }
-answer_to (Starts w bound) = let end = run w bound in record { text = text end; status = run_status end }
+answer_to (Starts w timer bound) = let end = host_at_end w timer bound in record { text = text end; status = run_status end }
 answer_to (StartsMade number w) =
-    let end = run w DEFAULT_BOUND in record { text = summary number end; status = run_status end }
+    let end = watched_run w DEFAULT_BOUND in record { text = summary number end; status = run_status end }
 answer_to (StartsPair slice bound a b) =
-    record { text = pair_text slice bound a b; status = pair_status (run a bound) (run b bound) }
+    record { text = pair_text slice bound a b; status = pair_status (watched_run a bound) (watched_run b bound) }
 
 -- the answer to the words, by the files
 abbrev pub answer : List (List ℕ) → Files → Option Answer

@@ -24,13 +24,13 @@ abbrev pub OfFiles : Option Files → (Files → Type 0) → Type 0
 OfFiles None P = (files : Files) × P files
 OfFiles (Some files) P = P files
 
--- the words and the files have such a verdict. Where the files aren't known, the words and some files have: one for the client's, and one
--- for that with the keystrokes, since a file may change between two readings
+-- the words and the files have such a verdict. Where the files aren't known, the words and some files have: one for the file that is read
+-- first, and one for the file that is read second, since a file may change between two readings
 abbrev pub HasVerdict : List (List ℕ) → Option Files → (Verdict → Type 0) → Type 0
 HasVerdict words files P = OfFiles files (λ first. OfFiles files (λ second. IsSomeAnd (verdict_of (meaning words) first second) P))
 
--- the call wrote and returned the answer to the verdict, but for what a failure of the output cut off; and the run that was answered keeps
--- the client to its memory, and nests and hands over as it should
+-- the call wrote and returned the answer to the verdict, but for what a failure of the output cut off; and each run that was answered keeps
+-- its client to its memory, and nests and hands over as it should
 pub record Answers (v : Verdict) (before now : Shown) (faults_before faults_now result : ℕ) : Type 0 where
   pub writes_the_answer : GainsPart before now (answer_to v).text
   pub status_of_the_answer :

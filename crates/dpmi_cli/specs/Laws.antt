@@ -1,21 +1,23 @@
--- What holds of the run that a verdict starts. Source: own.
-use Rattle.std.specs.Prelude.{◌+◌, ◌≤◌, ℕ, List, All, ⊤}
+-- What holds of the runs that a verdict starts. Source: own.
+use Rattle.std.specs.Prelude.{◌+◌, ◌≤◌, ℕ, List, All, None, Some, ⊤}
+use Rattle.std.specs.declared.option.Option.{Option}
 use Rattle.client_world.specs.declared.place.Place.{Place}
 use Rattle.client_world.specs.Access.{IsHeld}
+use Rattle.client_world.specs.WatchWorld.{unwatched}
 use Rattle.client_world.specs.World.{HostWorld}
 use Rattle.host_run.specs.HandOver.{HandsOver}
 use Rattle.host_run.specs.Nested.{IsHandedOver, LastPush, Matched, Stacked, host_depth}
-use Rattle.host_run.specs.RealCalls.{InterruptSource, from_client}
-use Rattle.host_run.specs.Run.{turns}
-use Rattle.host_run.specs.Touched.{touched_by_turn}
+use Rattle.host_run.specs.RealCalls.{InterruptSource, from_anywhere, from_client}
+use Rattle.watch_run.specs.Turn.{touched_by_watch_turn, turns_with_watchpoints, watched_turns}
+use Rattle.timer_run.specs.Rounds.{timed_rounds, timed_turns, touched_by_round}
 use Rattle.dpmi_cli.specs.Answer.{Verdict, Refuses, Starts, StartsMade, StartsPair}
 
--- it holds of the world in which the run starts, if one starts, or of those in which two start
-abbrev pub OfItsRun : (HostWorld → Type 0) → Verdict → Type 0
+-- it holds of the world in which the run starts and of its timer, if one starts, or of the worlds in which two start
+abbrev pub OfItsRun : (HostWorld → Option ℕ → Type 0) → Verdict → Type 0
 OfItsRun P (Refuses reason) = ⊤
-OfItsRun P (Starts w bound) = P w
-OfItsRun P (StartsMade number w) = P w
-OfItsRun P (StartsPair slice bound a b) = P a × P b
+OfItsRun P (Starts w timer bound) = P w timer
+OfItsRun P (StartsMade number w) = P w None
+OfItsRun P (StartsPair slice bound a b) = P a None × P b None
 
 -- a run as the laws see it: the host before each turn, and the places that the client instruction of each turn touches
 pub record RunSeen : Type 0 where
@@ -52,7 +54,13 @@ pub record KeepsTheLaws (source : InterruptSource) (r : RunSeen) : Type 0 where
 
 -- the run from a host, in which the client's interrupts alone are reflected
 abbrev pub seen_run : HostWorld → RunSeen
-seen_run w = record { host = turns w; touched = λ n. touched_by_turn (turns w n) }
+seen_run w = record { host = watched_turns w; touched = λ n. touched_by_watch_turn (turns_with_watchpoints (unwatched w) n) }
 
-abbrev pub RunKeepsTheLaws : HostWorld → Type 0
-RunKeepsTheLaws w = KeepsTheLaws from_client (seen_run w)
+-- the same of a run with a timer, whose interrupts are reflected too
+abbrev pub seen_timed_run : ℕ → HostWorld → RunSeen
+seen_timed_run every w = record { host = timed_turns every w; touched = λ n. touched_by_round every (timed_rounds every w n) }
+
+-- a run from a host, with its timer or without one, keeps the laws
+abbrev pub RunKeepsTheLaws : HostWorld → Option ℕ → Type 0
+RunKeepsTheLaws w None = KeepsTheLaws from_client (seen_run w)
+RunKeepsTheLaws w (Some every) = KeepsTheLaws from_anywhere (seen_timed_run every w)

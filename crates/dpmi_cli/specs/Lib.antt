@@ -3,6 +3,6 @@ pub mod Causes
 pub mod Laws
 pub mod Load
 pub mod Pairs
+pub mod Runs
 pub mod Text
-pub mod TurnGains
 pub mod Words

@@ -1,11 +1,10 @@
 -- What comes before a run: the files that are read, and the client that is loaded. Source: own.
 use Rattle.std.specs.Prelude.{ℕ, List, [], ◌∷◌, ◌≡◌, ◌≤◌, ◌<◌, ◌⊎◌, take, None, Some, Contains, IsSomeAnd, ⊤, option_map}
 use Rattle.std.specs.declared.option.Option.{Option}
-use Rattle.client_world.specs.declared.limits.TheConstants.{MAX_KEYS, MAX_PAGES, MAX_STEPS, MAX_TRACE}
+use Rattle.client_world.specs.declared.limits.TheConstants.{GREATEST_TIMER, MAX_KEYS, MAX_PAGES, MAX_SLICE, MAX_STEPS, MAX_TRACE}
 use Rattle.client_world.specs.World.{HostWorld}
 use Rattle.client_world.specs.Soundness.{IsSound}
 use Rattle.host_run.specs.Keys.{HasKeys}
-use Rattle.client_world.specs.declared.limits.TheConstants.{MAX_SLICE}
 use Rattle.dpmi_words.specs.Meaning.{Keys, PairMeaning, RunMeaning}
 use Rattle.dpmi_io.specs.Causes.{Rose}
 use Rattle.dpmi_io.specs.Content.{Files, Lacks}
@@ -66,10 +65,6 @@ abbrev pub PairFails : Option Files → PairMeaning → ℕ → ℕ → Option (
 PairFails files p before now blamed =
     (Rose before now × IsSomeAnd blamed (λ name. Contains (p.first ∷ p.second ∷ []) name)) ⊎ LacksEither files p
 
--- the second file failed in this call and is blamed, or the files are known and it isn't there
-abbrev pub SecondFails : Option Files → PairMeaning → ℕ → ℕ → Option (List ℕ) → Type 0
-SecondFails files p before now blamed = FailsAt files p.second before now blamed
-
 -- the verdict on a pair of which this is the first file, and the second one is read next
 abbrev pub HasSecondVerdict : Option Files → PairMeaning → List ℕ → Verdict → Type 0
 HasSecondVerdict files p a v = OfFiles files (λ fs. first_verdict p fs (Some a) ≡ Some v)
@@ -78,16 +73,25 @@ HasSecondVerdict files p a v = OfFiles files (λ fs. first_verdict p fs (Some a)
 abbrev pub HasPairVerdict : Option Files → PairMeaning → Verdict → Type 0
 HasPairVerdict files p v = OfFiles files (λ first. OfFiles files (λ second. pair_verdict p first second ≡ Some v))
 
+-- the turns of a slice and the bound are in their ranges
+pub record CanTakeTurns (slice bound : ℕ) : Type 0 where
+  pub some_turns : 0 < slice
+  pub few_turns : slice ≤ MAX_SLICE
+  pub some_bound : 0 < bound
+  pub few_steps : bound ≤ MAX_STEPS
+
 -- the numbers of a pair are such as two hosts and their turns take
 pub record HasPairRanges (p : PairMeaning) : Type 0 where
-  pub some_turns : 0 < p.slice
-  pub slice : p.slice ≤ MAX_SLICE
-  pub some_bound : 0 < p.bound
-  pub bound : p.bound ≤ MAX_STEPS
+  pub turns : CanTakeTurns p.slice p.bound
   pub some_pages_a : 0 < p.pages_a
   pub pages_a : p.pages_a ≤ MAX_PAGES
   pub some_pages_b : 0 < p.pages_b
   pub pages_b : p.pages_b ≤ MAX_PAGES
+
+-- the number of a timer's rounds is in its range; there may be no timer
+abbrev pub CanTick : Option ℕ → Type 0
+CanTick None = ⊤
+CanTick (Some every) = (0 < every) × (every ≤ GREATEST_TIMER)
 
 -- the numbers of a run are such as a host takes
 pub record HasRanges (r : RunMeaning) : Type 0 where
@@ -95,13 +99,14 @@ pub record HasRanges (r : RunMeaning) : Type 0 where
   pub pages : r.pages ≤ MAX_PAGES
   pub trace : r.trace ≤ MAX_TRACE
   pub bound : r.bound ≤ MAX_STEPS
+  pub timer : CanTick r.timer
 
 -- the verdict that was prepared
 abbrev pub verdict_in : Prepared → Verdict
 verdict_in (prepared.Refused reason) = Refuses reason
-verdict_in (prepared.Run host bound) = Starts host.world bound
+verdict_in (prepared.Run host timer bound) = Starts host.world timer bound
 verdict_in (prepared.Soak host number) = StartsMade number host.world
-verdict_in (prepared.Pair a b slice bound) = StartsPair slice bound a.host.world b.host.world
+verdict_in (prepared.Pair a b slice bound) = StartsPair slice bound a.world b.world
 
 -- no turn was made and nothing written, the machine is sound, and the keystrokes are bytes
 pub record IsReady (w : HostWorld) : Type 0 where
@@ -111,16 +116,9 @@ pub record IsReady (w : HostWorld) : Type 0 where
   pub sound : IsSound w.machine
   pub keys : HasKeys w
 
--- slices of so many turns, up to a bound, are such as two clients take
-pub record CanTakeTurns (slice bound : ℕ) : Type 0 where
-  pub some_turns : 0 < slice
-  pub slice : slice ≤ MAX_SLICE
-  pub some_bound : 0 < bound
-  pub bound : bound ≤ MAX_STEPS
-
 -- a run that starts is ready, and may go up to its bound
 abbrev pub IsNew : Verdict → Type 0
 IsNew (Refuses reason) = ⊤
-IsNew (Starts w bound) = IsReady w × (bound ≤ MAX_STEPS)
+IsNew (Starts w timer bound) = IsReady w × (bound ≤ MAX_STEPS) × CanTick timer
 IsNew (StartsMade number w) = IsReady w
 IsNew (StartsPair slice bound a b) = IsReady a × IsReady b × CanTakeTurns slice bound

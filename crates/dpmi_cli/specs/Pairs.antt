@@ -1,21 +1,16 @@
--- A host as a client that takes turns, which has set no watchpoint; and the text of two of them. Source: own.
+-- A host with its watchpoints as a client that takes turns, and the text of two of them. Source: own.
 use Rattle.std.specs.Prelude.{ℕ, List, ◌++◌, codes, Some}
 use Rattle.std.specs.declared.option.Option.{Option}
 use Rattle.client_world.specs.declared.outcome.Exit.{Exit}
 use Rattle.client_world.specs.declared.outcome.Exit.TheVariants.{Bound}
 use Rattle.client_world.specs.World.{HostWorld}
-use Rattle.host_run.specs.Run.{run}
-use Rattle.host_run.specs.Turn.{turn}
+use Rattle.watch_run.specs.Turn.{turn_with_watchpoints, watched_run}
 use Rattle.dpmi_report.specs.Lines.{line_end}
 use Rattle.dpmi_report.specs.Text.{text}
 use Rattle.pair_run.specs.declared.lines.Letter.{Letter}
 use Rattle.pair_run.specs.declared.lines.Letter.TheVariants.{A, B}
 use Rattle.pair_run.specs.Slices.{OwnRun, letter_text, own_run, slices_text}
 use Rattle.client_world.specs.WatchWorld.{WatchWorld, unwatched}
-
--- one turn
-abbrev pub host_turn : WatchWorld → WatchWorld
-host_turn w = record w { host = turn w.host }
 
 -- the run ends at its bound
 abbrev pub host_closed : WatchWorld → WatchWorld
@@ -32,7 +27,7 @@ host_steps w = w.host.steps
 
 -- the run from a host's world up to a bound, as far as its slices show it
 abbrev pub sliced : ℕ → HostWorld → OwnRun
-sliced bound w = own_run host_turn host_console host_steps bound (unwatched w)
+sliced bound w = own_run turn_with_watchpoints host_console host_steps bound (unwatched w)
 
 -- the line before the text of a client
 abbrev pub client_line : Letter → List ℕ
@@ -45,4 +40,4 @@ client_part client end = client_line client ++ text end
 -- the text of two clients: what they wrote slice by slice, and then the text of the run of each
 abbrev pub pair_text : ℕ → ℕ → HostWorld → HostWorld → List ℕ
 pair_text slice bound a b =
-    slices_text slice (sliced bound a) (sliced bound b) ++ (client_part A (run a bound) ++ client_part B (run b bound))
+    slices_text slice (sliced bound a) (sliced bound b) ++ (client_part A (watched_run a bound) ++ client_part B (watched_run b bound))

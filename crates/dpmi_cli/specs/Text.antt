@@ -5,7 +5,7 @@ use Rattle.client_world.specs.declared.outcome.LoadFault.TheVariants as fault
 use Rattle.dpmi_report.specs.Lines.{line_end}
 use Rattle.pair_run.specs.Slices.{letter_text}
 use Rattle.dpmi_cli.specs.declared.prepare.Reason.{Reason}
-use Rattle.dpmi_cli.specs.declared.prepare.Reason.TheVariants.{Words, FileTooLong, KeysTooLong, Load, FileOf, LoadOf}
+use Rattle.dpmi_cli.specs.declared.prepare.Reason.TheVariants.{Words, FileTooLong, KeysTooLong, Load, FileTooLongOf, LoadOf}
 
 -- how a fault of the load is written
 abbrev pub fault_text : LoadFault → List ℕ
@@ -23,7 +23,7 @@ reason_text Words = codes "words"
 reason_text FileTooLong = codes "FileTooLong"
 reason_text KeysTooLong = codes "KeysTooLong"
 reason_text (Load fault) = fault_text fault
-reason_text (FileOf client) = codes "FileTooLong"
+reason_text (FileTooLongOf client) = codes "FileTooLong"
 reason_text (LoadOf client fault) = fault_text fault
 
 -- which client of a pair is refused
@@ -32,7 +32,7 @@ client_text Words = []
 client_text FileTooLong = []
 client_text KeysTooLong = []
 client_text (Load fault) = []
-client_text (FileOf client) = letter_text client ++ codes " "
+client_text (FileTooLongOf client) = letter_text client ++ codes " "
 client_text (LoadOf client fault) = letter_text client ++ codes " "
 
 -- the line of a refusal

@@ -1,29 +1,32 @@
 // The command.
-ghost use Rattle.std.specs.Prelude.{◌≡◌, ◌≢◌, ◌≤◌, ◌<◌, ◌+◌, ◌⊎◌, map, string_bytes, None, Some, IfSome};
-ghost use Rattle.client_world.specs.World.{HostWorld};
+ghost use Rattle.std.specs.Prelude.{◌≡◌, ◌≢◌, ◌≤◌, ◌⊎◌, map, string_bytes, IfSome};
+ghost use Rattle.client_world.specs.WatchWorld.{no_watches};
 ghost use Rattle.dpmi_words.specs.Meaning.{meaning};
 ghost use Rattle.dpmi_io.specs.Causes.{Rose};
 ghost use Rattle.dpmi_io.specs.Content.{Gains};
-ghost use Rattle.dpmi_cli.specs.Answer.{answer, exit_status, run_status, Verdict};
+ghost use Rattle.dpmi_cli.specs.Answer.{answer, exit_status, run_status};
 ghost use Rattle.dpmi_cli.specs.Answer.Verdict.{Refuses, Starts, StartsMade, StartsPair};
 ghost use Rattle.dpmi_cli.specs.Causes.{NamedFailed, IsAbsent, HasVerdict, Answers};
-ghost use Rattle.dpmi_cli.specs.Laws.{RunKeepsTheLaws};
-ghost use Rattle.dpmi_cli.specs.Load.{IsNew, IsReady};
+ghost use Rattle.dpmi_cli.specs.Load.{IsNew};
 
-use crate::client::Client;
+use crate::laws::every_run_keeps_the_laws;
 use crate::pairs::write_turns;
 use crate::prepare::{Prepared, Reason, Stop, prepare};
 use crate::report::write_refusal;
+use crate::runs::run_to_end;
 use crate::status::{ENDED_OTHERWISE, EXITED, FILE_FAILED, NO_MEMORY, OUTPUT_FAILED, REFUSED};
+use crate::watched_host::WatchedHost;
 use client_world::Exit;
 use client_world::limits::DEFAULT_BOUND;
 use dpmi_io::{Shelf, Sink};
 use dpmi_report::{write_all_of, write_summary};
-use host_run::{
-    Host, every_nested_call_hands_over, every_run_is_sound, every_touch_of_a_run_is_held,
-    every_turn_changes_the_innermost_record_at_most, nested_calls_return_in_order,
+use host_run::Host;
+use pair_run::{
+    a_slice_adds_its_gain, an_ended_client_is_silent, each_client_writes_its_own_lines,
+    own_lines_hold_the_console,
 };
 use std::alloc::Global;
+use watch_run::watched_run;
 
 // Refuses for a reason; a line that the output doesn't take changes no status.
 fn refuse<O: Sink>(reason: Reason, out: &mut O) -> u8
@@ -44,26 +47,15 @@ fn status_of(exit: Exit) -> u8
     }
 }
 
-// What holds of each run. It has nothing to do: its contract says it.
-fn every_run_keeps_the_laws()
-    ensures { (w : HostWorld) → IsReady w → RunKeepsTheLaws w }
-{
-    every_run_is_sound();
-    every_touch_of_a_run_is_held();
-    every_turn_changes_the_innermost_record_at_most();
-    nested_calls_return_in_order();
-    every_nested_call_hands_over();
-}
-
 // Runs a client that is loaded up to a bound, and writes its text.
-fn run_client<O: Sink>(host: &mut Host, bound: u32, out: &mut O) -> u8
-    requires { IsNew (Starts host.old.world bound) }
-    ensures answers { Answers (Starts host.old.world bound) (O.taken out.old) (O.taken out.new) (O.faults out.old) (O.faults out.new) result }
+fn run_client<O: Sink>(host: &mut Host, timer: Option<u32>, bound: u32, out: &mut O) -> u8
+    requires { IsNew (Starts host.old.world timer bound) }
+    ensures answers { Answers (Starts host.old.world timer bound) (O.taken out.old) (O.taken out.new) (O.faults out.old) (O.faults out.new) result }
     ensures status { result ≤ OUTPUT_FAILED }
     ensures no_file_failed { result ≢ FILE_FAILED }
 {
     every_run_keeps_the_laws();
-    let exit = host.run(bound);
+    let exit = run_to_end(host, timer, bound);
     match write_all_of(host, out) {
         Ok(()) => status_of(exit),
         Err(_) => OUTPUT_FAILED,
@@ -78,7 +70,7 @@ fn run_made_client<O: Sink>(host: &mut Host, number: u64, out: &mut O) -> u8
     ensures no_file_failed { result ≢ FILE_FAILED }
 {
     every_run_keeps_the_laws();
-    let exit = host.run(DEFAULT_BOUND);
+    let exit = watched_run(host, DEFAULT_BOUND);
     match write_summary(number, host, exit, out) {
         Ok(()) => status_of(exit),
         Err(_) => OUTPUT_FAILED,
@@ -95,19 +87,43 @@ fn status_of_run(host: &Host) -> u8
     }
 }
 
-// Runs two clients that are loaded in turns, and writes the text of the pair.
-fn run_pair<O: Sink>(a: &mut Client, b: &mut Client, slice: u32, bound: u32, out: &mut O) -> u8
-    requires { IsNew (StartsPair slice bound a.old.host.world b.old.host.world) }
+// Runs two hosts whose clients have no watchpoint in turns, and writes the text of the pair.
+fn run_in_turns<O: Sink>(
+    a: &mut WatchedHost,
+    b: &mut WatchedHost,
+    slice: u32,
+    bound: u32,
+    out: &mut O,
+) -> u8
+    requires new { IsNew (StartsPair slice bound a.old.host.world b.old.host.world) }
+    requires watches { (a.old.watches ≡ no_watches) × (b.old.watches ≡ no_watches) }
     ensures answers { Answers (StartsPair slice bound a.old.host.world b.old.host.world)
         (O.taken out.old) (O.taken out.new) (O.faults out.old) (O.faults out.new) result }
     ensures status { result ≤ OUTPUT_FAILED }
     ensures no_file_failed { result ≢ FILE_FAILED }
 {
     every_run_keeps_the_laws();
+    each_client_writes_its_own_lines::<WatchedHost>();
+    own_lines_hold_the_console::<WatchedHost>();
+    a_slice_adds_its_gain::<WatchedHost>();
+    an_ended_client_is_silent::<WatchedHost>();
     match write_turns(a, b, slice, bound, out) {
         Ok(()) => status_of_run(&a.host).max(status_of_run(&b.host)),
         Err(_) => OUTPUT_FAILED,
     }
+}
+
+// Runs two clients that are loaded in turns, and writes the text of the pair.
+fn run_pair<O: Sink>(a: Host, b: Host, slice: u32, bound: u32, out: &mut O) -> u8
+    requires { IsNew (StartsPair slice bound a.world b.world) }
+    ensures answers { Answers (StartsPair slice bound a.world b.world)
+        (O.taken out.old) (O.taken out.new) (O.faults out.old) (O.faults out.new) result }
+    ensures status { result ≤ OUTPUT_FAILED }
+    ensures no_file_failed { result ≢ FILE_FAILED }
+{
+    let mut a = WatchedHost::new(a);
+    let mut b = WatchedHost::new(b);
+    run_in_turns(&mut a, &mut b, slice, bound, out)
 }
 
 // Does what the words mean.
@@ -130,9 +146,9 @@ fn answer_words<F: Shelf, O: Sink>(
 {
     match prepare(alloc, words, shelf) {
         Ok(Prepared::Refused(reason)) => refuse(reason, out),
-        Ok(Prepared::Run(mut host, bound)) => run_client(&mut host, bound, out),
+        Ok(Prepared::Run(mut host, timer, bound)) => run_client(&mut host, timer, bound, out),
         Ok(Prepared::Soak(mut host, number)) => run_made_client(&mut host, number, out),
-        Ok(Prepared::Pair(mut a, mut b, slice, bound)) => run_pair(&mut a, &mut b, slice, bound, out),
+        Ok(Prepared::Pair(a, b, slice, bound)) => run_pair(a, b, slice, bound, out),
         Err(Stop::Shelf) => FILE_FAILED,
         Err(Stop::Memory) => NO_MEMORY,
     }
@@ -141,8 +157,8 @@ fn answer_words<F: Shelf, O: Sink>(
 /// All that the program does, with the words after its name, the files and the output. Returns the status: 0 and 1
 /// for a run by its exit, for a pair by both exits, 2 for a refusal, 3 where a file that the words name failed or isn't there, 4 where the
 /// output failed, 5 where memory ran out. With 3 and 5 nothing is written. All memory is taken before the load.
-/// The words are `run FILE` with `--keys HEX`, `--keys-file NAME`, `--bound N`, `--pages N` and `--trace N`, or `soak N`, or `pair A B` with
-/// `--slice N`, `--bound N`, `--pages-a N` and `--pages-b N`.
+/// The words are `run FILE` with `--keys HEX`, `--keys-file NAME`, `--bound N`, `--pages N`, `--trace N` and `--timer N`; `soak N`; or
+/// `pair A B` with `--slice N`, `--bound N`, `--pages-a N` and `--pages-b N`.
 /// Source: own.
 pub fn dpmi<F: Shelf, O: Sink>(alloc: Global, words: &[String], shelf: &mut F, out: &mut O) -> u8
     ensures answers { result ≢ FILE_FAILED → result ≢ NO_MEMORY →

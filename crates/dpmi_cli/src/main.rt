@@ -1,18 +1,20 @@
-//! A DPMI host that runs one client: the words of the command line in, the client's text and a status out.
-//! It promises that what it writes is the model's text, whole or cut off where the output failed, that each
-//! failure that it reports has its cause, and that the run that it answers keeps the client to its memory, and nests and
-//! hands over as the laws of `host_run` say. It uses `dpmi_words` for the words, `client_maker` for made clients, `host_run` for the run,
-//! `dpmi_report` for the text, and `dpmi_io`.
+//! A DPMI host that runs one client, or two in turns: the words of the command line in, the clients' text and a status out.
+//! It promises that what it writes is the model's text, whole or cut off where the output failed, that each failure that it reports has its
+//! cause, and that each run that it answers keeps its client to its memory, and nests and hands over as the laws of `host_run` say.
+//! It uses `dpmi_words` for the words, `client_maker` for made clients, `host_run` for a client's host, `watch_run`, `timer_run` and `pair_run`
+//! for the runs, `dpmi_report` for the text, and `dpmi_io`.
 #![tactic(auto)]
 
-mod client;
 mod command;
+mod laws;
 mod pairs;
 mod prepare;
 mod report;
+mod runs;
 mod status;
 #[cfg(test)]
 mod tests;
+mod watched_host;
 
 use dpmi_io::{FileShelf, StdoutSink};
 use std::alloc::Global;

@@ -2,12 +2,13 @@
 ghost use Rattle.std.specs.Prelude.{◌≡◌, OnOk, OnErr, IsSome};
 ghost use Rattle.dpmi_io.specs.Causes.{Rose};
 ghost use Rattle.dpmi_io.specs.Content.{Gains, GainsPart};
-ghost use Rattle.host_run.specs.Run.{run};
+ghost use Rattle.client_world.specs.WatchWorld.{no_watches};
+ghost use Rattle.watch_run.specs.Turn.{watched_run};
 ghost use Rattle.dpmi_cli.specs.Answer.Verdict.{StartsPair};
 ghost use Rattle.dpmi_cli.specs.Load.{IsNew};
 ghost use Rattle.dpmi_cli.specs.Pairs.{client_line, client_part, pair_text};
 
-use crate::client::Client;
+use crate::watched_host::WatchedHost;
 use dpmi_io::{Line, Sink, SinkFail, add, put_all};
 use dpmi_report::write_all_of;
 use host_run::Host;
@@ -56,18 +57,19 @@ fn write_client<O: Sink>(client: Letter, host: &Host, out: &mut O) -> Result<(),
     }
 }
 
-/// Runs two clients that are loaded in turns, and writes what they wrote slice by slice and then the text of each. Where it fails a first
-/// part of that was written, and the output's count of faults rose. Source: own.
+/// Runs two clients that are loaded in turns, and writes what they wrote slice by slice and then the text of each. Where it fails a prefix of it
+/// was written, and the output's count of faults rose. Source: own.
 pub fn write_turns<O: Sink>(
-    a: &mut Client,
-    b: &mut Client,
+    a: &mut WatchedHost,
+    b: &mut WatchedHost,
     slice: u32,
     bound: u32,
     out: &mut O,
 ) -> Result<(), SinkFail>
-    requires { IsNew (StartsPair slice bound a.old.host.world b.old.host.world) }
-    ensures end_a { OnOk result (a.new.host.world ≡ run a.old.host.world bound) }
-    ensures end_b { OnOk result (b.new.host.world ≡ run b.old.host.world bound) }
+    requires new { IsNew (StartsPair slice bound a.old.host.world b.old.host.world) }
+    requires watches { (a.old.watches ≡ no_watches) × (b.old.watches ≡ no_watches) }
+    ensures end_a { OnOk result (a.new.host.world ≡ watched_run a.old.host.world bound) }
+    ensures end_b { OnOk result (b.new.host.world ≡ watched_run b.old.host.world bound) }
     ensures whole { OnOk result (Gains (O.taken out.old) (O.taken out.new) (pair_text slice bound a.old.host.world b.old.host.world)) }
     ensures part { OnErr result (GainsPart (O.taken out.old) (O.taken out.new) (pair_text slice bound a.old.host.world b.old.host.world)) }
     ensures failed { OnErr result (Rose (O.faults out.old) (O.faults out.new)) }

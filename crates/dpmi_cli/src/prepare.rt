@@ -1,17 +1,51 @@
 // What comes before the run: the words, the files, the memory and the load.
-ghost use Rattle.std.specs.Prelude.{◌≡◌, ◌≤◌, ◌<◌, ◌⊎◌, [], map, string_bytes, None, Some, Ok, Err, length, take, option_map, IfOk, IfErr, OnOk, OnErr, IsErrOf};
+ghost use Rattle.std.specs.Prelude.{
+  ◌≡◌,
+  ◌≤◌,
+  ◌<◌,
+  ◌⊎◌,
+  [],
+  map,
+  string_bytes,
+  None,
+  Some,
+  length,
+  take,
+  option_map,
+  IfOk,
+  IfErr,
+  OnOk,
+  OnErr,
+  IsErrOf,
+};
 ghost use Rattle.client_world.specs.declared.limits.TheConstants.{DEFAULT_TRACE, MAX_FILE, MAX_KEYS, MAX_PAGES, MAX_TRACE};
 ghost use Rattle.client_maker.specs.Made.{made};
 ghost use Rattle.dpmi_words.specs.Meaning.{keys_in, pair_in, run_in};
 ghost use Rattle.guest_ram.specs.Bytes.{AreBytes};
 ghost use Rattle.host_run.specs.Start.{blank, started_host};
 ghost use Rattle.mz_loader.specs.Refusal.{refusal};
-ghost use Rattle.dpmi_cli.specs.Answer.{first_load, limited, load_verdict, made_verdict};
+ghost use Rattle.dpmi_cli.specs.Answer.{first_load, limited, load_verdict, made_verdict, second_load};
 ghost use Rattle.dpmi_cli.specs.Causes.{NamedFailed, IsAbsent, HasVerdict};
-ghost use Rattle.dpmi_cli.specs.Load.{HasFront, HasFile, HasPressed, FailsAt, KeysFail, RunFails, HasKeysVerdict, HasRunVerdict, HasPairVerdict, HasSecondVerdict, HasRanges, HasPairRanges, PairFails, verdict_in, IsReady, IsNew};
+ghost use Rattle.dpmi_cli.specs.Load.{
+  HasFront,
+  HasFile,
+  HasPressed,
+  FailsAt,
+  KeysFail,
+  RunFails,
+  HasKeysVerdict,
+  HasRunVerdict,
+  HasPairVerdict,
+  HasSecondVerdict,
+  HasRanges,
+  HasPairRanges,
+  PairFails,
+  verdict_in,
+  IsReady,
+  IsNew,
+};
 ghost use Rattle.dpmi_cli.specs.declared.prepare.Stop.TheVariants.{Memory};
 
-use crate::client::Client;
 use client_maker::make;
 use client_world::LoadFault;
 use client_world::limits::{DEFAULT_PAGES, DEFAULT_TRACE, MAX_FILE, MAX_KEYS, MAX_TRACE};
@@ -29,19 +63,19 @@ pub enum Reason {
     KeysTooLong,
     Load(LoadFault),
     /// The file of this client of a pair is too long.
-    FileOf(Letter),
+    FileTooLongOf(Letter),
     /// The load of this client of a pair is refused.
     LoadOf(Letter, LoadFault),
 }
 
-/// What the words and the files come to: a refusal; a host with the client loaded and the bound of its run; a host with a made client
-/// loaded and its number; or two clients that are loaded, the turns of a slice and the bound of each run.
+/// What the words and the files come to: a refusal; a host with the client loaded, its timer, if there is one, and the bound of its run; a
+/// host with a made client loaded and its number; or two clients that are loaded, the turns of a slice and the bound of each run.
 #[derive(Drop)]
 pub enum Prepared {
     Refused(Reason),
-    Run(Host, u32),
+    Run(Host, Option<u32>, u32),
     Soak(Host, u64),
-    Pair(Client, Client, u32, u32),
+    Pair(Host, Host, u32, u32),
 }
 
 /// Why there is no answer: out of memory, or a file failed or wasn't there.
@@ -173,7 +207,7 @@ fn load_run(alloc: Global, run: &Run<'_>, file: &[u8], keys: &[u8]) -> Result<Pr
     ensures new { IfOk result (λ p. IsNew (verdict_in p)) }
 {
     match start_host(alloc, run.pages, keys, run.trace, file)? {
-        Ok(host) => Ok(Prepared::Run(host, run.bound)),
+        Ok(host) => Ok(Prepared::Run(host, run.timer, run.bound)),
         Err(fault) => Ok(Prepared::Refused(Reason::Load(fault))),
     }
 }
@@ -216,35 +250,39 @@ fn prepare_run<F: Shelf>(alloc: Global, run: &Run<'_>, shelf: &mut F) -> Result<
     }
 }
 
-// Loads a client's file into a new host of these pages, without keystrokes.
-fn load_client(host: &mut Host, pages: u32, file: &[u8]) -> Result<(), LoadFault>
-    requires { host.old.world ≡ blank pages [] DEFAULT_TRACE }
-    ensures refused { IfErr result (λ fault. refusal file.now ≡ Some fault) }
-    ensures taken { OnOk result (refusal file.now ≡ None) }
-    ensures started { OnOk result (host.new.world ≡ started_host pages [] DEFAULT_TRACE file.now) }
-    ensures ready { OnOk result (IsReady host.new.world) }
+// Loads the second client of a pair; the first one is loaded.
+fn load_second(a: Host, mut b: Host, pair: &Pair<'_>, second: &[u8]) -> Prepared
+    requires ranges { HasPairRanges (pair_in pair.now) }
+    requires ready { IsReady a.world }
+    requires blank { b.world ≡ blank pair.now.pages_b [] DEFAULT_TRACE }
+    ensures verdict { second_load (pair_in pair.now) a.world second.now (refusal second.now) ≡ verdict_in result }
+    ensures new { IsNew (verdict_in result) }
 {
     all_bytes_fit(&[]);
-    host.load(file)
+    match b.load(second) {
+        Ok(()) => Prepared::Pair(a, b, pair.slice, pair.bound),
+        Err(fault) => Prepared::Refused(Reason::LoadOf(Letter::B, fault)),
+    }
 }
 
-// Loads the two clients of a pair, once all memory is taken.
-fn load_pair(alloc: Global, pair: &Pair<'_>, first: &[u8], second: &[u8]) -> Result<Prepared, AllocError>
+// Takes the memory of both hosts, and then loads the two clients of a pair.
+fn load_pair(
+    alloc: Global,
+    pair: &Pair<'_>,
+    first: &[u8],
+    second: &[u8],
+) -> Result<Prepared, AllocError>
     requires { HasPairRanges (pair_in pair.now) }
     ensures verdict { IfOk result (λ p. first_load (pair_in pair.now) first.now second.now (refusal first.now) ≡ verdict_in p) }
     ensures new { IfOk result (λ p. IsNew (verdict_in p)) }
 {
+    all_bytes_fit(&[]);
     let mut a = Host::new(alloc, pair.pages_a, &[], DEFAULT_TRACE)?;
-    let mut b = Host::new(alloc, pair.pages_b, &[], DEFAULT_TRACE)?;
-    match load_client(&mut a, pair.pages_a, first) {
-        Ok(()) => {}
-        Err(fault) => return Ok(Prepared::Refused(Reason::LoadOf(Letter::A, fault))),
+    let b = Host::new(alloc, pair.pages_b, &[], DEFAULT_TRACE)?;
+    match a.load(first) {
+        Ok(()) => Ok(load_second(a, b, pair, second)),
+        Err(fault) => Ok(Prepared::Refused(Reason::LoadOf(Letter::A, fault))),
     }
-    match load_client(&mut b, pair.pages_b, second) {
-        Ok(()) => {}
-        Err(fault) => return Ok(Prepared::Refused(Reason::LoadOf(Letter::B, fault))),
-    }
-    Ok(Prepared::Pair(Client::new(a), Client::new(b), pair.slice, pair.bound))
 }
 
 // Reads the second file of a pair, and loads both clients.
@@ -262,7 +300,7 @@ fn prepare_second<F: Shelf>(
 {
     match read_file(alloc, pair.second, MAX_FILE, shelf) {
         Ok(Some(second)) => Ok(load_pair(alloc, pair, first, second.as_slice())?),
-        Ok(None) => Ok(Prepared::Refused(Reason::FileOf(Letter::B))),
+        Ok(None) => Ok(Prepared::Refused(Reason::FileTooLongOf(Letter::B))),
         Err(stop) => Err(stop),
     }
 }
@@ -280,7 +318,7 @@ fn prepare_pair<F: Shelf>(alloc: Global, pair: &Pair<'_>, shelf: &mut F) -> Resu
             Ok(prepared) => Ok(prepared),
             Err(stop) => Err(stop),
         },
-        Ok(None) => Ok(Prepared::Refused(Reason::FileOf(Letter::A))),
+        Ok(None) => Ok(Prepared::Refused(Reason::FileTooLongOf(Letter::A))),
         Err(stop) => Err(stop),
     }
 }
@@ -297,7 +335,7 @@ fn prepare_soak(alloc: Global, number: u64) -> Result<Prepared, AllocError>
     }
 }
 
-/// Reads the words and the files that they name, takes the memory, and loads the client.
+/// Reads the words and the files that they name, takes the memory, and loads the client, or the two clients of a pair.
 /// `Memory`: an allocation was refused. `Shelf`: a file failed or isn't there.
 pub fn prepare<F: Shelf>(alloc: Global, words: &[String], shelf: &mut F) -> Result<Prepared, Stop>
     ensures verdict { IfOk result (λ p.

@@ -16,7 +16,7 @@ fn reason_name(reason: Reason) -> &'static [u8]
 {
     match reason {
         Reason::Words => b"words",
-        Reason::FileTooLong | Reason::FileOf(_) => b"FileTooLong",
+        Reason::FileTooLong | Reason::FileTooLongOf(_) => b"FileTooLong",
         Reason::KeysTooLong => b"KeysTooLong",
         Reason::Load(fault) | Reason::LoadOf(_, fault) => fault_name(fault),
     }
@@ -44,8 +44,8 @@ fn client_name(reason: Reason) -> &'static [u8]
     ensures short { length result.now ≤ 2 }
 {
     match reason {
-        Reason::FileOf(Letter::A) | Reason::LoadOf(Letter::A, _) => b"a ",
-        Reason::FileOf(Letter::B) | Reason::LoadOf(Letter::B, _) => b"b ",
+        Reason::FileTooLongOf(Letter::A) | Reason::LoadOf(Letter::A, _) => b"a ",
+        Reason::FileTooLongOf(Letter::B) | Reason::LoadOf(Letter::B, _) => b"b ",
         _ => b"",
     }
 }

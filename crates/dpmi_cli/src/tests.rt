@@ -185,8 +185,8 @@ fn each_header_word_of_ffff_has_its_answer(rt: HostRuntime) -> Result<(), Fail> 
 }
 
 // Clients that mean harm: one fills all memory from 00000h on, itself too; one jumps into read-only memory; stacks at 1, at 0 and in
-// read-only memory; a byte written there; vectors that lead to trap bytes, of the return from a call, of the entry and of DOS calls. After the entry the rest of the code segment is run,
-// two bytes at a time, the exception comes at its limit, and its default handler ends the client.
+// read-only memory; a byte written there; vectors that lead to trap bytes, of the return from a call, of the entry and of DOS calls. After the
+// entry the rest of the code segment is run, two bytes at a time, the exception comes at its limit, and its default handler ends the client.
 const HOSTILE: [(&[u8], u8, &str); 9] = [
     (
         b"\x31\xC0\x8E\xC0\x31\xFF\xB9\xFF\xFF\xF3\xAA",
@@ -310,8 +310,8 @@ fn each_cut_file_has_its_answer(rt: HostRuntime) -> Result<(), Fail> {
 
 // Words that mean nothing: each option twice, without a value, with an empty one, with a value of another kind, and out of its range at
 // both ends; FILE that is empty, that begins with a dash, or comes twice; an option that isn't there; both kinds of keystrokes; and the
-// same of a made client.
-const WRONG_WORDS: [&[&str]; 49] = [
+// same of a made client and of a pair.
+const WRONG_WORDS: [&[&str]; 52] = [
     &[],
     &[""],
     &["run"],
@@ -353,6 +353,7 @@ const WRONG_WORDS: [&[&str]; 49] = [
     &["run", "A.EXE", "--keys-file", "-K"],
     &["run", "A.EXE", "--keys-file=K", "--keys-file=K"],
     &["run", "A.EXE", "--keys=41", "--keys-file=K"],
+    &["run", "A.EXE", "--timer", "0"],
     &["soak"],
     &["soak", ""],
     &["soak", "-1"],
@@ -360,6 +361,8 @@ const WRONG_WORDS: [&[&str]; 49] = [
     &["soak", "000000000000000000001"],
     &["soak", "1", "1"],
     &["soak", "1", "--bound", "1"],
+    &["pair", "A.EXE"],
+    &["pair", "A.EXE", "A.EXE", "--pages-b=8193"],
     &["Run", "A.EXE"],
 ];
 
@@ -382,7 +385,7 @@ const TWO_BLOCKS: [u8; 41] = [
 ];
 
 // Options, the status, the first of the text, and a part of it.
-const OPTIONS: [(&[&str], u8, &str, &str); 14] = [
+const OPTIONS: [(&[&str], u8, &str, &str); 16] = [
     (
         &["run", "P.EXE", "--pages", "16"],
         0,
@@ -452,6 +455,18 @@ const OPTIONS: [(&[&str], u8, &str, &str); 14] = [
     ),
     (&["run", "A.EXE", "--keys-file", "NONE"], 3, "", ""),
     (&["run", "NONE", "--keys-file", "LONG"], 3, "", ""),
+    (
+        &["run", "L.EXE", "--timer", "3"],
+        0,
+        "console 1\nA\ntrace 2 of 2\nint21 02\nint21 4c\nreport\nexit exited 0\nsteps 15\nmode real\ndepth 0\nregs eax=00004c00 ebx=00000000 ecx=00000000 edx=00000041 esi=00000000 edi=00000000 ebp=00000000 esp=000000fa eip=00000021 fl=0002 cs=f000 ss=0075 ds=0064 es=0064 fs=0000 gs=0000\ndescs 0\nblocks 0\n",
+        "\ndos sha256=220e234fe35f69a2ba2e07da76cf70cd8b99b83b215fd0727bd9dc65ea7956ae\n",
+    ),
+    (
+        &["pair", "L.EXE", "A.EXE"],
+        1,
+        "pair slice 1000\nslice 0 a 1\nA\nclient a\nconsole 1\nA\n",
+        "\nclient b\nconsole 0\n\ntrace 1 of 1\nint21 01\nreport\nexit nokeys\nsteps 3\n",
+    ),
 ];
 
 #[test]
@@ -475,6 +490,73 @@ fn each_option_has_its_effect(rt: HostRuntime) -> Result<(), Fail> {
         );
         assert!(rt; shows(out.bytes(), start, part), "{start}");
     }
+    Ok(())
+}
+
+// Whether a text is these parts, one after another.
+fn is_made_of(text: &str, parts: &[&str]) -> bool {
+    let mut left = text;
+    for part in parts {
+        match left.strip_prefix(*part) {
+            Some(after) => left = after,
+            None => return false,
+        }
+    }
+    left.is_empty()
+}
+
+// In slices of three turns the letter is printed in the second one, at the trap byte of INT 21h.
+#[test]
+fn two_clients_take_turns(rt: HostRuntime) -> Result<(), Fail> {
+    let pair = words(&rt, &["pair", "A.EXE", "A.EXE", "--slice", "3"])?;
+    let mut shelf = MemShelf::new(rt.alloc());
+    shelf.add("A.EXE", &ONE_LETTER)?;
+    let mut out = MemSink::new(rt.alloc(), 2000, 100)?;
+    assert_eq!(rt; dpmi(rt.alloc(), pair.as_slice(), &mut shelf, &mut out), 0);
+    let text = str::from_utf8(out.bytes()).unwrap_or("");
+    assert!(rt;
+        is_made_of(
+            text,
+            &[
+                "pair slice 3\nslice 1 a 1\nA\nslice 1 b 1\nA\nclient a\n",
+                LETTER_TEXT,
+                "client b\n",
+                LETTER_TEXT,
+            ]
+        )
+    );
+    Ok(())
+}
+
+// Pairs that are refused, or whose files aren't all there: both are read, the first one first, and then loaded.
+const REFUSED_PAIRS: [(&[&str], u8, &str); 8] = [
+    (&["pair", "A.EXE"], 2, "refused words\n"),
+    (&["pair", "A.EXE", "EMPTY"], 2, "refused b ShortHeader\n"),
+    (&["pair", "EMPTY", "A.EXE"], 2, "refused a ShortHeader\n"),
+    (&["pair", "EMPTY", "EMPTY"], 2, "refused a ShortHeader\n"),
+    (&["pair", "EMPTY", "LONG"], 2, "refused b FileTooLong\n"),
+    (&["pair", "LONG", "NONE"], 2, "refused a FileTooLong\n"),
+    (&["pair", "EMPTY", "NONE"], 3, ""),
+    (&["pair", "NONE", "LONG"], 3, ""),
+];
+
+#[test]
+fn pairs_are_refused_in_order(rt: HostRuntime) -> Result<(), Fail> {
+    let long = vec![in rt.alloc(); 0; 4_194_305]?;
+    let mut shelf = MemShelf::new(rt.alloc());
+    shelf.add("A.EXE", &ONE_LETTER)?;
+    shelf.add("EMPTY", &[])?;
+    shelf.add("LONG", &long)?;
+    let mut wrong = None;
+    for (row, (texts, status, text)) in REFUSED_PAIRS.iter().enumerate() {
+        let given = words(&rt, texts)?;
+        let mut out = MemSink::new(rt.alloc(), 100, 100)?;
+        let answer = dpmi(rt.alloc(), given.as_slice(), &mut shelf, &mut out);
+        if answer != *status || out.bytes() != text.as_bytes() {
+            wrong = Some(row);
+        }
+    }
+    assert_eq!(rt; wrong, None);
     Ok(())
 }
 
@@ -562,6 +644,7 @@ fn nothing_fails_where_nothing_can(rt: HostRuntime) -> Result<(), Fail> {
         (["run", "A.EXE"].as_slice(), 0, 361),
         (&["run", "B.EXE", "--keys-file", "K"], 0, 361),
         (&["walk", "A.EXE"], 2, 14),
+        (&["pair", "A.EXE", "B.EXE"], 0, 784),
     ] {
         let given = words(&rt, texts)?;
         let mut shelf = SureShelf::new(rt.alloc(), &ONE_LETTER)?;

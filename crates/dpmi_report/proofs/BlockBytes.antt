@@ -2,6 +2,7 @@
 use Rattle.std.proofs.Common.{arith, ◌≡◌, ◌≤◌, ◌<◌, ◌+◌, ◌-◌, ◌*◌, ◌⊎◌, inl, inr, ℕ, zero, suc, true, false, List, [], ◌∷◌, length, slice_index_or, refl, ◌∙◌, ap, add-one, Option, None, Some}
 use Rattle.std.specs.Prelude.{is_some, slice_index}
 use Rattle.std.proofs.lemmas.Bool.{and_from, and_left, and_right, le-leb, le-ltb, lt-leb, lt-ltb}
+use Rattle.client_world.specs.declared.blocks.BlockRow.{BlockRow}
 use Rattle.client_world.specs.declared.host_frames.TheConstants.{PAGE_SIZE}
 use Rattle.client_world.specs.declared.memory_map.TheConstants.{BLOCK_REGION_END}
 use Rattle.client_world.specs.declared.place.Place.TheVariants.{Block}
@@ -24,18 +25,18 @@ pub record Seen (blocks : List (Option MemoryBlock)) (handle at n : ℕ) : Type 
   pub is : IsBlock block
 
 seen_by : (blocks : List (Option MemoryBlock)) (budget handle base pages : ℕ) → SoundBlocks blocks budget → (b : Option MemoryBlock) → block_at blocks handle ≡ b →
-    row_seen b ≡ Some (base, pages) → Seen blocks handle base pages
+    row_seen b ≡ Some (record { base = base; pages = pages }) → Seen blocks handle base pages
 seen_by blocks budget handle base pages sound None e s = absurd cc
 seen_by blocks budget handle base pages sound (Some block) e s = record {
   block = block;
   there = e;
-  base = ap (λ (o : Option (ℕ × ℕ)). elim o [ None ↦ 0 | Some p ↦ p.0 ]) s;
-  pages = ap (λ (o : Option (ℕ × ℕ)). elim o [ None ↦ 0 | Some p ↦ p.1 ]) s;
+  base = ap (λ (o : Option BlockRow). elim o [ None ↦ 0 | Some p ↦ p.base ]) s;
+  pages = ap (λ (o : Option BlockRow). elim o [ None ↦ 0 | Some p ↦ p.pages ]) s;
   is = sound.each handle block e;
 }
 
 pub seen : (blocks : List (Option MemoryBlock)) (budget handle base pages : ℕ) → SoundBlocks blocks budget →
-    row_seen (block_at blocks handle) ≡ Some (base, pages) → Seen blocks handle base pages
+    row_seen (block_at blocks handle) ≡ Some (record { base = base; pages = pages }) → Seen blocks handle base pages
 seen blocks budget handle base pages sound s = seen_by blocks budget handle base pages sound (block_at blocks handle) refl s
 
 -- the first block that covers an address has its place
@@ -81,27 +82,27 @@ lock_by blocks budget (suc place) base pages page sound s lt =
 
 -- the lock count of a page of a block
 pub lock_is : (blocks : List (Option MemoryBlock)) (budget handle base pages page : ℕ) → SoundBlocks blocks budget →
-    row_seen (block_at blocks handle) ≡ Some (base, pages) → page < pages →
+    row_seen (block_at blocks handle) ≡ Some (record { base = base; pages = pages }) → page < pages →
     lock_in blocks (place_in blocks (base + page * PAGE_SIZE)) ≡ slice_index (locks_of_block (block_at blocks handle)) page
 lock_is blocks budget handle base pages page sound s lt = lock_by blocks budget handle base pages page sound (seen blocks budget handle base pages sound s) lt
 
 -- a block ends in the block region
 pub page_below : (blocks : List (Option MemoryBlock)) (budget handle base pages : ℕ) → SoundBlocks blocks budget →
-    row_seen (block_at blocks handle) ≡ Some (base, pages) → base + pages * PAGE_SIZE ≤ BLOCK_REGION_END
+    row_seen (block_at blocks handle) ≡ Some (record { base = base; pages = pages }) → base + pages * PAGE_SIZE ≤ BLOCK_REGION_END
 page_below blocks budget handle base pages sound s =
     let own = seen blocks budget handle base pages sound s in
     let is = own.is in let size = is.pages in let to = is.to in let at = own.base in let many = own.pages in omega arith
 
 pub locks_length : (blocks : List (Option MemoryBlock)) (handle base pages : ℕ) →
-    row_seen (block_at blocks handle) ≡ Some (base, pages) → length (locks_of_block (block_at blocks handle)) ≡ pages
+    row_seen (block_at blocks handle) ≡ Some (record { base = base; pages = pages }) → length (locks_of_block (block_at blocks handle)) ≡ pages
 locks_length blocks handle base pages s = go (block_at blocks handle) s
   where
-    go : (b : Option MemoryBlock) → row_seen b ≡ Some (base, pages) → length (locks_of_block b) ≡ pages
+    go : (b : Option MemoryBlock) → row_seen b ≡ Some (record { base = base; pages = pages }) → length (locks_of_block b) ≡ pages
     go None e = absurd cc
-    go (Some block) e = ap (λ (o : Option (ℕ × ℕ)). elim o [ None ↦ 0 | Some p ↦ p.1 ]) e
+    go (Some block) e = ap (λ (o : Option BlockRow). elim o [ None ↦ 0 | Some p ↦ p.pages ]) e
 
 pub bytes_length : (blocks : List (Option MemoryBlock)) (budget handle base pages : ℕ) → SoundBlocks blocks budget →
-    row_seen (block_at blocks handle) ≡ Some (base, pages) → length (bytes_of_block (block_at blocks handle)) ≡ pages * PAGE_SIZE
+    row_seen (block_at blocks handle) ≡ Some (record { base = base; pages = pages }) → length (bytes_of_block (block_at blocks handle)) ≡ pages * PAGE_SIZE
 bytes_length blocks budget handle base pages sound s =
     let own = seen blocks budget handle base pages sound s in
     let is = own.is in let size = is.pages in let many = own.pages in

@@ -11,29 +11,30 @@ ghost use Rattle.dpmi_report.specs.Text.{blocks_head, blocks_part};
 
 use crate::digest::block_digest;
 use crate::lines::{block_line, blocks_line};
+use client_world::BlockRow;
 use client_world::host_frames::PAGE_SIZE;
 use client_world::limits::MAX_BLOCKS;
 use dpmi_io::{Line, Sink, SinkFail, put_all};
 use guest_space::Machine;
 
 // Whether a page of a memory block is locked.
-fn is_locked(machine: &Machine, handle: u16, base: u32, pages: u32, page: u32) -> bool
-    requires block { row_seen (block_at machine.now.world.blocks handle) ≡ Some (base, pages) }
-    requires inside { page < pages }
+fn is_locked(machine: &Machine, handle: u16, row: BlockRow, page: u32) -> bool
+    requires block { row_seen (block_at machine.now.world.blocks handle) ≡ Some row }
+    requires inside { page < row.pages }
     ensures { result ≡ nat_lt 0 (slice_index (locks_of_block (block_at machine.now.world.blocks handle)) page) }
 {
     machine.soundness();
-    machine.lock_count(base + page * PAGE_SIZE) > 0
+    machine.lock_count(row.base + page * PAGE_SIZE) > 0
 }
 
 // The number of locked pages of a memory block.
-fn count_locked(machine: &Machine, handle: u16, base: u32, pages: u32) -> u32
-    requires { row_seen (block_at machine.now.world.blocks handle) ≡ Some (base, pages) }
+fn count_locked(machine: &Machine, handle: u16, row: BlockRow) -> u32
+    requires { row_seen (block_at machine.now.world.blocks handle) ≡ Some row }
     ensures { result ≡ count_by (nat_lt 0) (locks_of_block (block_at machine.now.world.blocks handle)) }
 {
     let mut count = 0;
-    for page in 0..pages {
-        if is_locked(machine, handle, base, pages, page) {
+    for page in 0..row.pages {
+        if is_locked(machine, handle, row, page) {
             count += 1;
         }
     }
@@ -41,14 +42,14 @@ fn count_locked(machine: &Machine, handle: u16, base: u32, pages: u32) -> u32
 }
 
 // The line of a memory block.
-fn block_line_of(machine: &Machine, handle: u16, base: u32, pages: u32) -> Line
-    requires { row_seen (block_at machine.now.world.blocks handle) ≡ Some (base, pages) }
+fn block_line_of(machine: &Machine, handle: u16, row: BlockRow) -> Line
+    requires { row_seen (block_at machine.now.world.blocks handle) ≡ Some row }
     ensures { result.items ≡ block_text handle (block_at machine.now.world.blocks handle) }
 {
     machine.soundness();
-    let locked = count_locked(machine, handle, base, pages);
-    let digest = block_digest(machine, handle, pages);
-    block_line(u32::from(handle), base, pages, locked, &digest)
+    let locked = count_locked(machine, handle, row);
+    let digest = block_digest(machine, handle, row.pages);
+    block_line(u32::from(handle), row.base, row.pages, locked, &digest)
 }
 
 // Puts the line of the memory block of a place, where there is one.
@@ -61,8 +62,8 @@ fn put_block<O: Sink>(machine: &Machine, place: u16, out: &mut O) -> Result<(), 
 {
     let handle = place + 1;
     match machine.block(handle) {
-        Some((base, pages)) => {
-            let line = block_line_of(machine, handle, base, pages);
+        Some(row) => {
+            let line = block_line_of(machine, handle, row);
             put_all(out, line.as_slice())
         }
         None => put_all(out, b"".as_slice()),

@@ -14,7 +14,7 @@ struct Case {
     parts: &'static [&'static str],
 }
 
-const CASES: [Case; 21] = [
+const CASES: [Case; 25] = [
     // It prints the letter that function 0400h returns in AL, 5Ah, by INT 21h, which is reflected to DOS in real mode.
     Case {
         code: &[
@@ -362,6 +362,64 @@ const CASES: [Case; 21] = [
             "\nexit fault 0d code=00000000\n",
             " ecx=00000004 ",
             " edi=00000004 ",
+        ],
+    },
+    // A watchpoint on writes of the word at 6C0h: the store there is told by exception 1, whose default handler ends the client.
+    Case {
+        code: &[
+            0xB8, 0x87, 0x16, 0xCD, 0x2F, 0x06, 0x57, 0x89, 0xE5, 0x31, 0xC0, 0xFF, 0x5E, 0x00,
+            0xBB, 0x00, 0x00, 0xB9, 0xC0, 0x06, 0xBA, 0x02, 0x01, 0xB8, 0x00, 0x0B, 0xCD, 0x31,
+            0xC7, 0x06, 0x80, 0x00, 0x34, 0x12,
+        ],
+        options: &[],
+        status: 1,
+        parts: &[
+            "console 0\n\ntrace 4 of 4\nint2f 1687\nentry 16\nint31 0b00 ok\nenter 0 exc 01 eax=00000b00 ebx=00000001 ecx=000006c0 edx=00000102 esi=00000000 edi=00000100 ebp=000000fc esp=000000fc eip=00000022 fl=0246 cs=0207 ss=020f ds=0217 es=021f fs=0000 gs=0000\nreport\nexit fault 01 code=00000000\nsteps 18\nmode protected\ndepth 1\n",
+            "esp=000007f0 eip=00000301 fl=0046 cs=0087 ss=008f ds=0217 es=021f",
+        ],
+    },
+    // Sixteen watchpoints with the handles 1 to 16, compared with SI; a seventeenth, and AX is 8016h; the state of handle 17, and AX is 8023h.
+    Case {
+        code: &[
+            0xB8, 0x87, 0x16, 0xCD, 0x2F, 0x06, 0x57, 0x89, 0xE5, 0x31, 0xC0, 0xFF, 0x5E, 0x00,
+            0xBE, 0x01, 0x00, 0xB8, 0x00, 0x0B, 0x31, 0xDB, 0x31, 0xC9, 0xBA, 0x01, 0x01, 0xCD,
+            0x31, 0x72, 0x26, 0x39, 0xF3, 0x75, 0x22, 0x46, 0x83, 0xFE, 0x11, 0x75, 0xE8, 0xB8,
+            0x00, 0x0B, 0x31, 0xDB, 0xCD, 0x31, 0x73, 0x13, 0x89, 0xC7, 0xB8, 0x02, 0x0B, 0xBB,
+            0x11, 0x00, 0xCD, 0x31, 0x73, 0x07, 0x89, 0xC5, 0xB8, 0x00, 0x4C, 0xCD, 0x21, 0xB8,
+            0x01, 0x4C, 0xCD, 0x21,
+        ],
+        options: &[],
+        status: 0,
+        parts: &[
+            "console 0\n\ntrace 21 of 21\nint2f 1687\nentry 16\n",
+            "\nint31 0b00 ok\nint31 0b00 carry\nint31 0b02 carry\nint21 4c\nreport\nexit exited 0\nsteps 217\n",
+            " ebx=00000011 ecx=00000000 edx=00000101 esi=00000011 edi=00008016 ebp=00008023 ",
+        ],
+    },
+    // The timer's interrupt comes after the entry, and is reflected.
+    Case {
+        code: &[
+            0xB8, 0x87, 0x16, 0xCD, 0x2F, 0x06, 0x57, 0x89, 0xE5, 0x31, 0xC0, 0xFF, 0x5E, 0x00,
+            0xB8, 0x00, 0x4C, 0xCD, 0x21,
+        ],
+        options: &["--timer", "10"],
+        status: 0,
+        parts: &[
+            "console 0\n\ntrace 5 of 5\nint2f 1687\nentry 16\nenter 0 reflect 08 eax=00000000 ebx=00000001 ecx=00000003 edx=0000005a esi=00000000 edi=00000100 ebp=000000fc esp=000003fa eip=00000008 fl=0046 cs=f000 ss=d800 ds=0000 es=0000 fs=0000 gs=0000\nleave 0 reflect 08 eax=00000000 ebx=00000001 ecx=00000003 edx=0000005a esi=00000000 edi=00000100 ebp=000000fc esp=00000400 eip=00000103 fl=0246 cs=f000 ss=d800 ds=0000 es=0000 fs=0000 gs=0000\nint21 4c\nreport\nexit exited 0\nsteps 15\nmode protected\ndepth 0\n",
+        ],
+    },
+    // The client's own handler of the timer's interrupt, an IRET in protected mode: it is called once, as the 18th turn, between NOPs. It starts with
+    // virtual interrupts disabled, and IRET leaves them so; no line of the trace tells of it.
+    Case {
+        code: &[
+            0xB8, 0x87, 0x16, 0xCD, 0x2F, 0x06, 0x57, 0x89, 0xE5, 0x31, 0xC0, 0xFF, 0x5E, 0x00,
+            0xB8, 0x05, 0x02, 0xB3, 0x08, 0x8C, 0xC9, 0xBA, 0x1C, 0x00, 0xCD, 0x31, 0xEB, 0x01,
+            0xCF, 0x90, 0x90, 0x90, 0xB8, 0x00, 0x4C, 0xCD, 0x21,
+        ],
+        options: &["--timer", "18"],
+        status: 0,
+        parts: &[
+            "console 0\n\ntrace 4 of 4\nint2f 1687\nentry 16\nint31 0205 ok\nint21 4c\nreport\nexit exited 0\nsteps 24\nmode protected\ndepth 0\nregs eax=00004c00 ebx=00000008 ecx=00000207 edx=0000001c esi=00000000 edi=00000100 ebp=000000fc esp=000000f6 eip=00000221 fl=0046 cs=0087 ss=020f ds=0217 es=021f fs=0000 gs=0000\ndescs 7\n",
         ],
     },
 ];
