@@ -76,9 +76,15 @@ fn callbacks_are_allocated_and_freed(rt: HostRuntime) -> Result<(), Fail> {
         let r = m.regs();
         match after {
             Ok([ecx, edx]) => {
-                assert_eq!(rt; (carry, [r.eax, r.ecx, r.edx]), (Carry::Clear, [0, *ecx, *edx]));
+                assert_eq!(rt;
+                    (carry, [r.eax, r.ecx, r.edx]),
+                    (Carry::Clear, [0, *ecx, *edx])
+                );
             }
-            Err(eax) => assert_eq!(rt; (carry, [r.eax, r.ecx, r.edx]), (Carry::Set, [*eax, *ecx, *edx])),
+            Err(eax) => assert_eq!(rt;
+                (carry, [r.eax, r.ecx, r.edx]),
+                (Carry::Set, [*eax, *ecx, *edx])
+            ),
         }
     }
     Ok(())

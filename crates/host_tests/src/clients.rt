@@ -33,11 +33,9 @@ mod callback_clients;
 mod calls;
 mod exceptions;
 mod memory;
-mod outside_turns;
 mod runs;
 mod services;
 mod switches;
-mod timed_runs;
 
 // The start of a client with 1 to 16 bytes: the prefix at 64h, the image 10h paragraphs after it, the stack a paragraph after that, with
 // the header's SP.

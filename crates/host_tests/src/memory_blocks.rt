@@ -83,7 +83,11 @@ fn calls_return_what_their_rows_say(rt: HostRuntime) -> Result<(), Fail> {
         assert_eq!(rt; m.mode(), Mode::Protected);
         let (carry, eax, others) = match after {
             Ok(served) => (Carry::Clear, before[0], served),
-            Err(eax) => (Carry::Set, eax, [before[1], before[2], before[3], before[4]]),
+            Err(eax) => (
+                Carry::Set,
+                eax,
+                [before[1], before[2], before[3], before[4]],
+            ),
         };
         assert_eq!(rt; serve(&mut m, ax), carry, "call {number}");
         let r = m.regs();

@@ -369,6 +369,9 @@ fn calls_end_at_the_greatest_depth(rt: HostRuntime) -> Result<(), Fail> {
     assert_eq!(rt; m.mode(), Mode::Protected);
     assert_eq!(rt; reflect(&mut m, 0x21), Err(Exit::Deep));
     assert_eq!(rt; begin(&mut m, Call::Iret), Begun::Refused);
-    assert_eq!(rt; (m.regs().eax, u32::from(depth(&m))), (0xABCD_8012, GREATEST_DEPTH));
+    assert_eq!(rt;
+        (m.regs().eax, u32::from(depth(&m))),
+        (0xABCD_8012, GREATEST_DEPTH)
+    );
     Ok(())
 }

@@ -6,8 +6,8 @@ use std::test::Fail;
 use vector_services::serve;
 
 // EAX, EBX, ECX, EDX of a call, and the same after it, or EAX where it is refused; EAX stays for a number that the family doesn't have.
-// 0087h is the selector of index 16, the host's code; 008Fh is that of index 17, its stacks. At the start real vector n is F000h:n, protected-mode vector n 0087h:0200h+n, exception
-// vector n 0087h:0300h+n, and interrupts are enabled.
+// 0087h is the selector of index 16, the host's code; 008Fh is that of index 17, its stacks. At the start real vector n is F000h:n,
+// protected-mode vector n 0087h:0200h+n, exception vector n 0087h:0300h+n, and interrupts are enabled.
 const CALLS: [([u32; 4], Result<[u32; 4], u32>); 22] = [
     (
         [0x7777_0400, 0x1111_FFFF, 0x2222_AABB, 0x3333_FFFF],
@@ -64,10 +64,7 @@ const WIDE_CALLS: [([u32; 4], Result<[u32; 4], u32>); 3] = [
         [0x0204, 8, 0x2222_0000, 0xFFFF_FFFF],
         Ok([0x0204, 8, 0x2222_0087, 0x0001_2345]),
     ),
-    (
-        [0x0202, 0, 0, 0xFFFF_FFFF],
-        Ok([0x0202, 0, 0x0087, 0x0300]),
-    ),
+    ([0x0202, 0, 0, 0xFFFF_FFFF], Ok([0x0202, 0, 0x0087, 0x0300])),
 ];
 
 fn registers(call: [u32; 4]) -> Regs {

@@ -221,10 +221,7 @@ const ALL_HANDLES: Calls = Calls {
 const AFTER_ALL_HANDLES: [BlockCall; 6] = [
     ([0x0501, 0, 1, 3, 4], Err(0x8016)),
     ([0x0502, 5, 6, 0, 0x201], Err(0x8023)),
-    (
-        [0x0503, 0, 0x1001, 0, 0x200],
-        Ok([0x5F, 0xF000, 0, 0x200]),
-    ),
+    ([0x0503, 0, 0x1001, 0, 0x200], Ok([0x5F, 0xF000, 0, 0x200])),
     ([0x0502, 5, 6, 0, 0x200], Ok([5, 6, 0, 0x200])),
     ([0x0502, 5, 6, 0, 0x200], Err(0x8023)),
     ([0x0501, 0, 1, 3, 4], Ok([0x5F, 0xF000, 0, 0x200])),
@@ -349,7 +346,10 @@ static CALLS: [Calls; 6] = [
 fn row_of(call: &BlockCall) -> Row {
     let ([ax, bx, cx, si, di], done) = *call;
     let (refused, after) = match done {
-        Ok([bx, cx, si, di]) => (false, [ax, bx, cx, 0, si, di]),
+        Ok(served) => {
+            let [bx, cx, si, di] = served;
+            (false, [ax, bx, cx, 0, si, di])
+        }
         Err(number) => (true, [number, bx, cx, 0, si, di]),
     };
     ([ax, bx, cx, 0, si, di], refused, after)
@@ -388,7 +388,7 @@ fn add_call(code: &mut Vec<u8>, call: Words) -> Result<(), AllocError> {
 fn make_turns(rt: &impl Abort, host: &mut Host, turns: u32) {
     for _ in 0..turns {
         assert!(rt; host.steps() < 1_000_000);
-        assert_eq!(rt; host.turn(), Ok(()));
+        assert!(rt; host.turn().is_ok());
     }
 }
 

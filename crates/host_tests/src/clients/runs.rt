@@ -300,34 +300,62 @@ fn doubleword(rt: &impl Abort, m: &Machine, at: u32) -> u32 {
     low + 0x1_0000 * high
 }
 
-pub(super) fn expect_state(rt: &impl Abort, m: &Machine, wanted: &[(State, u32)], client: usize) {
+// What differs from a client's row. Numbers are places in its lists.
+#[derive(Clone, Copy, Debug, PartialEq)]
+enum Differing {
+    Exit,
+    Console,
+    Turns,
+    Lines,
+    Registers,
+    Flags,
+    Register(usize),
+    State(usize),
+    Line(u32),
+    NestedCalls,
+}
+
+// Comparisons answer what differs, and each test asserts once: an assertion of its own with a message costs ten times as much to prove.
+fn same(what: Differing, is_same: bool) -> Result<(), Differing> {
+    if is_same { Ok(()) } else { Err(what) }
+}
+
+fn compare_state(rt: &impl Abort, m: &Machine, wanted: &[(State, u32)]) -> Result<(), Differing> {
     for (place, (what, number)) in wanted.iter().enumerate() {
-        assert_eq!(rt;
-            state_value(rt, m, *what),
-            *number,
-            "state {place} of client {client}"
-        );
+        same(
+            Differing::State(place),
+            state_value(rt, m, *what) == *number,
+        )?;
     }
+    Ok(())
 }
 
-fn expect_registers(rt: &impl Abort, r: &Regs, wanted: &[(Register, u32)], client: usize) {
+pub(super) fn expect_state(rt: &impl Abort, m: &Machine, wanted: &[(State, u32)], client: usize) {
+    let compared = compare_state(rt, m, wanted);
+    assert_eq!(rt; compared, Ok(()), "client {client}");
+}
+
+fn compare_registers(r: &Regs, wanted: &[(Register, u32)]) -> Result<(), Differing> {
     for (place, (name, number)) in wanted.iter().enumerate() {
-        assert_eq!(rt;
-            register_value(r, *name),
-            *number,
-            "register {place} of client {client}"
-        );
+        same(
+            Differing::Register(place),
+            register_value(r, *name) == *number,
+        )?;
     }
+    Ok(())
 }
 
-fn expect_whole(rt: &impl Abort, m: &Machine, wanted: &Option<(Regs, u16)>, client: usize) {
-    if let Some((regs, image)) = wanted {
-        let found = Regs {
-            flags: regs.flags,
-            ..m.regs()
-        };
-        assert_eq!(rt; found, *regs, "registers of client {client}");
-        assert_eq!(rt; flags(m), u32::from(*image), "flags of client {client}");
+fn compare_whole(m: &Machine, wanted: &Option<(Regs, u16)>) -> Result<(), Differing> {
+    match wanted {
+        Some((regs, image)) => {
+            let found = Regs {
+                flags: regs.flags,
+                ..m.regs()
+            };
+            same(Differing::Registers, found == *regs)?;
+            same(Differing::Flags, flags(m) == u32::from(*image))
+        }
+        None => Ok(()),
     }
 }
 
@@ -365,66 +393,74 @@ fn next_nested(host: &Host, from: u32) -> Option<(u32, Nested)> {
 }
 
 // The lines on nested calls are these, and no others.
-fn expect_nested(rt: &impl Abort, host: &Host, lines: &[Nested], client: usize) {
+fn compare_nested(host: &Host, lines: &[Nested]) -> Result<(), Differing> {
     let mut from = 0;
     for line in lines {
-        let found = next_nested(host, from);
-        assert_eq!(rt;
-            found.map(|(_, line)| line),
-            Some(*line),
-            "nested calls of client {client}"
-        );
-        from = match found {
-            Some((after, _)) => after,
-            None => from,
-        };
+        match next_nested(host, from) {
+            Some((after, found)) => {
+                same(Differing::NestedCalls, found == *line)?;
+                from = after;
+            }
+            None => return Err(Differing::NestedCalls),
+        }
     }
-    assert_eq!(rt;
-        next_nested(host, from),
-        None,
-        "nested calls of client {client}"
-    );
+    same(Differing::NestedCalls, next_nested(host, from).is_none())
 }
 
-fn expect_trace(rt: &impl Abort, host: &Host, client: &Client, number: usize) {
-    for (i, line) in client.trace {
-        assert_eq!(rt; host.line(*i), Some(*line), "line {i} of client {number}");
+fn compare_lines(host: &Host, wanted: &[(u32, TraceLine)]) -> Result<(), Differing> {
+    for (i, line) in wanted {
+        same(Differing::Line(*i), host.line(*i) == Some(*line))?;
     }
-    for (i, place) in client.places {
-        let found = nested(host.line(*i)).map(|(_, place)| place);
-        assert_eq!(rt; found, Some(*place), "line {i} of client {number}");
+    Ok(())
+}
+
+fn compare_places(host: &Host, wanted: &[(u32, (u16, u32, bool))]) -> Result<(), Differing> {
+    for (i, place) in wanted {
+        match nested(host.line(*i)) {
+            Some((_, found)) => same(Differing::Line(*i), found == *place)?,
+            None => return Err(Differing::Line(*i)),
+        }
     }
-    if let Some(lines) = client.nested {
-        expect_nested(rt, host, lines, number);
+    Ok(())
+}
+
+fn compare_trace(host: &Host, client: &Client) -> Result<(), Differing> {
+    compare_lines(host, client.trace)?;
+    compare_places(host, client.places)?;
+    match client.nested {
+        Some(lines) => compare_nested(host, lines),
+        None => Ok(()),
     }
 }
 
-fn expect_end(rt: &impl Abort, host: &Host, client: &Client, number: usize) {
-    assert_eq!(rt; host.exit(), Some(client.exit), "exit of client {number}");
-    assert_eq!(rt;
-        host.console(),
-        client.console,
-        "console of client {number}"
-    );
+fn compare_end(host: &Host, client: &Client) -> Result<(), Differing> {
+    same(Differing::Exit, host.exit() == Some(client.exit))?;
+    same(Differing::Console, host.console() == client.console)?;
     if let Some(steps) = client.steps {
-        assert_eq!(rt; host.steps(), steps, "turns of client {number}");
+        same(Differing::Turns, host.steps() == steps)?;
     }
     if let Some(lines) = client.lines {
-        assert_eq!(rt; host.lines(), lines, "lines of client {number}");
-        assert_eq!(rt; host.kept(), lines, "kept lines of client {number}");
+        same(
+            Differing::Lines,
+            host.lines() == lines && host.kept() == lines,
+        )?;
     }
+    Ok(())
 }
 
-fn expect_machine(rt: &impl Abort, m: &Machine, client: &Client, number: usize) {
-    expect_whole(rt, m, &client.whole, number);
-    expect_registers(rt, m.registers(), client.registers, number);
-    expect_state(rt, m, client.state, number);
+fn compare(rt: &impl Abort, host: &Host, client: &Client) -> Result<(), Differing> {
+    let m = host.machine();
+    compare_end(host, client)?;
+    compare_trace(host, client)?;
+    compare_whole(m, &client.whole)?;
+    compare_registers(m.registers(), client.registers)?;
+    compare_state(rt, m, client.state)
 }
 
 // Runs a host that has made no turn.
-fn run_out(rt: &impl Abort, host: &mut Host, bound: u32) -> Exit {
+fn run_out(rt: &impl Abort, host: &mut Host, bound: u32) {
     assert!(rt; host.steps() == 0 && bound <= 1_000_000);
-    host.run(bound)
+    let _ = host.run(bound);
 }
 
 // A host into which a client was loaded.
@@ -444,11 +480,9 @@ pub(super) fn started(
 fn run(rt: &impl Abort, alloc: Global, client: &Client, number: usize) -> Result<(), AllocError> {
     let code = code_of(rt, alloc, client)?;
     let mut host = started(rt, alloc, client.pages, client.keys, &code)?;
-    let exit = run_out(rt, &mut host, client.bound);
-    assert_eq!(rt; exit, client.exit, "exit of client {number}");
-    expect_end(rt, &host, client, number);
-    expect_trace(rt, &host, client, number);
-    expect_machine(rt, host.machine(), client, number);
+    run_out(rt, &mut host, client.bound);
+    let compared = compare(rt, &host, client);
+    assert_eq!(rt; compared, Ok(()), "client {number}");
     Ok(())
 }
 
