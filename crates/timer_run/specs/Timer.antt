@@ -1,6 +1,5 @@
 -- The timer, and its part of a round. Source: own.
-use Rattle.std.specs.Prelude.{◌≡◌, ℕ, ◌+◌, Bool, true, false, ◌&&◌, nat_eq, nat_lt, if◌then◌else◌, None, Some, Ok, Err}
-use Rattle.std.specs.declared.option.Option.{Option}
+use Rattle.std.specs.Prelude.{ℕ, ◌+◌, Bool, true, false, ◌&&◌, nat_eq, nat_lt, if◌then◌else◌, None, Some, Ok, Err}
 use Rattle.std.specs.declared.result.Result.{Result}
 use Rattle.client_world.specs.declared.limits.TheConstants.{GREATEST_DEPTH}
 use Rattle.client_world.specs.declared.outcome.Exit.{Exit}

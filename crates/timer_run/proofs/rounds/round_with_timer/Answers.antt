@@ -30,7 +30,8 @@ returns-in-Ok-true-clause-was_on c = λ on.
 
 pub watch_turn-requires : goal.watch_turn-requires
 watch_turn-requires c =
-    let same = turn_from c.args.timer.now c.args.host.now.world c.before-2.new.host.world c.before-2.ensures.host (cc (c.in-Ok-false.field-0-test, c.in-Ok-false.ensures.answer)) in
+    let same = turn_from c.args.timer.now c.args.host.now.world c.before-2.new.host.world c.before-2.ensures.host
+    (cc (c.in-Ok-false.field-0-test, c.in-Ok-false.ensures.answer)) in
     subst (λ (h : HostWorld). h.exit ≡ None → h.steps < MAX_STEPS) (sym same) c.requires
 
 pub returns-in-Ok-false-clause-world : goal.returns-in-Ok-false-clause-world
@@ -45,13 +46,15 @@ returns-in-Ok-false-clause-every c =
 
 pub returns-in-Ok-false-clause-steps : goal.returns-in-Ok-false-clause-steps
 returns-in-Ok-false-clause-steps c =
-    let same = turn_from c.args.timer.now c.args.host.now.world c.before-2.new.host.world c.before-2.ensures.host (cc (c.in-Ok-false.field-0-test, c.in-Ok-false.ensures.answer)) in
+    let same = turn_from c.args.timer.now c.args.host.now.world c.before-2.new.host.world c.before-2.ensures.host
+    (cc (c.in-Ok-false.field-0-test, c.in-Ok-false.ensures.answer)) in
     let host = ap (λ (h : HostWorld). h.steps) same in
     omega (arith, host, c.watch_turn.ensures.steps)
 
 pub returns-in-Ok-false-clause-was_on : goal.returns-in-Ok-false-clause-was_on
 returns-in-Ok-false-clause-was_on c = λ on.
-    let same = turn_from c.args.timer.now c.args.host.now.world c.before-2.new.host.world c.before-2.ensures.host (cc (c.in-Ok-false.field-0-test, c.in-Ok-false.ensures.answer)) in
+    let same = turn_from c.args.timer.now c.args.host.now.world c.before-2.new.host.world c.before-2.ensures.host
+    (cc (c.in-Ok-false.field-0-test, c.in-Ok-false.ensures.answer)) in
     sym (ap (λ (h : HostWorld). h.exit) same) ∙ c.watch_turn.ensures.was_on on
 
 -- ---- there is an exit
