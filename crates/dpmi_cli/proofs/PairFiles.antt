@@ -7,7 +7,7 @@ use Rattle.client_world.specs.declared.outcome.LoadFault.{LoadFault}
 use Rattle.client_world.specs.World.{HostWorld}
 use Rattle.mz_loader.specs.Refusal.{refusal}
 use Rattle.host_run.specs.Start.{started_host}
-use Rattle.dpmi_words.specs.Meaning.{Meaning, PairMeaning, Pairs, meaning}
+use Rattle.dpmi_words.specs.Meaning.{PairMeaning, Pairs, meaning}
 use Rattle.dpmi_io.specs.Content.{Files, Lacks}
 use Rattle.pair_run.specs.declared.lines.Letter.TheVariants.{A, B}
 use Rattle.dpmi_cli.specs.declared.prepare.Reason.TheVariants.{FileTooLongOf, LoadOf}

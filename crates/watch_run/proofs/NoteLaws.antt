@@ -5,7 +5,7 @@ use Rattle.std.proofs.lemmas.List.{append-nil, drop_all, drop-set-lt}
 use Rattle.std.proofs.Math.Seq.{drop-cons, take-suc-set}
 use Rattle.client_world.specs.declared.watchpoints.Touch.{Touch}
 use Rattle.client_world.specs.declared.watchpoints.Watch.{Watch}
-use Rattle.watch_run.specs.Hits.{all_marked, has_first_hit, is_first_hit, marked, slot_hit}
+use Rattle.watch_run.specs.Hits.{all_marked, has_first_hit, is_first_hit, marked}
 
 or_false : (c : Bool) → (c || false) ≡ c
 or_false true = refl

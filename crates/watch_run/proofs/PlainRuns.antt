@@ -1,5 +1,5 @@
 -- Runs in which no function on watchpoints is served.
-use Rattle.std.proofs.Common.{◌≡◌, ℕ, zero, suc, ◌+◌, ◌<◌, Bool, true, false, if◌then◌else◌, None, Some, Option, refl, ap, sym, ◌∙◌, arith}
+use Rattle.std.proofs.Common.{◌≡◌, ℕ, zero, suc, ◌<◌, Bool, true, false, if◌then◌else◌, None, Some, Option, refl, ap, sym, ◌∙◌, arith}
 use Rattle.client_world.specs.declared.outcome.Exit.{Exit}
 use Rattle.client_world.specs.World.{World, HostWorld}
 use Rattle.client_world.specs.WatchWorld.{WatchWorld, Watching, no_watches, unwatched}

@@ -1,5 +1,5 @@
 -- What turns with watchpoints keep, count and write. Each is an exception that delivers a hit, a function that is served, or the host's own turn.
-use Rattle.std.proofs.Common.{arith, ◌≡◌, ◌∙◌, ◌≤◌, ◌+◌, ◌*◌, ℕ, zero, suc, Bool, true, false, ◌||◌, List, [], None, Some, Option, refl, ap, sym, subst, add-one}
+use Rattle.std.proofs.Common.{arith, ◌≡◌, ◌∙◌, ◌≤◌, ◌+◌, ◌*◌, ℕ, zero, suc, Bool, true, false, ◌||◌, [], None, Some, Option, refl, ap, sym, subst, add-one}
 use Rattle.std.specs.Prelude.{All, IsSome, if◌then◌else◌}
 use Rattle.std.proofs.lemmas.List.Elements.{All-nil}
 use Rattle.client_world.specs.declared.faults.TheConstants.{DEBUG}

@@ -1,5 +1,5 @@
 -- Which watchpoints the next instruction hits. Addresses are compared as linear numbers, before the instruction runs. Source: own.
-use Rattle.std.specs.Prelude.{ℕ, ◌+◌, ◌*◌, Bool, true, false, cond, not, ◌&&◌, ◌||◌, List, [], ◌∷◌, nat_le, nat_lt, None, Some}
+use Rattle.std.specs.Prelude.{ℕ, ◌+◌, ◌*◌, Bool, false, cond, not, ◌&&◌, ◌||◌, List, [], ◌∷◌, nat_le, nat_lt, None, Some}
 use Rattle.std.specs.declared.option.Option.{Option}
 use Rattle.client_world.specs.Access.{linear}
 use Rattle.client_world.specs.WatchWorld.{Watching}

@@ -1,6 +1,6 @@
 -- INT 31h functions 0B00h to 0B03h. A refusal returns its number in AX.
 -- Source: DPMI 0.9, INT 31h functions 0B00h to 0B03h; that there are 16 watchpoints without debug registers is own.
-use Rattle.std.specs.Prelude.{ℕ, ◌+◌, ◌-◌, ◌^◌, Bool, true, false, not, cond, ◌||◌, nat_eq, nat_lt, None, Some, if◌then◌else◌, slice_set}
+use Rattle.std.specs.Prelude.{ℕ, ◌+◌, ◌-◌, ◌^◌, Bool, false, not, cond, ◌||◌, nat_eq, nat_lt, None, Some, if◌then◌else◌, slice_set}
 use Rattle.std.specs.declared.option.Option.{Option}
 use Rattle.client_world.specs.declared.registers.Regs.{Regs}
 use Rattle.client_world.specs.declared.services.Carry.{Carry}

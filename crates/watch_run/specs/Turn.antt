@@ -6,7 +6,6 @@ use Rattle.client_world.specs.declared.faults.TheConstants.{DEBUG}
 use Rattle.client_world.specs.declared.outcome.Exit.{Exit}
 use Rattle.client_world.specs.declared.registers.Mode.TheVariants.{Real, Protected}
 use Rattle.client_world.specs.declared.watchpoints.Touch.{Touch}
-use Rattle.client_world.specs.declared.watchpoints.Watch.{Watch}
 use Rattle.client_world.specs.Access.{fault_with}
 use Rattle.client_world.specs.declared.place.Place.{Place}
 use Rattle.client_world.specs.WatchWorld.{WatchWorld, Watching, unwatched}

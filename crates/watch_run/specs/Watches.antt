@@ -1,5 +1,5 @@
 -- The handles of watchpoints. Source: DPMI 0.9, "Debug Register Support".
-use Rattle.std.specs.Prelude.{ℕ, zero, suc, ◌+◌, ◌-◌, Bool, true, false, List, [], ◌∷◌, None, Some, is_none, ◌||◌, nat_eq, nat_lt, if◌then◌else◌, slice_index_or}
+use Rattle.std.specs.Prelude.{ℕ, ◌-◌, Bool, List, None, is_none, ◌||◌, nat_eq, nat_lt, if◌then◌else◌, slice_index_or}
 use Rattle.std.specs.declared.option.Option.{Option}
 use Rattle.client_world.specs.declared.limits.TheConstants.{WATCHES}
 use Rattle.client_world.specs.declared.watchpoints.Watch.{Watch}

@@ -1,4 +1,4 @@
-use Rattle.dpmi_io.proofs.Output.{gains_then, part_longer, part_then}
+use Rattle.dpmi_io.proofs.Output.{part_longer, part_then}
 use Rattle.dpmi_cli.proofs.pairs.write_client.Goals as goal
 
 pub returns-in-Err-clause-part : goal.returns-in-Err-clause-part
