@@ -1,21 +1,7 @@
-//! A DPMI host that runs one client, or two in turns: the words of the command line in, the clients' text and a status out.
-//! It promises that what it writes is the model's text, whole or cut off where the output failed, that each failure that it reports has its
-//! cause, and that each run that it answers keeps its client to its memory, and nests and hands over as the laws of `host_run` say.
-//! It uses `dpmi_words` for the words, `client_maker` for made clients, `host_run` for a client's host, `watch_run`, `timer_run` and `pair_run`
-//! for the runs, `dpmi_report` for the text, and `dpmi_io`.
+//! The program: the system's words, files and output, and `dpmi_cli`, which does all the rest.
 #![tactic(auto)]
 
-mod command;
-mod laws;
-mod pairs;
-mod prepare;
-mod report;
-mod runs;
-mod status;
-#[cfg(test)]
-mod tests;
-mod watched_host;
-
+use dpmi_cli::{dpmi, status};
 use dpmi_io::{FileShelf, StdoutSink};
 use std::alloc::Global;
 use std::env::{Env, FillError};
@@ -73,5 +59,5 @@ fn main(rt: HostRuntime) -> ExitCode {
     };
     let mut shelf = FileShelf::new(&rt);
     let mut out = StdoutSink::new(io::writer(&rt));
-    ExitCode::from(command::dpmi(rt.alloc(), words.as_slice(), &mut shelf, &mut out))
+    ExitCode::from(dpmi(rt.alloc(), words.as_slice(), &mut shelf, &mut out))
 }

@@ -1,38 +1,21 @@
 // The command over files and an output in memory.
 ghost use Rattle.std.specs.Prelude.{◌≡◌, ◌≤◌, ◌⊎◌};
 
-use crate::command::dpmi;
-use crate::status::{NO_MEMORY, REFUSED};
+use crate::files::{ONE_LETTER, answer, client, owned_words};
+use dpmi_cli::dpmi;
+use dpmi_cli::status::{NO_MEMORY, REFUSED};
 use dpmi_io::{MemShelf, MemSink, SureShelf, SureSink};
-use std::alloc::Global;
+use std::alloc::{AllocError, Global};
 use std::process::Abort;
 use std::test::Fail;
 
-mod clients;
-
-// The client that prints the letter `A`: MOV AH,02h; MOV DL,41h; INT 21h; MOV AX,4C00h; INT 21h.
-const ONE_LETTER: [u8; 43] = [
-    0x4D, 0x5A, 0x2B, 0x00, 0x01, 0x00, 0x00, 0x00, 0x02, 0x00, 0x10, 0x00, 0xFF, 0xFF, 0x01, 0x00,
-    0x00, 0x01, 0x00, 0x00, 0x00, 0x00, 0x00, 0x00, 0x1C, 0x00, 0x00, 0x00, 0x00, 0x00, 0x00, 0x00,
-    0xB4, 0x02, 0xB2, 0x41, 0xCD, 0x21, 0xB8, 0x00, 0x4C, 0xCD, 0x21,
-];
-
-// What is written of its run. The megabyte of the digest holds the vectors, the blocks of DOS memory, the environment, the prefix and the
+// What is written of the run of the client that prints the letter `A`. The megabyte of the digest holds the vectors, the blocks of DOS memory, the environment, the prefix and the
 // code, by their definitions, and the frame of the last interrupt on the stack.
 const LETTER_TEXT: &str =
     "console 1\nA\ntrace 2 of 2\nint21 02\nint21 4c\nreport\nexit exited 0\nsteps 7\nmode real\ndepth 0\nregs eax=00004c00 ebx=00000000 ecx=00000000 edx=00000041 esi=00000000 edi=00000000 ebp=00000000 esp=000000fa eip=00000021 fl=0002 cs=f000 ss=0075 ds=0064 es=0064 fs=0000 gs=0000\ndescs 0\nblocks 0\ndos sha256=220e234fe35f69a2ba2e07da76cf70cd8b99b83b215fd0727bd9dc65ea7956ae\n";
 
 // The console, the exit and the turns of that run.
 const LETTER: &str = "console 1\nA\nexit exited 0\nsteps 7\n";
-
-// Those words, in owned texts.
-fn words(rt: &impl AllocGlobal, texts: &[&str]) -> Result<Vec<String>, Fail> {
-    let mut words = Vec::new(rt.alloc());
-    for text in texts {
-        words.push(String::from_str(rt.alloc(), *text)?)?;
-    }
-    Ok(words)
-}
 
 // Whether a text starts so, and has that part.
 fn shows(bytes: &[u8], start: &str, part: &str) -> bool {
@@ -51,74 +34,67 @@ fn has(bytes: &[u8], text: &str) -> bool {
     }
 }
 
-// Runs the command over one file A.EXE, and compares the status, the console, the exit and the turns, or the line of a refusal.
-fn expect(
+// Whether the command over one file A.EXE answers so: the status, and the console, the exit and the turns, or the line of a refusal.
+fn is_answered(
     rt: &(impl Abort + AllocGlobal),
     texts: &[&str],
     file: &[u8],
     status: u8,
     text: &str,
-) -> Result<(), Fail> {
+) -> Result<bool, Fail> {
     let mut shelf = MemShelf::new(rt.alloc());
     shelf.add("A.EXE", file)?;
     let mut out = MemSink::new(rt.alloc(), 2000, 3)?;
-    let words = words(rt, texts)?;
-    assert_eq!(rt;
-        dpmi(rt.alloc(), words.as_slice(), &mut shelf, &mut out),
-        status
-    );
-    assert!(rt; has(out.bytes(), text), "{text}");
-    Ok(())
+    Ok(answer(rt.alloc(), texts, &mut shelf, &mut out)? == status && has(out.bytes(), text))
 }
+
+// Files of zeros, by their lengths.
+const ZEROS: [(usize, &str); 5] = [
+    (0, "refused ShortHeader\n"),
+    (27, "refused ShortHeader\n"),
+    (28, "refused Signature\n"),
+    (4_194_304, "refused Signature\n"),
+    (4_194_305, "refused FileTooLong\n"),
+];
 
 #[test]
 fn a_file_of_zeros_is_refused_by_its_length(rt: HostRuntime) -> Result<(), Fail> {
-    for (count, text) in [
-        (0, "refused ShortHeader\n"),
-        (27, "refused ShortHeader\n"),
-        (28, "refused Signature\n"),
-        (4_194_304, "refused Signature\n"),
-        (4_194_305, "refused FileTooLong\n"),
-    ] {
-        let file = vec![in rt.alloc(); 0; count]?;
-        expect(&rt, &["run", "A.EXE"], &file, 2, text)?;
+    let mut wrong = None;
+    for (row, (count, text)) in ZEROS.iter().enumerate() {
+        let file = vec![in rt.alloc(); 0; *count]?;
+        if !is_answered(&rt, &["run", "A.EXE"], &file, 2, *text)? {
+            wrong = Some(row);
+        }
     }
+    assert_eq!(rt; wrong, None);
     Ok(())
-}
-
-// The client of other code: in that client's header the bytes of the last page and SS, the paragraph after the code, are others.
-fn client(rt: &(impl Abort + AllocGlobal), code: &[u8]) -> Result<Vec<u8>, Fail> {
-    assert!(rt; code.len() <= 200);
-    let mut file = ONE_LETTER[..32].to_vec(rt.alloc())?;
-    file.extend_from_slice(code)?;
-    assert!(rt; file.len() >= 32);
-    file[0x02] = (32 + code.len()) as u8;
-    file[0x0E] = code.len().div_ceil(16) as u8;
-    Ok(file)
 }
 
 // JMP F000h:0100h, which enters protected mode and goes on at the far address on top of the stack, 0000h:0000h: the interrupt vectors are
 // run, two instructions for each of the first five, and after ADD AX,0000h comes LOCK PUSH ES, an exception, whose default handler ends the
 // client in a turn of its own; MOV AH,01h and INT 21h, which asks for a key; HLT.
+const CODES: [(&[u8], &str); 3] = [
+    (
+        b"\xEA\x00\x01\x00\xF0",
+        "console 0\n\nexit fault 06 code=00000000\nsteps 15\n",
+    ),
+    (b"\xB4\x01\xCD\x21", "console 0\n\nexit nokeys\nsteps 3\n"),
+    (
+        b"\xF4",
+        "console 0\n\nexit fault 0d code=00000000\nsteps 1\n",
+    ),
+];
+
 #[test]
 fn each_code_has_its_exit(rt: HostRuntime) -> Result<(), Fail> {
-    for (code, text) in [
-        (
-            [0xEA, 0x00, 0x01, 0x00, 0xF0].as_slice(),
-            "console 0\n\nexit fault 06 code=00000000\nsteps 15\n",
-        ),
-        (
-            [0xB4, 0x01, 0xCD, 0x21].as_slice(),
-            "console 0\n\nexit nokeys\nsteps 3\n",
-        ),
-        (
-            [0xF4].as_slice(),
-            "console 0\n\nexit fault 0d code=00000000\nsteps 1\n",
-        ),
-    ] {
-        let file = client(&rt, code)?;
-        expect(&rt, &["run", "A.EXE"], &file, 1, text)?;
+    let mut wrong = None;
+    for (row, (code, text)) in CODES.iter().enumerate() {
+        let file = client(&rt, *code)?;
+        if !is_answered(&rt, &["run", "A.EXE"], &file, 1, *text)? {
+            wrong = Some(row);
+        }
     }
+    assert_eq!(rt; wrong, None);
     Ok(())
 }
 
@@ -148,13 +124,13 @@ const HEADER_WORDS: [(usize, &str, &str); 13] = [
     (0x1A, LETTER, LETTER),
 ];
 
-// Runs the command over the client of the letter with that word in its header.
-fn expect_word(
+// Whether the client of the letter with that word in its header is answered so.
+fn is_word_answered(
     rt: &(impl Abort + AllocGlobal),
     at: usize,
     byte: u8,
     text: &str,
-) -> Result<(), Fail> {
+) -> Result<bool, Fail> {
     let mut file = ONE_LETTER;
     assert!(rt; at < 0x1B);
     file[at] = byte;
@@ -162,25 +138,22 @@ fn expect_word(
     let mut shelf = MemShelf::new(rt.alloc());
     shelf.add("A.EXE", &file)?;
     let mut out = MemSink::new(rt.alloc(), 2000, 100)?;
-    let words = words(rt, &["run", "A.EXE"])?;
-    let _ = dpmi(rt.alloc(), words.as_slice(), &mut shelf, &mut out);
-    assert!(rt; has(out.bytes(), text), "word {at} of bytes {byte}");
-    Ok(())
+    let _ = answer(rt.alloc(), &["run", "A.EXE"], &mut shelf, &mut out)?;
+    Ok(has(out.bytes(), text))
 }
 
 #[test]
-fn each_header_word_of_0_has_its_answer(rt: HostRuntime) -> Result<(), Fail> {
-    for (at, zero, _) in HEADER_WORDS {
-        expect_word(&rt, at, 0, zero)?;
+fn each_header_word_has_its_answer(rt: HostRuntime) -> Result<(), Fail> {
+    let mut wrong = None;
+    for (at, zero, greatest) in &HEADER_WORDS {
+        if !is_word_answered(&rt, *at, 0, *zero)? {
+            wrong = Some((*at, 0));
+        }
+        if !is_word_answered(&rt, *at, 0xFF, *greatest)? {
+            wrong = Some((*at, 0xFF));
+        }
     }
-    Ok(())
-}
-
-#[test]
-fn each_header_word_of_ffff_has_its_answer(rt: HostRuntime) -> Result<(), Fail> {
-    for (at, _, greatest) in HEADER_WORDS {
-        expect_word(&rt, at, 0xFF, greatest)?;
-    }
+    assert_eq!(rt; wrong, None);
     Ok(())
 }
 
@@ -237,31 +210,44 @@ const HOSTILE: [(&[u8], u8, &str); 9] = [
 
 #[test]
 fn hostile_clients_end_with_a_name(rt: HostRuntime) -> Result<(), Fail> {
-    for (code, status, text) in HOSTILE {
-        let file = client(&rt, code)?;
-        expect(&rt, &["run", "A.EXE"], &file, status, text)?;
+    let mut wrong = None;
+    for (row, (code, status, text)) in HOSTILE.iter().enumerate() {
+        let file = client(&rt, *code)?;
+        if !is_answered(&rt, &["run", "A.EXE"], &file, *status, *text)? {
+            wrong = Some(row);
+        }
     }
+    assert_eq!(rt; wrong, None);
     Ok(())
 }
 
-// A last page of 0 bytes is a whole one, and so is one of 512.
+// The two bytes of the header on the last page: a last page of 0 bytes is a whole one, and so is one of 512.
+const LAST_PAGES: [(u8, u8, u8, &str); 3] = [
+    (0x00, 0x00, 0, LETTER),
+    (0x00, 0x02, 0, LETTER),
+    (0x01, 0x02, 2, "refused LastPage\n"),
+];
+
 #[test]
 fn each_last_page_has_its_answer(rt: HostRuntime) -> Result<(), Fail> {
     let mut file = [0; 512];
     file[..43].copy_from_slice(&ONE_LETTER);
-    for (low, high, status, text) in [
-        (0x00, 0x00, 0, LETTER),
-        (0x00, 0x02, 0, LETTER),
-        (0x01, 0x02, 2, "refused LastPage\n"),
-    ] {
-        file[2] = low;
-        file[3] = high;
-        expect(&rt, &["run", "A.EXE"], &file, status, text)?;
+    let mut wrong = None;
+    for (row, (low, high, status, text)) in LAST_PAGES.iter().enumerate() {
+        file[2] = *low;
+        file[3] = *high;
+        if !is_answered(&rt, &["run", "A.EXE"], &file, *status, *text)? {
+            wrong = Some(row);
+        }
     }
+    assert_eq!(rt; wrong, None);
     Ok(())
 }
 
-// With a maximum of 0010h the image's block ends at 0000h:0110h: the last word before it may be a relocation's.
+// Relocations 0000h:01xxh, by the low byte of the offset. With a maximum of 0010h the image's block ends at 0000h:0110h: the last word before it may
+// be a relocation's.
+const RELOCATIONS: [(u8, u8, &str); 2] = [(0x0E, 0, LETTER), (0x0F, 2, "refused RelocTarget\n")];
+
 #[test]
 fn each_relocation_has_its_answer(rt: HostRuntime) -> Result<(), Fail> {
     let mut file = ONE_LETTER;
@@ -269,42 +255,54 @@ fn each_relocation_has_its_answer(rt: HostRuntime) -> Result<(), Fail> {
     file[0x0C] = 0x10;
     file[0x0D] = 0x00;
     file[0x1D] = 0x01;
-    for (offset, status, text) in [(0x0E, 0, LETTER), (0x0F, 2, "refused RelocTarget\n")] {
-        file[0x1C] = offset;
-        expect(&rt, &["run", "A.EXE"], &file, status, text)?;
+    let mut wrong = None;
+    for (row, (offset, status, text)) in RELOCATIONS.iter().enumerate() {
+        file[0x1C] = *offset;
+        if !is_answered(&rt, &["run", "A.EXE"], &file, *status, *text)? {
+            wrong = Some(row);
+        }
     }
+    assert_eq!(rt; wrong, None);
     Ok(())
 }
 
-// The file with the relocation 0000h:010Eh, and the client of the letter, cut to a length. A cut image is filled up with zeros, 32,768
-// instructions of two bytes; then there is no byte to fetch at 10000h.
+// The client of the letter with one relocation, 0000h:010Eh, or none, cut to a length. A cut image is filled up with zeros, 32,768 instructions of
+// two bytes; then there is no byte to fetch at 10000h.
+const CUT_FILES: [(u8, usize, u8, &str); 7] = [
+    (1, 0, 2, "refused ShortHeader\n"),
+    (1, 27, 2, "refused ShortHeader\n"),
+    (1, 28, 2, "refused RelocTable\n"),
+    (1, 31, 2, "refused RelocTable\n"),
+    (1, 43, 0, LETTER),
+    (
+        0,
+        28,
+        1,
+        "console 0\n\nexit fault 0d code=00000000\nsteps 32769\n",
+    ),
+    (
+        0,
+        32,
+        1,
+        "console 0\n\nexit fault 0d code=00000000\nsteps 32769\n",
+    ),
+];
+
 #[test]
 fn each_cut_file_has_its_answer(rt: HostRuntime) -> Result<(), Fail> {
     let mut file = ONE_LETTER;
-    for (relocations, length, status, text) in [
-        (1, 0, 2, "refused ShortHeader\n"),
-        (1, 27, 2, "refused ShortHeader\n"),
-        (1, 28, 2, "refused RelocTable\n"),
-        (1, 31, 2, "refused RelocTable\n"),
-        (1, 43, 0, LETTER),
-        (
-            0,
-            28,
-            1,
-            "console 0\n\nexit fault 0d code=00000000\nsteps 32769\n",
-        ),
-        (
-            0,
-            32,
-            1,
-            "console 0\n\nexit fault 0d code=00000000\nsteps 32769\n",
-        ),
-    ] {
-        file[0x06] = relocations;
-        file[0x1C] = 0x0E * relocations;
-        file[0x1D] = relocations;
-        expect(&rt, &["run", "A.EXE"], &file[..length], status, text)?;
+    let mut wrong = None;
+    for (row, (relocations, length, status, text)) in CUT_FILES.iter().enumerate() {
+        file[0x06] = *relocations;
+        let low = if *relocations == 0 { 0x00 } else { 0x0E };
+        file[0x1C] = low;
+        file[0x1D] = *relocations;
+        let cut = file.get(..*length).unwrap_or(&[]);
+        if !is_answered(&rt, &["run", "A.EXE"], cut, *status, *text)? {
+            wrong = Some(row);
+        }
     }
+    assert_eq!(rt; wrong, None);
     Ok(())
 }
 
@@ -368,9 +366,13 @@ const WRONG_WORDS: [&[&str]; 52] = [
 
 #[test]
 fn words_that_mean_nothing_are_refused(rt: HostRuntime) -> Result<(), Fail> {
-    for texts in WRONG_WORDS {
-        expect(&rt, texts, &ONE_LETTER, 2, "refused words\n")?;
+    let mut wrong = None;
+    for (row, texts) in WRONG_WORDS.iter().enumerate() {
+        if !is_answered(&rt, *texts, &ONE_LETTER, 2, "refused words\n")? {
+            wrong = Some(row);
+        }
     }
+    assert_eq!(rt; wrong, None);
     Ok(())
 }
 
@@ -469,27 +471,42 @@ const OPTIONS: [(&[&str], u8, &str, &str); 16] = [
     ),
 ];
 
-#[test]
-fn each_option_has_its_effect(rt: HostRuntime) -> Result<(), Fail> {
-    let file = client(&rt, &ONE_KEY)?;
-    let mut keys = vec![in rt.alloc(); b'Y'; 65_536]?;
+// The files that those words name.
+fn files_of_options(rt: &(impl Abort + AllocGlobal)) -> Result<MemShelf, Fail> {
     let mut shelf = MemShelf::new(rt.alloc());
-    shelf.add("A.EXE", &file)?;
-    let file = client(&rt, &TWO_BLOCKS)?;
-    shelf.add("P.EXE", &file)?;
+    shelf.add("A.EXE", &client(rt, &ONE_KEY)?)?;
+    shelf.add("P.EXE", &client(rt, &TWO_BLOCKS)?)?;
     shelf.add("L.EXE", &ONE_LETTER)?;
+    let mut keys = vec![in rt.alloc(); b'Y'; 65_536]?;
     shelf.add("K", &keys)?;
     keys.push(b'Y')?;
     shelf.add("LONG", &keys)?;
-    for (texts, status, start, part) in OPTIONS {
-        let given = words(&rt, texts)?;
-        let mut out = MemSink::new(rt.alloc(), 2000, 100)?;
-        assert_eq!(rt;
-            dpmi(rt.alloc(), given.as_slice(), &mut shelf, &mut out),
-            status
-        );
-        assert!(rt; shows(out.bytes(), start, part), "{start}");
+    Ok(shelf)
+}
+
+// Whether the command answers those words so: the status, the first of the text, and a part of it.
+fn is_option_answered(
+    alloc: Global,
+    shelf: &mut MemShelf,
+    texts: &[&str],
+    status: u8,
+    start: &str,
+    part: &str,
+) -> Result<bool, AllocError> {
+    let mut out = MemSink::new(alloc, 2000, 100)?;
+    Ok(answer(alloc, texts, shelf, &mut out)? == status && shows(out.bytes(), start, part))
+}
+
+#[test]
+fn each_option_has_its_effect(rt: HostRuntime) -> Result<(), Fail> {
+    let mut shelf = files_of_options(&rt)?;
+    let mut wrong = None;
+    for (row, (texts, status, start, part)) in OPTIONS.iter().enumerate() {
+        if !is_option_answered(rt.alloc(), &mut shelf, *texts, *status, *start, *part)? {
+            wrong = Some(row);
+        }
     }
+    assert_eq!(rt; wrong, None);
     Ok(())
 }
 
@@ -508,23 +525,19 @@ fn is_made_of(text: &str, parts: &[&str]) -> bool {
 // In slices of three turns the letter is printed in the second one, at the trap byte of INT 21h.
 #[test]
 fn two_clients_take_turns(rt: HostRuntime) -> Result<(), Fail> {
-    let pair = words(&rt, &["pair", "A.EXE", "A.EXE", "--slice", "3"])?;
+    let pair = ["pair", "A.EXE", "A.EXE", "--slice", "3"];
     let mut shelf = MemShelf::new(rt.alloc());
     shelf.add("A.EXE", &ONE_LETTER)?;
     let mut out = MemSink::new(rt.alloc(), 2000, 100)?;
-    assert_eq!(rt; dpmi(rt.alloc(), pair.as_slice(), &mut shelf, &mut out), 0);
+    let status = answer(rt.alloc(), &pair, &mut shelf, &mut out)?;
     let text = str::from_utf8(out.bytes()).unwrap_or("");
-    assert!(rt;
-        is_made_of(
-            text,
-            &[
-                "pair slice 3\nslice 1 a 1\nA\nslice 1 b 1\nA\nclient a\n",
-                LETTER_TEXT,
-                "client b\n",
-                LETTER_TEXT,
-            ]
-        )
-    );
+    let parts = [
+        "pair slice 3\nslice 1 a 1\nA\nslice 1 b 1\nA\nclient a\n",
+        LETTER_TEXT,
+        "client b\n",
+        LETTER_TEXT,
+    ];
+    assert!(rt; status == 0 && is_made_of(text, &parts));
     Ok(())
 }
 
@@ -540,19 +553,24 @@ const REFUSED_PAIRS: [(&[&str], u8, &str); 8] = [
     (&["pair", "NONE", "LONG"], 3, ""),
 ];
 
-#[test]
-fn pairs_are_refused_in_order(rt: HostRuntime) -> Result<(), Fail> {
-    let long = vec![in rt.alloc(); 0; 4_194_305]?;
+// The files that those words name.
+fn files_of_pairs(rt: &impl AllocGlobal) -> Result<MemShelf, Fail> {
     let mut shelf = MemShelf::new(rt.alloc());
     shelf.add("A.EXE", &ONE_LETTER)?;
     shelf.add("EMPTY", &[])?;
+    let long = vec![in rt.alloc(); 0; 4_194_305]?;
     shelf.add("LONG", &long)?;
+    Ok(shelf)
+}
+
+#[test]
+fn pairs_are_refused_in_order(rt: HostRuntime) -> Result<(), Fail> {
+    let mut shelf = files_of_pairs(&rt)?;
     let mut wrong = None;
     for (row, (texts, status, text)) in REFUSED_PAIRS.iter().enumerate() {
-        let given = words(&rt, texts)?;
         let mut out = MemSink::new(rt.alloc(), 100, 100)?;
-        let answer = dpmi(rt.alloc(), given.as_slice(), &mut shelf, &mut out);
-        if answer != *status || out.bytes() != text.as_bytes() {
+        let answered = answer(rt.alloc(), *texts, &mut shelf, &mut out)?;
+        if answered != *status || out.bytes() != text.as_bytes() {
             wrong = Some(row);
         }
     }
@@ -560,74 +578,90 @@ fn pairs_are_refused_in_order(rt: HostRuntime) -> Result<(), Fail> {
     Ok(())
 }
 
+// Whether a text is the summary of a made client of that number: its first line, and six in all.
+fn is_summary(bytes: &[u8], start: &[u8]) -> bool {
+    bytes.starts_with(start) && bytes.iter().filter(|b| **b == b'\n').count() == 6
+}
+
 // A made client run twice writes the same six lines.
 #[test]
 fn a_made_client_has_its_summary(rt: HostRuntime) -> Result<(), Fail> {
-    let soak = words(&rt, &["soak", "7"])?;
+    let soak = ["soak", "7"];
     let mut shelf = MemShelf::new(rt.alloc());
     let mut first = MemSink::new(rt.alloc(), 1000, 1000)?;
     let mut second = MemSink::new(rt.alloc(), 1000, 3)?;
-    assert_eq!(rt;
-        dpmi(rt.alloc(), soak.as_slice(), &mut shelf, &mut first),
-        0
+    let answers = (
+        answer(rt.alloc(), &soak, &mut shelf, &mut first)?,
+        answer(rt.alloc(), &soak, &mut shelf, &mut second)?,
     );
-    assert_eq!(rt;
-        dpmi(rt.alloc(), soak.as_slice(), &mut shelf, &mut second),
-        0
-    );
-    assert_eq!(rt; first.bytes(), second.bytes());
-    assert!(rt; first.bytes().starts_with(b"soak 7\nexit exited 0\nsteps "));
-    assert_eq!(rt; first.bytes().iter().filter(|b| **b == b'\n').count(), 6);
+    let is_same = answers == (0, 0) && first.bytes() == second.bytes();
+    assert!(rt; is_same && is_summary(first.bytes(), b"soak 7\nexit exited 0\nsteps "));
     Ok(())
+}
+
+// The status, and how many bytes are written, where so many calls of the files succeed and the next one fails.
+fn answer_with_failure(alloc: Global, before: u64) -> Result<(u8, usize), AllocError> {
+    let mut out = MemSink::new(alloc, 1000, 100)?;
+    let mut shelf = MemShelf::new(alloc);
+    shelf.add("A.EXE", &ONE_LETTER)?;
+    shelf.add("K", b"Y")?;
+    shelf.fail_at(before.saturating_add(1))?;
+    let words = ["run", "A.EXE", "--keys-file", "K"];
+    let status = answer(alloc, &words, &mut shelf, &mut out)?;
+    Ok((status, out.bytes().len()))
 }
 
 // The calls are: the client's file is opened, read and read to its end; and so are the keystrokes. No seventh is made.
 #[test]
 fn a_file_fails(rt: HostRuntime) -> Result<(), Fail> {
-    let run = words(&rt, &["run", "A.EXE", "--keys-file", "K"])?;
-    for call in 1..8 {
-        let mut out = MemSink::new(rt.alloc(), 1000, 100)?;
-        let mut shelf = MemShelf::new(rt.alloc());
-        shelf.add("A.EXE", &ONE_LETTER)?;
-        shelf.add("K", b"Y")?;
-        shelf.fail_at(call)?;
-        let (status, written) = if call < 7 { (3, 0) } else { (0, 361) };
-        assert_eq!(rt;
-            dpmi(rt.alloc(), run.as_slice(), &mut shelf, &mut out),
-            status
-        );
-        assert_eq!(rt; out.bytes().len(), written);
+    let mut wrong = None;
+    for before in 0..7 {
+        let wanted = if before < 6 { (3, 0) } else { (0, 361) };
+        if answer_with_failure(rt.alloc(), before)? != wanted {
+            wrong = Some(before);
+        }
     }
+    assert_eq!(rt; wrong, None);
     Ok(())
 }
 
-// In pieces of one byte each put writes one: where one fails, those before it are written. The text has 361 bytes, so there is no put after as many.
+// After so many puts of one byte the next one fails, and the status. The text has 361 bytes, so there is no put after as many.
+const FAILING_PUTS: [(u64, u8); 10] = [
+    (0, 4),
+    (1, 4),
+    (10, 4),
+    (11, 4),
+    (12, 4),
+    (25, 4),
+    (76, 4),
+    (275, 4),
+    (360, 4),
+    (361, 0),
+];
+
+// Whether a run of the client of the letter whose output fails after so many bytes has that status, and has written as many bytes of the text.
+fn is_cut(alloc: Global, count: u64, status: u8) -> Result<bool, AllocError> {
+    let mut shelf = MemShelf::new(alloc);
+    shelf.add("A.EXE", &ONE_LETTER)?;
+    let mut out = MemSink::new(alloc, 1000, 1)?;
+    out.fail_at(count.saturating_add(1))?;
+    Ok(
+        answer(alloc, &["run", "A.EXE"], &mut shelf, &mut out)? == status
+            && out.bytes().len() as u64 == count
+            && LETTER_TEXT.as_bytes().starts_with(out.bytes()),
+    )
+}
+
+// In pieces of one byte each put writes one: where one fails, those before it are written.
 #[test]
 fn each_put_fails_in_turn(rt: HostRuntime) -> Result<(), Fail> {
-    let run = words(&rt, &["run", "A.EXE"])?;
-    for (count, status) in [
-        (0_u64, 4),
-        (1, 4),
-        (10, 4),
-        (11, 4),
-        (12, 4),
-        (25, 4),
-        (76, 4),
-        (275, 4),
-        (360, 4),
-        (361, 0),
-    ] {
-        let mut shelf = MemShelf::new(rt.alloc());
-        shelf.add("A.EXE", &ONE_LETTER)?;
-        let mut out = MemSink::new(rt.alloc(), 1000, 1)?;
-        out.fail_at(count.saturating_add(1))?;
-        assert_eq!(rt;
-            dpmi(rt.alloc(), run.as_slice(), &mut shelf, &mut out),
-            status
-        );
-        assert_eq!(rt; out.bytes().len() as u64, count);
-        assert!(rt; LETTER_TEXT.as_bytes().starts_with(out.bytes()));
+    let mut wrong = None;
+    for (count, status) in &FAILING_PUTS {
+        if !is_cut(rt.alloc(), *count, *status)? {
+            wrong = Some(*count);
+        }
     }
+    assert_eq!(rt; wrong, None);
     Ok(())
 }
 
@@ -638,23 +672,27 @@ fn answer_surely(alloc: Global, words: &[String], shelf: &mut SureShelf, out: &m
     dpmi(alloc, words, shelf, out)
 }
 
+// Words, the status, and how many bytes are written.
+const SURE_RUNS: [(&[&str], u8, u64); 4] = [
+    (&["run", "A.EXE"], 0, 361),
+    (&["run", "B.EXE", "--keys-file", "K"], 0, 361),
+    (&["walk", "A.EXE"], 2, 14),
+    (&["pair", "A.EXE", "B.EXE"], 0, 784),
+];
+
 #[test]
 fn nothing_fails_where_nothing_can(rt: HostRuntime) -> Result<(), Fail> {
-    for (texts, status, count) in [
-        (["run", "A.EXE"].as_slice(), 0, 361),
-        (&["run", "B.EXE", "--keys-file", "K"], 0, 361),
-        (&["walk", "A.EXE"], 2, 14),
-        (&["pair", "A.EXE", "B.EXE"], 0, 784),
-    ] {
-        let given = words(&rt, texts)?;
+    let mut wrong = None;
+    for (row, (texts, status, count)) in SURE_RUNS.iter().enumerate() {
+        let given = owned_words(rt.alloc(), *texts)?;
         let mut shelf = SureShelf::new(rt.alloc(), &ONE_LETTER)?;
         let mut out = SureSink::new();
-        assert_eq!(rt;
-            answer_surely(rt.alloc(), given.as_slice(), &mut shelf, &mut out),
-            status
-        );
-        assert_eq!(rt; out.count(), count);
+        let answered = answer_surely(rt.alloc(), given.as_slice(), &mut shelf, &mut out);
+        if answered != *status || out.count() != *count {
+            wrong = Some(row);
+        }
     }
+    assert_eq!(rt; wrong, None);
     Ok(())
 }
 
@@ -662,7 +700,7 @@ fn nothing_fails_where_nothing_can(rt: HostRuntime) -> Result<(), Fail> {
 fn a_refusal_that_is_cut_off_keeps_its_status(rt: HostRuntime) -> Result<(), Fail> {
     let mut shelf = MemShelf::new(rt.alloc());
     let mut full = MemSink::new(rt.alloc(), 4, 9)?;
-    assert_eq!(rt; dpmi(rt.alloc(), &[], &mut shelf, &mut full), 2);
-    assert_eq!(rt; full.bytes(), b"refu".as_slice());
+    let status = answer(rt.alloc(), &[], &mut shelf, &mut full)?;
+    assert!(rt; status == 2 && full.bytes() == b"refu".as_slice());
     Ok(())
 }

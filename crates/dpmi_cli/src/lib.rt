@@ -1,0 +1,18 @@
+//! A DPMI host that runs one client, or two in turns: the words of the command line in, the clients' text and a status out.
+//! It promises that what it writes is the model's text, whole or cut off where the output failed, that each failure that it reports has its
+//! cause, and that each run that it answers keeps its client to its memory, and nests and hands over as the laws of `host_run` say.
+//! It uses `dpmi_words` for the words, `client_maker` for made clients, `host_run` for a client's host, `watch_run`, `timer_run` and `pair_run`
+//! for the runs, `dpmi_report` for the text, and `dpmi_io`. The program `dpmi` calls it with the system's files and output.
+#![tactic(auto)]
+
+mod command;
+mod laws;
+mod pairs;
+mod prepare;
+mod report;
+mod runs;
+pub mod status;
+mod watched_host;
+
+pub use command::dpmi;
+pub use laws::every_run_keeps_the_laws;

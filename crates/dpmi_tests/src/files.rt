@@ -1,0 +1,44 @@
+// Clients, the words of the command line, and the command over them.
+use dpmi_cli::dpmi;
+use dpmi_io::{MemShelf, MemSink};
+use std::alloc::{AllocError, Global};
+use std::process::Abort;
+use std::test::Fail;
+
+// The client that prints the letter `A`: MOV AH,02h; MOV DL,41h; INT 21h; MOV AX,4C00h; INT 21h.
+pub(crate) const ONE_LETTER: [u8; 43] = [
+    0x4D, 0x5A, 0x2B, 0x00, 0x01, 0x00, 0x00, 0x00, 0x02, 0x00, 0x10, 0x00, 0xFF, 0xFF, 0x01, 0x00,
+    0x00, 0x01, 0x00, 0x00, 0x00, 0x00, 0x00, 0x00, 0x1C, 0x00, 0x00, 0x00, 0x00, 0x00, 0x00, 0x00,
+    0xB4, 0x02, 0xB2, 0x41, 0xCD, 0x21, 0xB8, 0x00, 0x4C, 0xCD, 0x21,
+];
+
+// Those words, in owned texts.
+pub(crate) fn owned_words(alloc: Global, texts: &[&str]) -> Result<Vec<String>, AllocError> {
+    let mut words = Vec::new(alloc);
+    for text in texts {
+        words.push(String::from_str(alloc, *text)?)?;
+    }
+    Ok(words)
+}
+
+// The command's status for these words, over files and an output in memory. It hides what `dpmi` promises, which each proof above would read.
+pub(crate) fn answer(
+    alloc: Global,
+    texts: &[&str],
+    shelf: &mut MemShelf,
+    out: &mut MemSink,
+) -> Result<u8, AllocError> {
+    let words = owned_words(alloc, texts)?;
+    Ok(dpmi(alloc, words.as_slice(), shelf, out))
+}
+
+// The client of other code: in that client's header the bytes of the last page and SS, the paragraph after the code, are others.
+pub(crate) fn client(rt: &(impl Abort + AllocGlobal), code: &[u8]) -> Result<Vec<u8>, Fail> {
+    assert!(rt; code.len() <= 200);
+    let mut file = ONE_LETTER[..32].to_vec(rt.alloc())?;
+    file.extend_from_slice(code)?;
+    assert!(rt; file.len() >= 32);
+    file[0x02] = (32 + code.len()) as u8;
+    file[0x0E] = code.len().div_ceil(16) as u8;
+    Ok(file)
+}
