@@ -8,6 +8,8 @@ mod arithmetic;
 #[cfg(test)]
 mod decoding;
 #[cfg(test)]
+mod insns;
+#[cfg(test)]
 mod letters;
 #[cfg(test)]
 mod opcodes;

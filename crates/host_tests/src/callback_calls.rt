@@ -1,22 +1,12 @@
 // Worked allocations, calls, exits and returns. The values come from the rules by hand.
+use crate::machines::{Differing, compare_all, entered, has_words, same};
 use callbacks::{enter, leave, serve};
 use client_world::limits::GREATEST_DEPTH;
 use client_world::memory_map::PROTECTED_STACKS;
 use client_world::{Carry, Exit, FarPtr, Flags, Mode, Record, Regs, Width};
 use guest_space::Machine;
 use mode_stack::{depth, push};
-use std::alloc::{AllocError, Global};
-use std::process::Abort;
 use std::test::Fail;
-
-// A machine of that width in protected mode. 0087h is the selector of the host's code, and 008Fh that of its stacks, whose limit is FFFFh.
-#[tactic(auto, unfolding(host_memory::specs::Blank::blank_world))]
-fn entered(alloc: Global, width: Width) -> Result<Machine, AllocError> {
-    let mut m = Machine::new(alloc, 1)?;
-    m.set_width(width);
-    m.set_mode(Mode::Protected);
-    Ok(m)
-}
 
 // AX, DS, ES, ECX and EDX of a call after which sixteen callbacks are held, and ECX and EDX after it, or EAX where it is refused. EAX is 0 before
 // it, and stays for a number that the family doesn't have.
@@ -47,46 +37,54 @@ const CALLS: [Called; 12] = [
     (0x0302, [0x87, 0x8F], [0, 0], Err(0x0000)),
 ];
 
+// Whether a service, called with these registers, returns this.
+fn serves(m: &mut Machine, r: Regs, ax: u16, carry: Carry) -> bool {
+    m.set_regs(r);
+    m.mode() == Mode::Protected && serve(m, ax) == carry
+}
+
+// Sixteen callbacks, one for each slot.
+fn compare_allocated(m: &mut Machine) -> Result<(), (u32, Differing)> {
+    let asking = Regs {
+        esi: 0x5555_0200,
+        edi: 0x6666_0100,
+        ds: 0x87,
+        es: 0x8F,
+        ..Regs::ZERO
+    };
+    for slot in 0..16 {
+        let is_served = serves(m, asking, 0x0303, Carry::Clear);
+        let r = m.regs();
+        if !is_served || (r.ecx, r.edx) != (0xF000, 0x0110 + slot) {
+            return Err((slot, Differing::Answer));
+        }
+    }
+    Ok(())
+}
+
+fn compare_call(m: &mut Machine, call: &Called) -> Result<(), Differing> {
+    let (ax, [ds, es], [ecx, edx], after) = *call;
+    let called = Regs {
+        ecx,
+        edx,
+        ds,
+        es,
+        ..Regs::ZERO
+    };
+    let (carry, wanted) = match after {
+        Ok(served) => (Carry::Clear, [0, served[0], served[1]]),
+        Err(eax) => (Carry::Set, [eax, ecx, edx]),
+    };
+    same(Differing::Answer, serves(m, called, ax, carry))?;
+    let r = m.regs();
+    same(Differing::Registers, [r.eax, r.ecx, r.edx] == wanted)
+}
+
 #[test]
 fn callbacks_are_allocated_and_freed(rt: HostRuntime) -> Result<(), Fail> {
     let mut m = entered(rt.alloc(), Width::Sixteen)?;
-    for slot in 0..16 {
-        m.set_regs(Regs {
-            esi: 0x5555_0200,
-            edi: 0x6666_0100,
-            ds: 0x87,
-            es: 0x8F,
-            ..Regs::ZERO
-        });
-        assert_eq!(rt; m.mode(), Mode::Protected);
-        assert_eq!(rt; serve(&mut m, 0x0303), Carry::Clear);
-        let r = m.regs();
-        assert_eq!(rt; (r.ecx, r.edx), (0xF000, 0x0110 + slot));
-    }
-    for (ax, [ds, es], [ecx, edx], after) in &CALLS {
-        m.set_regs(Regs {
-            ecx: *ecx,
-            edx: *edx,
-            ds: *ds,
-            es: *es,
-            ..Regs::ZERO
-        });
-        assert_eq!(rt; m.mode(), Mode::Protected);
-        let carry = serve(&mut m, *ax);
-        let r = m.regs();
-        match after {
-            Ok([ecx, edx]) => {
-                assert_eq!(rt;
-                    (carry, [r.eax, r.ecx, r.edx]),
-                    (Carry::Clear, [0, *ecx, *edx])
-                );
-            }
-            Err(eax) => assert_eq!(rt;
-                (carry, [r.eax, r.ecx, r.edx]),
-                (Carry::Set, [*eax, *ecx, *edx])
-            ),
-        }
-    }
+    assert_eq!(rt; compare_allocated(&mut m), Ok(()));
+    assert_eq!(rt; compare_all(&mut m, &CALLS, compare_call), Ok(()));
     Ok(())
 }
 
@@ -125,16 +123,20 @@ const CALLER: Regs = Regs {
     },
 };
 
-// The words of a structure from an address on.
-fn words_from(m: &Machine, at: u32) -> [u16; 25] {
-    let mut words = [0; 25];
-    if at < 0xF_0000 {
-        for i in 0..25 {
-            words[i] = m.dos16(at + 2 * i as u32);
-        }
-    }
-    words
-}
+// The registers at the procedure.
+const AT_PROCEDURE: Regs = Regs {
+    eip: 0x200,
+    cs: 0x87,
+    esp: 0x7FA,
+    ss: 0x8F,
+    esi: 0x5152_0300,
+    ds: 0x107,
+    edi: 0x6162_0100,
+    es: 0x8F,
+    fs: 0,
+    gs: 0,
+    ..CALLER
+};
 
 // What the structure holds of that caller, in words from EDI on, with virtual interrupts on.
 const HELD: [u16; 25] = [
@@ -142,62 +144,60 @@ const HELD: [u16; 25] = [
     0xC1C2, 0xA3A4, 0xA1A2, 0x0243, 0x3E3E, 0x3D3D, 0x3F3F, 0x4040, 0x0115, 0xF000, 0x0300, 0x2000,
 ];
 
+// Gives slot 5 a procedure and a structure, and goes to real mode.
+fn set_callback(m: &mut Machine, procedure: FarPtr, at: FarPtr) {
+    if m.width().is_some() {
+        m.set_back(5, Some((procedure, at)));
+    }
+    m.set_mode(Mode::Real);
+}
+
+// Whether the trap byte of a slot, reached in real mode, leads to this.
+fn enters(m: &mut Machine, slot: u8, answer: Result<(), Exit>) -> bool {
+    m.mode() == Mode::Real && enter(m, slot) == answer
+}
+
+fn compare_entered(m: &mut Machine) -> Result<(), Differing> {
+    set_callback(m, PROCEDURE, STRUCTURE);
+    m.set_regs(CALLER);
+    m.set_vif(true);
+    same(Differing::Answer, enters(m, 5, Ok(())))?;
+    same(Differing::Registers, m.regs() == AT_PROCEDURE)?;
+    same(Differing::Mode, m.mode() == Mode::Protected)?;
+    same(Differing::Interrupts, !m.vif())?;
+    same(Differing::Depth, depth(m) == 1)?;
+    let structure = has_words(m, PROTECTED_STACKS + 0x100, &HELD);
+    let frame = has_words(m, PROTECTED_STACKS + 0x7FA, &[0x323, 0x87, 0x243]);
+    same(Differing::Memory, structure && frame)?;
+    let stack = m.desc(32).map(|(d, _)| (d.base, d.limit));
+    same(Differing::Descriptor(32), stack == Some((0x2_0000, 0xFFFF)))
+}
+
+// It returns with its structure four bytes further on.
+fn compare_left(m: &mut Machine) -> Result<(), Differing> {
+    let r = m.regs();
+    m.set_regs(Regs { edi: 0x104, ..r });
+    m.set_vif(true);
+    same(Differing::Answer, leave(m) == Ok(()))?;
+    let r = m.regs();
+    let general = [r.edi, r.esi, r.ebx, r.eax];
+    let place = (r.cs, r.eip, r.ss, r.esp);
+    same(
+        Differing::Registers,
+        general == [0x5152_5354, 0xE1E2_E3E4, 0xD1D2_D3D4, 0x3E3E_0243]
+            && place == (0x2000, 0x300, 0, 0),
+    )?;
+    same(Differing::Mode, m.mode() == Mode::Real)?;
+    same(Differing::Interrupts, !m.vif())?;
+    same(Differing::Depth, depth(m) == 0)
+}
+
 #[test]
 fn a_callback_gets_its_callers_registers(rt: HostRuntime) -> Result<(), Fail> {
     let mut m = entered(rt.alloc(), Width::Sixteen)?;
-    if m.width().is_some() {
-        m.set_back(5, Some((PROCEDURE, STRUCTURE)));
-    }
-    m.set_mode(Mode::Real);
-    m.set_regs(CALLER);
-    m.set_vif(true);
-    assert_eq!(rt; m.mode(), Mode::Real);
-    assert_eq!(rt; enter(&mut m, 5), Ok(()));
-    assert_eq!(rt;
-        m.regs(),
-        Regs {
-            eip: 0x200,
-            cs: 0x87,
-            esp: 0x7FA,
-            ss: 0x8F,
-            esi: 0x5152_0300,
-            ds: 0x107,
-            edi: 0x6162_0100,
-            es: 0x8F,
-            fs: 0,
-            gs: 0,
-            ..CALLER
-        }
-    );
-    assert_eq!(rt; (m.mode(), m.vif(), depth(&m)), (Mode::Protected, false, 1));
-    assert_eq!(rt; words_from(&m, PROTECTED_STACKS + 0x100), HELD);
-    assert_eq!(rt;
-        [
-            m.dos16(PROTECTED_STACKS + 0x7FA),
-            m.dos16(PROTECTED_STACKS + 0x7FC),
-            m.dos16(PROTECTED_STACKS + 0x7FE),
-        ],
-        [0x323, 0x87, 0x243]
-    );
-    assert_eq!(rt;
-        m.desc(32).map(|(d, _)| (d.base, d.limit)),
-        Some((0x2_0000, 0xFFFF))
-    );
-
-    // It returns with its structure four bytes further on.
-    m.set_regs(Regs {
-        edi: 0x104,
-        ..m.regs()
-    });
-    m.set_vif(true);
-    assert_eq!(rt; leave(&mut m), Ok(()));
-    let r = m.regs();
-    assert_eq!(rt;
-        [r.edi, r.esi, r.ebx, r.eax],
-        [0x5152_5354, 0xE1E2_E3E4, 0xD1D2_D3D4, 0x3E3E_0243]
-    );
-    assert_eq!(rt; (r.cs, r.eip, r.ss, r.esp), (0x2000, 0x300, 0, 0));
-    assert_eq!(rt; (m.mode(), m.vif(), depth(&m)), (Mode::Real, false, 0));
+    let entering = compare_entered(&mut m);
+    let leaving = compare_left(&mut m);
+    assert_eq!(rt; [entering, leaving], [Ok(()); 2]);
     Ok(())
 }
 
@@ -214,56 +214,53 @@ const ENTERED: [Entered; 7] = [
     ((0x87, 0), (0x107, 0xFFCE), 0x2000, Ok(())),
 ];
 
+fn compare_entry(m: &mut Machine, row: &Entered) -> Result<(), Differing> {
+    let ((sel, off), (at_sel, at_off), ss, answer) = *row;
+    let at = FarPtr {
+        sel: at_sel,
+        off: at_off,
+    };
+    set_callback(m, FarPtr { sel, off }, at);
+    m.set_regs(Regs { ss, ..CALLER });
+    same(Differing::Answer, enters(m, 5, answer))
+}
+
+// The last of them has entered; its structure is lost then.
+fn compare_lost(m: &mut Machine) -> Result<(), Differing> {
+    let r = m.regs();
+    let found = (r.esp, r.esi, r.edi, r.ds);
+    same(Differing::Registers, found == (0x7F4, 0x300, 0xFFCE, 0x107))?;
+    same(Differing::Memory, m.dos16(0x2_FFCE) == 0x6364)?;
+    m.set_regs(Regs { es: 0, ..r });
+    same(Differing::Answer, leave(m) == Err(Exit::LostStructure))?;
+    same(Differing::Depth, depth(m) == 1)
+}
+
 #[test]
 fn exits_of_callbacks(rt: HostRuntime) -> Result<(), Fail> {
     let mut m = entered(rt.alloc(), Width::ThirtyTwo)?;
-    assert_eq!(rt; leave(&mut m), Err(Exit::Stray));
-    m.set_mode(Mode::Real);
-    for (procedure, at, ss, answer) in &ENTERED {
-        let callback = (
-            FarPtr {
-                sel: procedure.0,
-                off: procedure.1,
-            },
-            FarPtr {
-                sel: at.0,
-                off: at.1,
-            },
-        );
-        if m.width().is_some() {
-            m.set_back(5, Some(callback));
-        }
-        m.set_regs(Regs { ss: *ss, ..CALLER });
-        assert_eq!(rt; m.mode(), Mode::Real);
-        assert_eq!(rt; enter(&mut m, 5), *answer);
-    }
-    let r = m.regs();
-    assert_eq!(rt; (r.esp, r.esi, r.edi, r.ds), (0x7F4, 0x300, 0xFFCE, 0x107));
-    assert_eq!(rt; m.dos16(0x2_FFCE), 0x6364);
-    m.set_regs(Regs { es: 0, ..r });
-    assert_eq!(rt; leave(&mut m), Err(Exit::LostStructure));
-    assert_eq!(rt; depth(&m), 1);
+    assert!(rt; leave(&mut m) == Err(Exit::Stray));
+    assert_eq!(rt; compare_all(&mut m, &ENTERED, compare_entry), Ok(()));
+    assert_eq!(rt; compare_lost(&mut m), Ok(()));
     Ok(())
+}
+
+fn compare_deep(m: &mut Machine) -> Result<(), Differing> {
+    let exception = Record::Exc { number: 6, code: 0 };
+    for _ in 0..GREATEST_DEPTH {
+        let is_pushed = m.width().is_some() && push(m, &exception).is_ok();
+        same(Differing::Depth, is_pushed)?;
+    }
+    same(Differing::Call(1), leave(m) == Err(Exit::Stray))?;
+    set_callback(m, STRUCTURE, STRUCTURE);
+    same(Differing::Call(2), enters(m, 5, Err(Exit::Deep)))?;
+    same(Differing::Call(3), enters(m, 4, Err(Exit::Stray)))?;
+    same(Differing::Depth, u32::from(depth(m)) == GREATEST_DEPTH)
 }
 
 #[test]
 fn callbacks_end_at_the_greatest_depth(rt: HostRuntime) -> Result<(), Fail> {
     let mut m = entered(rt.alloc(), Width::Sixteen)?;
-    let exception = Record::Exc { number: 6, code: 0 };
-    for _ in 0..GREATEST_DEPTH {
-        if m.width().is_some() {
-            assert!(rt; push(&mut m, &exception).is_ok());
-        }
-    }
-    assert_eq!(rt; leave(&mut m), Err(Exit::Stray));
-    if m.width().is_some() {
-        m.set_back(5, Some((STRUCTURE, STRUCTURE)));
-    }
-    m.set_mode(Mode::Real);
-    assert_eq!(rt; m.mode(), Mode::Real);
-    assert_eq!(rt; enter(&mut m, 5), Err(Exit::Deep));
-    assert_eq!(rt; m.mode(), Mode::Real);
-    assert_eq!(rt; enter(&mut m, 4), Err(Exit::Stray));
-    assert_eq!(rt; u32::from(depth(&m)), GREATEST_DEPTH);
+    assert_eq!(rt; compare_deep(&mut m), Ok(()));
     Ok(())
 }

@@ -1,10 +1,9 @@
 // Blocks that are given, resized and freed in a new machine, whose DOS memory is all free.
+use crate::machines::{Differing, compare_all, entered, same};
 use Dos::{Allocate, Free, Resize};
 use client_world::{Carry, Desc, DosEntry, DosRefusal, DosState, Kind, Mode, Origin, Regs, Width};
 use dos_blocks::{dos_alloc, dos_free, dos_resize, serve};
 use guest_space::Machine;
-use std::alloc::{AllocError, Global};
-use std::process::Abort;
 use std::test::Fail;
 
 // A call of DOS, by its words.
@@ -200,87 +199,60 @@ fn answer_of(m: &mut Machine, call: Dos) -> Result<u16, DosRefusal> {
     }
 }
 
-fn expect_dos_calls(rt: &impl Abort, m: &mut Machine, calls: &[DosCall]) {
-    for (number, (call, answer, entries, last)) in calls.iter().enumerate() {
-        assert_eq!(rt; answer_of(m, *call), *answer, "call {number} of DOS");
-        assert_eq!(rt;
-            m.arena_len(),
-            *entries,
-            "entries after call {number} of DOS"
-        );
-        assert!(rt; *last < 0x10_0000);
-        assert_eq!(rt;
-            m.dos8(*last),
-            0x5A,
-            "last header after call {number} of DOS"
-        );
-    }
+fn compare_dos_call(m: &mut Machine, call: &DosCall) -> Result<(), Differing> {
+    let (call, answer, entries, last) = *call;
+    same(Differing::Answer, answer_of(m, call) == answer)?;
+    let is_last = last < 0x10_0000 && m.dos8(last) == 0x5A;
+    same(Differing::Memory, m.arena_len() == entries && is_last)
 }
 
-fn expect_call(rt: &impl Abort, m: &mut Machine, call: &Call, number: usize) {
+fn compare_call(m: &mut Machine, call: &Call) -> Result<(), Differing> {
     let (before, carry, after, limits) = *call;
     m.set_regs(registers(before));
-    assert_eq!(rt; m.mode(), Mode::Protected);
-    assert_eq!(rt;
-        serve(m, (before[0] % 0x1_0000) as u16),
-        carry,
-        "call {number}"
-    );
-    assert_eq!(rt; m.regs(), registers(after), "call {number}");
-    assert_eq!(rt; [limit(m, 64), limit(m, 65)], limits, "call {number}");
-}
-
-// A machine after the entry of a client of 16 bits.
-#[tactic(auto, unfolding(host_memory::specs::Blank::blank_world))]
-fn entered(alloc: Global) -> Result<Machine, AllocError> {
-    let mut m = Machine::new(alloc, 1)?;
-    m.set_width(Width::Sixteen);
-    m.set_mode(Mode::Protected);
-    Ok(m)
-}
-
-// Calls of DOS, and then calls of INT 31h.
-fn expect_calls(
-    rt: &impl Abort,
-    alloc: Global,
-    dos: &[DosCall],
-    calls: &[Call],
-) -> Result<Machine, AllocError> {
-    let mut m = entered(alloc)?;
-    expect_dos_calls(rt, &mut m, dos);
-    for (number, call) in calls.iter().enumerate() {
-        expect_call(rt, &mut m, call, number);
-    }
-    Ok(m)
+    let ax = (before[0] % 0x1_0000) as u16;
+    let is_served = m.mode() == Mode::Protected && serve(m, ax) == carry;
+    same(Differing::Answer, is_served)?;
+    same(Differing::Registers, m.regs() == registers(after))?;
+    same(Differing::Descriptor(64), limit(m, 64) == limits[0])?;
+    same(Differing::Descriptor(65), limit(m, 65) == limits[1])
 }
 
 #[test]
 fn blocks_are_given_resized_and_freed(rt: HostRuntime) -> Result<(), Fail> {
-    let m = expect_calls(&rt, rt.alloc(), &GIVEN_AND_FREED, &[])?;
+    let mut m = entered(rt.alloc(), Width::Sixteen)?;
+    assert_eq!(rt;
+        compare_all(&mut m, &GIVEN_AND_FREED, compare_dos_call),
+        Ok(())
+    );
     let whole = DosEntry {
         at: 0x60,
         paras: 0x9F9F,
         state: DosState::Free,
     };
-    assert!(rt; m.arena_len() == 1);
-    assert_eq!(rt; m.arena(0), whole);
+    assert!(rt; m.arena_len() == 1 && m.arena(0) == whole);
     Ok(())
 }
 
 #[test]
 fn blocks_have_a_descriptor_for_each_64_kb(rt: HostRuntime) -> Result<(), Fail> {
-    let m = expect_calls(&rt, rt.alloc(), &PROGRAM, &CALLS)?;
-    assert_eq!(rt; m.arena_len(), 3);
+    let mut m = entered(rt.alloc(), Width::Sixteen)?;
+    assert_eq!(rt; compare_all(&mut m, &PROGRAM, compare_dos_call), Ok(()));
+    assert_eq!(rt; compare_all(&mut m, &CALLS, compare_call), Ok(()));
+    assert!(rt; m.arena_len() == 3);
     Ok(())
 }
 
 #[test]
 fn descriptors_are_64_kb_apart(rt: HostRuntime) -> Result<(), Fail> {
-    let m = expect_calls(&rt, rt.alloc(), &LARGE_PROGRAM, &TWO_DESCRIPTORS)?;
+    let mut m = entered(rt.alloc(), Width::Sixteen)?;
+    assert_eq!(rt;
+        compare_all(&mut m, &LARGE_PROGRAM, compare_dos_call),
+        Ok(())
+    );
+    assert_eq!(rt; compare_all(&mut m, &TWO_DESCRIPTORS, compare_call), Ok(()));
     let origin = Origin::Dos(0x1065);
-    let first = data(0x10650, 0x1000F);
-    assert_eq!(rt; m.desc(64), Some((first, origin)));
-    assert_eq!(rt; m.desc(65), Some((data(0x20650, 0xF), origin)));
-    assert_eq!(rt; m.desc(66), None);
+    assert!(rt; m.desc(64) == Some((data(0x10650, 0x1000F), origin)));
+    assert!(rt; m.desc(65) == Some((data(0x20650, 0xF), origin)));
+    assert!(rt; m.desc(66).is_none());
     Ok(())
 }

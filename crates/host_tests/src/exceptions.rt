@@ -1,12 +1,11 @@
 // An exception at each width, the return from it, and the exits.
+use crate::machines::{Differing, entered, has_words, same};
 use client_world::limits::GREATEST_DEPTH;
 use client_world::memory_map::PROTECTED_STACKS;
 use client_world::{Exit, Fault, Flags, Mode, Record, Regs, Width};
 use guest_space::Machine;
 use mode_stack::{depth, top};
 use protected_faults::{back, deliver};
-use std::alloc::{AllocError, Global};
-use std::process::Abort;
 use std::test::Fail;
 
 // The client's registers: it runs at 0087h:0010h, with its stack at 008Fh:7800h. Its flags image is 0203h.
@@ -22,98 +21,116 @@ const CLIENT: Regs = Regs {
     ..Regs::ZERO
 };
 
-// A machine in protected mode, of that width.
-#[tactic(auto, unfolding(host_memory::specs::Blank::blank_world))]
-fn entered(alloc: Global, width: Width) -> Result<Machine, AllocError> {
-    let mut m = Machine::new(alloc, 1)?;
-    m.set_width(width);
-    m.set_mode(Mode::Protected);
+const FAULT: Fault = Fault {
+    number: 0x0D,
+    code: 0x1234_5678,
+};
+
+// Whether the exception is delivered in protected mode, or ends the client with this exit.
+fn delivers(m: &mut Machine, answer: Result<(), Exit>) -> bool {
+    m.mode() == Mode::Protected && deliver(m, FAULT) == answer
+}
+
+// Whether the handler, which pops its return address, two items of that many bytes, returns; or ends the client with this exit.
+fn returns(m: &mut Machine, item: u8, answer: Result<(), Exit>) -> bool {
+    let r = m.regs();
+    m.set_regs(Regs {
+        esp: r.esp % 0x1_0000 + 2 * u32::from(item),
+        ..r
+    });
+    back(m) == answer
+}
+
+// A frame: ESP at the handler, words from an offset of the host's stacks on, the bytes of an item, and ESP after the return.
+struct Frame {
+    esp: u32,
+    from: u32,
+    words: &'static [u16],
+    item: u8,
+    esp_after: u32,
+}
+
+// The return address, the code, IP, CS, the flags, SP and SS.
+const OF_WORDS: Frame = Frame {
+    esp: 0x7F0,
+    from: 0x7F0,
+    words: &[0x322, 0x87, 0x5678, 0x10, 0x87, 0x203, 0x7800, 0x8F],
+    item: 2,
+    esp_after: 0x7800,
+};
+
+// The code lies after the return address.
+const OF_DOUBLEWORDS: Frame = Frame {
+    esp: 0x7E0,
+    from: 0x7E8,
+    words: &[0x5678, 0x1234],
+    item: 4,
+    esp_after: 0xABCD_7800,
+};
+
+fn compare_delivered(m: &mut Machine, frame: &Frame) -> Result<(), Differing> {
     m.set_regs(CLIENT);
-    Ok(m)
+    same(Differing::Call(1), delivers(m, Ok(())))?;
+    let r = m.regs();
+    let place = (r.cs, r.eip, r.ss, r.esp);
+    same(
+        Differing::Registers,
+        place == (0x87, 0x30D, 0x8F, frame.esp),
+    )?;
+    same(Differing::Interrupts, !m.vif())?;
+    let at = PROTECTED_STACKS + frame.from % 0x1_0000;
+    same(Differing::Memory, has_words(m, at, frame.words))?;
+    let record = Record::Exc {
+        number: FAULT.number,
+        code: FAULT.code,
+    };
+    same(Differing::Depth, top(m) == Some(record))
 }
 
-// Delivers exception 0Dh with code 12345678h.
-fn fail(m: &mut Machine, rt: &impl Abort) -> Result<(), Exit> {
-    assert_eq!(rt; m.mode(), Mode::Protected);
-    deliver(
-        m,
-        Fault {
-            number: 0x0D,
-            code: 0x1234_5678,
-        },
-    )
-}
-
-// The handler pops its return address, two items of that many bytes, and the exception returns.
-fn finish(m: &mut Machine, item: u8) -> Result<(), Exit> {
-    let mut r = m.regs();
-    r.esp = (r.esp % 0x1_0000) + 2 * u32::from(item);
-    m.set_regs(r);
-    back(m)
+// The exception returns, once.
+fn compare_returned(m: &mut Machine, frame: &Frame) -> Result<(), Differing> {
+    same(Differing::Call(1), returns(m, frame.item, Ok(())))?;
+    let after = Regs {
+        esp: frame.esp_after,
+        ..CLIENT
+    };
+    same(Differing::Registers, m.regs() == after)?;
+    same(Differing::Interrupts, m.vif())?;
+    same(Differing::Depth, depth(m) == 0)?;
+    same(Differing::Call(2), returns(m, frame.item, Err(Exit::Stray)))
 }
 
 #[test]
 fn a_frame_of_words_is_delivered_and_returns(rt: HostRuntime) -> Result<(), Fail> {
     let mut m = entered(rt.alloc(), Width::Sixteen)?;
-    assert_eq!(rt; fail(&mut m, &rt), Ok(()));
-    let r = m.regs();
-    assert_eq!(rt; (r.cs, r.eip, r.ss, r.esp), (0x87, 0x30D, 0x8F, 0x7F0));
-    assert_eq!(rt; m.vif(), false);
-    let words = [
-        m.dos16(PROTECTED_STACKS + 0x7F0),
-        m.dos16(PROTECTED_STACKS + 0x7F2),
-        m.dos16(PROTECTED_STACKS + 0x7F4),
-        m.dos16(PROTECTED_STACKS + 0x7F6),
-        m.dos16(PROTECTED_STACKS + 0x7F8),
-        m.dos16(PROTECTED_STACKS + 0x7FA),
-        m.dos16(PROTECTED_STACKS + 0x7FC),
-        m.dos16(PROTECTED_STACKS + 0x7FE),
-    ];
-    assert_eq!(rt;
-        words,
-        [0x322, 0x87, 0x5678, 0x10, 0x87, 0x203, 0x7800, 0x8F]
-    );
-    assert_eq!(rt;
-        top(&m),
-        Some(Record::Exc {
-            number: 0x0D,
-            code: 0x1234_5678
-        })
-    );
-    assert_eq!(rt; finish(&mut m, 2), Ok(()));
-    assert_eq!(rt;
-        m.regs(),
-        Regs {
-            esp: 0x7800,
-            ..CLIENT
-        }
-    );
-    assert_eq!(rt; m.vif(), true);
-    assert_eq!(rt; depth(&m), 0);
-    assert_eq!(rt; finish(&mut m, 2), Err(Exit::Stray));
+    let delivered = compare_delivered(&mut m, &OF_WORDS);
+    let returned = compare_returned(&mut m, &OF_WORDS);
+    assert_eq!(rt; [delivered, returned], [Ok(()); 2]);
     Ok(())
 }
 
 #[test]
 fn a_frame_of_doublewords_is_delivered_and_returns(rt: HostRuntime) -> Result<(), Fail> {
     let mut m = entered(rt.alloc(), Width::ThirtyTwo)?;
-    assert_eq!(rt; fail(&mut m, &rt), Ok(()));
-    assert_eq!(rt; m.regs().esp, 0x7E0);
-    assert_eq!(rt; m.dos16(PROTECTED_STACKS + 0x7E8), 0x5678);
-    assert_eq!(rt; m.dos16(PROTECTED_STACKS + 0x7EA), 0x1234);
-    assert_eq!(rt; finish(&mut m, 4), Ok(()));
-    assert_eq!(rt; m.regs(), CLIENT);
+    let delivered = compare_delivered(&mut m, &OF_DOUBLEWORDS);
+    let returned = compare_returned(&mut m, &OF_DOUBLEWORDS);
+    assert_eq!(rt; [delivered, returned], [Ok(()); 2]);
     Ok(())
+}
+
+fn compare_depths(m: &mut Machine) -> Result<(), Differing> {
+    m.set_regs(CLIENT);
+    for _ in 0..GREATEST_DEPTH {
+        same(Differing::Call(1), delivers(m, Ok(())))?;
+    }
+    same(Differing::Registers, m.regs().esp == 0xFFF0)?;
+    same(Differing::Call(2), delivers(m, Err(Exit::Deep)))?;
+    same(Differing::Depth, u32::from(depth(m)) == GREATEST_DEPTH)
 }
 
 #[test]
 fn exceptions_end_at_the_greatest_depth(rt: HostRuntime) -> Result<(), Fail> {
     let mut m = entered(rt.alloc(), Width::Sixteen)?;
-    for _ in 0..GREATEST_DEPTH {
-        assert_eq!(rt; fail(&mut m, &rt), Ok(()));
-    }
-    assert_eq!(rt; m.regs().esp, 0xFFF0);
-    assert_eq!(rt; fail(&mut m, &rt), Err(Exit::Deep));
-    assert_eq!(rt; u32::from(depth(&m)), GREATEST_DEPTH);
+    assert_eq!(rt; compare_depths(&mut m), Ok(()));
     Ok(())
 }

@@ -1,12 +1,12 @@
 // Worked interrupts, exceptions and returns of real mode. The values come from the manual's rules by hand.
+use crate::machines::{Differing, compare_all, has_bytes, put, same};
 use client_world::{Exit, Fault, Flags, Mode, Regs};
 use fault_service::{can_pop_iret, deliver, pop_iret, soft_int};
 use guest_space::Machine;
-use std::process::Abort;
 use std::test::Fail;
 
 // What is asked for.
-#[derive(Clone, Copy, Debug, PartialEq, Eq)]
+#[derive(Clone, Copy)]
 enum Call {
     Interrupt(u8, u8),
     Exception(Fault),
@@ -14,7 +14,7 @@ enum Call {
 }
 
 // How it ends.
-#[derive(Clone, Copy, Debug, PartialEq, Eq)]
+#[derive(Clone, Copy, PartialEq)]
 enum Answer {
     Done,
     Raised(Fault),
@@ -22,7 +22,6 @@ enum Answer {
 }
 
 // A call that is served: the registers and the virtual interrupt flag before it and after it, and bytes of the DOS megabyte after it.
-#[derive(Clone, Copy, Debug, PartialEq, Eq)]
 struct Served {
     call: Call,
     before: Regs,
@@ -34,7 +33,6 @@ struct Served {
 }
 
 // A call that is refused, and changes nothing.
-#[derive(Clone, Copy, Debug, PartialEq, Eq)]
 struct Refused {
     call: Call,
     answer: Answer,
@@ -220,78 +218,72 @@ const REFUSED: [Refused; 7] = [
     },
 ];
 
-// Puts bytes into the DOS megabyte from an address on.
-fn put(rt: &impl Abort, m: &mut Machine, from: u32, bytes: &[u8]) {
-    let mut at = from;
-    for byte in bytes {
-        assert!(rt; at < 0x10_0000);
-        m.set_dos8(at, *byte);
-        at += 1;
+// How a return from an interrupt ends; none where `can_pop_iret` says something else than `pop_iret`.
+fn return_answer(m: &mut Machine) -> Option<Answer> {
+    let can = can_pop_iret(m);
+    match pop_iret(m) {
+        Ok(()) if can => Some(Answer::Done),
+        Err(exit) if !can => Some(Answer::Ended(exit)),
+        _ => None,
     }
 }
 
-fn expect_bytes(rt: &impl Abort, m: &Machine, from: u32, bytes: &[u8], number: usize) {
-    let mut at = from;
-    for byte in bytes {
-        assert!(rt; at < 0x10_0000);
-        assert_eq!(rt; m.dos8(at), *byte, "byte {at} of case {number}");
-        at += 1;
-    }
-}
-
-// The answer of a call. Whether a frame can be popped is told before.
-fn answer_of(rt: &impl Abort, m: &mut Machine, call: Call) -> Answer {
-    assert!(rt; m.mode() == Mode::Real);
+// The answer of a call; none of an exception outside real mode.
+fn answer_of(m: &mut Machine, call: Call) -> Option<Answer> {
     match call {
         Call::Interrupt(number, len) => match soft_int(m, number, len) {
-            Ok(()) => Answer::Done,
-            Err(fault) => Answer::Raised(fault),
+            Ok(()) => Some(Answer::Done),
+            Err(fault) => Some(Answer::Raised(fault)),
         },
-        Call::Exception(fault) => match deliver(m, fault) {
-            Ok(()) => Answer::Done,
-            Err(exit) => Answer::Ended(exit),
+        Call::Exception(fault) if m.mode() == Mode::Real => match deliver(m, fault) {
+            Ok(()) => Some(Answer::Done),
+            Err(exit) => Some(Answer::Ended(exit)),
         },
-        Call::Return => {
-            let can = can_pop_iret(m);
-            let answer = match pop_iret(m) {
-                Ok(()) => Answer::Done,
-                Err(exit) => Answer::Ended(exit),
-            };
-            assert_eq!(rt; can, answer == Answer::Done);
-            answer
-        }
+        Call::Exception(_) => None,
+        Call::Return => return_answer(m),
     }
 }
 
 // Two vectors, the first bytes of the stack segment, and a frame.
-fn prepare(rt: &impl Abort, m: &mut Machine, before: Regs, vif: bool) {
-    put(rt, m, 0, &[0x34, 0x12, 0xCD, 0xAB]);
-    put(rt, m, 0x84, &[0x78, 0x56, 0x34, 0x12]);
-    put(rt, m, 0x3_0000, FIRST);
-    put(rt, m, 0x3_0300, FRAME);
+fn prepare(m: &mut Machine, before: Regs, vif: bool) {
+    put(m, 0, &[0x34, 0x12, 0xCD, 0xAB]);
+    put(m, 0x84, &[0x78, 0x56, 0x34, 0x12]);
+    put(m, 0x3_0000, FIRST);
+    put(m, 0x3_0300, FRAME);
     m.set_regs(before);
     m.set_vif(vif);
 }
 
-#[test]
-fn calls_of_real_mode(rt: HostRuntime) -> Result<(), Fail> {
-    let mut m = Machine::new(rt.alloc(), 1)?;
-    for (number, case) in SERVED.iter().enumerate() {
-        prepare(&rt, &mut m, case.before, case.vif);
-        let answer = answer_of(&rt, &mut m, case.call);
-        assert_eq!(rt; answer, Answer::Done, "answer of case {number}");
-        assert_eq!(rt; m.regs(), case.after, "registers of case {number}");
-        assert_eq!(rt; m.vif(), case.vif_after, "interrupts of case {number}");
-        expect_bytes(&rt, &m, case.at, case.bytes, number);
-    }
+fn compare_served(m: &mut Machine, case: &Served) -> Result<(), Differing> {
+    prepare(m, case.before, case.vif);
+    same(Differing::Mode, m.mode() == Mode::Real)?;
+    let answer = answer_of(m, case.call);
+    same(Differing::Answer, answer == Some(Answer::Done))?;
+    same(Differing::Registers, m.regs() == case.after)?;
+    same(Differing::Interrupts, m.vif() == case.vif_after)?;
+    same(Differing::Memory, has_bytes(m, case.at, case.bytes))
+}
 
-    for (number, case) in REFUSED.iter().enumerate() {
-        prepare(&rt, &mut m, case.before, true);
-        let answer = answer_of(&rt, &mut m, case.call);
-        assert_eq!(rt; answer, case.answer, "answer of refusal {number}");
-        assert_eq!(rt; m.regs(), case.before, "registers of refusal {number}");
-        assert!(rt; m.vif());
-        expect_bytes(&rt, &m, 0x3_0000, FIRST, number);
-    }
+fn compare_refused(m: &mut Machine, case: &Refused) -> Result<(), Differing> {
+    prepare(m, case.before, true);
+    same(Differing::Mode, m.mode() == Mode::Real)?;
+    let answer = answer_of(m, case.call);
+    same(Differing::Answer, answer == Some(case.answer))?;
+    same(Differing::Registers, m.regs() == case.before)?;
+    same(Differing::Interrupts, m.vif())?;
+    same(Differing::Memory, has_bytes(m, 0x3_0000, FIRST))
+}
+
+#[test]
+fn calls_that_are_served(rt: HostRuntime) -> Result<(), Fail> {
+    let mut m = Machine::new(rt.alloc(), 1)?;
+    assert_eq!(rt; compare_all(&mut m, &SERVED, compare_served), Ok(()));
+    Ok(())
+}
+
+#[test]
+fn calls_that_are_refused(rt: HostRuntime) -> Result<(), Fail> {
+    let mut m = Machine::new(rt.alloc(), 1)?;
+    assert_eq!(rt; compare_all(&mut m, &REFUSED, compare_refused), Ok(()));
     Ok(())
 }

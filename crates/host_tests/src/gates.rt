@@ -1,8 +1,8 @@
 // Worked entries and far returns. The values come from the rules by hand.
+use crate::machines::{Differing, same};
 use client_world::{Carry, Desc, Exit, Kind, Mode, Origin, Regs, Width};
 use guest_space::Machine;
 use mode_gates::{entry, pop_far};
-use std::process::Abort;
 use std::test::Fail;
 
 // Before a call of the entry: the far call's frame lies at 1000h:00FCh, and the prefix names its environment, 61h.
@@ -55,8 +55,13 @@ fn present(base: u32, limit: u32, size: bool, code: bool) -> Desc {
     }
 }
 
-// Checks a machine after its first entry, with the size bit of stacks and data.
-fn expect_entered(rt: &impl Abort, m: &Machine, wide: bool) {
+// Whether the entry, called in real mode, answers this.
+fn enters(m: &mut Machine, answer: Result<Carry, Exit>) -> bool {
+    m.mode() == Mode::Real && entry(m) == answer
+}
+
+// The descriptors after a first entry, with the size bit of stacks and data.
+fn compare_descriptors(m: &Machine, wide: bool) -> Result<(), Differing> {
     let rows = [
         (16, present(0xF_0000, 0xFFFF, false, true), Origin::Host),
         (17, present(0xE_0000, 0xFFFF, wide, false), Origin::Host),
@@ -67,51 +72,58 @@ fn expect_entered(rt: &impl Abort, m: &Machine, wide: bool) {
         (68, present(0x610, 0xFFFF, false, false), Origin::Psp),
     ];
     for (index, d, origin) in rows {
-        assert_eq!(rt; m.desc(index), Some((d, origin)), "descriptor {index}");
-    }
-    let r = m.regs();
-    assert_eq!(rt; (r.cs, r.eip, r.ss, r.esp), (0x0207, 0x5678, 0x020F, 0x100));
-    assert_eq!(rt; (r.ds, r.es, r.fs, r.gs), (0x0217, 0x021F, 0, 0));
-    assert!(rt; !r.flags.cf);
-    assert_eq!(rt; m.dos16(0x66C), 0x0227);
-}
-
-#[test]
-fn the_first_entry_makes_seven_descriptors(rt: HostRuntime) -> Result<(), Fail> {
-    for (eax, width) in [
-        (0xABCD_0000, Width::Sixteen),
-        (0xABCD_FF01, Width::ThirtyTwo),
-    ] {
-        let mut m = Machine::new(rt.alloc(), 1)?;
-        called(&mut m, eax);
-        assert_eq!(rt; m.mode(), Mode::Real);
-        assert_eq!(rt; entry(&mut m), Ok(Carry::Clear));
-        assert_eq!(rt; m.mode(), Mode::Protected);
-        assert_eq!(rt; m.width(), Some(width));
-        expect_entered(&rt, &m, width == Width::ThirtyTwo);
+        same(
+            Differing::Descriptor(index),
+            m.desc(index) == Some((d, origin)),
+        )?;
     }
     Ok(())
 }
 
+// A first entry. The environment in the prefix becomes a selector.
+fn compare_entry(m: &mut Machine, eax: u32, width: Width) -> Result<(), Differing> {
+    called(m, eax);
+    same(Differing::Answer, enters(m, Ok(Carry::Clear)))?;
+    let is_entered = m.mode() == Mode::Protected && m.width() == Some(width);
+    same(Differing::Mode, is_entered)?;
+    let r = m.regs();
+    let place = (r.cs, r.eip, r.ss, r.esp) == (0x0207, 0x5678, 0x020F, 0x100);
+    let data = (r.ds, r.es, r.fs, r.gs) == (0x0217, 0x021F, 0, 0);
+    same(Differing::Registers, place && data && !r.flags.cf)?;
+    same(Differing::Memory, m.dos16(0x66C) == 0x0227)?;
+    compare_descriptors(m, width == Width::ThirtyTwo)
+}
+
+#[test]
+fn the_first_entry_makes_seven_descriptors(rt: HostRuntime) -> Result<(), Fail> {
+    let mut m = Machine::new(rt.alloc(), 1)?;
+    assert_eq!(rt; compare_entry(&mut m, 0xABCD_0000, Width::Sixteen), Ok(()));
+    let mut m = Machine::new(rt.alloc(), 1)?;
+    assert_eq!(rt;
+        compare_entry(&mut m, 0xABCD_FF01, Width::ThirtyTwo),
+        Ok(())
+    );
+    Ok(())
+}
+
 // A second call, back in real mode, sets carry and changes neither mode nor width.
+fn compare_second(m: &mut Machine) -> Result<(), Differing> {
+    called(m, 0xABCD_0000);
+    same(Differing::Call(1), enters(m, Ok(Carry::Clear)))?;
+    m.set_mode(Mode::Real);
+    called(m, 1);
+    same(Differing::Call(2), enters(m, Ok(Carry::Set)))?;
+    let is_kept = m.mode() == Mode::Real && m.width() == Some(Width::Sixteen);
+    same(Differing::Mode, is_kept)?;
+    let r = m.regs();
+    let place = (r.cs, r.eip, r.ss, r.esp) == (0x1234, 0x5678, 0x1000, 0x8765_0100);
+    same(Differing::Registers, place && r.flags.cf)
+}
+
 #[test]
 fn a_second_entry_is_refused(rt: HostRuntime) -> Result<(), Fail> {
     let mut m = Machine::new(rt.alloc(), 1)?;
-    called(&mut m, 0xABCD_0000);
-    assert_eq!(rt; m.mode(), Mode::Real);
-    assert_eq!(rt; entry(&mut m), Ok(Carry::Clear));
-    m.set_mode(Mode::Real);
-    called(&mut m, 1);
-    assert_eq!(rt; m.mode(), Mode::Real);
-    assert_eq!(rt; entry(&mut m), Ok(Carry::Set));
-    assert_eq!(rt; m.mode(), Mode::Real);
-    assert_eq!(rt; m.width(), Some(Width::Sixteen));
-    let r = m.regs();
-    assert_eq!(rt;
-        (r.cs, r.eip, r.ss, r.esp),
-        (0x1234, 0x5678, 0x1000, 0x8765_0100)
-    );
-    assert!(rt; r.flags.cf);
+    assert_eq!(rt; compare_second(&mut m), Ok(()));
     Ok(())
 }
 
@@ -125,7 +137,7 @@ fn a_frame_that_wraps_is_bad(rt: HostRuntime) -> Result<(), Fail> {
         ..m.regs()
     };
     m.set_regs(before);
-    assert_eq!(rt; pop_far(&mut m), Err(Exit::BadFrame));
-    assert_eq!(rt; m.regs(), before);
+    assert!(rt; pop_far(&mut m) == Err(Exit::BadFrame));
+    assert!(rt; m.regs() == before);
     Ok(())
 }

@@ -1,12 +1,10 @@
-//! Worked rows of the host: services, DOS memory, exceptions, calls between the modes, and small clients.
-//! It holds nothing but tests, over the public calls of `host_run` and of the crates below it: a crate with tests of its own is proved once
+//! Worked rows of the host: services, DOS memory, exceptions, and calls between the modes.
+//! It holds nothing but tests, over the public calls of the crates that `host_run` is built on: a crate with tests of its own is proved once
 //! more with them.
 #![tactic(auto)]
 
 #[cfg(test)]
 mod callback_calls;
-#[cfg(test)]
-mod clients;
 #[cfg(test)]
 mod descriptors;
 #[cfg(test)]
@@ -19,6 +17,8 @@ mod faults;
 mod gates;
 #[cfg(test)]
 mod loading;
+#[cfg(test)]
+mod machines;
 #[cfg(test)]
 mod memory_blocks;
 #[cfg(test)]

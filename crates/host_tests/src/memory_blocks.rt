@@ -1,6 +1,7 @@
 // Worked calls, one after another on one machine with a budget of 8 pages: what each returns, and the registers after it.
 ghost use Rattle.std.specs.Prelude.{◌<◌};
 
+use crate::machines::{Differing, compare_all, entered, same};
 use block_services::serve;
 use client_world::memory_map::PROTECTED_STACKS;
 use client_world::{Carry, Mode, Regs, Width};
@@ -8,7 +9,9 @@ use guest_space::Machine;
 use std::test::Fail;
 
 // AX, EBX, ECX, ESI, EDI of a call, and the last four after it, or AX where it is refused. AX stays for a number that the family doesn't have.
-const CALLS: [([u32; 5], Result<[u32; 4], u32>); 44] = [
+type Call = ([u32; 5], Result<[u32; 4], u32>);
+
+const CALLS: [Call; 44] = [
     ([0x0501, 0, 0, 0, 0], Err(0x8021)),
     ([0x0501, 0, 0x8001, 0, 0], Err(0x8013)),
     (
@@ -71,29 +74,31 @@ fn registers(call: [u32; 5]) -> Regs {
     r
 }
 
+// Whether a call with these registers returns this.
+fn returns(m: &mut Machine, r: Regs, carry: Carry) -> bool {
+    m.set_regs(r);
+    let ax = (r.eax % 0x1_0000) as u16;
+    m.mode() == Mode::Protected && serve(m, ax) == carry
+}
+
+fn compare_call(m: &mut Machine, call: &Call) -> Result<(), Differing> {
+    let (before, after) = *call;
+    let [ax, ebx, ecx, esi, edi] = before;
+    let (carry, eax, others) = match after {
+        Ok(served) => (Carry::Clear, ax, served),
+        Err(eax) => (Carry::Set, eax, [ebx, ecx, esi, edi]),
+    };
+    let is_returned = returns(m, registers(before), carry);
+    same(Differing::Answer, is_returned)?;
+    let r = m.regs();
+    let is_left = r.eax == eax && [r.ebx, r.ecx, r.esi, r.edi] == others;
+    same(Differing::Registers, is_left)
+}
+
 #[test]
-#[tactic(auto, unfolding(host_memory::specs::Blank::blank_world))]
 fn calls_return_what_their_rows_say(rt: HostRuntime) -> Result<(), Fail> {
-    let mut m = Machine::new(rt.alloc(), 8)?;
-    m.set_width(Width::Sixteen);
-    m.set_mode(Mode::Protected);
-    for (number, &(before, after)) in CALLS.iter().enumerate() {
-        m.set_regs(registers(before));
-        let ax = (before[0] % 0x1_0000) as u16;
-        assert_eq!(rt; m.mode(), Mode::Protected);
-        let (carry, eax, others) = match after {
-            Ok(served) => (Carry::Clear, before[0], served),
-            Err(eax) => (
-                Carry::Set,
-                eax,
-                [before[1], before[2], before[3], before[4]],
-            ),
-        };
-        assert_eq!(rt; serve(&mut m, ax), carry, "call {number}");
-        let r = m.regs();
-        assert_eq!(rt; r.eax, eax, "call {number}");
-        assert_eq!(rt; [r.ebx, r.ecx, r.esi, r.edi], others, "call {number}");
-    }
+    let mut m = entered(rt.alloc(), Width::Sixteen)?;
+    assert_eq!(rt; compare_all(&mut m, &CALLS, compare_call), Ok(()));
     Ok(())
 }
 
@@ -164,24 +169,24 @@ const TABLES: [([u32; 5], [u32; 12]); 3] = [
     ),
 ];
 
-#[test]
-#[tactic(auto, unfolding(host_memory::specs::Blank::blank_world))]
-fn the_table_gives_what_is_free(rt: HostRuntime) -> Result<(), Fail> {
-    let mut m = Machine::new(rt.alloc(), 8)?;
-    m.set_width(Width::Sixteen);
-    m.set_mode(Mode::Protected);
-    for &(call, table) in TABLES.iter() {
-        m.set_regs(registers(call));
-        assert_eq!(rt; m.mode(), Mode::Protected);
-        assert_eq!(rt; serve(&mut m, (call[0] % 0x1_0000) as u16), Carry::Clear);
-        let mut r = registers([0x0500, 0, 0, 0, 0]);
-        r.es = STACKS;
-        m.set_regs(r);
-        assert_eq!(rt; m.mode(), Mode::Protected);
-        assert_eq!(rt; serve(&mut m, 0x0500), Carry::Clear);
-        for (place, &wanted) in table.iter().enumerate() {
-            assert_eq!(rt; number(&m, place as u32), wanted, "number {place}");
-        }
+fn compare_table(m: &mut Machine, row: &([u32; 5], [u32; 12])) -> Result<(), Differing> {
+    let (call, table) = *row;
+    let asked = Regs {
+        es: STACKS,
+        ..registers([0x0500, 0, 0, 0, 0])
+    };
+    let is_made = returns(m, registers(call), Carry::Clear);
+    let is_asked = returns(m, asked, Carry::Clear);
+    same(Differing::Answer, is_made && is_asked)?;
+    for (place, &wanted) in table.iter().enumerate() {
+        same(Differing::Memory, number(m, place as u32) == wanted)?;
     }
+    Ok(())
+}
+
+#[test]
+fn the_table_gives_what_is_free(rt: HostRuntime) -> Result<(), Fail> {
+    let mut m = entered(rt.alloc(), Width::Sixteen)?;
+    assert_eq!(rt; compare_all(&mut m, &TABLES, compare_table), Ok(()));
     Ok(())
 }

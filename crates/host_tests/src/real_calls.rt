@@ -1,11 +1,10 @@
 // Worked calls, reflections, returns and refusals. The values come from the rules by hand.
+use crate::machines::{Differing, compare_all, entered, has_words, same};
 use client_world::limits::GREATEST_DEPTH;
 use client_world::memory_map::PROTECTED_STACKS;
 use client_world::{Begun, Call, Exit, Flags, Mode, Regs, Width};
 use guest_space::Machine;
 use mode_stack::depth;
-use std::alloc::{AllocError, Global};
-use std::process::Abort;
 use std::test::Fail;
 use translation::{begin, end, reflect};
 
@@ -31,16 +30,6 @@ const CLIENT: Regs = Regs {
     },
     ..Regs::ZERO
 };
-
-// A machine of that width in protected mode.
-#[tactic(auto, unfolding(host_memory::specs::Blank::blank_world))]
-fn entered(alloc: Global, width: Width, r: Regs) -> Result<Machine, AllocError> {
-    let mut m = Machine::new(alloc, 1)?;
-    m.set_width(width);
-    m.set_mode(Mode::Protected);
-    m.set_regs(r);
-    Ok(m)
-}
 
 // Puts words into the megabyte.
 fn put(m: &mut Machine, words: &[(u32, u16)]) {
@@ -82,20 +71,26 @@ fn put_structure(m: &mut Machine, image: u16, ss: u16, sp: u16) {
 }
 
 // The words on the callee's stack.
-fn stack_of(m: &Machine) -> [u16; 5] {
+fn has_stack(m: &Machine, words: &[u16]) -> bool {
     let r = m.regs();
-    let at = 16 * u32::from(r.ss) + r.esp % 0x1_0000;
-    if at < 0xF_0000 {
-        [
-            m.dos16(at),
-            m.dos16(at + 2),
-            m.dos16(at + 4),
-            m.dos16(at + 6),
-            m.dos16(at + 8),
-        ]
-    } else {
-        [0; 5]
-    }
+    has_words(m, 16 * u32::from(r.ss) + r.esp % 0x1_0000, words)
+}
+
+// Whether a call in protected mode begins, or is refused.
+fn begins(m: &mut Machine, call: Call, begun: Begun) -> bool {
+    m.mode() == Mode::Protected && !matches!(call, Call::Reflect(_)) && begin(m, call) == begun
+}
+
+// Whether interrupt 21h in protected mode is reflected, or ends the client.
+fn reflects(m: &mut Machine, answer: Result<(), Exit>) -> bool {
+    m.mode() == Mode::Protected && reflect(m, 0x21) == answer
+}
+
+// The mode, the virtual interrupt flag and the depth.
+fn compare_state(m: &Machine, mode: Mode, vif: bool, calls: u8) -> Result<(), Differing> {
+    same(Differing::Mode, m.mode() == mode)?;
+    same(Differing::Interrupts, m.vif() == vif)?;
+    same(Differing::Depth, depth(m) == calls)
 }
 
 // A call: the flags and the stack in its structure; where it starts, its stack pointer, its words, and whether virtual interrupts are on.
@@ -148,56 +143,33 @@ const STARTED: [Started; 4] = [
     },
 ];
 
+// The registers of a callee that its structure gives, whatever the call.
+fn are_given(r: &Regs) -> bool {
+    [r.edi, r.esi, r.ebp, r.ebx] == [0x0D1D, 0x051D, 0x0B0D, 0x0B1D]
+        && [r.edx, r.ecx, r.eax] == [0x0D0D, 0x0C1D, 0xFFFF_0A1D]
+        && [r.es, r.ds, r.fs, r.gs] == [0x2200, 0x2400, 0x2600, 0x2800]
+        && r.flags.image(false) == 0x47
+}
+
+fn compare_started(m: &mut Machine, case: &Started) -> Result<(), Differing> {
+    m.set_regs(CLIENT);
+    put_structure(m, case.image, case.stack.0, case.stack.1);
+    same(Differing::Answer, begins(m, case.call, Begun::Run))?;
+    let r = m.regs();
+    let is_there = (r.cs, r.eip) == case.start && (r.ss, r.esp) == case.top;
+    same(Differing::Registers, is_there && are_given(&r))?;
+    same(Differing::Memory, has_stack(m, &case.words))?;
+    compare_state(m, Mode::Real, case.vif, 1)
+}
+
+// Each call is made on a machine of its own.
 #[test]
 fn calls_start_with_their_structure(rt: HostRuntime) -> Result<(), Fail> {
-    for case in &STARTED {
-        let mut m = entered(rt.alloc(), Width::Sixteen, CLIENT)?;
-        put_structure(&mut m, case.image, case.stack.0, case.stack.1);
-        assert_eq!(rt; m.mode(), Mode::Protected);
-        assert!(rt; !matches!(case.call, Call::Reflect(_)));
-        assert_eq!(rt; begin(&mut m, case.call), Begun::Run);
-        let r = m.regs();
-        assert_eq!(rt; (r.cs, r.eip), case.start);
-        assert_eq!(rt; (r.ss, r.esp), case.top);
-        assert_eq!(rt; stack_of(&m), case.words);
-        assert_eq!(rt; (m.mode(), m.vif(), depth(&m)), (Mode::Real, case.vif, 1));
-        assert_eq!(rt;
-            [r.edi, r.esi, r.ebp, r.ebx],
-            [0x0D1D, 0x051D, 0x0B0D, 0x0B1D]
-        );
-        assert_eq!(rt; [r.edx, r.ecx, r.eax], [0x0D0D, 0x0C1D, 0xFFFF_0A1D]);
-        assert_eq!(rt; [r.es, r.ds, r.fs, r.gs], [0x2200, 0x2400, 0x2600, 0x2800]);
-        assert_eq!(rt; r.flags.image(false), 0x47);
+    for (number, case) in STARTED.iter().enumerate() {
+        let mut m = entered(rt.alloc(), Width::Sixteen)?;
+        assert_eq!(rt; compare_started(&mut m, case), Ok(()), "call {number}");
     }
     Ok(())
-}
-
-// The low words of the structure's doublewords, and its words.
-fn doublewords_of(m: &Machine) -> [u16; 8] {
-    [
-        m.dos16(STRUCTURE),
-        m.dos16(STRUCTURE + 0x04),
-        m.dos16(STRUCTURE + 0x08),
-        m.dos16(STRUCTURE + 0x0C),
-        m.dos16(STRUCTURE + 0x10),
-        m.dos16(STRUCTURE + 0x14),
-        m.dos16(STRUCTURE + 0x18),
-        m.dos16(STRUCTURE + 0x1C),
-    ]
-}
-
-fn words_of(m: &Machine) -> [u16; 9] {
-    [
-        m.dos16(STRUCTURE + 0x20),
-        m.dos16(STRUCTURE + 0x22),
-        m.dos16(STRUCTURE + 0x24),
-        m.dos16(STRUCTURE + 0x26),
-        m.dos16(STRUCTURE + 0x28),
-        m.dos16(STRUCTURE + 0x2A),
-        m.dos16(STRUCTURE + 0x2C),
-        m.dos16(STRUCTURE + 0x2E),
-        m.dos16(STRUCTURE + 0x30),
-    ]
 }
 
 // What a procedure leaves at the trap of its return: its frame is popped.
@@ -223,36 +195,36 @@ const LEFT: Regs = Regs {
     },
 };
 
-#[test]
-fn a_return_fills_the_structure(rt: HostRuntime) -> Result<(), Fail> {
-    let mut m = entered(rt.alloc(), Width::ThirtyTwo, CLIENT)?;
-    assert_eq!(rt; end(&mut m), Err(Exit::Stray));
-    put_structure(&mut m, 0, 0xD000, 0x100);
+// The structure after the return, in words from EDI on. The reserved doubleword stays.
+const FILLED: [u16; 25] = [
+    0x6364, 0x6162, 0x5354, 0x5152, 0xE3E4, 0xE1E2, 0x77, 0, 0xB3B4, 0xB1B2, 0xD3D4, 0xD1D2,
+    0xC3C4, 0xC1C2, 0xA3A4, 0xA1A2, 0x242, 0x3E3E, 0x3D3D, 0x3F3F, 0x4040, 0x5678, 0x1234, 0x100,
+    0xD000,
+];
+
+fn compare_return(m: &mut Machine) -> Result<(), Differing> {
+    same(Differing::Call(1), end(m) == Err(Exit::Stray))?;
+    m.set_regs(CLIENT);
+    put_structure(m, 0, 0xD000, 0x100);
     m.set_dos8(STRUCTURE + 0x0C, 0x77);
-    assert_eq!(rt; m.mode(), Mode::Protected);
-    assert_eq!(rt; begin(&mut m, Call::Far), Begun::Run);
+    same(Differing::Call(2), begins(m, Call::Far, Begun::Run))?;
     m.set_regs(LEFT);
     m.set_vif(true);
-    assert_eq!(rt; end(&mut m), Ok(()));
-    assert_eq!(rt;
-        m.regs(),
-        Regs {
-            fs: 0,
-            flags: Flags::CLEAR,
-            ..CLIENT
-        }
-    );
-    assert_eq!(rt; (m.mode(), m.vif(), depth(&m)), (Mode::Protected, true, 0));
-    assert_eq!(rt;
-        doublewords_of(&m),
-        [0x6364, 0x5354, 0xE3E4, 0x77, 0xB3B4, 0xD3D4, 0xC3C4, 0xA3A4]
-    );
-    assert_eq!(rt;
-        words_of(&m),
-        [
-            0x242, 0x3E3E, 0x3D3D, 0x3F3F, 0x4040, 0x5678, 0x1234, 0x100, 0xD000
-        ]
-    );
+    same(Differing::Call(3), end(m) == Ok(()))?;
+    let after = Regs {
+        fs: 0,
+        flags: Flags::CLEAR,
+        ..CLIENT
+    };
+    same(Differing::Registers, m.regs() == after)?;
+    same(Differing::Memory, has_words(m, STRUCTURE, &FILLED))?;
+    compare_state(m, Mode::Protected, true, 0)
+}
+
+#[test]
+fn a_return_fills_the_structure(rt: HostRuntime) -> Result<(), Fail> {
+    let mut m = entered(rt.alloc(), Width::ThirtyTwo)?;
+    assert_eq!(rt; compare_return(&mut m), Ok(()));
     Ok(())
 }
 
@@ -284,39 +256,48 @@ const SERVED: Regs = Regs {
     ..ASKING
 };
 
+const CARRY: Flags = Flags {
+    cf: true,
+    ..Flags::CLEAR
+};
+
+// What the handler leaves at the trap of its return, and what the client gets of it.
+const ANSWERED: Regs = Regs {
+    eax: 0x1234_5678,
+    esp: 0x400,
+    eip: 0x103,
+    flags: CARRY,
+    ..SERVED
+};
+
+const RETURNED: Regs = Regs {
+    eax: 0x1234_5678,
+    fs: 0,
+    flags: CARRY,
+    ..ASKING
+};
+
+fn compare_reflected(m: &mut Machine) -> Result<(), Differing> {
+    m.set_regs(ASKING);
+    same(Differing::Answer, reflects(m, Ok(())))?;
+    same(Differing::Registers, m.regs() == SERVED)?;
+    same(Differing::Memory, has_stack(m, &[0x103, 0xF000, 0x246]))?;
+    compare_state(m, Mode::Real, false, 1)
+}
+
+fn compare_answered(m: &mut Machine) -> Result<(), Differing> {
+    m.set_regs(ANSWERED);
+    same(Differing::Answer, end(m) == Ok(()))?;
+    same(Differing::Registers, m.regs() == RETURNED)?;
+    compare_state(m, Mode::Protected, true, 0)
+}
+
 #[test]
 fn a_reflection_passes_the_general_registers(rt: HostRuntime) -> Result<(), Fail> {
-    let mut m = entered(rt.alloc(), Width::Sixteen, ASKING)?;
-    assert_eq!(rt; m.mode(), Mode::Protected);
-    assert_eq!(rt; reflect(&mut m, 0x21), Ok(()));
-    assert_eq!(rt; m.regs(), SERVED);
-    assert_eq!(rt; (m.mode(), m.vif(), depth(&m)), (Mode::Real, false, 1));
-    let words = stack_of(&m);
-    assert_eq!(rt; [words[0], words[1], words[2]], [0x103, 0xF000, 0x246]);
-    m.set_regs(Regs {
-        eax: 0x1234_5678,
-        esp: 0x400,
-        eip: 0x103,
-        flags: Flags {
-            cf: true,
-            ..Flags::CLEAR
-        },
-        ..SERVED
-    });
-    assert_eq!(rt; end(&mut m), Ok(()));
-    assert_eq!(rt;
-        m.regs(),
-        Regs {
-            eax: 0x1234_5678,
-            fs: 0,
-            flags: Flags {
-                cf: true,
-                ..Flags::CLEAR
-            },
-            ..ASKING
-        }
-    );
-    assert_eq!(rt; (m.mode(), m.vif(), depth(&m)), (Mode::Protected, true, 0));
+    let mut m = entered(rt.alloc(), Width::Sixteen)?;
+    let reflected = compare_reflected(&mut m);
+    let answered = compare_answered(&mut m);
+    assert_eq!(rt; [reflected, answered], [Ok(()); 2]);
     Ok(())
 }
 
@@ -338,40 +319,40 @@ const REFUSED: [(Regs, u16, u16, u32); 5] = [
     (CLIENT, 0xF000, 0x200, 0xABCD_8025),
 ];
 
-#[test]
-fn calls_are_refused(rt: HostRuntime) -> Result<(), Fail> {
-    for (client, ss, sp, eax) in &REFUSED {
-        let mut m = entered(rt.alloc(), Width::Sixteen, *client)?;
-        put_structure(&mut m, 0, *ss, *sp);
-        assert_eq!(rt; m.mode(), Mode::Protected);
-        assert_eq!(rt; begin(&mut m, Call::Iret), Begun::Refused);
-        let refused = Regs {
-            eax: *eax,
-            ..*client
-        };
-        assert_eq!(rt; (m.regs(), depth(&m)), (refused, 0));
-    }
-    Ok(())
+fn compare_refused(m: &mut Machine, row: &(Regs, u16, u16, u32)) -> Result<(), Differing> {
+    let (client, ss, sp, eax) = *row;
+    put_structure(m, 0, ss, sp);
+    m.set_regs(client);
+    same(Differing::Answer, begins(m, Call::Iret, Begun::Refused))?;
+    same(Differing::Registers, m.regs() == Regs { eax, ..client })?;
+    same(Differing::Depth, depth(m) == 0)
 }
 
 #[test]
-fn calls_end_at_the_greatest_depth(rt: HostRuntime) -> Result<(), Fail> {
-    let lost = Regs { cs: 0x17, ..CLIENT };
-    let mut m = entered(rt.alloc(), Width::Sixteen, lost)?;
+fn calls_are_refused(rt: HostRuntime) -> Result<(), Fail> {
+    let mut m = entered(rt.alloc(), Width::Sixteen)?;
+    assert_eq!(rt; compare_all(&mut m, &REFUSED, compare_refused), Ok(()));
+    Ok(())
+}
+
+fn compare_depths(m: &mut Machine) -> Result<(), Differing> {
+    m.set_regs(Regs { cs: 0x17, ..CLIENT });
     for _ in 0..GREATEST_DEPTH {
-        assert_eq!(rt; m.mode(), Mode::Protected);
-        assert_eq!(rt; reflect(&mut m, 0x21), Ok(()));
-        assert_eq!(rt; end(&mut m), Err(Exit::BadFrame));
+        same(Differing::Call(1), reflects(m, Ok(())))?;
+        same(Differing::Call(2), end(m) == Err(Exit::BadFrame))?;
         if m.width().is_some() {
             m.set_mode(Mode::Protected);
         }
     }
-    assert_eq!(rt; m.mode(), Mode::Protected);
-    assert_eq!(rt; reflect(&mut m, 0x21), Err(Exit::Deep));
-    assert_eq!(rt; begin(&mut m, Call::Iret), Begun::Refused);
-    assert_eq!(rt;
-        (m.regs().eax, u32::from(depth(&m))),
-        (0xABCD_8012, GREATEST_DEPTH)
-    );
+    same(Differing::Call(3), reflects(m, Err(Exit::Deep)))?;
+    same(Differing::Call(4), begins(m, Call::Iret, Begun::Refused))?;
+    same(Differing::Registers, m.regs().eax == 0xABCD_8012)?;
+    same(Differing::Depth, u32::from(depth(m)) == GREATEST_DEPTH)
+}
+
+#[test]
+fn calls_end_at_the_greatest_depth(rt: HostRuntime) -> Result<(), Fail> {
+    let mut m = entered(rt.alloc(), Width::Sixteen)?;
+    assert_eq!(rt; compare_depths(&mut m), Ok(()));
     Ok(())
 }

@@ -1,14 +1,16 @@
 // Worked calls, one after another on one machine: what each returns, and the registers after it.
+use crate::machines::{Differing, compare_all, entered, same};
 use client_world::{Carry, Mode, Regs, Width};
 use guest_space::Machine;
-use std::process::Abort;
 use std::test::Fail;
 use vector_services::serve;
 
 // EAX, EBX, ECX, EDX of a call, and the same after it, or EAX where it is refused; EAX stays for a number that the family doesn't have.
 // 0087h is the selector of index 16, the host's code; 008Fh is that of index 17, its stacks. At the start real vector n is F000h:n,
 // protected-mode vector n 0087h:0200h+n, exception vector n 0087h:0300h+n, and interrupts are enabled.
-const CALLS: [([u32; 4], Result<[u32; 4], u32>); 22] = [
+type Call = ([u32; 4], Result<[u32; 4], u32>);
+
+const CALLS: [Call; 22] = [
     (
         [0x7777_0400, 0x1111_FFFF, 0x2222_AABB, 0x3333_FFFF],
         Ok([0x7777_005A, 0x1111_0001, 0x2222_AA03, 0x3333_0870]),
@@ -55,7 +57,7 @@ const CALLS: [([u32; 4], Result<[u32; 4], u32>); 22] = [
 ];
 
 // The same for a client of 32 bits.
-const WIDE_CALLS: [([u32; 4], Result<[u32; 4], u32>); 3] = [
+const WIDE_CALLS: [Call; 3] = [
     (
         [0x0205, 8, 0x1111_0087, 0x0001_2345],
         Ok([0x0205, 8, 0x1111_0087, 0x0001_2345]),
@@ -76,37 +78,29 @@ fn registers(call: [u32; 4]) -> Regs {
     r
 }
 
-// Makes the calls.
-fn expect_calls(rt: &impl Abort, m: &mut Machine, calls: &[([u32; 4], Result<[u32; 4], u32>)]) {
-    for (number, &(before, after)) in calls.iter().enumerate() {
-        m.set_regs(registers(before));
-        let ax = (before[0] % 0x1_0000) as u16;
-        let (carry, wanted) = match after {
-            Ok(served) => (Carry::Clear, served),
-            Err(eax) => (Carry::Set, [eax, before[1], before[2], before[3]]),
-        };
-        assert_eq!(rt; serve(m, ax), carry, "call {number}");
-        let r = m.regs();
-        assert_eq!(rt; [r.eax, r.ebx, r.ecx, r.edx], wanted, "call {number}");
-    }
+fn compare(m: &mut Machine, call: &Call) -> Result<(), Differing> {
+    let (before, after) = *call;
+    let (carry, wanted) = match after {
+        Ok(served) => (Carry::Clear, served),
+        Err(eax) => (Carry::Set, [eax, before[1], before[2], before[3]]),
+    };
+    m.set_regs(registers(before));
+    let ax = (before[0] % 0x1_0000) as u16;
+    same(Differing::Answer, serve(m, ax) == carry)?;
+    let r = m.regs();
+    same(Differing::Registers, [r.eax, r.ebx, r.ecx, r.edx] == wanted)
 }
 
 #[test]
-#[tactic(auto, unfolding(host_memory::specs::Blank::blank_world))]
 fn calls_return_what_their_rows_say(rt: HostRuntime) -> Result<(), Fail> {
-    let mut m = Machine::new(rt.alloc(), 1)?;
-    m.set_width(Width::Sixteen);
-    m.set_mode(Mode::Protected);
-    expect_calls(&rt, &mut m, &CALLS);
+    let mut m = entered(rt.alloc(), Width::Sixteen)?;
+    assert_eq!(rt; compare_all(&mut m, &CALLS, compare), Ok(()));
     Ok(())
 }
 
 #[test]
-#[tactic(auto, unfolding(host_memory::specs::Blank::blank_world))]
 fn calls_of_wide_clients_do_too(rt: HostRuntime) -> Result<(), Fail> {
-    let mut m = Machine::new(rt.alloc(), 1)?;
-    m.set_width(Width::ThirtyTwo);
-    m.set_mode(Mode::Protected);
-    expect_calls(&rt, &mut m, &WIDE_CALLS);
+    let mut m = entered(rt.alloc(), Width::ThirtyTwo)?;
+    assert_eq!(rt; compare_all(&mut m, &WIDE_CALLS, compare), Ok(()));
     Ok(())
 }

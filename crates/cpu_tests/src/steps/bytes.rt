@@ -3,7 +3,6 @@ use super::cases::*;
 use client_world::{Event, Fault, Regs};
 
 // A step: the code, the registers before it, the bytes from a linear address on, and what the step returns and leaves.
-#[derive(Clone, Copy, Debug, PartialEq, Eq)]
 pub(crate) struct Bytes {
     pub(crate) code: &'static [u8],
     pub(crate) before: Regs,
@@ -70,7 +69,7 @@ const ALL_COPIED: Regs = Regs {
     ..TO_COPY
 };
 
-pub(crate) const BYTES: [Bytes; 6] = [
+pub(crate) static BYTES: [Bytes; 6] = [
     // eight words fit exactly: DI lowest, AX highest, and SP as it was before
     Bytes {
         code: &[0x60],

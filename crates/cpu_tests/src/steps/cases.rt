@@ -3,10 +3,9 @@ use client_world::{Event, Flags, Regs};
 
 // A step that has an effect: the code, the stack's items from offset 300h on, registers and virtual interrupt flag before it and after
 // it, and the stack from its top on.
-#[derive(Clone, Copy, Debug, PartialEq, Eq)]
 pub(crate) struct Done {
     pub(crate) code: &'static [u8],
-    pub(crate) items: &'static [u8],
+    pub(crate) items: [u8; 8],
     pub(crate) before: Regs,
     pub(crate) vif_before: bool,
     pub(crate) after: Regs,
@@ -15,10 +14,9 @@ pub(crate) struct Done {
 }
 
 // A step that is an event, and changes nothing.
-#[derive(Clone, Copy, Debug, PartialEq, Eq)]
 pub(crate) struct Raises {
     pub(crate) code: &'static [u8],
-    pub(crate) items: &'static [u8],
+    pub(crate) items: [u8; 8],
     pub(crate) before: Regs,
     pub(crate) event: Event,
 }
@@ -57,7 +55,7 @@ pub(crate) const ZERO: Flags = Flags {
 };
 
 // IP 1234h, CS 5678h, and a flags image with OF, IF, SF, AF and CF.
-pub(crate) const FRAME: &[u8] = &[0x34, 0x12, 0x78, 0x56, 0x93, 0x0A, 0, 0];
+pub(crate) const FRAME: [u8; 8] = [0x34, 0x12, 0x78, 0x56, 0x93, 0x0A, 0, 0];
 
 pub(crate) const FRAME_FLAGS: Flags = Flags {
     of: true,

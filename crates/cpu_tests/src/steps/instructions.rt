@@ -2,15 +2,14 @@
 ghost use Rattle.std.specs.Prelude.{◌≡◌};
 ghost use Rattle.insn_forms.specs.Kinds.{has_good_number, is_width};
 
+use super::{Differing, compare_all, same};
 use crate::letters::flags;
 use cases::*;
 use client_world::{Event, Regs, SegReg};
 use exec_core::{is_core, run_core};
 use guest_space::Machine;
 use insn_forms::{Insn, Op};
-use rows::{ARITHMETIC, BITS, FAULTS, MOVES, PRODUCTS, SHIFTS, STACKS, STRINGS};
-use std::alloc::{AllocError, Global};
-use std::process::Abort;
+use rows::families;
 use std::test::Fail;
 use steps::{ALL_OR_NOTHING, PUSHED_AND_POPPED, REPEATED, Step};
 
@@ -35,140 +34,94 @@ fn has_number(op: Op) -> bool
     }
 }
 
+// Whether an instruction of two bytes that is run has this event, or none.
+fn runs_to(m: &mut Machine, insn: &Insn, event: Option<Event>) -> bool {
+    is_core(insn) && has_width(insn) && has_number(insn.op) && run_core(m, insn, 2).err() == event
+}
+
 // The memory of a case, by the segments with which each begins.
-fn set_memory(rt: &impl Abort, m: &mut Machine) {
+fn set_memory(m: &mut Machine) -> bool {
     m.set_regs(START);
-    assert_eq!(rt;
-        m.write(SegReg::Ds, 0x100, MEMORY.data.to_le_bytes()),
-        Ok(())
-    );
-    assert_eq!(rt;
-        m.write(SegReg::Es, 0x200, MEMORY.extra.to_le_bytes()),
-        Ok(())
-    );
-    assert_eq!(rt;
-        m.write(SegReg::Ss, 0x2FE, MEMORY.stack.to_le_bytes()),
-        Ok(())
-    );
+    m.write(SegReg::Ds, 0x100, MEMORY.data.to_le_bytes())
+        .is_ok()
+        && m.write(SegReg::Es, 0x200, MEMORY.extra.to_le_bytes())
+            .is_ok()
+        && m.write(SegReg::Ss, 0x2FE, MEMORY.stack.to_le_bytes())
+            .is_ok()
 }
 
-fn expect_memory(rt: &impl Abort, m: &mut Machine, number: usize, memory: Memory) {
+fn has_memory(m: &mut Machine, memory: Memory) -> bool {
     m.set_regs(START);
-    assert_eq!(rt;
-        m.read::<4>(SegReg::Ds, 0x100),
-        Ok(memory.data.to_le_bytes()),
-        "data of case {number}"
-    );
-    assert_eq!(rt;
-        m.read::<4>(SegReg::Es, 0x200),
-        Ok(memory.extra.to_le_bytes()),
-        "extra of case {number}"
-    );
-    assert_eq!(rt;
-        m.read::<4>(SegReg::Ss, 0x2FE),
-        Ok(memory.stack.to_le_bytes()),
-        "stack of case {number}"
-    );
+    m.read::<4>(SegReg::Ds, 0x100) == Ok(memory.data.to_le_bytes())
+        && m.read::<4>(SegReg::Es, 0x200) == Ok(memory.extra.to_le_bytes())
+        && m.read::<4>(SegReg::Ss, 0x2FE) == Ok(memory.stack.to_le_bytes())
 }
 
-// Runs an instruction of two bytes.
-fn run(rt: &impl Abort, m: &mut Machine, insn: &Insn) -> Option<Event> {
-    assert!(rt; is_core(insn));
-    assert!(rt; has_width(insn));
-    assert!(rt; has_number(insn.op));
-    run_core(m, insn, 2).err()
-}
-
-fn expect(rt: &impl Abort, m: &mut Machine, number: usize, case: &Case) {
-    set_memory(rt, m);
-    m.set_regs(Regs {
+fn compare(m: &mut Machine, case: &Case) -> Result<(), Differing> {
+    let before = Regs {
         flags: flags(case.flags_before),
         ..case.before
-    });
-    assert_eq!(rt;
-        run(rt, m, &case.insn),
-        case.event,
-        "event of case {number}"
-    );
-    assert_eq!(rt;
-        m.regs(),
-        Regs {
-            flags: flags(case.flags_after),
-            ..case.after
-        },
-        "registers of case {number}"
-    );
-    expect_memory(rt, m, number, case.memory);
-}
-
-fn expect_all(rt: &impl Abort, alloc: Global, cases: &[Case]) -> Result<(), AllocError> {
-    let mut m = Machine::new(alloc, 1)?;
-    for (number, case) in cases.iter().enumerate() {
-        expect(rt, &mut m, number, case);
-    }
-    Ok(())
+    };
+    let after = Regs {
+        flags: flags(case.flags_after),
+        ..case.after
+    };
+    same(Differing::Memory, set_memory(m))?;
+    m.set_regs(before);
+    same(Differing::Event, runs_to(m, &case.insn, case.event))?;
+    same(Differing::Registers, m.regs() == after)?;
+    same(Differing::Memory, has_memory(m, case.memory))
 }
 
 #[test]
 fn rows_leave_what_they_say(rt: HostRuntime) -> Result<(), Fail> {
-    expect_all(&rt, rt.alloc(), &MOVES)?;
-    expect_all(&rt, rt.alloc(), &ARITHMETIC)?;
-    expect_all(&rt, rt.alloc(), &SHIFTS)?;
-    expect_all(&rt, rt.alloc(), &PRODUCTS)?;
-    expect_all(&rt, rt.alloc(), &BITS)?;
-    expect_all(&rt, rt.alloc(), &STACKS)?;
-    expect_all(&rt, rt.alloc(), &STRINGS)?;
-    expect_all(&rt, rt.alloc(), &FAULTS)?;
+    for (family, cases) in families().iter().enumerate() {
+        let mut m = Machine::new(rt.alloc(), 1)?;
+        let compared = compare_all(&mut m, *cases, compare);
+        assert_eq!(rt; compared, Ok(()), "family {family}");
+    }
     Ok(())
 }
 
-// Puts bytes from a place on.
-fn put(rt: &impl Abort, m: &mut Machine, seg: SegReg, from: u32, bytes: &[u8]) {
-    let mut at = from;
+// Puts bytes at DS:0100h.
+fn put(m: &mut Machine, bytes: &[u8]) -> bool {
+    let mut at = 0x100;
     for byte in bytes {
-        assert!(rt; at < 0x1_0000);
-        assert_eq!(rt; m.write(seg, at, [*byte]), Ok(()));
+        if at >= 0x1_0000 || m.write(SegReg::Ds, at, [*byte]).is_err() {
+            return false;
+        }
         at += 1;
     }
+    true
 }
 
-fn expect_bytes(rt: &impl Abort, m: &Machine, place: (SegReg, u32), bytes: &[u8], number: usize) {
+// Whether these bytes are at a place.
+fn has_bytes(m: &Machine, place: (SegReg, u32), bytes: &[u8]) -> bool {
     let (seg, mut at) = place;
     for byte in bytes {
-        assert!(rt; at < 0x1_0000);
-        assert_eq!(rt;
-            m.read::<1>(seg, at),
-            Ok([*byte]),
-            "byte {at} of step {number}"
-        );
+        if at >= 0x1_0000 || m.read::<1>(seg, at) != Ok([*byte]) {
+            return false;
+        }
         at += 1;
     }
+    true
 }
 
-fn take_step(rt: &impl Abort, m: &mut Machine, number: usize, step: &Step) {
+fn take_step(m: &mut Machine, step: &Step) -> Result<(), Differing> {
     m.set_regs(step.before);
-    put(rt, m, SegReg::Ds, 0x100, step.data);
-    assert_eq!(rt;
-        run(rt, m, &step.insn),
-        step.event,
-        "event of step {number}"
-    );
-    assert_eq!(rt; m.regs(), step.after, "registers of step {number}");
-    expect_bytes(rt, m, step.place, step.bytes, number);
-}
-
-fn take_all(rt: &impl Abort, alloc: Global, steps: &[Step]) -> Result<(), AllocError> {
-    let mut m = Machine::new(alloc, 1)?;
-    for (number, step) in steps.iter().enumerate() {
-        take_step(rt, &mut m, number, step);
-    }
-    Ok(())
+    same(Differing::Memory, put(m, step.data))?;
+    same(Differing::Event, runs_to(m, &step.insn, step.event))?;
+    same(Differing::Registers, m.regs() == step.after)?;
+    same(Differing::Memory, has_bytes(m, step.place, step.bytes))
 }
 
 #[test]
 fn steps_follow_one_another(rt: HostRuntime) -> Result<(), Fail> {
-    for steps in [PUSHED_AND_POPPED, ALL_OR_NOTHING, REPEATED] {
-        take_all(&rt, rt.alloc(), steps)?;
+    let sequences = [&PUSHED_AND_POPPED[..], &ALL_OR_NOTHING[..], &REPEATED[..]];
+    for (sequence, steps) in sequences.iter().enumerate() {
+        let mut m = Machine::new(rt.alloc(), 1)?;
+        let compared = compare_all(&mut m, *steps, take_step);
+        assert_eq!(rt; compared, Ok(()), "sequence {sequence}");
     }
     Ok(())
 }

@@ -3,14 +3,14 @@ use super::cases::*;
 use client_world::{Event, Fault, Flags, Regs};
 
 // IP 1234h, CS 0237h, and the flags image of the frame in real mode.
-const CODE_FRAME: &[u8] = &[0x34, 0x12, 0x37, 0x02, 0x93, 0x0A];
+const CODE_FRAME: [u8; 8] = [0x34, 0x12, 0x37, 0x02, 0x93, 0x0A, 0, 0];
 
 // The same with selectors that a return refuses: of privilege level 0, and of no code.
-const PRIVILEGED_FRAME: &[u8] = &[0x34, 0x12, 0x34, 0x02, 0x93, 0x0A];
+const PRIVILEGED_FRAME: [u8; 8] = [0x34, 0x12, 0x34, 0x02, 0x93, 0x0A, 0, 0];
 
-const DATA_FRAME: &[u8] = &[0x34, 0x12, 0x2F, 0x02, 0x93, 0x0A];
+const DATA_FRAME: [u8; 8] = [0x34, 0x12, 0x2F, 0x02, 0x93, 0x0A, 0, 0];
 
-pub(crate) const PROTECTED_DONE: [Done; 17] = [
+pub(crate) static PROTECTED_DONE: [Done; 17] = [
     // the virtual interrupt flag is neither shown nor changed by images
     Done {
         items: CODE_FRAME,
@@ -39,7 +39,7 @@ pub(crate) const PROTECTED_DONE: [Done; 17] = [
     done!(PROTECTED, [0x63, 0xC8], [eax: 0x22F, ecx: 2, flags: ZERO], [eip: 0x52, flags: Flags::CLEAR]),
 ];
 
-pub(crate) const PROTECTED_RAISES: [Raises; 11] = [
+pub(crate) static PROTECTED_RAISES: [Raises; 11] = [
     raises!(PROTECTED, [0xCD, 0x31], [], soft!(0x31, 2)),
     // returns
     raises!(PROTECTED, [0xCF], [], fault!(0x0D, 0x5678)),

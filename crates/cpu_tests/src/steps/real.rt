@@ -2,7 +2,8 @@
 use super::cases::*;
 use client_world::{Event, Fault, Flags, Regs};
 
-pub(crate) const REAL_DONE: [Done; 46] = [
+// Flags, prefixes and jumps.
+pub(crate) static REAL_JUMPS: [Done; 21] = [
     // the flags image shows the virtual interrupt flag, and sets it
     done!(REAL, [0x9C], [] true, [eip: 0x51, esp: 0x2FE] true, [0x02, 0x02]),
     done!(REAL, [0x9C], [] false, [eip: 0x51, esp: 0x2FE] false, [0x02, 0x00]),
@@ -27,6 +28,10 @@ pub(crate) const REAL_DONE: [Done; 46] = [
     done!(REAL, [0xE1, 0xFE], [], [ecx: 3, eip: 0x52]),
     done!(REAL, [0xE0, 0xFE], [], [ecx: 3]),
     done!(REAL, [0x66, 0xEA, 0xFF, 0xFF, 0, 0, 0x34, 0x12], [], [eip: 0xFFFF, cs: 0x1234]),
+];
+
+// The stack, segment registers, ports and data.
+pub(crate) static REAL_CALLS: [Done; 25] = [
     // calls and returns
     done!(REAL, [0xE8, 0xFD, 0x0F], [], [eip: 0x1050, esp: 0x2FE], [0x53, 0x00]),
     done!(REAL, [0xFF, 0xD0], [], [eip: 0x4321, esp: 0x2FE], [0x52, 0x00]),
@@ -59,7 +64,7 @@ pub(crate) const REAL_DONE: [Done; 46] = [
     done!(REAL, [0x66, 0x01, 0xD0], [edx: 1], [eip: 0x53, eax: 0x8765_4322, flags: Flags { sf: true, pf: true, ..Flags::CLEAR }]),
 ];
 
-pub(crate) const REAL_RAISES: [Raises; 34] = [
+pub(crate) static REAL_RAISES: [Raises; 34] = [
     raises!(REAL, [0xCD, 0x21], [], soft!(0x21, 2)),
     raises!(REAL, [0x2E, 0xCD, 0xFF], [], soft!(0xFF, 3)),
     raises!(REAL, [0xCC], [], soft!(3, 1)),

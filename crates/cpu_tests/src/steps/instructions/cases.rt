@@ -1,9 +1,10 @@
 // What a case of a worked row is made of.
+use crate::insns::*;
 use client_world::{Event, Fault, Flags, Regs, SegReg};
-use insn_forms::{Insn, MemForm, Op, Operand, Rep};
+use insn_forms::{Insn, MemForm, Operand};
 
 // What is at DS:0100h, at ES:0200h, and at SS:02FEh; the stack's top is at SS:0300h.
-#[derive(Clone, Copy, Debug, PartialEq, Eq)]
+#[derive(Clone, Copy)]
 pub(crate) struct Memory {
     pub(crate) data: u32,
     pub(crate) extra: u32,
@@ -36,98 +37,36 @@ pub(crate) const MEMORY: Memory = Memory {
     stack: 0x0B0A_0000,
 };
 
-pub(crate) const PLAIN: Insn = Insn {
-    op: Op::Wait,
-    width: 16,
-    addr32: false,
-    seg: SegReg::Ds,
-    rep: Rep::Plain,
-    locked: false,
-    first: Operand::Empty,
-    second: Operand::Empty,
-    third: Operand::Empty,
-};
+pub(crate) const AL: Operand = reg!(8, 0);
 
-pub(crate) const NONE: Operand = Operand::Empty;
+pub(crate) const CL: Operand = reg!(8, 1);
 
-pub(crate) const AL: Operand = Operand::Reg {
-    width: 8,
-    number: 0,
-};
+pub(crate) const DL: Operand = reg!(8, 2);
 
-pub(crate) const CL: Operand = Operand::Reg {
-    width: 8,
-    number: 1,
-};
+pub(crate) const BL: Operand = reg!(8, 3);
 
-pub(crate) const DL: Operand = Operand::Reg {
-    width: 8,
-    number: 2,
-};
+pub(crate) const AH: Operand = reg!(8, 4);
 
-pub(crate) const BL: Operand = Operand::Reg {
-    width: 8,
-    number: 3,
-};
+pub(crate) const CH: Operand = reg!(8, 5);
 
-pub(crate) const AH: Operand = Operand::Reg {
-    width: 8,
-    number: 4,
-};
+pub(crate) const AX: Operand = reg!(16, 0);
 
-pub(crate) const CH: Operand = Operand::Reg {
-    width: 8,
-    number: 5,
-};
+pub(crate) const CX: Operand = reg!(16, 1);
 
-pub(crate) const AX: Operand = Operand::Reg {
-    width: 16,
-    number: 0,
-};
+pub(crate) const DX: Operand = reg!(16, 2);
 
-pub(crate) const CX: Operand = Operand::Reg {
-    width: 16,
-    number: 1,
-};
+pub(crate) const SP: Operand = reg!(16, 4);
 
-pub(crate) const DX: Operand = Operand::Reg {
-    width: 16,
-    number: 2,
-};
+pub(crate) const EAX: Operand = reg!(32, 0);
 
-pub(crate) const SP: Operand = Operand::Reg {
-    width: 16,
-    number: 4,
-};
+pub(crate) const ECX: Operand = reg!(32, 1);
 
-pub(crate) const EAX: Operand = Operand::Reg {
-    width: 32,
-    number: 0,
-};
+pub(crate) const EDX: Operand = reg!(32, 2);
 
-pub(crate) const ECX: Operand = Operand::Reg {
-    width: 32,
-    number: 1,
-};
-
-pub(crate) const EDX: Operand = Operand::Reg {
-    width: 32,
-    number: 2,
-};
-
-pub(crate) const EBP: Operand = Operand::Reg {
-    width: 32,
-    number: 5,
-};
+pub(crate) const EBP: Operand = reg!(32, 5);
 
 // The place DS:0100h.
-pub(crate) const DATA: Operand = Operand::Mem(MemForm {
-    base: None,
-    index: None,
-    scale: 1,
-    disp: 0x100,
-    seg: SegReg::Ds,
-});
+pub(crate) const DATA: Operand = mem!(SegReg::Ds, None, None, 0x100);
 
 pub(crate) const STACK_FAULT: Option<Event> = Some(Event::Fault(Fault {
     number: 0x0C,
@@ -155,13 +94,6 @@ pub(crate) struct Case {
     pub(crate) flags_after: &'static [u8],
     pub(crate) memory: Memory,
     pub(crate) event: Option<Event>,
-}
-
-// An instruction with other parts named.
-macro_rules! insn {
-    ($op:expr, $width:expr, $first:expr, $second:expr $(, $field:ident: $v:expr)*) => {
-        Insn { op: $op, width: $width, first: $first, second: $second, $($field: $v,)* ..PLAIN }
-    };
 }
 
 // A case of an instruction: registers and flags before it; then those that it leaves, and memory that it leaves.
@@ -197,11 +129,10 @@ macro_rules! refused {
 // A place in memory of a base and a displacement.
 macro_rules! place {
     ($seg:expr, $base:expr, $disp:expr) => {
-        Operand::Mem(MemForm { base: Some($base), index: None, scale: 1, disp: $disp, seg: $seg })
+        mem!($seg, Some($base), None, $disp)
     };
 }
 
 pub(crate) use case;
-pub(crate) use insn;
 pub(crate) use place;
 pub(crate) use refused;

@@ -1,10 +1,25 @@
 // The worked rows, by families. The values come from the manual's rules by hand.
 use super::cases::*;
+use crate::insns::*;
 use client_world::{Regs, SegReg};
 use insn_forms::{Insn, MemForm, Op, Operand, Rep};
 
+// The families of cases. Each begins on a machine of its own.
+pub(crate) fn families() -> [&'static [Case]; 8] {
+    [
+        &MOVES,
+        &ARITHMETIC,
+        &SHIFTS,
+        &PRODUCTS,
+        &BITS,
+        &STACKS,
+        &STRINGS,
+        &FAULTS,
+    ]
+}
+
 // MOV, MOVZX, MOVSX, XCHG, LEA, XLAT, CBW, CWD.
-pub(crate) const MOVES: [Case; 25] = [
+static MOVES: [Case; 25] = [
     case!(insn!(Op::Mov, 8, AL, AH), [] b"C", [eax: 0x8765_4343] b"C"),
     case!(insn!(Op::Mov, 8, CH, Operand::Imm(0x7F)), [] b"", [ecx: 0x7F04] b""),
     case!(insn!(Op::Mov, 16, CX, DATA), [] b"", [ecx: 0xFF] b""),
@@ -12,11 +27,9 @@ pub(crate) const MOVES: [Case; 25] = [
     case!(insn!(Op::Mov, 8, DATA, AL), [] b"", [] b"", data: 0x8000_0021),
     case!(insn!(Op::Mov, 16, DATA, AX), [] b"", [] b"", data: 0x8000_4321),
     // 100h + 100h + FF00h is 100h where addresses have 16 bits
-    case!(insn!(Op::Mov, 16, AX, Operand::Mem(MemForm {
-        base: Some(3), index: Some(6), scale: 1, disp: 0xFF00, seg: SegReg::Ds })), [] b"", [eax: 0x8765_00FF] b""),
+    case!(insn!(Op::Mov, 16, AX, mem!(SegReg::Ds, Some(3), Some(6), 0xFF00)), [] b"", [eax: 0x8765_00FF] b""),
     // 100h + 4 · 4 − 10h
-    case!(insn!(Op::Mov, 8, DL, Operand::Mem(MemForm {
-        base: Some(3), index: Some(1), scale: 4, disp: 0xFFFF_FFF0, seg: SegReg::Ds }), addr32: true),
+    case!(insn!(Op::Mov, 8, DL, mem!(SegReg::Ds, Some(3), Some(1), 4, 0xFFFF_FFF0), addr32: true),
         [] b"", [edx: 0x1111_22FF] b""),
     case!(insn!(Op::Mov, 8, DL, place!(SegReg::Es, 7, 1)), [] b"", [edx: 0x1111_2202] b""),
     case!(insn!(Op::Movzx(8), 32, EDX, DATA), [] b"", [edx: 0xFF] b""),
@@ -38,7 +51,7 @@ pub(crate) const MOVES: [Case; 25] = [
 ];
 
 // ADD, OR, ADC, SBB, AND, SUB, XOR, CMP, TEST, INC, DEC, NOT, NEG.
-pub(crate) const ARITHMETIC: [Case; 15] = [
+static ARITHMETIC: [Case; 15] = [
     case!(insn!(Op::Add, 8, DATA, Operand::Imm(1)), [] b"OS", [] b"CAZP", data: 0x8000_0000),
     case!(insn!(Op::Add, 16, AX, Operand::Imm(0x7FFF)), [] b"C", [eax: 0x8765_C320] b"ASO"),
     case!(insn!(Op::Adc, 32, EAX, EDX), [] b"C", [eax: 0x9876_6544] b"SP"),
@@ -57,7 +70,7 @@ pub(crate) const ARITHMETIC: [Case; 15] = [
 ];
 
 // Shifts and rotates: a count of more than 31 is taken modulo 32.
-pub(crate) const SHIFTS: [Case; 11] = [
+static SHIFTS: [Case; 11] = [
     case!(insn!(Op::Shl, 8, DATA, Operand::Imm(1)), [] b"O", [] b"CS", data: 0x8000_00FE),
     case!(insn!(Op::Shr, 16, AX, CL), [] b"C", [eax: 0x8765_0432] b""),
     case!(insn!(Op::Sar, 32, EAX, Operand::Imm(1)), [] b"O", [eax: 0xC3B2_A190] b"CSP"),
@@ -72,7 +85,7 @@ pub(crate) const SHIFTS: [Case; 11] = [
 ];
 
 // MUL, IMUL, DIV, IDIV, and the decimal rows.
-pub(crate) const PRODUCTS: [Case; 17] = [
+static PRODUCTS: [Case; 17] = [
     case!(insn!(Op::Mul, 8, CL, NONE), [] b"CO", [eax: 0x8765_0084] b""),
     case!(insn!(Op::Mul, 32, DATA, NONE), [] b"Z", [eax: 0x5DDD_DDDF, edx: 0x43B2_A217] b"ZCO"),
     case!(insn!(Op::Imul, 16, DX, NONE), [] b"", [eax: 0x8765_4C62, edx: 0x1111_08F3] b"CO"),
@@ -93,7 +106,7 @@ pub(crate) const PRODUCTS: [Case; 17] = [
 ];
 
 // BT, BTS, BTR, BTC, BSF, BSR, SETcc, and the flags' rows. A bit's number in a register moves an operand in memory.
-pub(crate) const BITS: [Case; 19] = [
+static BITS: [Case; 19] = [
     // bit −16 of the word at 102h
     case!(insn!(Op::Bt, 16, place!(SegReg::Ds, 3, 2), CX), [ecx: 0xFFF0] b"", [] b"C"),
     // bit 37 of the doubleword at FCh
@@ -118,7 +131,7 @@ pub(crate) const BITS: [Case; 19] = [
 ];
 
 // PUSH, POP, PUSHA.
-pub(crate) const STACKS: [Case; 8] = [
+static STACKS: [Case; 8] = [
     case!(insn!(Op::Push, 16, AX, NONE), [] b"", [esp: 0x2FE] b"", stack: 0x0B0A_4321),
     case!(insn!(Op::Push, 32, DATA, NONE), [] b"", [esp: 0x2FC] b"", stack: 0x0B0A_8000),
     case!(insn!(Op::Push, 16, SP, NONE), [] b"", [esp: 0x2FE] b"", stack: 0x0B0A_0300),
@@ -132,7 +145,7 @@ pub(crate) const STACKS: [Case; 8] = [
 ];
 
 // Strings, and their repetitions.
-pub(crate) const STRINGS: [Case; 16] = [
+static STRINGS: [Case; 16] = [
     case!(insn!(Op::Movs, 8, NONE, NONE), [] b"", [esi: 0x101, edi: 0x201] b"", extra: 0x0403_02FF),
     case!(insn!(Op::Movs, 16, NONE, NONE), [] b"D", [esi: 0xFE, edi: 0x1FE] b"D", extra: 0x0403_00FF),
     case!(insn!(Op::Movs, 8, NONE, NONE, seg: SegReg::Ss), [esi: 0x301] b"", [esi: 0x302, edi: 0x201] b"", extra: 0x0403_020B),
@@ -155,7 +168,7 @@ pub(crate) const STRINGS: [Case; 16] = [
 ];
 
 // Faults: the limit of a segment, and the read-only page at F0000h. An instruction that has one changes nothing.
-pub(crate) const FAULTS: [Case; 12] = [
+static FAULTS: [Case; 12] = [
     refused!(insn!(Op::Add, 8, place!(SegReg::Ds, 5, 0), AL), [ds: 0xF000], READ_ONLY_PAGE),
     refused!(insn!(Op::Xchg, 8, place!(SegReg::Ds, 5, 0), AL), [ds: 0xF000], READ_ONLY_PAGE),
     refused!(insn!(Op::Movs, 8, NONE, NONE, rep: Rep::Rep), [es: 0xF000], READ_ONLY_PAGE),

@@ -1,5 +1,6 @@
 // Steps on one machine, each on the memory that the steps before it left.
 use super::cases::*;
+use crate::insns::*;
 use client_world::{Event, Regs, SegReg};
 use insn_forms::{Insn, Op, Rep};
 
@@ -33,7 +34,7 @@ const OTHER: Regs = Regs {
 };
 
 // All general registers go to the stack and come back, but for the stack pointer's slot; the upper halves stay.
-pub(crate) const PUSHED_AND_POPPED: &[Step] = &[
+pub(crate) static PUSHED_AND_POPPED: [Step; 2] = [
     Step {
         insn: insn!(Op::Pusha, 16, NONE, NONE),
         before: START,
@@ -74,7 +75,7 @@ const NEAR_THE_START: Regs = Regs {
 };
 
 // The third push is at FFFFh, beyond the limit: the first two don't happen either.
-pub(crate) const ALL_OR_NOTHING: &[Step] = &[Step {
+pub(crate) static ALL_OR_NOTHING: [Step; 1] = [Step {
     insn: insn!(Op::Pusha, 16, NONE, NONE),
     before: NEAR_THE_START,
     data: &[],
@@ -93,7 +94,7 @@ const HALFWAY: Regs = Regs {
 };
 
 // MOVS with REP and a counter of 2 is two steps: the instruction pointer is back at the instruction, and then after it.
-pub(crate) const REPEATED: &[Step] = &[
+pub(crate) static REPEATED: [Step; 2] = [
     Step {
         insn: insn!(Op::Movs, 8, NONE, NONE, rep: Rep::Rep),
         before: Regs {
