@@ -7,9 +7,6 @@ ghost use Rattle.std.specs.Prelude.{◌≡◌, ◌≤◌, ◌+◌, ◌++◌, len
 ghost use Rattle.client_maker.specs.Pieces.{next_number, piece, chosen_piece};
 ghost use Rattle.client_maker.specs.Made.{header, made_code, made};
 
-#[cfg(test)]
-mod tests;
-
 use std::alloc::{AllocError, Global};
 
 /// The pieces of a made client. Source: own.

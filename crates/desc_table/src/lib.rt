@@ -5,8 +5,6 @@
 
 mod packing;
 mod rows;
-#[cfg(test)]
-mod tests;
 
 pub use packing::{a_packed_descriptor_is_unpacked, pack, unpack};
 pub use rows::{

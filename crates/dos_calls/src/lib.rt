@@ -15,8 +15,6 @@ mod line;
 mod memory;
 mod multiplex;
 mod registers;
-#[cfg(test)]
-mod tests;
 mod vectors;
 
 pub use console::Console;

@@ -1,6 +1,6 @@
 //! The outside of the host: the files that it reads and the bytes that it writes.
 //! It promises what each call of a shelf or a sink returns, when it may fail, and what it then leaves.
-//! It uses no other crate of the repository; `dpmi_report`, `pair_run` and `dpmi_cli` use it.
+//! It uses no other crate of the repository; `dpmi_report`, `pair_run`, `dpmi_cli` and the program use it.
 #![tactic(auto)]
 
 mod line;
@@ -20,6 +20,3 @@ pub use outside::{Shelf, ShelfFail, Sink, SinkFail};
 pub use real::{FileShelf, StdoutSink};
 pub use sure::{SureShelf, SureSink};
 pub use whole::{put_all, read_whole};
-
-#[cfg(test)]
-mod tests;

@@ -8,8 +8,6 @@ mod command;
 mod laws;
 mod meaning;
 mod number;
-#[cfg(test)]
-mod tests;
 
 pub use laws::an_option_is_written_either_way;
 pub use meaning::{KeySource, Pair, Run, Words, read_words};

@@ -6,8 +6,6 @@
 mod blank;
 mod dos_list;
 mod laws;
-#[cfg(test)]
-mod tests;
 
 pub use blank::{a_blank_world_is_sound, blank_memory};
 pub use dos_list::{header, listed_entry};

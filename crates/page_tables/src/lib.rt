@@ -6,8 +6,6 @@
 mod budget;
 mod entry;
 mod mapping;
-#[cfg(test)]
-mod tests;
 mod translation;
 
 pub use budget::{FREE_LIST_HEAD, give_frame, link_frames, take_frame};

@@ -6,8 +6,6 @@
 mod laws;
 mod lines;
 mod slices;
-#[cfg(test)]
-mod tests;
 mod turns;
 
 pub use laws::{

@@ -1,7 +1,7 @@
 use Rattle.std.proofs.Common.{◌≡◌, ◌≤◌, ◌+◌, None}
 use Rattle.pair_run.specs.Run.{turns_of}
-use Rattle.pair_run.specs.Scripted.{scripted_turn, scripted_world}
-use Rattle.pair_run.proofs.tests.ScriptedTurns.go.Given as goal
+use Rattle.unit_tests.specs.Scripted.{scripted_turn, scripted_world}
+use Rattle.unit_tests.proofs.turns.ScriptedTurns.go.Given as goal
 
 abbrev pub invariant-loop-count : goal.invariant-loop-count
 invariant-loop-count l = record {

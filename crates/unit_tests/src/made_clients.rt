@@ -1,6 +1,6 @@
 // Made files. What they must be was computed by a script over the table of pieces, and not by this program.
-use crate::make;
-use std::process::Abort;
+use crate::compare::{in_row, same};
+use client_maker::make;
 use std::test::Fail;
 
 // A seed, the bytes of its file, its first piece, and the sum of all bytes. There is a first piece of each kind.
@@ -41,18 +41,22 @@ const FILES: [(u64, usize, &[u8], u32); 9] = [
     (u64::MAX, 18_495, b"\xB8\x02\x05\xCD\x31", 1_939_283),
 ];
 
+fn compare(file: &[u8], len: usize, piece: &[u8], sum: u32) -> Result<(), &'static str> {
+    same("length", file.len() == len)?;
+    let first = file.get(46..).unwrap_or_default();
+    same("first piece", first.starts_with(piece))?;
+    let mut all: u32 = 0;
+    for byte in file {
+        all = all.wrapping_add(u32::from(*byte));
+    }
+    same("sum", all == sum)
+}
+
 #[test]
 fn each_seed_has_its_file(rt: HostRuntime) -> Result<(), Fail> {
-    for (seed, len, piece, sum) in FILES {
-        let file = make(rt.alloc(), seed)?;
-        assert_eq!(rt; file.len(), len, "{seed}");
-        assert!(rt; file.len() > 100 && piece.len() <= 16);
-        assert!(rt; file[46..46 + piece.len()] == piece[..], "{seed}");
-        let mut all: u32 = 0;
-        for byte in &file {
-            all = all.wrapping_add(u32::from(*byte));
-        }
-        assert_eq!(rt; all, sum, "{seed}");
+    for (number, (seed, len, piece, sum)) in FILES.iter().enumerate() {
+        let file = make(rt.alloc(), *seed)?;
+        in_row(number, compare(file.as_slice(), *len, piece, *sum))?;
     }
     Ok(())
 }
@@ -67,8 +71,9 @@ const HEAD: [u8; 46] = [
 #[test]
 fn the_client_enters_and_ends(rt: HostRuntime) -> Result<(), Fail> {
     let file = make(rt.alloc(), 7)?;
-    assert!(rt; file.len() == 18_426);
-    assert!(rt; file[..46] == HEAD[..]);
-    assert!(rt; file[18_421..] == [0xB8, 0x00, 0x4C, 0xCD, 0x21]);
+    let end = file.get(18_421..).unwrap_or_default();
+    same("length", file.len() == 18_426)?;
+    same("start", file.starts_with(HEAD.as_slice()))?;
+    same("end", end == [0xB8, 0x00, 0x4C, 0xCD, 0x21].as_slice())?;
     Ok(())
 }

@@ -3,9 +3,10 @@ use Rattle.client_world.specs.declared.host_frames.TheConstants.{PAGE_SIZE, BUDG
 use Rattle.guest_ram.specs.Bytes.{put, dword, dword_bytes}
 use Rattle.guest_ram.proofs.PutLaws.{length-put, dword_put, dword_put_other}
 use Rattle.page_tables.specs.Mapping.{HasTables, IsCovered, IsUnmapped}
-use Rattle.page_tables.specs.declared.tests.TheConstants.{PAGE}
-use Rattle.page_tables.proofs.BlankTables.{dword_zero, one_table}
-use Rattle.page_tables.proofs.tests.memory.Goals as goal
+use Rattle.unit_tests.specs.declared.pages.TheConstants.{PAGE}
+use Rattle.page_tables.proofs.BlankTables.{dword_zero}
+use Rattle.unit_tests.proofs.FirstTables.{one_table}
+use Rattle.unit_tests.proofs.pages.memory.Goals as goal
 
 -- a zero memory with that directory entry
 record Blank (b c : List ℕ) : Type 0 where

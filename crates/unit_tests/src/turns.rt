@@ -2,12 +2,13 @@
 ghost use Rattle.std.specs.Prelude.{◌≡◌, ◌≤◌, ◌<◌, ◌+◌, ◌-◌, [], None, length, drop};
 ghost use Rattle.client_world.specs.declared.limits.TheConstants.{MAX_STEPS};
 ghost use Rattle.pair_run.specs.Run.{turns_of};
-ghost use Rattle.pair_run.specs.Scripted.{scripted_close, scripted_counts, scripted_extends, scripted_stays, scripted_turn, scripted_world};
+ghost use Rattle.unit_tests.specs.Scripted.{scripted_close, scripted_counts, scripted_extends, scripted_stays, scripted_turn, scripted_world};
 
-use crate::{Turns, pair};
+use crate::compare::same;
 use arrayvec::ArrayVec;
 use client_world::Exit;
-use dpmi_io::{MemSink, SinkFail};
+use dpmi_io::MemSink;
+use pair_run::{Turns, pair};
 use std::test::Fail;
 
 /// A client that follows a script: each of its turns takes a byte, and writes it unless it is a dot; at the end it exits.
@@ -95,15 +96,16 @@ impl<'a> Turns for Scripted<'a> {
     ghost console_extends = { scripted_extends };
 }
 
+const TEXT: &[u8] =
+    b"pair slice 2\nslice 0 a 1\nx\nslice 0 b 1\nu\nslice 1 a 1\ny\nslice 1 b 1\nv\nslice 2 a 1\nz\n";
+
 #[test]
 fn slices_are_written_in_turns(rt: HostRuntime) -> Result<(), Fail> {
     let mut a = Scripted::new(b"x..yz");
     let mut b = Scripted::new(b".uv");
     let mut sink = MemSink::new(rt.alloc(), 100, 7)?;
-    assert_eq!(rt; pair(&mut a, &mut b, 2, 10, &mut sink), Ok(()));
-    assert_eq!(rt;
-        sink.bytes(),
-        b"pair slice 2\nslice 0 a 1\nx\nslice 0 b 1\nu\nslice 1 a 1\ny\nslice 1 b 1\nv\nslice 2 a 1\nz\n".as_slice()
-    );
+    let whole = pair(&mut a, &mut b, 2, 10, &mut sink);
+    same("answer", whole == Ok(()))?;
+    same("text", sink.bytes() == TEXT)?;
     Ok(())
 }

@@ -1,7 +1,7 @@
 use Rattle.std.proofs.Common.{arith, sym, ap, ◌∙◌}
-use Rattle.pair_run.specs.Scripted.{scripted_turn, scripted_world}
+use Rattle.unit_tests.specs.Scripted.{scripted_turn, scripted_world}
 use Rattle.pair_run.proofs.OwnRuns.{turns_more, turns_none}
-use Rattle.pair_run.proofs.tests.ScriptedTurns.go.Goals as goal
+use Rattle.unit_tests.proofs.turns.ScriptedTurns.go.Goals as goal
 
 pub loop-count-init : goal.loop-count-init
 loop-count-init c = record { world = sym (turns_none scripted_turn _); few = omega arith; was_on = λ none. none }

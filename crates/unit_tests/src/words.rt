@@ -1,19 +1,28 @@
 // Words and what they mean.
-use crate::{KeySource, Words, read_words};
-use std::process::Abort;
+use crate::compare::{in_row, same};
+use dpmi_words::{KeySource, Pair, Run, Words, read_words};
+use std::alloc::{AllocError, Global};
 use std::test::Fail;
 
 // The words of a text, which single spaces part: two spaces have an empty word between them.
-fn words_of(rt: &impl AllocGlobal, text: &str) -> Result<Vec<String>, Fail> {
-    let mut words = Vec::new(rt.alloc());
+fn words_of(alloc: Global, text: &str) -> Result<Vec<String>, AllocError> {
+    let mut words = Vec::new(alloc);
     for word in text.split(' ') {
-        words.push(String::from_str(rt.alloc(), word)?)?;
+        words.push(String::from_str(alloc, word)?)?;
     }
     Ok(words)
 }
 
 // A run: its words, the file, the keystrokes, the name of their file, and the bound, the pages and the trace number.
-const RUNS: [(&str, &str, &[u8], &str, [u32; 3]); 9] = [
+type RunRow = (
+    &'static str,
+    &'static str,
+    &'static [u8],
+    &'static str,
+    [u32; 3],
+);
+
+const RUNS: [RunRow; 9] = [
     ("run A.EXE", "A.EXE", b"", "", [10_000_000, 1024, 1000]),
     ("run A.EXE --bound=010", "A.EXE", b"", "", [10, 1024, 1000]),
     (
@@ -61,23 +70,32 @@ const RUNS: [(&str, &str, &[u8], &str, [u32; 3]); 9] = [
     ("run bound=1", "bound=1", b"", "", [10_000_000, 1024, 1000]),
 ];
 
+fn compare_keys(keys: &KeySource, pressed: &[u8], stored: &str) -> Result<(), &'static str> {
+    match keys {
+        KeySource::Pressed(bytes) => same(
+            "keystrokes",
+            bytes.as_slice() == pressed && stored.is_empty(),
+        ),
+        KeySource::Stored(name) => same("the file of keystrokes", *name == stored),
+    }
+}
+
+fn compare_run(run: &Run, row: &RunRow) -> Result<(), &'static str> {
+    let (_, file, pressed, stored, numbers) = row;
+    same("file", run.file == *file)?;
+    same("numbers", [run.bound, run.pages, run.trace] == *numbers)?;
+    compare_keys(&run.keys, pressed, stored)
+}
+
 #[test]
 fn words_mean_a_run(rt: HostRuntime) -> Result<(), Fail> {
-    for (text, file, pressed, stored, numbers) in RUNS {
-        let words = words_of(&rt, text)?;
-        match read_words(rt.alloc(), words.as_slice())? {
-            Some(Words::Run(run)) => {
-                assert_eq!(rt; run.file, file, "{text}");
-                assert_eq!(rt; [run.bound, run.pages, run.trace], numbers, "{text}");
-                match &run.keys {
-                    KeySource::Pressed(bytes) => assert!(rt;
-                        bytes.as_slice() == pressed && stored == ""
-                    ),
-                    KeySource::Stored(name) => assert_eq!(rt; *name, stored, "{text}"),
-                }
-            }
-            _ => assert!(rt; false, "{text}"),
-        }
+    for (number, row) in RUNS.iter().enumerate() {
+        let words = words_of(rt.alloc(), row.0)?;
+        let compared = match read_words(rt.alloc(), words.as_slice())? {
+            Some(Words::Run(run)) => compare_run(&run, row),
+            _ => Err("meaning"),
+        };
+        in_row(number, compared)?;
     }
     Ok(())
 }
@@ -92,12 +110,13 @@ const TIMERS: [(&str, Option<u32>); 4] = [
 
 #[test]
 fn words_mean_a_timer(rt: HostRuntime) -> Result<(), Fail> {
-    for (text, timer) in TIMERS {
-        let words = words_of(&rt, text)?;
-        match read_words(rt.alloc(), words.as_slice())? {
-            Some(Words::Run(run)) => assert_eq!(rt; run.timer, timer, "{text}"),
-            _ => assert!(rt; false, "{text}"),
-        }
+    for (number, (text, timer)) in TIMERS.iter().enumerate() {
+        let words = words_of(rt.alloc(), text)?;
+        let compared = match read_words(rt.alloc(), words.as_slice())? {
+            Some(Words::Run(run)) => same("timer", run.timer == *timer),
+            _ => Err("meaning"),
+        };
+        in_row(number, compared)?;
     }
     Ok(())
 }
@@ -112,18 +131,21 @@ const SOAKS: [(&str, u64); 4] = [
 
 #[test]
 fn words_mean_a_soak(rt: HostRuntime) -> Result<(), Fail> {
-    for (text, number) in SOAKS {
-        let words = words_of(&rt, text)?;
-        match read_words(rt.alloc(), words.as_slice())? {
-            Some(Words::Soak(n)) => assert_eq!(rt; n, number, "{text}"),
-            _ => assert!(rt; false, "{text}"),
-        }
+    for (number, (text, seed)) in SOAKS.iter().enumerate() {
+        let words = words_of(rt.alloc(), text)?;
+        let compared = match read_words(rt.alloc(), words.as_slice())? {
+            Some(Words::Soak(n)) => same("number", n == *seed),
+            _ => Err("meaning"),
+        };
+        in_row(number, compared)?;
     }
     Ok(())
 }
 
 // A pair: its words, its two files, and the slice, the bound and the pages of each.
-const PAIRS: [(&str, [&str; 2], [u32; 4]); 6] = [
+type PairRow = (&'static str, [&'static str; 2], [u32; 4]);
+
+const PAIRS: [PairRow; 6] = [
     (
         "pair A.EXE B.EXE",
         ["A.EXE", "B.EXE"],
@@ -156,21 +178,23 @@ const PAIRS: [(&str, [&str; 2], [u32; 4]); 6] = [
     ),
 ];
 
+fn compare_pair(pair: &Pair, row: &PairRow) -> Result<(), &'static str> {
+    let (_, [first, second], numbers) = row;
+    same("the first file", pair.first == *first)?;
+    same("the second file", pair.second == *second)?;
+    let found = [pair.slice, pair.bound, pair.pages_a, pair.pages_b];
+    same("numbers", found == *numbers)
+}
+
 #[test]
 fn words_mean_a_pair(rt: HostRuntime) -> Result<(), Fail> {
-    for (text, files, numbers) in PAIRS {
-        let words = words_of(&rt, text)?;
-        match read_words(rt.alloc(), words.as_slice())? {
-            Some(Words::Pair(pair)) => {
-                assert_eq!(rt; [pair.first, pair.second], files, "{text}");
-                assert_eq!(rt;
-                    [pair.slice, pair.bound, pair.pages_a, pair.pages_b],
-                    numbers,
-                    "{text}"
-                );
-            }
-            _ => assert!(rt; false, "{text}"),
-        }
+    for (number, row) in PAIRS.iter().enumerate() {
+        let words = words_of(rt.alloc(), row.0)?;
+        let compared = match read_words(rt.alloc(), words.as_slice())? {
+            Some(Words::Pair(pair)) => compare_pair(&pair, row),
+            _ => Err("meaning"),
+        };
+        in_row(number, compared)?;
     }
     Ok(())
 }
@@ -241,13 +265,11 @@ const NOTHING: [&str; 60] = [
 
 #[test]
 fn words_mean_nothing(rt: HostRuntime) -> Result<(), Fail> {
-    for text in NOTHING {
-        let words = words_of(&rt, text)?;
-        assert!(rt;
-            read_words(rt.alloc(), words.as_slice())?.is_none(),
-            "{text}"
-        );
+    for text in NOTHING.iter() {
+        let words = words_of(rt.alloc(), text)?;
+        let meaning = read_words(rt.alloc(), words.as_slice())?;
+        same(text, meaning.is_none())?;
     }
-    assert!(rt; read_words(rt.alloc(), &[])?.is_none());
+    same("no words", read_words(rt.alloc(), &[])?.is_none())?;
     Ok(())
 }

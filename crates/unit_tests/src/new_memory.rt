@@ -1,6 +1,7 @@
 // The bytes of a new memory.
-use crate::blank_memory;
+use crate::compare::{in_row, same};
 use guest_ram::Ram;
+use host_memory::blank_memory;
 use std::test::Fail;
 
 // The doubleword at an address, where it and a byte after it are there.
@@ -63,9 +64,9 @@ const DOUBLEWORDS: [(u32, u32); 34] = [
 #[test]
 fn a_new_memory_has_these_bytes(rt: HostRuntime) -> Result<(), Fail> {
     let ram = blank_memory(rt.alloc(), 1)?;
-    assert_eq!(rt; ram.len(), 1_949_696);
-    for (at, want) in DOUBLEWORDS {
-        assert_eq!(rt; word(&ram, at), Some(want));
+    same("length", ram.len() == 1_949_696)?;
+    for (number, (at, want)) in DOUBLEWORDS.iter().enumerate() {
+        in_row(number, same("doubleword", word(&ram, *at) == Some(*want)))?;
     }
     Ok(())
 }
