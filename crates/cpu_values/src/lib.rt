@@ -4,8 +4,6 @@
 #![tactic(auto)]
 
 mod register;
-#[cfg(test)]
-mod tests;
 mod word;
 
 pub use register::{part8, put8, put16};
