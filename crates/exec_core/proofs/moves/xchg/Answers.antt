@@ -1,0 +1,8 @@
+use Rattle.std.proofs.Common.{rules}
+use Rattle.exec_core.specs.Moves.{xchg}
+use Rattle.insn_plan.specs.Plan.{carried_out}
+use Rattle.exec_core.proofs.moves.xchg.Goals as goal
+
+pub returns : goal.returns
+unfolding xchg carried_out
+returns c = search rules

@@ -1,0 +1,7 @@
+use Rattle.std.proofs.Common.{rules}
+use Rattle.watch_run.specs.Services.{set_watch}
+use Rattle.watch_run.proofs.watch.Watches.set_watch.Goals as goal
+
+pub returns-then-from-gt4294967296-clause-answer : goal.returns-then-from-gt4294967296-clause-answer
+unfolding set_watch
+returns-then-from-gt4294967296-clause-answer c = search rules
