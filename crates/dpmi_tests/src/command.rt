@@ -510,18 +510,6 @@ fn each_option_has_its_effect(rt: HostRuntime) -> Result<(), Fail> {
     Ok(())
 }
 
-// Whether a text is these parts, one after another.
-fn is_made_of(text: &str, parts: &[&str]) -> bool {
-    let mut left = text;
-    for part in parts {
-        match left.strip_prefix(*part) {
-            Some(after) => left = after,
-            None => return false,
-        }
-    }
-    left.is_empty()
-}
-
 // In slices of three turns the letter is printed in the second one, at the trap byte of INT 21h.
 #[test]
 fn two_clients_take_turns(rt: HostRuntime) -> Result<(), Fail> {
@@ -537,7 +525,7 @@ fn two_clients_take_turns(rt: HostRuntime) -> Result<(), Fail> {
         "client b\n",
         LETTER_TEXT,
     ];
-    assert!(rt; status == 0 && is_made_of(text, &parts));
+    assert!(rt; status == 0 && text.len() == 781 && is_first_of(text, &parts));
     Ok(())
 }
 
@@ -600,65 +588,102 @@ fn a_made_client_has_its_summary(rt: HostRuntime) -> Result<(), Fail> {
 }
 
 // The status, and how many bytes are written, where so many calls of the files succeed and the next one fails.
-fn answer_with_failure(alloc: Global, before: u64) -> Result<(u8, usize), AllocError> {
+fn answer_with_failure(
+    alloc: Global,
+    texts: &[&str],
+    before: u64,
+) -> Result<(u8, usize), AllocError> {
     let mut out = MemSink::new(alloc, 1000, 100)?;
     let mut shelf = MemShelf::new(alloc);
     shelf.add("A.EXE", &ONE_LETTER)?;
+    shelf.add("B.EXE", &ONE_LETTER)?;
     shelf.add("K", b"Y")?;
     shelf.fail_at(before.saturating_add(1))?;
-    let words = ["run", "A.EXE", "--keys-file", "K"];
-    let status = answer(alloc, &words, &mut shelf, &mut out)?;
+    let status = answer(alloc, texts, &mut shelf, &mut out)?;
     Ok((status, out.bytes().len()))
 }
 
-// The calls are: the client's file is opened, read and read to its end; and so are the keystrokes. No seventh is made.
+// Words that name two files, and how many bytes are written where no call fails.
+const TWO_FILES: [(&[&str], usize); 2] = [
+    (&["run", "A.EXE", "--keys-file", "K"], 361),
+    (&["pair", "A.EXE", "B.EXE"], 784),
+];
+
+// The calls are: the first file is opened, read and read to its end, and so is the second. No seventh is made.
 #[test]
-fn a_file_fails(rt: HostRuntime) -> Result<(), Fail> {
+fn each_call_of_the_files_fails_in_turn(rt: HostRuntime) -> Result<(), Fail> {
     let mut wrong = None;
-    for before in 0..7 {
-        let wanted = if before < 6 { (3, 0) } else { (0, 361) };
-        if answer_with_failure(rt.alloc(), before)? != wanted {
-            wrong = Some(before);
+    for (row, (texts, count)) in TWO_FILES.iter().enumerate() {
+        for before in 0..7 {
+            let wanted = if before < 6 { (3, 0) } else { (0, *count) };
+            if answer_with_failure(rt.alloc(), *texts, before)? != wanted {
+                wrong = Some((row, before));
+            }
         }
     }
     assert_eq!(rt; wrong, None);
     Ok(())
 }
 
-// After so many puts of one byte the next one fails, and the status. The text has 361 bytes, so there is no put after as many.
-const FAILING_PUTS: [(u64, u8); 10] = [
-    (0, 4),
-    (1, 4),
-    (10, 4),
-    (11, 4),
-    (12, 4),
-    (25, 4),
-    (76, 4),
-    (275, 4),
-    (360, 4),
-    (361, 0),
-];
+// Whether a text is as much as there is of these parts, one after another.
+fn is_first_of(text: &str, parts: &[&str]) -> bool {
+    let mut left = text;
+    for part in parts {
+        match left.strip_prefix(*part) {
+            Some(after) => left = after,
+            None => return part.starts_with(left),
+        }
+    }
+    left.is_empty()
+}
 
-// Whether a run of the client of the letter whose output fails after so many bytes has that status, and has written as many bytes of the text.
-fn is_cut(alloc: Global, count: u64, status: u8) -> Result<bool, AllocError> {
+// Whether the command whose output fails after so many bytes has that status, and has written as many bytes of that text.
+fn is_cut(
+    alloc: Global,
+    texts: &[&str],
+    parts: &[&str],
+    count: u64,
+    status: u8,
+) -> Result<bool, AllocError> {
     let mut shelf = MemShelf::new(alloc);
     shelf.add("A.EXE", &ONE_LETTER)?;
     let mut out = MemSink::new(alloc, 1000, 1)?;
     out.fail_at(count.saturating_add(1))?;
-    Ok(
-        answer(alloc, &["run", "A.EXE"], &mut shelf, &mut out)? == status
-            && out.bytes().len() as u64 == count
-            && LETTER_TEXT.as_bytes().starts_with(out.bytes()),
-    )
+    let answered = answer(alloc, texts, &mut shelf, &mut out)?;
+    let text = str::from_utf8(out.bytes()).unwrap_or("not text");
+    Ok(answered == status && text.len() as u64 == count && is_first_of(text, parts))
 }
 
-// In pieces of one byte each put writes one: where one fails, those before it are written.
+// In pieces of one byte each put writes one: where one fails, those before it are written. The text of the run has 361 bytes.
 #[test]
-fn each_put_fails_in_turn(rt: HostRuntime) -> Result<(), Fail> {
+fn each_put_of_a_run_fails_in_turn(rt: HostRuntime) -> Result<(), Fail> {
     let mut wrong = None;
-    for (count, status) in &FAILING_PUTS {
-        if !is_cut(rt.alloc(), *count, *status)? {
-            wrong = Some(*count);
+    for count in 0..362 {
+        let status = if count < 361 { 4 } else { 0 };
+        if !is_cut(rt.alloc(), &["run", "A.EXE"], &[LETTER_TEXT], count, status)? {
+            wrong = Some(count);
+        }
+    }
+    assert_eq!(rt; wrong, None);
+    Ok(())
+}
+
+// The text of the pair has 784 bytes: the letters come in the first slice of 1,000 turns.
+const PAIR_PARTS: [&str; 4] = [
+    "pair slice 1000\nslice 0 a 1\nA\nslice 0 b 1\nA\nclient a\n",
+    LETTER_TEXT,
+    "client b\n",
+    LETTER_TEXT,
+];
+
+#[test]
+fn each_put_of_a_pair_fails_in_turn(rt: HostRuntime) -> Result<(), Fail> {
+    let pair = ["pair", "A.EXE", "A.EXE"];
+    let mut wrong = None;
+    for count in 0..785 {
+        let status = if count < 784 { 4 } else { 0 };
+        if !is_cut(rt.alloc(), &pair, &PAIR_PARTS, count, status)? {
+            wrong = Some(count);
         }
     }
     assert_eq!(rt; wrong, None);
