@@ -74,6 +74,9 @@ no_wait:
 vector:
     db 0
 skipped:
-    db 0, 6, 7, 20h, 21h, 2Fh, 31h
+    db 0, 6, 7, 20h, 21h, 2Fh
+%if CASE == 2
+    db 31h
+%endif
 skipped_end:
 end:

@@ -51,9 +51,7 @@
 ;= mode real
 ;: -DREAL=103h --timer 200
 ;= exit stray
-;: -DREAL=110h --timer 200
-;= exit stray
-;: -DREAL=11Fh --timer 200
+;: -DREAL=110h-11Fh --timer 200
 ;= exit stray
 ; The bytes between are F4h, HLT: exception 0Dh, which ends a run of real mode. So are the traps of protected mode.
 ;: -DREAL=104h --timer 200
@@ -123,6 +121,22 @@
 ;= enter 0 reflect 20 ..
 ;= exit exited 0
 ;= depth 1
+; The interrupts 00h, 06h and 07h are reflected too, and end the run at their real vectors as those exceptions.
+;: -DOWN=200h --timer 200
+;= enter 0 reflect 00 ..
+;= exit fault 00 code=00000000
+;= mode real
+;= depth 1
+;: -DOWN=206h --timer 200
+;= enter 0 reflect 06 ..
+;= exit fault 06 code=00000000
+;= mode real
+;= depth 1
+;: -DOWN=207h --timer 200
+;= enter 0 reflect 07 ..
+;= exit fault 07 code=00000000
+;= mode real
+;= depth 1
 ;: -DOWN=22Fh -DAX_THEN=1686h --timer 200                                     AX = 0: the client is in protected mode
 ;= int2f 1686
 ;= exit exited 9
@@ -139,9 +153,7 @@
 ; The default exception handlers, the returns and the switch ask for records that aren't there; the switch to real mode takes any
 ; registers: DS, ES and CS are AX, CX and SI, so that CS:IP is 0:0. The vectors' bytes are additions up to F0h 06h, LOCK PUSH ES:
 ; exception 6.
-;: -DOWN=300h --timer 200
-;= exit stray
-;: -DOWN=31Fh --timer 200
+;: -DOWN=300h-31Fh --timer 200
 ;= exit stray
 ;: -DOWN=322h --timer 200
 ;= exit stray

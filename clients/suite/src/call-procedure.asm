@@ -8,8 +8,11 @@
 ; 2: it changes every segment register and the stack. Expected: ES = 1234h and DS = 1233h in the structure, so that the exit code, the difference
 ;    of their low bytes, is 1; enter 0 far, leave 0 far, and the client's own segment registers are as before.
 ; 3: it never returns. Expected: exit bound after 100 turns (words: --bound 100), enter 0 far alone, depth 1, mode real.
-; 4: it switches to protected mode and back, and returns: the call ends as without the switches. Expected: exit 0; enter 0 far, switch
-;    protected, switch real, leave 0 far.
+; 4: it switches to protected mode and back, and returns: the call ends as without the switches. Before it returns it loads the seven general
+;    registers but ESP. Then the 25 words of the structure are compared with `wanted`: the registers and the flags as the procedure left
+;    them (0002h: all are clear, and virtual interrupts are disabled), ES, DS, FS and GS that the switch left (0), and the doubleword at 0Ch,
+;    IP, CS, SP and SS as they were. Expected: exit 0, or n where the nth word is another; enter 0 far, switch protected, switch real,
+;    leave 0 far; EBX = 1, EDX = 5Ah and EBP = FCh, the client's own registers, as the entry left them.
 %include "plain.inc"
 START
 ENTER
@@ -18,6 +21,9 @@ ENTER
         mov di, 1000h
         mov word [di+2Ah], procedure
         mov word [di+2Ch], 0074h
+%if CASE == 4
+        mov dword [di+0Ch], 5A5A5A5Ah
+%endif
 %if CASE == 3
         mov cx, strict word 0
         mov ax, 0301h
@@ -57,8 +63,18 @@ procedure: pop bx               ; the return address goes onto the new stack
         retf
  %else
         sbb al, al
-        mov ah, 4Ch
+        jc .end                 ; refused: FFh
+        mov si, wanted+100h     ; DS is 100h bytes before the image
+        mov cx, 25
+        repe cmpsw
+        mov al, 0
+        je .end
+        mov al, 25
+        sub al, cl
+.end:   mov ah, 4Ch
         int 21h
+wanted: dd 0F0F0F0F0h, 0E0E0E0E0h, 12345678h, 5A5A5A5Ah, 0B0B0B0B0h, 0D0D0D0D0h, 0C0C0C0C0h, 0A0A0A0A0h
+        dw 0002h, 0, 0, 0, 0, procedure, 0074h, 0, 0
 procedure: mov ax, 0217h        ; DS, ES, SS:SP and CS:IP of protected mode
         mov cx, 0217h
         mov dx, 020Fh
@@ -73,7 +89,14 @@ inside: mov ax, strict word 0   ; and of real mode, with the stack of the call, 
         mov si, 0074h
         mov di, outside
         jmp 0087h:0320h
-outside: retf
+outside: mov eax, 0A0A0A0A0h
+        mov ebx, 0B0B0B0B0h
+        mov ecx, 0C0C0C0C0h
+        mov edx, 0D0D0D0D0h
+        mov esi, 0E0E0E0E0h
+        mov edi, 0F0F0F0F0h
+        mov ebp, 12345678h
+        retf
  %endif
 %endif
 FINISH

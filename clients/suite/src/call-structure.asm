@@ -3,9 +3,13 @@
 ;@ call-stack-odd -DCASE=3
 ;@ call-stack-wraps -DCASE=4
 ;@ call-stack-over-structure -DCASE=5
+;@ call-stack-over-eax -DCASE=6
 ; Function 0300h for INT 21h, AX = 3000h, which only answers, with structures and stacks of real mode at the ends of what may be used. The client
 ; ends with 0 where the call is served and with FFh (255) where it is refused.
-; Expected: 1, 3, 4 and 5 are served: exit 0, with the lines enter 0 int 21 and leave 0 int 21. 2 is refused: exit 255, with neither.
+; Expected: 1, 3, 4, 5 and 6 are served: exit 0, with the lines enter 0 int 21 and leave 0 int 21. 2 is refused: exit 255, with neither.
+; 6 has the procedure's stack inside the structure: the frame, at 0164h:001Ch, overwrites EAX and the flags. All values are read before the
+; first write, so that the enter line shows what was there before: eax=00003000, fl=0002, and esp=0000001c. The frame is popped as it
+; was pushed, and the return writes EAX: it is 5, the version, in ECX at the end.
 %include "plain.inc"
 START
 ENTER
@@ -33,9 +37,12 @@ ENTER
  %elif CASE == 4                ; FFFFh:0020h is past the first megabyte: its bytes are those at 10h
         mov word [di+30h], 0FFFFh
         mov word [di+2Eh], 0020h
- %else                          ; the stack ends at 0164h:0034h, linear 1674h, two bytes after the structure, 1640h to 1671h: the frame
+ %elif CASE == 5                ; the stack ends at 0164h:0034h, linear 1674h, two bytes after the structure, 1640h to 1671h: the frame
         mov word [di+30h], 0164h ; overwrites its end, SP and SS, and the call returns all the same
         mov word [di+2Eh], 0034h
+ %else
+        mov word [di+30h], 0164h
+        mov word [di+2Eh], 0022h
  %endif
         mov cx, strict word 0
 %endif
@@ -43,6 +50,9 @@ ENTER
         mov bx, 0021h
         int 31h
         sbb al, al
+%if CASE == 6
+        mov ecx, [di+1Ch]
+%endif
         mov ah, 4Ch
         int 21h
 FINISH

@@ -1,6 +1,7 @@
 ;@ callback-prints -DCASE=1
 ;@ callback-freed-inside -DCASE=2
 ;@ callback-short-structure -DCASE=3
+;@ callback-structures -DCASE=4
 ; A handler of INT 60h in real mode far-calls a callback; the client calls INT 60h by function 0300h. The procedure resumes real mode after the far
 ; call: it takes the return address from the real stack, DS:SI, into the structure at ES:DI (IP at 2Ah, CS at 2Ch, SP at 2Eh).
 ; 1: the procedure also prints C, by a call of its own. Expected: console `C`, exit 0, and in this order enter 0 int 60, enter 1 back 0,
@@ -8,6 +9,11 @@
 ; 2: it frees the callback that runs. Expected: it returns all the same; exit 0, enter 0 int 60, enter 1 back 0, leave 1 back 0, leave 0 int 60.
 ; 3: the structure is in the last 32h bytes of a segment of 132h bytes; then the limit is made one byte less. Expected: the callback can't
 ;    start: exit loststructure, with the line enter 0 int 60 alone, depth 1.
+; 4: as 1, and each of the three structures holds the registers of its own level. The handler far-calls with EAX = A0A0A0A0h and EBX = A1A1A1A1h, which
+;    are what the callback's structure gets, and hands them back, since the procedure leaves them. After the far call the handler sets EAX =
+;    B0B0B0B0h and EBX = B1B1B1B1h, which are what its return writes to the structure of INT 60h. The procedure's own call has EAX = 0C0C0200h
+;    and EBX = C1C1C1C1h in its structure, and function 02h leaves them. Expected: exit 0, console `C`; EBX, ECX and EDX are the three EAX,
+;    b0b0b0b0 a0a0a0a0 0c0c0200; ESI, EDI and EBP the three EBX, b1b1b1b1 a1a1a1a1 c1c1c1c1.
 %include "plain.inc"
 structure equ 1000h             ; of the call of INT 60h, in DS, as are the next two
 back    equ 1100h               ; of the callback
@@ -64,15 +70,37 @@ ENTER
         mov bx, 0060h
         int 31h
         sbb al, al              ; FFh where the call is refused
+%if CASE == 4
+        mov ebx, [structure+1Ch]
+        mov ecx, [back+1Ch]
+        mov edx, [inner+1Ch]
+        mov esi, [structure+10h]
+        mov edi, [back+10h]
+        mov ebp, [inner+10h]
+%endif
         mov ah, 4Ch
         int 21h
-real:   call far [cs:address-100h]
+real:
+%if CASE == 4
+        mov eax, 0A0A0A0A0h
+        mov ebx, 0A1A1A1A1h
+%endif
+        call far [cs:address-100h]
+%if CASE == 4
+        mov eax, 0B0B0B0B0h
+        mov ebx, 0B1B1B1B1h
+%endif
         iret
 procedure:
-%if CASE == 1
+%if CASE == 1 || CASE == 4
         push di
         mov di, inner
+ %if CASE == 4
+        mov dword [es:di+1Ch], 0C0C0200h
+        mov dword [es:di+10h], 0C1C1C1C1h
+ %else
         mov word [es:di+1Ch], 0200h ; AX: AH = 02h
+ %endif
         mov byte [es:di+14h], 'C' ; DL
         xor cx, cx
         mov ax, 0300h

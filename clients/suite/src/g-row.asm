@@ -1,5 +1,5 @@
 ;@ g-row-6
-; The client of 32 bits that prints Z through a reflection of INT 21h: its enter and leave lines have ss=d800,
+; The client of 16 bits that prints Z through a reflection of INT 21h: its enter and leave lines have ss=d800,
 ; and the line of 008f has base=000e0000 limit=0000ffff; console `Z`, steps 21, seven trace lines, seven
 ; descriptors.
 size    equ code_end - code
