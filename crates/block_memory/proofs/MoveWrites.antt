@@ -55,47 +55,38 @@ left_inside from to n room fits = elim (cases_lt from to) [
   | inr down ↦ rw (le-ltb from to down) (omega arith)
 ]
 
+-- a run moves within a part of the memory. The parts with other bytes there are `with_part` of these
+slid_part : (b : List ℕ) (budget lo room from to n : ℕ) (with_part : List ℕ → MemoryParts) → HasSize b budget → lo + room ≤ length b →
+    from + n ≤ room → to + n ≤ room → parts_of b budget ≡ with_part (region b lo room) →
+    ((c ys xs : List ℕ) (at : ℕ) → HasSize c budget → parts_of c budget ≡ with_part ys → at + length xs ≤ room →
+    parts_of (put c (lo + at) xs) budget ≡ with_part (put ys at xs)) →
+    parts_of (slid b (lo + from) (lo + to) n) budget ≡ with_part (slid (region b lo room) from to n)
+unfolding slid
+slid_part b budget lo room from to n with_part size within source target e puts =
+    let xs = region (region b lo room) from n in
+    let long : length xs ≡ n = length-region (region b lo room) from n (omega (arith, length-region b lo room within)) in
+    let left = copies (vacant from to n) 0 in
+    rw (shift_vacated lo from to n, shift_vacant lo from to n, region_region b lo room from n within source)
+    (puts (put b (lo + to) xs) (put (region b lo room) to xs) left (vacated from to n) (size_put b budget (lo + to) xs size)
+    (puts b (region b lo room) xs to size e (omega arith)) (omega (arith, length-copies (vacant from to n) 0, left_inside from to n room source)))
+
 -- entries move in the tables
-pub slid_tables : (b : List ℕ) (budget from to n : ℕ) → HasHost b budget → from + n ≤ PAGE_SIZE * BLOCK_TABLE_FRAMES → to + n ≤ PAGE_SIZE * BLOCK_TABLE_FRAMES →
+slid_tables : (b : List ℕ) (budget from to n : ℕ) → HasSize b budget → from + n ≤ PAGE_SIZE * BLOCK_TABLE_FRAMES → to + n ≤ PAGE_SIZE * BLOCK_TABLE_FRAMES →
     parts_of (slid b (PAGE_SIZE * BLOCK_TABLES + from) (PAGE_SIZE * BLOCK_TABLES + to) n) budget
     ≡ record (parts_of b budget) { tables = slid (tables_part b) from to n }
-unfolding slid
-slid_tables b budget from to n host source target =
-    let size = host.size in
-    let lo = PAGE_SIZE * BLOCK_TABLES in
-    let xs = region b (lo + from) n in
-    let long : length xs ≡ n = length-region b (lo + from) n (omega arith) in
-    let b1 = put b (lo + to) xs in
-    put_tables b1 budget (vacated (lo + from) (lo + to) n) (vacated from to n) (copies (vacant (lo + from) (lo + to) n) 0)
-    (size_put b budget (lo + to) xs host.size) (shift_vacated lo from to n)
-    (omega (arith, length-copies (vacant (lo + from) (lo + to) n) 0, shift_vacant lo from to n, left_inside from to n (PAGE_SIZE * BLOCK_TABLE_FRAMES) source))
-    ∙ ap (λ (p : MemoryParts). record p { tables = put p.tables (vacated from to n) (copies (vacant (lo + from) (lo + to) n) 0) })
-    (put_tables b budget (lo + to) to xs host.size refl (omega arith))
-    ∙ ap (λ (ys : List ℕ). record (parts_of b budget) { tables = put (put (tables_part b) to ys) (vacated from to n) (copies (vacant (lo + from) (lo + to) n) 0) })
-    (region_region b lo (PAGE_SIZE * BLOCK_TABLE_FRAMES) from n (omega arith) source)
-    ∙ ap (λ (count : ℕ). record (parts_of b budget) { tables = put (put (tables_part b) to (region (tables_part b) from n)) (vacated from to n) (copies count 0) })
-    (shift_vacant lo from to n)
+slid_tables b budget from to n size source target =
+    slid_part b budget (PAGE_SIZE * BLOCK_TABLES) (PAGE_SIZE * BLOCK_TABLE_FRAMES) from to n (λ ys. record (parts_of b budget) { tables = ys })
+    size (omega arith) source target refl
+    (λ c ys xs at long e fits. put_tables c budget _ at xs long refl fits ∙ ap (λ (p : MemoryParts). record p { tables = put p.tables at xs }) e)
 
 -- and words in the lock counts
-pub slid_locks : (b : List ℕ) (budget from to n : ℕ) → HasHost b budget → from + n ≤ PAGE_SIZE * LOCK_COUNT_FRAMES → to + n ≤ PAGE_SIZE * LOCK_COUNT_FRAMES →
+slid_locks : (b : List ℕ) (budget from to n : ℕ) → HasSize b budget → from + n ≤ PAGE_SIZE * LOCK_COUNT_FRAMES → to + n ≤ PAGE_SIZE * LOCK_COUNT_FRAMES →
     parts_of (slid b (PAGE_SIZE * LOCK_COUNTS + from) (PAGE_SIZE * LOCK_COUNTS + to) n) budget
     ≡ record (parts_of b budget) { locks = slid (locks_part b) from to n }
-unfolding slid
-slid_locks b budget from to n host source target =
-    let size = host.size in
-    let lo = PAGE_SIZE * LOCK_COUNTS in
-    let xs = region b (lo + from) n in
-    let long : length xs ≡ n = length-region b (lo + from) n (omega arith) in
-    let b1 = put b (lo + to) xs in
-    put_locks b1 budget (vacated (lo + from) (lo + to) n) (vacated from to n) (copies (vacant (lo + from) (lo + to) n) 0)
-    (size_put b budget (lo + to) xs host.size) (shift_vacated lo from to n)
-    (omega (arith, length-copies (vacant (lo + from) (lo + to) n) 0, shift_vacant lo from to n, left_inside from to n (PAGE_SIZE * LOCK_COUNT_FRAMES) source))
-    ∙ ap (λ (p : MemoryParts). record p { locks = put p.locks (vacated from to n) (copies (vacant (lo + from) (lo + to) n) 0) })
-    (put_locks b budget (lo + to) to xs host.size refl (omega arith))
-    ∙ ap (λ (ys : List ℕ). record (parts_of b budget) { locks = put (put (locks_part b) to ys) (vacated from to n) (copies (vacant (lo + from) (lo + to) n) 0) })
-    (region_region b lo (PAGE_SIZE * LOCK_COUNT_FRAMES) from n (omega arith) source)
-    ∙ ap (λ (count : ℕ). record (parts_of b budget) { locks = put (put (locks_part b) to (region (locks_part b) from n)) (vacated from to n) (copies count 0) })
-    (shift_vacant lo from to n)
+slid_locks b budget from to n size source target =
+    slid_part b budget (PAGE_SIZE * LOCK_COUNTS) (PAGE_SIZE * LOCK_COUNT_FRAMES) from to n (λ ys. record (parts_of b budget) { locks = ys })
+    size (omega arith) source target refl
+    (λ c ys xs at long e fits. put_locks c budget _ at xs long refl fits ∙ ap (λ (p : MemoryParts). record p { locks = put p.locks at xs }) e)
 
 -- the parts after a move
 abbrev pub moved_parts : MemoryParts → ℕ → ℕ → ℕ → ℕ → MemoryParts
@@ -164,11 +155,11 @@ moved_are b budget place old base n host within own range =
     let own_from = own.from in let own_to = own.to in
     let from = range.from in let to = range.to in
     let b1 = slid b (PAGE_SIZE * BLOCK_TABLES + PAGE_ENTRY_SIZE * first_page old) (PAGE_SIZE * BLOCK_TABLES + PAGE_ENTRY_SIZE * first_page base) (PAGE_ENTRY_SIZE * n) in
-    let e1 = slid_tables b budget (PAGE_ENTRY_SIZE * first_page old) (PAGE_ENTRY_SIZE * first_page base) (PAGE_ENTRY_SIZE * n) host (omega arith) (omega arith) in
+    let e1 = slid_tables b budget (PAGE_ENTRY_SIZE * first_page old) (PAGE_ENTRY_SIZE * first_page base) (PAGE_ENTRY_SIZE * n) host.size (omega arith) (omega arith) in
     let host1 : HasHost b1 budget = host_by b b1 budget _ host
     (length-slid b (PAGE_SIZE * BLOCK_TABLES + PAGE_ENTRY_SIZE * first_page old) (PAGE_SIZE * BLOCK_TABLES + PAGE_ENTRY_SIZE * first_page base) (PAGE_ENTRY_SIZE * n) ∙ host.size) e1 refl in
     let b2 = slid b1 (PAGE_SIZE * LOCK_COUNTS + LOCK_COUNT_SIZE * first_page old) (PAGE_SIZE * LOCK_COUNTS + LOCK_COUNT_SIZE * first_page base) (LOCK_COUNT_SIZE * n) in
-    let e2 = slid_locks b1 budget (LOCK_COUNT_SIZE * first_page old) (LOCK_COUNT_SIZE * first_page base) (LOCK_COUNT_SIZE * n) host1 (omega arith) (omega arith) in
+    let e2 = slid_locks b1 budget (LOCK_COUNT_SIZE * first_page old) (LOCK_COUNT_SIZE * first_page base) (LOCK_COUNT_SIZE * n) host1.size (omega arith) (omega arith) in
     let host2 : HasHost b2 budget = host_by b1 b2 budget _ host1
     (length-slid b1 (PAGE_SIZE * LOCK_COUNTS + LOCK_COUNT_SIZE * first_page old) (PAGE_SIZE * LOCK_COUNTS + LOCK_COUNT_SIZE * first_page base) (LOCK_COUNT_SIZE * n) ∙ host1.size) e2 refl in
     row_are b2 budget place base n host2 within

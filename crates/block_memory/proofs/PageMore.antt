@@ -1,14 +1,14 @@
 -- Two states of the block region that differ in one page: the block of a handle less 1 has it in the second one, in a frame that is free
 -- in the first one. Each of the two keeps its page entries where the other one does: so a block grows and shrinks by the same record.
-use Rattle.std.proofs.Common.{◌≡◌, ◌≢◌, ℕ, ◌+◌, ◌-◌, ◌*◌, ◌/◌, ◌<◌, ◌≤◌, ◌⊎◌, inl, inr, true, List, slice_index, ap, ◌∙◌, sym, subst, arith}
+use Rattle.std.proofs.Common.{◌≡◌, ◌≢◌, ℕ, ◌+◌, ◌-◌, ◌*◌, ◌/◌, ◌<◌, ◌≤◌, ◌⊎◌, inl, inr, true, List, slice_index, ap, ◌∙◌, sym, subst, refl, arith}
 use Rattle.std.proofs.lemmas.Bool.{cases_eq}
 use Rattle.client_world.specs.declared.host_frames.TheConstants.{PAGE_SIZE, BUDGET_FRAMES}
-use Rattle.client_world.specs.declared.limits.TheConstants.{MAX_BLOCKS, MAX_PAGES}
+use Rattle.client_world.specs.declared.limits.TheConstants.{MAX_BLOCKS}
 use Rattle.client_world.specs.declared.memory_map.TheConstants.{BLOCK_REGION, BLOCK_REGION_PAGES}
 use Rattle.page_tables.specs.Entry.{page_entry}
 use Rattle.host_memory.specs.Layout.{base_of, pages_of, first_page_of, entry_of, lock_of}
 use Rattle.host_memory.specs.Holds.{KeepsLocks}
-use Rattle.host_memory.specs.Tables.{HasBlockEntries, NamesBudgetFrame, NamesFrame, IsOutside}
+use Rattle.host_memory.specs.Tables.{HasBlockEntries, NamesFrame, IsOutside}
 use Rattle.host_memory.proofs.BlockRows.{IsRange}
 
 -- the rows of the blocks, the entries of their pages, the taken bytes, the lock counts, and the budget frames
@@ -90,9 +90,6 @@ is_away old place base n m other i within ne less =
       | inr below ↦ record { small = omega arith; differs = omega arith }
     ]
 
-names_new : (budget frame : ℕ) → frame < budget → NamesBudgetFrame budget (budget_entry frame)
-names_new budget frame small = record { writable = omega arith; from = omega arith; to = omega arith }
-
 -- no block has that page in the first state
 pub page_outside : (old : BlockParts) (place base n : ℕ) → HasRoom old place base n → IsOutside old.handles (region_page base n)
 page_outside old place base n m = λ other i within less same. elim (cases_eq other place) [
@@ -104,232 +101,190 @@ page_outside old place base n m = λ other i within less same. elim (cases_eq ot
   | inr ne ↦ (is_away old place base n m other i within ne less).differs (sym same)
 ]
 
--- a page that no block has in the second state no block has in the first one
-pub outside_old : (old new : BlockParts) (budget place base n frame : ℕ) → HasPageMore old new budget place base n frame →
-    (page : ℕ) → IsOutside new.handles page → IsOutside old.handles page
-outside_old old new budget place base n frame m page none = λ other i within less same. elim (cases_eq other place) [
-  | inl e ↦ (
-      let few : i < n = subst (λ (k : ℕ). i < k) (ap (pages_of old.handles) e ∙ m.room.pages) less in
-      let old_first : first_page_of old.handles other ≡ first_page base =
-      ap (first_page_of old.handles) e ∙ first_old old new budget place base n frame m (omega arith) in
-      let new_first = first_new old new budget place base n frame m in
-      let pages = m.new_pages in
-      none place i m.room.within (omega arith) (omega arith))
-  | inr ne ↦ (
-      let pages = m.other_pages other within ne in
-      let first = first_other old new budget place base n frame m other within ne in
-      none other i within (omega arith) (omega arith))
-]
+-- what follows holds in both directions. In each of the two states the page and the frame are free, or the page lies in the frame
+pub record IsFree (s : BlockParts) (page frame : ℕ) : Type 0 where
+  pub entry : entry_of s.tables page ≡ 0
+  pub taken : slice_index s.taken frame ≡ 0
+  pub outside : IsOutside s.handles page
 
--- and one that no block has in the first state and that isn't the page no block has in the second one
-pub outside_new : (old new : BlockParts) (budget place base n frame : ℕ) → HasPageMore old new budget place base n frame →
-    (page : ℕ) → page ≢ region_page base n → IsOutside old.handles page → IsOutside new.handles page
-outside_new old new budget place base n frame m page differs none = λ other i within less same. elim (cases_eq other place) [
-  | inl e ↦ (
-      let few : i < n + 1 = subst (λ (k : ℕ). i < k) (ap (pages_of new.handles) e ∙ m.new_pages) less in
-      let new_first : first_page_of new.handles other ≡ first_page base =
-      ap (first_page_of new.handles) e ∙ first_new old new budget place base n frame m in
-      let inside : i < n = omega arith in
-      let old_first = first_old old new budget place base n frame m (omega arith) in
-      let pages = m.room.pages in
-      none place i m.room.within (omega arith) (omega arith))
-  | inr ne ↦ (
-      let pages = m.other_pages other within ne in
-      let first = first_other old new budget place base n frame m other within ne in
-      none other i within (omega arith) (omega arith))
-]
+pub record IsUsed (s : BlockParts) (page frame : ℕ) : Type 0 where
+  pub entry : entry_of s.tables page ≡ budget_entry frame
+  pub taken : slice_index s.taken frame ≡ 1
+  pub held : ¬ (IsOutside s.handles page)
 
--- the block has grown
-pub more_entries : (old new : BlockParts) (budget place base n frame : ℕ) → HasPageMore old new budget place base n frame →
-    HasBlockEntries old.handles old.tables old.taken budget → HasBlockEntries new.handles new.tables new.taken budget
-more_entries old new budget place base n frame m h = record {
-  named = named;
-  absent = absent;
-  once = once;
-  idle = idle;
-  busy = busy;
-  bits = bits;
-  beyond = beyond;
-}
-  where
-    inside : region_page base n < BLOCK_REGION_PAGES
-    inside = page_inside base n m.room.range
+-- a page of a block that isn't that one, and that the block has in these rows as well
+pub record IsBeside (handles : List ℕ) (page place offset here : ℕ) : Type 0 where
+  pub less : offset < pages_of handles place
+  pub is : here ≡ first_page_of handles place + offset
+  pub small : here < BLOCK_REGION_PAGES
+  pub differs : here ≢ page
 
-    named : (other i : ℕ) → other < MAX_BLOCKS → i < pages_of new.handles other → NamesBudgetFrame budget (entry_of new.tables (first_page_of new.handles other + i))
-    named other i within less = elim (cases_eq other place) [
-      | inl e ↦ (
-          let few : i < n + 1 = subst (λ (k : ℕ). i < k) (ap (pages_of new.handles) e ∙ m.new_pages) less in
-          let first : first_page_of new.handles other ≡ first_page base =
-          ap (first_page_of new.handles) e ∙ first_new old new budget place base n frame m in
-          elim (cases_eq i n) [
-            | inl last ↦ (
-                let page : first_page_of new.handles other + i ≡ region_page base n = omega arith in
-                rw (page, m.entry) (names_new budget frame m.few))
-            | inr before ↦ (
-                let old_first = first_old old new budget place base n frame m (omega arith) in
-                let pages = m.room.pages in
-                let page : first_page_of new.handles other + i ≡ first_page_of old.handles place + i = omega arith in
-                rw (page, m.other_entries (first_page_of old.handles place + i) (omega arith) (omega arith))
-                (h.named place i m.room.within (omega arith)))
-          ])
-      | inr ne ↦ (
-          let pages = m.other_pages other within ne in
-          let away = is_away old place base n m.room other i within ne (omega arith) in
-          rw (first_other old new budget place base n frame m other within ne, m.other_entries (first_page_of old.handles other + i) away.small away.differs)
-          (h.named other i within (omega arith)))
-    ]
+abbrev pub AreBeside : List ℕ → List ℕ → ℕ → Type 0
+AreBeside was is page = (place offset : ℕ) → place < MAX_BLOCKS → offset < pages_of is place →
+    (first_page_of is place + offset ≡ page) ⊎ IsBeside was page place offset (first_page_of is place + offset)
 
-    absent : (page : ℕ) → page < BLOCK_REGION_PAGES → IsOutside new.handles page → entry_of new.tables page ≡ 0
-    absent page small none =
-        let first = first_new old new budget place base n frame m in
-        let pages = m.new_pages in
-        let ne : page ≢ region_page base n = (λ same. none place n m.room.within (omega arith) (omega arith)) in
-        m.other_entries page small ne ∙ h.absent page small (outside_old old new budget place base n frame m page none)
+-- the second state against the first one
+pub record AgreesButFor (was is : BlockParts) (budget page frame : ℕ) : Type 0 where
+  pub inside : page < BLOCK_REGION_PAGES
+  pub few : frame < budget
+  pub before : IsFree was page frame ⊎ IsUsed was page frame
+  pub after : IsFree is page frame ⊎ IsUsed is page frame
+  pub pages : AreBeside was.handles is.handles page
+  pub back : AreBeside is.handles was.handles page
+  pub entries : (other : ℕ) → other < BLOCK_REGION_PAGES → other ≢ page → entry_of is.tables other ≡ entry_of was.tables other
+  pub frames : (other : ℕ) → other ≢ frame → slice_index is.taken other ≡ slice_index was.taken other
 
-    once : (page other : ℕ) → page < BLOCK_REGION_PAGES → other < BLOCK_REGION_PAGES → page ≢ other → entry_of new.tables page ≢ 0 →
-        entry_of new.tables page ≢ entry_of new.tables other
-    once page other small less ne some same = elim (cases_eq page (region_page base n)) [
-      | inl e ↦ (
-          let differs : other ≢ region_page base n = omega arith in
-          h.idle frame other m.few less m.free (sym (m.other_entries other less differs) ∙ sym same ∙ ap (entry_of new.tables) e ∙ m.entry))
-      | inr p ↦ elim (cases_eq other (region_page base n)) [
-        | inl e ↦ h.idle frame page m.few small m.free (sym (m.other_entries page small p) ∙ same ∙ ap (entry_of new.tables) e ∙ m.entry)
-        | inr q ↦ h.once page other small less ne (λ none. some (m.other_entries page small p ∙ none))
-            (sym (m.other_entries page small p) ∙ same ∙ m.other_entries other less q)
+-- the block grows
+pub grows : (old new : BlockParts) (budget place base n frame : ℕ) → HasPageMore old new budget place base n frame →
+    AgreesButFor old new budget (region_page base n) frame
+grows old new budget place base n frame m =
+    let room = m.room in let old_pages = room.pages in let new_pages = m.new_pages in
+    let inside = page_inside base n room.range in let first = first_new old new budget place base n frame m in
+    record {
+      inside = inside;
+      few = m.few;
+      before = inl (record { entry = m.no_entry; taken = m.free; outside = page_outside old place base n room });
+      after = inr (record { entry = m.entry; taken = m.busy; held = λ none. none place n room.within (omega arith) (omega arith) });
+      pages = λ other i within less. elim (cases_eq other place) [
+        | inl e ↦ (
+            let few : i < pages_of new.handles place = subst (λ (k : ℕ). i < pages_of new.handles k) e less in
+            rw e (elim (cases_eq i n) [
+              | inl last ↦ inl (omega arith)
+              | inr more ↦ (
+                  let was = first_old old new budget place base n frame m (omega arith) in
+                  inr (record { less = omega arith; is = omega arith; small = omega arith; differs = omega arith }))
+            ]))
+        | inr ne ↦ (
+            let same = m.other_pages other within ne in let there = first_other old new budget place base n frame m other within ne in
+            let away = is_away old place base n room other i within ne (omega arith) in
+            rw there (inr (record { less = omega arith; is = refl; small = away.small; differs = away.differs })))
+      ];
+      back = λ other i within less. elim (cases_eq other place) [
+        | inl e ↦ (
+            let few : i < pages_of old.handles place = subst (λ (k : ℕ). i < pages_of old.handles k) e less in
+            let was = first_old old new budget place base n frame m (omega arith) in
+            rw e (inr (record { less = omega arith; is = omega arith; small = omega arith; differs = omega arith })))
+        | inr ne ↦ (
+            let same = m.other_pages other within ne in let there = first_other old new budget place base n frame m other within ne in
+            let away = is_away old place base n room other i within ne less in
+            inr (record { less = omega arith; is = omega arith; small = away.small; differs = away.differs }))
+      ];
+      entries = m.other_entries;
+      frames = m.other_frames;
+    }
+
+-- the block shrinks
+pub shrinks : (old new : BlockParts) (budget place base n frame : ℕ) → HasPageMore old new budget place base n frame →
+    AgreesButFor new old budget (region_page base n) frame
+shrinks old new budget place base n frame m =
+    let g = grows old new budget place base n frame m in
+    record {
+      inside = g.inside;
+      few = g.few;
+      before = g.after;
+      after = g.before;
+      pages = g.back;
+      back = g.pages;
+      entries = λ other small ne. sym (g.entries other small ne);
+      frames = λ other ne. sym (g.frames other ne);
+    }
+
+module _ (was is : BlockParts) (budget page frame : ℕ) (m : AgreesButFor was is budget page frame) where
+  still_outside : (other : ℕ) → other ≢ page → IsOutside is.handles other → IsOutside was.handles other
+  still_outside other ne none = λ place i within less same. elim (m.back place i within less) [
+    | inl e ↦ ne (same ∙ e)
+    | inr there ↦ none place i within there.less (same ∙ there.is)
+  ]
+
+  pub entries_kept : HasBlockEntries was.handles was.tables was.taken budget → HasBlockEntries is.handles is.tables is.taken budget
+  entries_kept h = record {
+    named = λ place i within less. elim (m.pages place i within less) [
+      | inl e ↦ elim m.after [
+        | inl free ↦ absurd (free.outside place i within less (sym e))
+        | inr used ↦ let few = m.few in rw (e, used.entry) (record { writable = omega arith; from = omega arith; to = omega arith })
       ]
-    ]
+      | inr there ↦ rw (m.entries (first_page_of is.handles place + i) there.small there.differs, there.is) (h.named place i within there.less)
+    ];
+    absent = λ other small none. elim (cases_eq other page) [
+      | inl e ↦ elim m.after [
+        | inl free ↦ ap (entry_of is.tables) e ∙ free.entry
+        | inr used ↦ absurd (used.held (subst (IsOutside is.handles) e none))
+      ]
+      | inr ne ↦ m.entries other small ne ∙ h.absent other small (still_outside other ne none)
+    ];
+    once = once;
+    idle = idle;
+    busy = busy;
+    bits = λ k. elim (cases_eq k frame) [
+      | inl e ↦ elim m.after [ inl free ↦ rw (e, free.taken) (omega arith) | inr used ↦ rw (e, used.taken) (omega arith) ]
+      | inr ne ↦ rw (m.frames k ne) (h.bits k)
+    ];
+    beyond = λ k from small. let f = m.few in m.frames k (omega arith) ∙ h.beyond k from small;
+  }
+    where
+      -- no other page lies in that frame
+      alone : (other : ℕ) → other < BLOCK_REGION_PAGES → other ≢ page → entry_of was.tables other ≢ budget_entry frame
+      alone other small ne same = elim m.before [
+        | inl free ↦ h.idle frame other m.few small free.taken same
+        | inr used ↦ h.once other page small m.inside ne (omega arith) (same ∙ sym used.entry)
+      ]
 
-    idle : (k page : ℕ) → k < budget → page < BLOCK_REGION_PAGES → slice_index new.taken k ≡ 0 → entry_of new.tables page ≢ budget_entry k
-    idle k page few small none same =
-        let differs : k ≢ frame = (λ e. let one : slice_index new.taken k ≡ 1 = ap (slice_index new.taken) e ∙ m.busy in omega arith) in
-        elim (cases_eq page (region_page base n)) [
-          | inl e ↦ (let two : budget_entry frame ≡ budget_entry k = sym m.entry ∙ ap (entry_of new.tables) (sym e) ∙ same in omega arith)
-          | inr p ↦ h.idle k page few small (sym (m.other_frames k differs) ∙ none) (sym (m.other_entries page small p) ∙ same)
+      own : (other : ℕ) → other ≡ page → entry_of is.tables other ≢ 0 → entry_of is.tables other ≡ budget_entry frame
+      own other e some = elim m.after [
+        | inl free ↦ absurd (some (ap (entry_of is.tables) e ∙ free.entry))
+        | inr used ↦ ap (entry_of is.tables) e ∙ used.entry
+      ]
+
+      once : (one two : ℕ) → one < BLOCK_REGION_PAGES → two < BLOCK_REGION_PAGES → one ≢ two → entry_of is.tables one ≢ 0 →
+          entry_of is.tables one ≢ entry_of is.tables two
+      once one two small less ne some same = elim (cases_eq one page) [
+        | inl e ↦ (let q : two ≢ page = omega arith in alone two less q (sym (m.entries two less q) ∙ sym same ∙ own one e some))
+        | inr p ↦ elim (cases_eq two page) [
+          | inl e ↦ alone one small p (sym (m.entries one small p) ∙ same ∙ own two e (λ none. some (same ∙ none)))
+          | inr q ↦ h.once one two small less ne (λ none. some (m.entries one small p ∙ none)) (sym (m.entries one small p) ∙ same ∙ m.entries two less q)
         ]
+      ]
 
-    busy : (k : ℕ) → k < budget → slice_index new.taken k ≢ 0 → NamesFrame new.tables k
-    busy k few some = elim (cases_eq k frame) [
-      | inl e ↦ record { page = region_page base n; inside = inside; named = m.entry ∙ ap budget_entry (sym e) }
-      | inr differs ↦ (
-          let was = h.busy k few (λ none. some (m.other_frames k differs ∙ none)) in
-          let named = was.named in
-          let none = m.no_entry in
-          let ne : was.page ≢ region_page base n = (λ e. let zero : entry_of old.tables was.page ≡ 0 = ap (entry_of old.tables) e ∙ none in omega arith) in
-          record { page = was.page; inside = was.inside; named = m.other_entries was.page was.inside ne ∙ named })
-    ]
-
-    bits : (k : ℕ) → slice_index new.taken k < 2
-    bits k = elim (cases_eq k frame) [
-      | inl e ↦ (let one : slice_index new.taken k ≡ 1 = ap (slice_index new.taken) e ∙ m.busy in omega arith)
-      | inr differs ↦ (let same = m.other_frames k differs in let bit = h.bits k in omega arith)
-    ]
-
-    beyond : (k : ℕ) → budget ≤ k → k < MAX_PAGES → slice_index new.taken k ≡ 0
-    beyond k from small = let f = m.few in m.other_frames k (omega arith) ∙ h.beyond k from small
-
--- the block has shrunk
-pub less_entries : (old new : BlockParts) (budget place base n frame : ℕ) → HasPageMore old new budget place base n frame →
-    HasBlockEntries new.handles new.tables new.taken budget → HasBlockEntries old.handles old.tables old.taken budget
-less_entries old new budget place base n frame m h = record {
-  named = named;
-  absent = absent;
-  once = once;
-  idle = idle;
-  busy = busy;
-  bits = bits;
-  beyond = beyond;
-}
-  where
-    inside : region_page base n < BLOCK_REGION_PAGES
-    inside = page_inside base n m.room.range
-
-    named : (other i : ℕ) → other < MAX_BLOCKS → i < pages_of old.handles other → NamesBudgetFrame budget (entry_of old.tables (first_page_of old.handles other + i))
-    named other i within less = elim (cases_eq other place) [
-      | inl e ↦ (
-          let few : i < n = subst (λ (k : ℕ). i < k) (ap (pages_of old.handles) e ∙ m.room.pages) less in
-          let old_first : first_page_of old.handles other ≡ first_page base =
-          ap (first_page_of old.handles) e ∙ first_old old new budget place base n frame m (omega arith) in
-          let new_first = first_new old new budget place base n frame m in
-          let pages = m.new_pages in
-          let page : first_page_of old.handles other + i ≡ first_page_of new.handles place + i = omega arith in
-          rw (page, ← m.other_entries (first_page_of new.handles place + i) (omega arith) (omega arith))
-          (h.named place i m.room.within (omega arith)))
-      | inr ne ↦ (
-          let pages = m.other_pages other within ne in
-          let away = is_away old place base n m.room other i within ne less in
-          rw (← m.other_entries (first_page_of old.handles other + i) away.small away.differs, ← first_other old new budget place base n frame m other within ne)
-          (h.named other i within (omega arith)))
-    ]
-
-    absent : (page : ℕ) → page < BLOCK_REGION_PAGES → IsOutside old.handles page → entry_of old.tables page ≡ 0
-    absent page small none = elim (cases_eq page (region_page base n)) [
-      | inl e ↦ ap (entry_of old.tables) e ∙ m.no_entry
-      | inr ne ↦ sym (m.other_entries page small ne) ∙ h.absent page small (outside_new old new budget place base n frame m page ne none)
-    ]
-
-    not_there : (page : ℕ) → entry_of old.tables page ≢ 0 → page ≢ region_page base n
-    not_there page some e = some (ap (entry_of old.tables) e ∙ m.no_entry)
-
-    once : (page other : ℕ) → page < BLOCK_REGION_PAGES → other < BLOCK_REGION_PAGES → page ≢ other → entry_of old.tables page ≢ 0 →
-        entry_of old.tables page ≢ entry_of old.tables other
-    once page other small less ne some same =
-        let p = not_there page some in
-        let q = not_there other (λ none. some (same ∙ none)) in
-        h.once page other small less ne (λ none. some (sym (m.other_entries page small p) ∙ none))
-        (m.other_entries page small p ∙ same ∙ sym (m.other_entries other less q))
-
-    idle : (k page : ℕ) → k < budget → page < BLOCK_REGION_PAGES → slice_index old.taken k ≡ 0 → entry_of old.tables page ≢ budget_entry k
-    idle k page few small none same =
-        let p = not_there page (omega arith) in
-        elim (cases_eq k frame) [
-          | inl e ↦ (
-              let here = m.entry in
-              h.once page (region_page base n) small inside p (let more = m.other_entries page small p in omega arith)
-              (m.other_entries page small p ∙ same ∙ ap budget_entry e ∙ sym here))
-          | inr differs ↦ h.idle k page few small (m.other_frames k differs ∙ none) (m.other_entries page small p ∙ same)
+      idle : (k other : ℕ) → k < budget → other < BLOCK_REGION_PAGES → slice_index is.taken k ≡ 0 → entry_of is.tables other ≢ budget_entry k
+      idle k other few small none same = elim (cases_eq other page) [
+        | inl e ↦ (
+            let there = own other e (omega arith) in
+            let here : k ≡ frame = omega arith in
+            elim m.after [
+              | inl free ↦ (let zero : entry_of is.tables other ≡ 0 = ap (entry_of is.tables) e ∙ free.entry in omega arith)
+              | inr used ↦ (let one : slice_index is.taken k ≡ 1 = ap (slice_index is.taken) here ∙ used.taken in omega arith)
+            ])
+        | inr p ↦ elim (cases_eq k frame) [
+          | inl e ↦ alone other small p (sym (m.entries other small p) ∙ same ∙ ap budget_entry e)
+          | inr q ↦ h.idle k other few small (sym (m.frames k q) ∙ none) (sym (m.entries other small p) ∙ same)
         ]
+      ]
 
-    busy : (k : ℕ) → k < budget → slice_index old.taken k ≢ 0 → NamesFrame old.tables k
-    busy k few some =
-        let differs : k ≢ frame = (λ e. some (ap (slice_index old.taken) e ∙ m.free)) in
-        let is = h.busy k few (λ none. some (sym (m.other_frames k differs) ∙ none)) in
-        let named = is.named in
-        let ne : is.page ≢ region_page base n = (λ e.
-        let two : budget_entry frame ≡ budget_entry k = sym m.entry ∙ ap (entry_of new.tables) (sym e) ∙ named in omega arith) in
-        record { page = is.page; inside = is.inside; named = sym (m.other_entries is.page is.inside ne) ∙ named }
+      busy : (k : ℕ) → k < budget → slice_index is.taken k ≢ 0 → NamesFrame is.tables k
+      busy k few some = elim (cases_eq k frame) [
+        | inl e ↦ elim m.after [
+          | inl free ↦ absurd (some (ap (slice_index is.taken) e ∙ free.taken))
+          | inr used ↦ record { page = page; inside = m.inside; named = used.entry ∙ ap budget_entry (sym e) }
+        ]
+        | inr differs ↦ (
+            let there = h.busy k few (λ none. some (m.frames k differs ∙ none)) in
+            let ne : there.page ≢ page = (λ e. let here : entry_of was.tables page ≡ budget_entry k = ap (entry_of was.tables) (sym e) ∙ there.named in
+            elim m.before [ inl free ↦ (let zero = free.entry in omega arith) | inr used ↦ (let its = used.entry in omega arith) ]) in
+            record { page = there.page; inside = there.inside; named = m.entries there.page there.inside ne ∙ there.named })
+      ]
 
-    bits : (k : ℕ) → slice_index old.taken k < 2
-    bits k = elim (cases_eq k frame) [
-      | inl e ↦ (let none : slice_index old.taken k ≡ 0 = ap (slice_index old.taken) e ∙ m.free in omega arith)
-      | inr differs ↦ (let same = m.other_frames k differs in let bit = h.bits k in omega arith)
-    ]
-
-    beyond : (k : ℕ) → budget ≤ k → k < MAX_PAGES → slice_index old.taken k ≡ 0
-    beyond k from small = let f = m.few in sym (m.other_frames k (omega arith)) ∙ h.beyond k from small
+  -- a page that is no block's has no lock
+  pub locks_kept : ((other : ℕ) → other < BLOCK_REGION_PAGES → other ≢ page → lock_of is.locks other ≡ lock_of was.locks other) → lock_of is.locks page ≡ 0 →
+      KeepsLocks was.handles was.locks → KeepsLocks is.handles is.locks
+  locks_kept same none h = record {
+    outside = λ other small out. elim (cases_eq other page) [
+      | inl e ↦ ap (lock_of is.locks) e ∙ none
+      | inr ne ↦ same other small ne ∙ h.outside other small (still_outside other ne out)
+    ];
+  }
 
 -- the lock counts and the bytes are the same but for that page and that frame
 pub record AgreesBeside (old new : BlockParts) (budget page frame : ℕ) : Type 0 where
   pub locks : (other : ℕ) → other < BLOCK_REGION_PAGES → other ≢ page → lock_of new.locks other ≡ lock_of old.locks other
   pub frames : (at : ℕ) → at < PAGE_SIZE * budget → (at < PAGE_SIZE * frame) ⊎ (PAGE_SIZE * frame + PAGE_SIZE ≤ at) →
       slice_index new.frames at ≡ slice_index old.frames at
-
--- a page that is no block's has no lock
-pub more_locks : (old new : BlockParts) (budget place base n frame : ℕ) → HasPageMore old new budget place base n frame →
-    AgreesBeside old new budget (region_page base n) frame → lock_of new.locks (region_page base n) ≡ 0 →
-    KeepsLocks old.handles old.locks → KeepsLocks new.handles new.locks
-more_locks old new budget place base n frame m beside none h = record {
-  outside = λ page small out. elim (cases_eq page (region_page base n)) [
-    | inl e ↦ ap (lock_of new.locks) e ∙ none
-    | inr ne ↦ beside.locks page small ne ∙ h.outside page small (outside_old old new budget place base n frame m page out)
-  ];
-}
-
-pub less_locks : (old new : BlockParts) (budget place base n frame : ℕ) → HasPageMore old new budget place base n frame →
-    AgreesBeside old new budget (region_page base n) frame → lock_of old.locks (region_page base n) ≡ 0 →
-    KeepsLocks new.handles new.locks → KeepsLocks old.handles old.locks
-less_locks old new budget place base n frame m beside none h = record {
-  outside = λ page small out. elim (cases_eq page (region_page base n)) [
-    | inl e ↦ ap (lock_of old.locks) e ∙ none
-    | inr ne ↦ sym (beside.locks page small ne) ∙ h.outside page small (outside_new old new budget place base n frame m page ne out)
-  ];
-}

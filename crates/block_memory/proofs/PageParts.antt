@@ -16,7 +16,7 @@ use Rattle.host_memory.specs.Layout.{base_of, pages_of, entry_of, lock_of}
 use Rattle.host_memory.specs.Vectors.{head_start}
 use Rattle.host_memory.proofs.BlockRows.{IsRange, HasRanges}
 use Rattle.block_memory.proofs.PageCounts.{used_more, one_page_more}
-use Rattle.block_memory.proofs.PageMore.{BlockParts, HasRoom, HasPageMore, AgreesBeside, region_page, budget_entry, page_inside, page_outside, more_entries, less_entries, more_locks, less_locks}
+use Rattle.block_memory.proofs.PageMore.{BlockParts, HasRoom, HasPageMore, AgreesBeside, region_page, budget_entry, page_inside, page_outside, grows, shrinks, entries_kept, locks_kept}
 use Rattle.host_memory.proofs.Parts.{MemoryParts, HoldsParts}
 use Rattle.host_memory.proofs.VectorParts.{keeps_head, put_head}
 use Rattle.block_memory.proofs.FreeSteps.{list_given, list_taken}
@@ -232,7 +232,7 @@ pub grown_holds : (p : MemoryParts) (budget place base n frame : ℕ) → HoldsP
 grown_holds p budget place base n frame h may =
     let old = block_parts p in
     let new = block_parts (grown_parts p place base n frame) in
-    let more = grown_more p budget place base n frame h may in
+    let more = grown_more p budget place base n frame h may in let grown = grows old new budget place base n frame more in
     let beside = grown_beside p budget place base n frame in
     let few = may.few in let most = may.sizes.most in let pages = may.room.pages in
     record {
@@ -241,14 +241,14 @@ grown_holds p budget place base n frame h may =
       vectors = keeps_head p.vectors (dword p.frames (PAGE_SIZE * frame)) h.vectors;
       records = h.records;
       handles = keeps_handles p.handles place base (n + 1) may.sizes.handles may.room.within (λ none. absurd (omega arith)) h.handles;
-      blocks = more_entries old new budget place base n frame more h.blocks;
+      blocks = entries_kept old new budget (region_page base n) frame grown h.blocks;
       free = grown_list p budget place base n frame h may;
       count = used_more p.taken (slice_set p.taken frame 1) frame (sym (length-set p.taken frame 1)) (omega (arith, may.sizes.taken)) may.free
           (let busy = more.busy in omega arith) more.other_frames
           ∙ ap (λ (k : ℕ). k + 1) h.count
           ∙ sym (one_page_more p.handles (with_row p.handles place base (n + 1)) place may.room.within
           (more.new_pages ∙ ap (λ (k : ℕ). k + 1) (sym pages)) more.other_pages);
-      locks = more_locks old new budget place base n frame more beside (grown_unlocked p budget place base n frame h may) h.locks;
+      locks = locks_kept old new budget (region_page base n) frame grown beside.locks (grown_unlocked p budget place base n frame h may) h.locks;
       arena = h.arena;
     }
 
@@ -346,7 +346,7 @@ pub shrunk_holds : (p : MemoryParts) (budget place base n frame : ℕ) → Holds
 shrunk_holds p budget place base n frame h may =
     let old = block_parts (shrunk_parts p place base n frame) in
     let new = block_parts p in
-    let more = shrunk_less p budget place base n frame h may in
+    let more = shrunk_less p budget place base n frame h may in let shrunk = shrinks old new budget place base n frame more in
     let beside = shrunk_beside p budget place base n frame in
     let few = may.few in let most = may.sizes.most in let pages = more.room.pages in
     let count : used p.taken ≡ used (slice_set p.taken frame 0) + 1 = used_more (slice_set p.taken frame 0) p.taken frame (length-set p.taken frame 0)
@@ -360,12 +360,12 @@ shrunk_holds p budget place base n frame h may =
       vectors = keeps_head p.vectors (BUDGET_FRAMES + frame) h.vectors;
       records = h.records;
       handles = keeps_handles p.handles place (base_in_row base n) n may.sizes.handles may.within (base_gone base n) h.handles;
-      blocks = less_entries old new budget place base n frame more h.blocks;
+      blocks = entries_kept new old budget (region_page base n) frame shrunk h.blocks;
       free = (
           let busy = more.busy in let long = may.sizes.vectors in
           list_given p.vectors p.taken p.frames budget frame (omega arith) may.few (omega (arith, may.sizes.taken)) (omega (arith, may.sizes.frames)) (omega arith) h.free);
       count = omega (arith, count, together, h.count);
-      locks = less_locks old new budget place base n frame more beside
+      locks = locks_kept new old budget (region_page base n) frame shrunk (λ other small ne. sym (beside.locks other small ne))
           (lock_here p.locks (region_page base n) may.sizes.locks (page_inside base n (own_range p budget place base n frame may))) h.locks;
       arena = h.arena;
     }

@@ -11,8 +11,9 @@ ghost use Rattle.block_services.specs.Rows.{allocate_block, with_block_outputs, 
 
 use crate::gaps::{first_gap, is_gap, lowest_handle, page_address, row_of};
 use client_world::host_frames::PAGE_SIZE;
+use client_world::{high_half, low_half, two_words, with_low_half};
 use guest_space::Machine;
-use service_rows::{Refusal, high_half, low_half, two_words, with_low_half};
+use service_rows::Refusal;
 
 /// The number in SI and DI.
 pub(crate) fn si_di(m: &Machine) -> u32

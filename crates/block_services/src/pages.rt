@@ -9,8 +9,9 @@ use crate::regions::{
     whole_pages,
 };
 use client_world::host_frames::PAGE_SIZE;
+use client_world::{high_half, low_half, with_low_half};
 use guest_space::Machine;
-use service_rows::{Refusal, high_half, low_half, with_low_half};
+use service_rows::Refusal;
 
 // The first of the pages that SI:DI bytes from linear address BX:CX touch, and their number.
 fn asked_run(m: &Machine) -> (u32, u32)

@@ -1,6 +1,5 @@
 pub mod FrameBytes
 pub mod HandedOver
-pub mod HostRow
 pub mod KeptWorld
 pub mod Served
 pub mod Slots

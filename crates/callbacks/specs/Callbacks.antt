@@ -16,12 +16,12 @@ use Rattle.client_world.specs.declared.registers.Regs.{Regs}
 use Rattle.client_world.specs.declared.registers.TheConstants.{INTERRUPT_BIT}
 use Rattle.client_world.specs.declared.segments.FarPtr.{FarPtr}
 use Rattle.client_world.specs.declared.segments.SegReg.TheVariants.{Cs}
-use Rattle.client_world.specs.declared.selectors.TheConstants.{CALLBACK_STACKS, CLIENT_PRIVILEGE, HOST_CODE, HOST_STACKS}
+use Rattle.client_world.specs.declared.selectors.TheConstants.{CALLBACK_STACKS, HOST_CODE, HOST_STACKS}
 use Rattle.client_world.specs.declared.traps.TheConstants.{CALLBACK_RETURN_TRAP}
 use Rattle.client_world.specs.Access.{is_reachable}
 use Rattle.client_world.specs.Loading.{is_loadable}
 use Rattle.client_world.specs.Registers.{flags_image, has_bit, low_half}
-use Rattle.client_world.specs.Selector.{Row, selector_code, selector_of}
+use Rattle.client_world.specs.Selector.{Row, client_selector, selector_of}
 use Rattle.client_world.specs.Services.{es_di}
 use Rattle.client_world.specs.World.{Callback, World, depth}
 use Rattle.exec_flow.specs.Interrupts.{item_bits}
@@ -75,7 +75,7 @@ caller_structure w slot =
 -- the procedure's registers: DS:(E)SI is the real caller's SS:SP, ES:(E)DI is the call structure; FS and GS are null, and all others stay
 unfoldable pub procedure_regs : World → FarPtr → FarPtr → Regs
 procedure_regs w procedure at = record w.regs {
-  cs = selector_code procedure.sel + CLIENT_PRIVILEGE;
+  cs = client_selector procedure.sel;
   eip = procedure.off;
   ss = selector_of HOST_STACKS;
   esp = frame_offset w;

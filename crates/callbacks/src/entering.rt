@@ -27,18 +27,16 @@ use crate::real_stack::{is_loadable, is_writable, set_stack_row, stack_index};
 use crate::services::callback_offset;
 use client_world::limits::{CALLBACKS, GREATEST_DEPTH};
 use client_world::memory_map::{PROTECTED_STACK_SIZE, ROM_SEGMENT, ROM_START};
-use client_world::selectors::{
-    CLIENT_PRIVILEGE, HOST_CODE, HOST_STACKS, privilege_of, selector_of,
-};
+use client_world::selectors::{HOST_CODE, HOST_STACKS, client_selector, selector_of};
 use client_world::traps::CALLBACK_RETURN_TRAP;
-use client_world::{Deep, Exit, FarPtr, Mode, Record, Regs, Width};
+use client_world::{Deep, Exit, FarPtr, Mode, Record, Regs, Width, low_half};
 use guest_space::{
-    Machine, a_write_changes_no_access, every_write_changes_the_memory_alone,
-    the_protected_stacks_are_reachable,
+    Machine, a_write_changes_no_access, dword_bytes, every_write_changes_the_memory_alone,
+    the_protected_stacks_are_reachable, word_bytes,
 };
 use mode_stack::{depth, push, put_at};
-use service_rows::{low_half, with_by_width};
-use translation::{dword_bytes, index_results, other_results, word_bytes};
+use service_rows::with_by_width;
+use translation::{index_results, other_results};
 
 // The greatest depth.
 const DEEPEST: u8 = GREATEST_DEPTH as u8;
@@ -140,7 +138,7 @@ fn procedure_regs(m: &Machine, procedure: FarPtr, at: FarPtr) -> Regs
 {
     let r = m.regs();
     Regs {
-        cs: procedure.sel - privilege_of(procedure.sel) + CLIENT_PRIVILEGE,
+        cs: client_selector(procedure.sel),
         eip: procedure.off,
         ss: selector_of(HOST_STACKS),
         esp: frame_offset(m),

@@ -9,9 +9,9 @@ ghost use Rattle.callbacks.specs.Services.{addressed_slot, allocate_callback, ca
 use client_world::limits::CALLBACKS;
 use client_world::memory_map::{ROM_SEGMENT, ROM_START};
 use client_world::traps::CALLBACK_TRAPS;
-use client_world::{FarPtr, Regs};
+use client_world::{FarPtr, Regs, by_width, low_half, with_low_half};
 use guest_space::Machine;
-use service_rows::{Refusal, by_width, es_di, is_code_selector, low_half, with_low_half};
+use service_rows::{Refusal, es_di, is_code_selector};
 
 // The slots.
 const SLOTS: u8 = CALLBACKS as u8;

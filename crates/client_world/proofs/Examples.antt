@@ -1,35 +1,30 @@
 -- The definitions on numbers that were worked by hand from the manual and the memory map: each line is evaluated.
-use Rattle.std.proofs.Common.{◌≡◌, ℕ, ◌-◌, true, false, List, [], ◌∷◌, Some, None, Err, refl}
+use Rattle.std.proofs.Common.{◌≡◌, ◌-◌, true, false, List, [], ◌∷◌, Some, None, Err, refl}
 use Rattle.client_world.specs.declared.descriptors.Desc.{Desc}
-use Rattle.client_world.specs.declared.descriptors.Kind.{Kind}
 use Rattle.client_world.specs.declared.descriptors.Kind.TheVariants.{Data, Code}
 use Rattle.client_world.specs.declared.descriptors.Origin.TheVariants.{Own}
 use Rattle.client_world.specs.declared.memory_map.TheConstants.{HOST_WINDOW_END}
 use Rattle.client_world.specs.declared.place.Place.TheVariants.{Dos, Block, Host, Nothing}
 use Rattle.client_world.specs.declared.segments.SegReg.TheVariants.{Cs, Ss, Ds}
 use Rattle.client_world.specs.Access.{place_in, page_fault, fault_with, protected_base, real_base}
-use Rattle.client_world.specs.Descriptor.{packed, byte_limit, is_inside}
+use Rattle.client_world.specs.Descriptor.{packed, byte_limit, is_inside, plain}
 use Rattle.client_world.specs.Loading.{load_fault}
 use Rattle.client_world.specs.Selector.{Row, selector_of}
 use Rattle.client_world.specs.Soundness.{descriptors_for}
 use Rattle.client_world.specs.World.{MemoryBlock}
 
--- descriptors of 16 bits and byte granularity
-abbrev plain : Kind → ℕ → ℕ → Desc
-plain kind base limit = record { base = base; limit = limit; gran = false; size = false; avl = false; present = true; kind = kind }
-
 -- the host's code segment, and a stack of the client
-code_bytes : packed (plain Code 0xF0000 0xFFFF) ≡ 0xFF ∷ 0xFF ∷ 0 ∷ 0 ∷ 0x0F ∷ 0xFB ∷ 0 ∷ 0 ∷ []
+code_bytes : packed (plain Code 0xF0000 0xFFFF false) ≡ 0xFF ∷ 0xFF ∷ 0 ∷ 0 ∷ 0x0F ∷ 0xFB ∷ 0 ∷ 0 ∷ []
 unfolding packed
 code_bytes = refl
 
-stack_bytes : packed (plain (Data true false) 0x760 0xFFFF) ≡ 0xFF ∷ 0xFF ∷ 0x60 ∷ 0x07 ∷ 0 ∷ 0xF3 ∷ 0 ∷ 0 ∷ []
+stack_bytes : packed (plain (Data true false) 0x760 0xFFFF false) ≡ 0xFF ∷ 0xFF ∷ 0x60 ∷ 0x07 ∷ 0 ∷ 0xF3 ∷ 0 ∷ 0 ∷ []
 unfolding packed
 stack_bytes = refl
 
 -- with G the limit counts pages
 abbrev flat : Desc
-flat = record (plain (Data true false) 0 0xFFFFF) { gran = true; size = true }
+flat = record (plain (Data true false) 0 0xFFFFF false) { gran = true; size = true }
 
 flat_limit : byte_limit flat ≡ 0xFFFFFFFF
 flat_limit = refl
@@ -39,7 +34,7 @@ paged_limit = refl
 
 -- an expand-down segment allows what lies above its limit, up to FFFFh
 abbrev down : Desc
-down = plain (Data true true) 0 0xFFF
+down = plain (Data true true) 0 0xFFF false
 
 down_at_limit : is_inside down 0xFFF 1 ≡ false
 down_at_limit = refl
@@ -116,13 +111,13 @@ null_access = refl
 free_access : protected_base (table flat) Ss 0xF 0 1 false ≡ Err (fault_with 0x0C 0xC)
 free_access = refl
 
-code_write : protected_base (table (plain Code 0 0xFF)) Ds 7 0 1 true ≡ Err (fault_with 0x0D 0)
+code_write : protected_base (table (plain Code 0 0xFF false)) Ds 7 0 1 true ≡ Err (fault_with 0x0D 0)
 code_write = refl
 
 absent_segment : protected_base (table (record flat { present = false })) Ds 7 0 1 false ≡ Err (fault_with 0x0B 4)
 absent_segment = refl
 
-past_limit : protected_base (table (plain (Data true false) 0 0xFF)) Ds 7 0xFF 2 false ≡ Err (fault_with 0x0D 0)
+past_limit : protected_base (table (plain (Data true false) 0 0xFF false)) Ds 7 0xFF 2 false ≡ Err (fault_with 0x0D 0)
 past_limit = refl
 
 null_data : load_fault (table flat) Ds 0 0 false ≡ None
@@ -141,14 +136,14 @@ data_in_code : load_fault (table flat) Cs 7 0 false ≡ Some (fault_with 0x0D 4)
 unfolding load_fault
 data_in_code = refl
 
-jump_to_low_code : load_fault (table (plain Code 0 0xFF)) Cs 4 0 false ≡ None
+jump_to_low_code : load_fault (table (plain Code 0 0xFF false)) Cs 4 0 false ≡ None
 unfolding load_fault
 jump_to_low_code = refl
 
-return_to_low_code : load_fault (table (plain Code 0 0xFF)) Cs 4 0 true ≡ Some (fault_with 0x0D 4)
+return_to_low_code : load_fault (table (plain Code 0 0xFF false)) Cs 4 0 true ≡ Some (fault_with 0x0D 4)
 unfolding load_fault
 return_to_low_code = refl
 
-code_past_limit : load_fault (table (plain Code 0 0xFF)) Cs 7 0x100 false ≡ Some (fault_with 0x0D 0)
+code_past_limit : load_fault (table (plain Code 0 0xFF false)) Cs 7 0x100 false ≡ Some (fault_with 0x0D 0)
 unfolding load_fault
 code_past_limit = refl

@@ -10,6 +10,11 @@ pub record FitsDescriptor (d : Desc) : Type 0 where
   pub base : d.base < 2 ^ 32
   pub limit : d.limit < 2 ^ 20
 
+-- a descriptor that is present, with a limit in bytes, and the client's own bit clear; its size is D of code and B of data
+abbrev pub plain : Kind → ℕ → ℕ → Bool → Desc
+plain kind base limit size =
+    record { base = base; limit = limit; gran = false; size = size; avl = false; present = true; kind = kind }
+
 -- the access byte: P in bit 7, DPL 3, bit 4, then 2 and 4 for writable and expand-down data, 8 and 2 for readable code,
 -- and 1 for Accessed
 abbrev pub kind_bits : Kind → ℕ

@@ -1,7 +1,8 @@
--- What the segment registers hold.
+-- What the segment registers hold, and the null pointer.
 -- Source: 80386 Programmer's Reference Manual, ch. 2, "Segment Registers".
 use Rattle.std.specs.Prelude.{ℕ}
 use Rattle.client_world.specs.declared.registers.Regs.{Regs}
+use Rattle.client_world.specs.declared.segments.FarPtr.{FarPtr}
 use Rattle.client_world.specs.declared.segments.SegReg.{SegReg}
 use Rattle.client_world.specs.declared.segments.SegReg.TheVariants.{Es, Cs, Ss, Ds, Fs, Gs}
 
@@ -22,3 +23,7 @@ with_selector r Ss sel = record r { ss = sel }
 with_selector r Ds sel = record r { ds = sel }
 with_selector r Fs sel = record r { fs = sel }
 with_selector r Gs sel = record r { gs = sel }
+
+-- the far pointer that points to nothing
+abbrev pub null_pointer : FarPtr
+null_pointer = record { sel = 0; off = 0 }

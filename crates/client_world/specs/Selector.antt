@@ -4,7 +4,7 @@ use Rattle.std.specs.Prelude.{⊤, ℕ, ◌+◌, ◌-◌, ◌*◌, ◌/◌, ◌%
 use Rattle.std.specs.declared.option.Option.{Option}
 use Rattle.client_world.specs.declared.descriptors.Desc.{Desc}
 use Rattle.client_world.specs.declared.descriptors.Origin.{Origin}
-use Rattle.client_world.specs.declared.selectors.TheConstants.{SELECTOR_STEP, SELECTOR_BITS}
+use Rattle.client_world.specs.declared.selectors.TheConstants.{CLIENT_PRIVILEGE, SELECTOR_STEP, SELECTOR_BITS}
 use Rattle.client_world.specs.Descriptor.{FitsDescriptor}
 
 -- a place of the client's table: a descriptor and its origin, or nothing
@@ -43,6 +43,10 @@ row_of_selector rows sel = if is_local sel then row_at_index rows (index_of sel)
 -- the selector as an error code: without the requested privilege level
 abbrev pub selector_code : ℕ → ℕ
 selector_code sel = sel - sel % 4
+
+-- the selector with the client's privilege level, whichever it asks for
+abbrev pub client_selector : ℕ → ℕ
+client_selector sel = selector_code sel + CLIENT_PRIVILEGE
 
 -- the selector that the host hands out for an index (own)
 abbrev pub selector_of : ℕ → ℕ

@@ -14,6 +14,7 @@ use Rattle.client_world.specs.declared.host_frames.TheConstants.{PAGE_SIZE, DESC
 use Rattle.client_world.specs.declared.limits.TheConstants.{MAX_BLOCKS, GREATEST_LOCK_COUNT, GREATEST_DEPTH, CALLBACKS, INTERRUPT_VECTORS, EXCEPTION_VECTORS}
 use Rattle.client_world.specs.declared.memory_map.TheConstants.{DOS_SIZE, DOS_VIEW_PAGES, ROM_START, ROM_BYTE, BLOCK_REGION, BLOCK_REGION_END, PROTECTED_STACKS, PROTECTED_STACK_SIZE}
 use Rattle.client_world.specs.declared.selectors.TheConstants.{HOST_CODE, HOST_STACKS, CALLBACK_STACKS}
+use Rattle.client_world.specs.Descriptor.{plain}
 use Rattle.client_world.specs.DosMemory.{IsArena, is_dpmi, block_segment}
 use Rattle.client_world.specs.Selector.{Row, FitsRow, row_at_index}
 use Rattle.client_world.specs.World.{World, HostWorld, MemoryBlock, block_at}
@@ -144,31 +145,12 @@ is_wide ThirtyTwo = true
 
 -- the host's code: 16-bit, from F0000h, limit FFFFh
 abbrev pub host_code : Row
-host_code = Some (
-  record {
-    base = ROM_START;
-    limit = 0xFFFF;
-    gran = false;
-    size = false;
-    avl = false;
-    present = true;
-    kind = Code;
-  },
-  Host,
-)
+host_code = Some (plain Code ROM_START 0xFFFF false, Host)
 
 -- the segment of the host's protected-mode stacks, of the client's width
 abbrev pub host_stacks : Width → Row
 host_stacks width = Some (
-  record {
-    base = PROTECTED_STACKS;
-    limit = GREATEST_DEPTH * PROTECTED_STACK_SIZE - 1;
-    gran = false;
-    size = is_wide width;
-    avl = false;
-    present = true;
-    kind = Data true false;
-  },
+  plain (Data true false) PROTECTED_STACKS (GREATEST_DEPTH * PROTECTED_STACK_SIZE - 1) (is_wide width),
   Host,
 )
 

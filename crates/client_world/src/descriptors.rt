@@ -1,7 +1,7 @@
 // Segment descriptors of the client.
 ghost use Rattle.std.specs.Prelude.{◌≡◌, ◌≢◌, ◌<◌, ◌^◌, ℕ, true, None, slice_set};
 ghost use Rattle.client_world.specs.declared.host_frames.TheConstants.{DESCRIPTORS};
-ghost use Rattle.client_world.specs.Descriptor.{IsInside, byte_limit, expands_down, is_code, is_inside, is_writable};
+ghost use Rattle.client_world.specs.Descriptor.{IsInside, byte_limit, expands_down, is_code, is_inside, is_writable, plain};
 ghost use Rattle.client_world.specs.Selector.{Row, FitsRow, row_at_index};
 ghost use Rattle.client_world.specs.Soundness.{IsSound, IsOfDosBlock, IsPlainRow, IsClientsIndex};
 ghost use Rattle.client_world.specs.World.{World};
@@ -16,6 +16,12 @@ pub enum Kind {
 }
 
 impl Kind {
+    /// Data that may be written, in a segment that doesn't expand down.
+    pub const WRITABLE_DATA: Kind = Kind::Data {
+        writable: true,
+        down: false,
+    };
+
     /// Whether the segment holds code.
     pub fn is_code(self) -> bool
         ensures { result ≡ is_code self }
@@ -75,6 +81,21 @@ const LAST_OF_16_BITS: u32 = 0xFFFF;
 const LAST_OF_32_BITS: u32 = 0xFFFF_FFFF;
 
 impl Desc {
+    /// A descriptor that is present, with G and AVL clear, so that the limit is in bytes; its size is D of code and B of data.
+    pub fn plain(kind: Kind, base: u32, limit: u32, size: bool) -> Desc
+        ensures { result ≡ plain kind base limit size }
+    {
+        Desc {
+            base,
+            limit,
+            gran: false,
+            size,
+            avl: false,
+            present: true,
+            kind,
+        }
+    }
+
     /// The last byte that the limit names. Source: 80386 Programmer's Reference Manual, ch. 6, "Limit Checking".
     pub fn byte_limit(&self) -> u32
         requires { self.now.limit < 2 ^ 20 }

@@ -34,9 +34,10 @@ pub use faults::{Event, Fault, PageFault};
 pub use outcome::{Exit, LoadFault};
 pub use place::Place;
 pub use registers::{
-    Flags, Mode, Regs, Width, a_flags_image_gives_its_flags_back, is_interrupt_set,
+    Flags, Mode, Regs, Width, a_flags_image_gives_its_flags_back, high_byte, high_half,
+    is_interrupt_set, low_byte, low_half, with_low_byte, with_low_half,
 };
 pub use segments::{FarPtr, SegReg};
-pub use services::{Begun, Carry, DosDone};
+pub use services::{Begun, Carry, DosDone, by_width, two_words};
 pub use trace::TraceLine;
 pub use watchpoints::{Touch, Watch, WatchKind};

@@ -1,7 +1,7 @@
 // The mode, the flags and the registers of the processor.
-ghost use Rattle.std.specs.Prelude.{◌≡◌, ◌≤◌, ◌<◌, Bool, cond};
+ghost use Rattle.std.specs.Prelude.{◌≡◌, ◌≤◌, ◌<◌, ◌/◌, Bool, cond};
 ghost use Rattle.client_world.specs.General.{general, with_general};
-ghost use Rattle.client_world.specs.Registers.{flags_image, flags_of_image, has_bit};
+ghost use Rattle.client_world.specs.Registers.{flags_image, flags_of_image, has_bit, high_byte, low_byte, low_half, with_low_byte, with_low_half};
 ghost use Rattle.client_world.specs.Segments.{selector, with_selector};
 
 use crate::general::{EAX, EBP, EBX, ECX, EDX, ESI, ESP};
@@ -208,6 +208,14 @@ impl Regs {
         }
     }
 
+    /// AX, the low half of EAX.
+    #[inline(always)]
+    pub fn ax(&self) -> u16
+        ensures { result ≡ low_half self.now.eax }
+    {
+        low_half(self.eax)
+    }
+
     /// What a segment register holds: a selector, or in real mode a segment.
     #[inline(always)]
     pub fn selector(&self, seg: SegReg) -> u16
@@ -236,6 +244,54 @@ impl Regs {
             SegReg::Gs => self.gs = sel,
         }
     }
+}
+
+/// The low byte of a doubleword, as AL of EAX.
+#[inline(always)]
+pub fn low_byte(x: u32) -> u8
+    ensures { result ≡ low_byte x }
+{
+    (x % 0x100) as u8
+}
+
+/// The second byte of a doubleword, as AH of EAX.
+#[inline(always)]
+pub fn high_byte(x: u32) -> u8
+    ensures { result ≡ high_byte x }
+{
+    (x / 0x100 % 0x100) as u8
+}
+
+/// The low half of a doubleword, as AX of EAX.
+#[inline(always)]
+pub fn low_half(x: u32) -> u16
+    ensures { result ≡ low_half x }
+{
+    (x % 0x1_0000) as u16
+}
+
+/// The high half of a doubleword.
+#[inline(always)]
+pub fn high_half(x: u32) -> u16
+    ensures { result ≡ x / 0x10000 }
+{
+    (x / 0x1_0000) as u16
+}
+
+/// A doubleword with another low byte.
+#[inline(always)]
+pub fn with_low_byte(x: u32, v: u8) -> u32
+    ensures { result ≡ with_low_byte x v }
+{
+    x / 0x100 * 0x100 + u32::from(v)
+}
+
+/// A doubleword with another low half.
+#[inline(always)]
+pub fn with_low_half(x: u32, v: u16) -> u32
+    ensures { result ≡ with_low_half x v }
+{
+    x / 0x1_0000 * 0x1_0000 + u32::from(v)
 }
 
 /// The flags image gives back the flags and the interrupt flag that it was made of.

@@ -19,3 +19,8 @@ pub struct FarPtr {
     pub sel: u16,
     pub off: u32,
 }
+
+impl FarPtr {
+    /// The far pointer that points to nothing.
+    pub const NULL: FarPtr = FarPtr { sel: 0, off: 0 };
+}

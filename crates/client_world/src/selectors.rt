@@ -1,7 +1,7 @@
 //! Selectors, and the descriptors that the host makes. Source: own, but for the form of a selector.
 ghost use Rattle.std.specs.Prelude.{◌≡◌, ◌<◌};
 ghost use Rattle.client_world.specs.declared.host_frames.TheConstants.{DESCRIPTORS};
-ghost use Rattle.client_world.specs.Selector.{index_of, is_local, is_null, privilege_of, selector_code, selector_of};
+ghost use Rattle.client_world.specs.Selector.{client_selector, index_of, is_local, is_null, privilege_of, selector_code, selector_of};
 
 use crate::host_frames::DESCRIPTORS;
 
@@ -76,6 +76,14 @@ pub fn privilege_of(sel: u16) -> u16
     ensures { result ≡ privilege_of sel }
 {
     sel % PRIVILEGE_LEVELS
+}
+
+/// The selector with the client's privilege level, whichever it asks for.
+#[inline(always)]
+pub fn client_selector(sel: u16) -> u16
+    ensures { result ≡ client_selector sel }
+{
+    sel - privilege_of(sel) + CLIENT_PRIVILEGE
 }
 
 /// The selector as an error code: without the privilege level that it asks for.

@@ -5,9 +5,8 @@ use Rattle.client_world.specs.declared.registers.Mode.{Mode}
 use Rattle.client_world.specs.declared.registers.Mode.TheVariants.{Real, Protected}
 use Rattle.client_world.specs.declared.segments.SegReg.{SegReg}
 use Rattle.client_world.specs.declared.segments.SegReg.TheVariants.{Cs}
-use Rattle.client_world.specs.declared.selectors.TheConstants.{CLIENT_PRIVILEGE}
 use Rattle.client_world.specs.Loading.{register_fault, transfer_fault}
-use Rattle.client_world.specs.Selector.{Row, selector_code, privilege_of}
+use Rattle.client_world.specs.Selector.{Row, client_selector, privilege_of}
 use Rattle.client_world.specs.World.{World}
 use Rattle.exec_flow.specs.Dispatch.{flow_row}
 use Rattle.exec_flow.specs.FarTransfers.{code_selector, far_transfer, jump_far, call_far, far_frame_popped, retf, frame_popped, iret}
@@ -63,7 +62,7 @@ ret_leaves w i s = λ ip. near_leaves w i ip _ s
 
 -- ---- far transfers
 
-code_by_mode : (m : Mode) (sel : ℕ) → sel < 0x10000 → elim m as (λ _. ℕ) [ Real ↦ sel | Protected ↦ selector_code sel + CLIENT_PRIVILEGE ] < 0x10000
+code_by_mode : (m : Mode) (sel : ℕ) → sel < 0x10000 → elim m as (λ _. ℕ) [ Real ↦ sel | Protected ↦ client_selector sel ] < 0x10000
 code_by_mode Real sel small = small
 code_by_mode Protected sel small = omega arith
 

@@ -12,8 +12,7 @@ use exec_core::{is_core, run_core};
 use exec_flow::run_flow;
 use guest_space::Machine;
 use insn_decode::{Decoded, Memo, decode};
-use insn_forms::{Insn, Operand, every_instruction_is_well_formed};
-use insn_plan::offset_of;
+use insn_forms::{Insn, every_instruction_is_well_formed};
 
 /// Whether operands and addresses have 32 bits where no prefix says otherwise: the code segment has D = 1.
 /// Source: 80386 Programmer's Reference Manual, ch. 16, "How the 80386 Implements 16-Bit and 32-Bit Features".
@@ -109,26 +108,7 @@ fn code_key(m: &Machine) -> u32 {
     m.first_byte(SegReg::Cs).wrapping_add(m.registers().eip)
 }
 
-// Notes the page of an operand, if it is in memory.
-fn warm_operand(m: &mut Machine, addr32: bool, operand: &Operand)
-    ensures { m.new ≡ m.old }
-{
-    if let Operand::Mem(form) = operand {
-        let off = offset_of(m.registers(), addr32, form);
-        m.warm(form.seg, off);
-    }
-}
-
-// Notes the pages of an instruction that is met for the first time, and of its operands.
-fn warm_pages(m: &mut Machine, insn: &Insn)
-    ensures { m.new ≡ m.old }
-{
-    m.warm(SegReg::Cs, m.registers().eip);
-    warm_operand(m, insn.addr32, &insn.first);
-    warm_operand(m, insn.addr32, &insn.second);
-}
-
-// Learns the instruction of these code bytes and makes it.
+// Makes the instruction of these code bytes, which the memo learns where it doesn't know it.
 #[inline(never)]
 #[tactic(auto, using(crate::proofs::KnownSteps::known_step))]
 fn learn_and_step(
@@ -142,12 +122,23 @@ fn learn_and_step(
     ensures { Follows m.old m.new result (client_step m.old) }
 {
     let key = code_key(m);
-    memo.learn(key, words, big);
+    if memo.known(key, words, big).is_none() {
+        memo.learn(key, words, big);
+    }
     match memo.known(key, words, big) {
-        Some(entry) => {
-            warm_pages(m, &entry.insn);
-            execute(m, &entry.insn, entry.len)
-        }
+        Some(entry) => execute(m, &entry.insn, entry.len),
+        None => step(m),
+    }
+}
+
+// Makes the next instruction where a quick look doesn't show its code bytes: their page is noted first.
+#[inline(never)]
+fn note_and_step(m: &mut Machine, memo: &mut Memo) -> Result<(), Event>
+    ensures { Follows m.old m.new result (client_step m.old) }
+{
+    m.warm(SegReg::Cs, m.registers().eip);
+    match m.code_words() {
+        Some(words) => learn_and_step(m, memo, words, has_big_code(m)),
         None => step(m),
     }
 }
@@ -159,7 +150,7 @@ pub fn step_with_memo(m: &mut Machine, memo: &mut Memo) -> Result<(), Event>
     ensures { Follows m.old m.new result (client_step m.old) }
 {
     match m.code_words() {
-        None => step(m),
+        None => note_and_step(m, memo),
         Some(words) => {
             let big = has_big_code(m);
             match memo.known(code_key(m), words, big) {

@@ -3,7 +3,6 @@ pub mod FarBytes
 pub mod KeptServices
 pub mod LimitLaws
 pub mod PutLaws
-pub mod RowLaws
 pub mod SegmentLaws
 pub mod SoundServices
 pub mod WithRun

@@ -12,10 +12,10 @@ use Rattle.client_world.specs.Descriptor.{FitsDescriptor}
 use Rattle.client_world.specs.FreeRuns.{IsFreeRunOf}
 use Rattle.client_world.specs.Selector.{Row, FitsRow, row_at_index, row_of_selector, index_of, is_local}
 use Rattle.client_world.specs.Services.{is_changeable_origin}
-use Rattle.client_world.specs.Soundness.{IsSound, SoundWidth, IsOfDosBlock, IsDosOrigin, IsPlainOrigin, IsPlainRow, IsClientsIndex}
+use Rattle.client_world.specs.Soundness.{IsSound, SoundWidth, IsOfDosBlock, IsPlainOrigin, IsPlainRow, IsClientsIndex}
 use Rattle.client_world.specs.World.{World}
+use Rattle.client_world.proofs.SoundRows.{IsSound-row, high_is_clients, none_not_dos, plain_not_dos}
 use Rattle.desc_services.specs.MayPut.{MayPut}
-use Rattle.desc_services.proofs.RowLaws.{plain_stands, row_keeps_sound}
 use Rattle.desc_services.specs.Rows.{is_freeable_origin}
 
 none_some : (r : Desc × Origin) → None ≢ Some r
@@ -57,19 +57,6 @@ pub plain_row_is_clients : (w : World) (index : ℕ) (row : Desc × Origin) → 
     IsPlainOrigin row.1 → IsClientsIndex index
 plain_row_is_clients w index row s e plain = clients w.width w index row s.width e plain
 
-plain_not_dos : (row : Row) → IsPlainRow row → ¬ IsOfDosBlock row
-plain_not_dos None p d = d
-plain_not_dos (Some row) p d = plain_dos row.1 p d
-  where
-    plain_dos : (o : Origin) → IsPlainOrigin o → ¬ IsDosOrigin o
-    plain_dos Own p d = d
-    plain_dos Low p d = d
-    plain_dos Entry p d = d
-    plain_dos Psp p d = d
-    plain_dos (Segment s) p d = p
-    plain_dos (Dos s) p d = p
-    plain_dos Host p d = p
-
 -- where there is a plain descriptor another plain row may be put, or none
 pub may_change : (w : World) (index : ℕ) (row : Desc × Origin) (new : Row) → IsSound w → row_at_index w.descriptors index ≡ Some row →
     IsPlainOrigin row.1 → FitsRow new → IsPlainRow new → MayPut w index new
@@ -80,7 +67,7 @@ may_change w index row new s e plain fits new_plain =
       width = row_has_width w index row s e;
       old_origin = old;
       new_origin = plain_not_dos new new_plain;
-      sound = row_keeps_sound w index new s (row_has_width w index row s e) (row_within w index row s e) fits (plain_stands w.descriptors index new new_plain) old
+      sound = IsSound-row w index new s (row_has_width w index row s e) (row_within w index row s e) fits new_plain old
           (plain_row_is_clients w index row s e plain);
     }
 
@@ -88,23 +75,16 @@ may_change w index row new s e plain fits new_plain =
 pub may_make : (w : World) (index : ℕ) (new : Row) → IsSound w → w.width ≢ None → row_at_index w.descriptors index ≡ None →
     index < DESCRIPTORS → IsClientsIndex index → FitsRow new → IsPlainRow new → MayPut w index new
 may_make w index new s width e small clients fits plain =
-    let old : ¬ IsOfDosBlock (row_at_index w.descriptors index) = subst (λ (r : Row). ¬ IsOfDosBlock r) (sym e) (λ d. d) in
+    let old = none_not_dos (row_at_index w.descriptors index) e in
     record {
       within = small;
       width = width;
       old_origin = old;
       new_origin = plain_not_dos new plain;
-      sound = row_keeps_sound w index new s width small fits (plain_stands w.descriptors index new plain) old clients;
+      sound = IsSound-row w index new s width small fits plain old clients;
     }
 
--- indices from 64 on, and those below 16, are the client's
-pub high_is_clients : (index : ℕ) → FIRST_FREE_DESCRIPTOR ≤ index → IsClientsIndex index
-high_is_clients index from = record {
-  code = λ e. omega arith;
-  stacks = λ e. omega arith;
-  callbacks = λ at. omega (arith, at.1);
-}
-
+-- indices below 16 are the client's
 pub low_is_clients : (index : ℕ) → index < 16 → IsClientsIndex index
 low_is_clients index below = record {
   code = λ e. omega arith;

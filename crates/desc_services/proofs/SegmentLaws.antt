@@ -8,13 +8,13 @@ use Rattle.client_world.specs.declared.host_frames.TheConstants.{DESCRIPTORS, FI
 use Rattle.client_world.specs.Descriptor.{FitsDescriptor}
 use Rattle.client_world.specs.FreeRuns.{IsFreeRunOf, IsFirstFreeRunOf}
 use Rattle.client_world.specs.Selector.{Row, row_at_index}
-use Rattle.client_world.specs.Soundness.{IsSound, HasOrigin, IsOfDosBlock}
+use Rattle.client_world.specs.Soundness.{IsSound, HasOrigin}
 use Rattle.client_world.specs.World.{World}
+use Rattle.client_world.proofs.SoundRows.{clients_suits, high_is_clients, none_not_dos, row_keeps_sound}
 use Rattle.desc_services.specs.MayPut.{MayPut}
 use Rattle.desc_services.specs.Rows.{is_segment_origin, is_segment_row, segment_index}
 use Rattle.service_rows.proofs.IndexLaws.{first_none, is_first}
-use Rattle.desc_services.proofs.RowLaws.{row_keeps_sound, segment_stands}
-use Rattle.desc_services.proofs.PutLaws.{high_is_clients, row_within}
+use Rattle.desc_services.proofs.PutLaws.{row_within}
 
 -- the search says of each row that it isn't the segment's
 segment_test : (row : Row) (segment : ℕ) → HasOrigin row (Segment segment) → is_segment_row row segment ≡ true
@@ -42,17 +42,20 @@ pub may_make_segment_at : (w : World) (first : ℕ) (d : Desc) (segment : ℕ) �
     FIRST_FREE_DESCRIPTOR ≤ first → IsFreeRunOf w.descriptors first 1 → FitsDescriptor d → MayPut w first (Some (d, Segment segment))
 may_make_segment_at w first d segment s width none from run fits =
     let in_table = run.within in
-    let free : row_at_index w.descriptors first ≡ None = run.free first (omega arith) (omega arith) in
     let small : first < DESCRIPTORS = omega arith in
+    let old = none_not_dos (row_at_index w.descriptors first) (run.free first (omega arith) (omega arith)) in
     record {
       within = small;
       width = width;
-      old_origin = subst (λ (r : Row). ¬ IsOfDosBlock r) (sym free) (λ dos. dos);
+      old_origin = old;
       new_origin = λ dos. dos;
-      sound = row_keeps_sound w first (Some (d, Segment segment)) s width small fits
-          (segment_stands w.descriptors first d segment (no_segment w segment s none))
-          (subst (λ (r : Row). ¬ IsOfDosBlock r) (sym free) (λ dos. dos)) (high_is_clients first from);
+      sound = row_keeps_sound w first (Some (d, Segment segment)) s width
+          (record { within = small; fits = fits; old = old; new = λ dos. dos; alone = alone })
+          (clients_suits first (Some (d, Segment segment)) (high_is_clients first from) (λ e. cc));
     }
+  where
+    alone : (named other : ℕ) → Segment segment ≡ Segment named → other ≢ first → ¬ HasOrigin (row_at_index w.descriptors other) (Segment named)
+    alone named other e ne has = no_segment w segment s none other (subst (HasOrigin (row_at_index w.descriptors other)) (sym e) has)
 
 pub may_make_segment : (w : World) (first : ℕ) (d : Desc) (segment : ℕ) → IsSound w → w.width ≢ None → segment_index w.descriptors segment ≡ None →
     IsFirstFreeRunOf w.descriptors first 1 → FitsDescriptor d → MayPut w first (Some (d, Segment segment))

@@ -6,9 +6,9 @@ ghost use Rattle.service_rows.specs.Reasons.{Does};
 ghost use Rattle.desc_services.specs.Rows.{is_no_limit, limited, set_segment_limit, set_access_rights};
 
 use crate::selector::{change, changeable};
-use client_world::{Desc, Kind};
+use client_world::{Desc, Kind, high_byte, low_byte, low_half, two_words};
 use guest_space::Machine;
-use service_rows::{Refusal, high_byte, low_byte, low_half, two_words};
+use service_rows::Refusal;
 
 // Whether the limit must count pages, and doesn't end with one.
 fn is_no_limit(limit: u32) -> bool

@@ -4,10 +4,10 @@ ghost use Rattle.service_rows.specs.Reasons.{Does};
 ghost use Rattle.desc_services.specs.Rows.{free_descriptor, is_freeable_origin};
 
 use crate::selector::put;
-use client_world::Origin;
 use client_world::selectors::index_of;
+use client_world::{Origin, low_half};
 use guest_space::Machine;
-use service_rows::{Refusal, low_half};
+use service_rows::Refusal;
 
 // Whether a client may free descriptors of this origin.
 fn is_freeable_origin(origin: Origin) -> bool

@@ -4,10 +4,10 @@ ghost use Rattle.service_rows.specs.Reasons.{Does};
 ghost use Rattle.desc_services.specs.Rows.{fresh, allocate_specific, selector_increment};
 
 use crate::selector::put;
-use client_world::Origin;
 use client_world::selectors::{SELECTOR_STEP, index_of, is_local};
+use client_world::{Origin, low_half};
 use guest_space::Machine;
-use service_rows::{Refusal, data_at, low_half, set_ax};
+use service_rows::{Refusal, data_at, set_ax};
 
 // The greatest index that a client may choose.
 const LAST_LOW: u16 = 15;

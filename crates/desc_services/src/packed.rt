@@ -4,9 +4,10 @@ ghost use Rattle.service_rows.specs.Reasons.{Does};
 ghost use Rattle.desc_services.specs.Rows.{get_descriptor, set_descriptor};
 
 use crate::selector::{change, changeable};
+use client_world::low_half;
 use desc_table::{pack, unpack};
 use guest_space::Machine;
-use service_rows::{Refusal, es_di, low_half};
+use service_rows::{Refusal, es_di};
 
 /// Function 000Bh: the packed descriptor of BX goes to ES:(E)DI.
 #[tactic(auto, unfolding(crate::specs::Rows::get_descriptor, guest_space::specs::Far::far_put, guest_space::specs::Far::far_written, guest_space::specs::Transfer::with_places))]

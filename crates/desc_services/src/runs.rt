@@ -10,9 +10,9 @@ ghost use Rattle.desc_services.specs.Rows.{allocate_descriptors, create_alias, w
 
 use crate::selector::put;
 use client_world::selectors::selector_of;
-use client_world::{Desc, Origin};
+use client_world::{Desc, Origin, low_half};
 use guest_space::Machine;
-use service_rows::{Refusal, data_at, low_half, set_ax};
+use service_rows::{Refusal, data_at, set_ax};
 
 /// The first of n free indices, from 64 on.
 pub(crate) fn first_free(m: &Machine, n: u16) -> Result<u16, Refusal>

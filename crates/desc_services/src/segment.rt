@@ -8,9 +8,9 @@ use crate::runs::first_free;
 use crate::selector::put;
 use client_world::host_frames::DESCRIPTORS;
 use client_world::selectors::selector_of;
-use client_world::{Desc, Origin};
+use client_world::{Desc, Origin, low_half};
 use guest_space::Machine;
-use service_rows::{Refusal, data_at, low_half, set_ax};
+use service_rows::{Refusal, data_at, set_ax};
 
 // Whether a descriptor of this origin is a real segment's.
 fn is_segment_origin(origin: Origin, segment: u16) -> bool

@@ -8,9 +8,9 @@ ghost use Rattle.service_rows.specs.Reasons.{Does};
 ghost use Rattle.desc_services.specs.Rows.{get_segment_base, set_segment_base, with_desc};
 
 use client_world::selectors::index_of;
-use client_world::{Desc, Origin};
+use client_world::{Desc, Origin, low_half, two_words, with_low_half};
 use guest_space::Machine;
-use service_rows::{Refusal, low_half, two_words, with_low_half};
+use service_rows::Refusal;
 
 /// Function 0006h: CX:DX is the base of BX.
 #[tactic(auto, unfolding(crate::specs::Rows::get_segment_base))]

@@ -12,9 +12,9 @@ use crate::neighbours::room_behind;
 use crate::resizing::dos_resize;
 use crate::selectors::{first_free, is_free_run, segment_of_selector};
 use client_world::selectors::{index_of, selector_of};
-use client_world::{Carry, DosRefusal, DosRun};
+use client_world::{Carry, DosRefusal, DosRun, low_half, with_low_half};
 use guest_space::{Machine, descriptors_for};
-use service_rows::{low_half, set_ax, with_low_half};
+use service_rows::set_ax;
 
 // Sets BX.
 fn set_bx(m: &mut Machine, v: u16)

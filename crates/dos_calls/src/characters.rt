@@ -6,8 +6,8 @@ ghost use Rattle.dos_calls.specs.Answering.{IfEnded};
 use crate::bytes::print_text;
 use crate::console::Console;
 use crate::keys::Keys;
-use crate::registers::{low_byte, low_half, set_al, set_zero};
-use client_world::{DosDone, Exit};
+use crate::registers::{set_al, set_zero};
+use client_world::{DosDone, Exit, low_byte, low_half};
 use guest_space::Machine;
 
 /// Function 01h: a key into AL, and to the console.

@@ -11,9 +11,8 @@ use crate::files::{read_file, write_file};
 use crate::keys::Keys;
 use crate::line::read_line;
 use crate::memory::{allocate, free, resize};
-use crate::registers::high_byte;
 use crate::vectors::{get_prefix, get_vector, set_vector, terminate, unknown, version};
-use client_world::DosDone;
+use client_world::{DosDone, high_byte};
 use guest_space::Machine;
 
 /// Serves INT 21h: the function whose number is in AH. Where it ends the client, the machine stays as it was.

@@ -7,9 +7,10 @@ ghost use Rattle.dos_calls.specs.Answering.{IfEnded};
 use crate::bytes::{print_bytes, put_bytes};
 use crate::console::Console;
 use crate::keys::Keys;
-use crate::registers::{low_half, refuse, set_ax, set_carry};
-use client_world::{DosDone, Exit};
+use crate::registers::{refuse, set_carry};
+use client_world::{DosDone, Exit, low_half};
 use guest_space::Machine;
+use service_rows::set_ax;
 
 // The error code for a number that no file has.
 const BAD_HANDLE: u16 = 6;

@@ -6,8 +6,7 @@ ghost use Rattle.dos_calls.specs.Answering.{added, IfEnded};
 use crate::bytes::{byte_at, put_bytes};
 use crate::console::Console;
 use crate::keys::{Keys, first};
-use crate::registers::low_half;
-use client_world::{DosDone, Exit};
+use client_world::{DosDone, Exit, low_half};
 use guest_space::Machine;
 
 // The key that ends a line.

@@ -3,10 +3,11 @@ ghost use Rattle.std.specs.Prelude.{◌≡◌};
 ghost use Rattle.dos_calls.specs.Calls.{allocate, free, memory_refused, resize};
 ghost use Rattle.dos_calls.specs.Answering.{Serves};
 
-use crate::registers::{low_half, refuse, set_ax, set_bx, set_carry};
-use client_world::DosRefusal;
+use crate::registers::{refuse, set_bx, set_carry};
+use client_world::{DosRefusal, low_half};
 use dos_blocks::{dos_alloc, dos_free, dos_resize};
 use guest_space::Machine;
+use service_rows::set_ax;
 
 // The error codes where there is no room, and where no block starts at a segment.
 const NO_MEMORY: u16 = 8;

@@ -2,10 +2,9 @@
 ghost use Rattle.std.specs.Prelude.{◌≡◌};
 ghost use Rattle.dos_calls.specs.Multiplex.{with_entry, multiplex_call};
 
-use crate::registers::{low_half, with_low_byte, with_low_half};
-use client_world::Regs;
 use client_world::memory_map::{ROM_SEGMENT, ROM_START};
 use client_world::traps::ENTRY_TRAP;
+use client_world::{Regs, low_half, with_low_byte, with_low_half};
 use guest_space::Machine;
 
 // The function that describes the host and its entry, and what it returns: that programs may have 32 bits, the processor, the version.

@@ -1,36 +1,14 @@
 // The parts of registers that DOS calls read and return values in, and the flags that they return.
 ghost use Rattle.std.specs.Prelude.{◌≡◌};
 ghost use Rattle.client_world.specs.declared.registers.TheConstants.{CARRY_BIT, ZERO_BIT};
-ghost use Rattle.client_world.specs.Registers.{low_byte, high_byte, with_low_byte};
 ghost use Rattle.dos_blocks.specs.Services.{with_bx};
 ghost use Rattle.dos_calls.specs.Calls.{with_al, with_error};
 ghost use Rattle.dos_calls.specs.DosBytes.{with_bit, with_stacked};
 
 use crate::bytes::stacked_flags;
-use cpu_values::{part8, put8};
+use client_world::{with_low_byte, with_low_half};
 use guest_space::Machine;
-pub(crate) use service_rows::{low_half, set_ax, with_low_half};
-
-/// The low byte of a register.
-pub(crate) fn low_byte(x: u32) -> u8
-    ensures { result ≡ low_byte x }
-{
-    part8(x, false)
-}
-
-/// Its second byte.
-pub(crate) fn high_byte(x: u32) -> u8
-    ensures { result ≡ high_byte x }
-{
-    part8(x, true)
-}
-
-/// A register with another low byte.
-pub(crate) fn with_low_byte(x: u32, v: u8) -> u32
-    ensures { result ≡ with_low_byte x v }
-{
-    put8(x, false, v)
-}
+use service_rows::set_ax;
 
 /// Returns a value in AL.
 pub(crate) fn set_al(m: &mut Machine, v: u8)

@@ -4,9 +4,9 @@ ghost use Rattle.dos_calls.specs.Calls.{set_vector, dos_version, get_vector, get
 ghost use Rattle.dos_calls.specs.Answering.{Serves};
 
 use crate::bytes::put_bytes;
-use crate::registers::{low_byte, low_half, refuse, set_bx, with_low_half};
+use crate::registers::{refuse, set_bx};
 use client_world::memory_map::PSP_SEGMENT;
-use client_world::{DosDone, Exit};
+use client_world::{DosDone, Exit, low_byte, low_half, with_low_half};
 use guest_space::Machine;
 
 // The error code for a function that DOS doesn't have.

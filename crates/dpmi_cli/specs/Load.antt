@@ -1,6 +1,7 @@
 -- What comes before a run: the files that are read, and the client that is loaded. Source: own.
-use Rattle.std.specs.Prelude.{ℕ, List, [], ◌∷◌, ◌≡◌, ◌≤◌, ◌<◌, ◌⊎◌, take, None, Some, Contains, IsSomeAnd, ⊤, option_map}
+use Rattle.std.specs.Prelude.{ℕ, List, [], ◌∷◌, ◌≡◌, ◌≤◌, ◌<◌, ◌⊎◌, take, None, Some, Ok, Err, Contains, IsSomeAnd, ⊤, option_map}
 use Rattle.std.specs.declared.option.Option.{Option}
+use Rattle.std.specs.declared.result.Result.{Result}
 use Rattle.client_world.specs.declared.limits.TheConstants.{GREATEST_TIMER, MAX_KEYS, MAX_PAGES, MAX_SLICE, MAX_STEPS, MAX_TRACE}
 use Rattle.client_world.specs.World.{HostWorld}
 use Rattle.client_world.specs.Soundness.{IsSound}
@@ -10,6 +11,8 @@ use Rattle.dpmi_io.specs.Causes.{Rose}
 use Rattle.dpmi_io.specs.Content.{Files, Lacks}
 use Rattle.dpmi_cli.specs.declared.prepare.Prepared.{Prepared}
 use Rattle.dpmi_cli.specs.declared.prepare.Prepared.TheVariants as prepared
+use Rattle.dpmi_cli.specs.declared.prepare.Stop.{Stop}
+use Rattle.dpmi_cli.specs.declared.prepare.Stop.TheVariants.{Memory, Shelf}
 use Rattle.dpmi_cli.specs.Answer.{Verdict, Refuses, Starts, StartsMade, StartsPair, file_verdict, first_verdict, keys_from, limited, pair_verdict, run_verdict}
 use Rattle.dpmi_cli.specs.Causes.{OfFiles}
 use Rattle.dpmi_cli.specs.Words.{key_file_names}
@@ -47,6 +50,12 @@ LacksFile (Some files) r = run_verdict r files files ≡ None
 abbrev pub RunFails : Option Files → RunMeaning → ℕ → ℕ → Option (List ℕ) → Type 0
 RunFails files r before now blamed =
     (Rose before now × IsSomeAnd blamed (λ name. Contains (r.file ∷ key_file_names r.keys) name)) ⊎ LacksFile files r
+
+-- the count of faults stays, unless a file failed or isn't there
+abbrev pub StaysUnlessFailed : {A : Type 0} → Result A Stop → ℕ → ℕ → Type 0
+StaysUnlessFailed (Ok a) before now = now ≡ before
+StaysUnlessFailed (Err Memory) before now = now ≡ before
+StaysUnlessFailed (Err Shelf) before now = ⊤
 
 -- the verdict on a run of this file, whose keystrokes are read next
 abbrev pub HasKeysVerdict : Option Files → RunMeaning → List ℕ → Verdict → Type 0

@@ -1,5 +1,5 @@
 // The command.
-ghost use Rattle.std.specs.Prelude.{◌≡◌, ◌≢◌, ◌≤◌, ◌⊎◌, map, string_bytes, IfSome};
+ghost use Rattle.std.specs.Prelude.{◌≡◌, ◌≢◌, ◌≤◌, ◌<◌, ◌⊎◌, map, string_bytes, IfSome};
 ghost use Rattle.client_world.specs.WatchWorld.{no_watches};
 ghost use Rattle.dpmi_words.specs.Meaning.{meaning};
 ghost use Rattle.dpmi_io.specs.Causes.{Rose};
@@ -53,6 +53,7 @@ fn run_client<O: Sink>(host: &mut Host, timer: Option<u32>, bound: u32, out: &mu
     ensures answers { Answers (Starts host.old.world timer bound) (O.taken out.old) (O.taken out.new) (O.faults out.old) (O.faults out.new) result }
     ensures status { result ≤ OUTPUT_FAILED }
     ensures no_file_failed { result ≢ FILE_FAILED }
+    ensures put { result < REFUSED → O.faults out.new ≡ O.faults out.old }
 {
     every_run_keeps_the_laws();
     let exit = run_to_end(host, timer, bound);
@@ -68,6 +69,7 @@ fn run_made_client<O: Sink>(host: &mut Host, number: u64, out: &mut O) -> u8
     ensures answers { Answers (StartsMade number host.old.world) (O.taken out.old) (O.taken out.new) (O.faults out.old) (O.faults out.new) result }
     ensures status { result ≤ OUTPUT_FAILED }
     ensures no_file_failed { result ≢ FILE_FAILED }
+    ensures put { result < REFUSED → O.faults out.new ≡ O.faults out.old }
 {
     every_run_keeps_the_laws();
     let exit = watched_run(host, DEFAULT_BOUND);
@@ -101,6 +103,7 @@ fn run_in_turns<O: Sink>(
         (O.taken out.old) (O.taken out.new) (O.faults out.old) (O.faults out.new) result }
     ensures status { result ≤ OUTPUT_FAILED }
     ensures no_file_failed { result ≢ FILE_FAILED }
+    ensures put { result < REFUSED → O.faults out.new ≡ O.faults out.old }
 {
     every_run_keeps_the_laws();
     each_client_writes_its_own_lines::<WatchedHost>();
@@ -120,6 +123,7 @@ fn run_pair<O: Sink>(a: Host, b: Host, slice: u32, bound: u32, out: &mut O) -> u
         (O.taken out.old) (O.taken out.new) (O.faults out.old) (O.faults out.new) result }
     ensures status { result ≤ OUTPUT_FAILED }
     ensures no_file_failed { result ≢ FILE_FAILED }
+    ensures put { result < REFUSED → O.faults out.new ≡ O.faults out.old }
 {
     let mut a = WatchedHost::new(a);
     let mut b = WatchedHost::new(b);
@@ -142,6 +146,8 @@ fn answer_words<F: Shelf, O: Sink>(
     ensures output_failure_has_cause { result ≡ OUTPUT_FAILED → Rose (O.faults out.old) (O.faults out.new) }
     ensures nothing_written { (result ≡ FILE_FAILED) ⊎ (result ≡ NO_MEMORY) →
         O.taken out.new ≡ O.taken out.old }
+    ensures a_failure_is_answered { result ≢ FILE_FAILED → F.faults shelf.new ≡ F.faults shelf.old }
+    ensures a_run_is_put_without_failure { result < REFUSED → O.faults out.new ≡ O.faults out.old }
     ensures known { result ≤ NO_MEMORY }
 {
     match prepare(alloc, words, shelf) {
@@ -170,6 +176,8 @@ pub fn dpmi<F: Shelf, O: Sink>(alloc: Global, words: &[String], shelf: &mut F, o
     ensures output_failure_has_cause { result ≡ OUTPUT_FAILED → Rose (O.faults out.old) (O.faults out.new) }
     ensures nothing_written { (result ≡ FILE_FAILED) ⊎ (result ≡ NO_MEMORY) →
         O.taken out.new ≡ O.taken out.old }
+    ensures a_failure_is_answered { result ≢ FILE_FAILED → F.faults shelf.new ≡ F.faults shelf.old }
+    ensures a_run_is_put_without_failure { result < REFUSED → O.faults out.new ≡ O.faults out.old }
     ensures known { result ≤ NO_MEMORY }
 
     // Where no file that the words name fails, nor the output, and the files are known.

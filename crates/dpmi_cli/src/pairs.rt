@@ -72,6 +72,7 @@ pub fn write_turns<O: Sink>(
     ensures end_b { OnOk result (b.new.host.world ≡ watched_run b.old.host.world bound) }
     ensures whole { OnOk result (Gains (O.taken out.old) (O.taken out.new) (pair_text slice bound a.old.host.world b.old.host.world)) }
     ensures part { OnErr result (GainsPart (O.taken out.old) (O.taken out.new) (pair_text slice bound a.old.host.world b.old.host.world)) }
+    ensures quiet { OnOk result (O.faults out.new ≡ O.faults out.old) }
     ensures failed { OnErr result (Rose (O.faults out.old) (O.faults out.new)) }
 {
     match pair(a, b, slice, bound, out) {

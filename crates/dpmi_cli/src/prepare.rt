@@ -43,6 +43,7 @@ ghost use Rattle.dpmi_cli.specs.Load.{
   verdict_in,
   IsReady,
   IsNew,
+  StaysUnlessFailed,
 };
 ghost use Rattle.dpmi_cli.specs.declared.prepare.Stop.TheVariants.{Memory};
 
@@ -128,7 +129,7 @@ fn read_file<F: Shelf>(
     ensures bytes { IfOk result (λ read.
         HasFile most (F.files shelf.old) name.now (option_map (λ v. v.items) read)) }
     ensures files { F.files shelf.new ≡ F.files shelf.old }
-    ensures quiet { OnOk result (F.faults shelf.new ≡ F.faults shelf.old) }
+    ensures quiet { StaysUnlessFailed result (F.faults shelf.old) (F.faults shelf.new) }
     ensures failed { IsErrOf result Stop.Shelf →
         FailsAt (F.files shelf.old) name.now (F.faults shelf.old) (F.faults shelf.new) (F.blamed shelf.new) }
 {
@@ -165,6 +166,7 @@ fn read_keys<F: Shelf>(
 ) -> Result<Option<Vec<u8>>, Stop>
     ensures keys { IfOk result (λ read.
         HasPressed (F.files shelf.old) (keys_in keys.now) (option_map (λ v. v.items) read)) }
+    ensures quiet { StaysUnlessFailed result (F.faults shelf.old) (F.faults shelf.new) }
     ensures failed { IsErrOf result Stop.Shelf →
         KeysFail (F.files shelf.old) (keys_in keys.now) (F.faults shelf.old) (F.faults shelf.new) (F.blamed shelf.new) }
 {
@@ -222,6 +224,7 @@ fn prepare_keys<F: Shelf>(
     requires { HasRanges (run_in run.now) }
     ensures verdict { IfOk result (λ p. HasKeysVerdict (F.files shelf.old) (run_in run.now) file.now (verdict_in p)) }
     ensures new { IfOk result (λ p. IsNew (verdict_in p)) }
+    ensures quiet { StaysUnlessFailed result (F.faults shelf.old) (F.faults shelf.new) }
     ensures failed { IsErrOf result Stop.Shelf →
         KeysFail (F.files shelf.old) (keys_in run.now.keys) (F.faults shelf.old) (F.faults shelf.new) (F.blamed shelf.new) }
 {
@@ -237,6 +240,7 @@ fn prepare_run<F: Shelf>(alloc: Global, run: &Run<'_>, shelf: &mut F) -> Result<
     requires { HasRanges (run_in run.now) }
     ensures verdict { IfOk result (λ p. HasRunVerdict (F.files shelf.old) (run_in run.now) (verdict_in p)) }
     ensures new { IfOk result (λ p. IsNew (verdict_in p)) }
+    ensures quiet { StaysUnlessFailed result (F.faults shelf.old) (F.faults shelf.new) }
     ensures failed { IsErrOf result Stop.Shelf →
         RunFails (F.files shelf.old) (run_in run.now) (F.faults shelf.old) (F.faults shelf.new) (F.blamed shelf.new) }
 {
@@ -295,6 +299,7 @@ fn prepare_second<F: Shelf>(
     requires { HasPairRanges (pair_in pair.now) }
     ensures verdict { IfOk result (λ p. HasSecondVerdict (F.files shelf.old) (pair_in pair.now) first.now (verdict_in p)) }
     ensures new { IfOk result (λ p. IsNew (verdict_in p)) }
+    ensures quiet { StaysUnlessFailed result (F.faults shelf.old) (F.faults shelf.new) }
     ensures failed { IsErrOf result Stop.Shelf →
         FailsAt (F.files shelf.old) pair.now.second.now (F.faults shelf.old) (F.faults shelf.new) (F.blamed shelf.new) }
 {
@@ -310,6 +315,7 @@ fn prepare_pair<F: Shelf>(alloc: Global, pair: &Pair<'_>, shelf: &mut F) -> Resu
     requires { HasPairRanges (pair_in pair.now) }
     ensures verdict { IfOk result (λ p. HasPairVerdict (F.files shelf.old) (pair_in pair.now) (verdict_in p)) }
     ensures new { IfOk result (λ p. IsNew (verdict_in p)) }
+    ensures quiet { StaysUnlessFailed result (F.faults shelf.old) (F.faults shelf.new) }
     ensures failed { IsErrOf result Stop.Shelf →
         PairFails (F.files shelf.old) (pair_in pair.now) (F.faults shelf.old) (F.faults shelf.new) (F.blamed shelf.new) }
 {
@@ -341,6 +347,7 @@ pub fn prepare<F: Shelf>(alloc: Global, words: &[String], shelf: &mut F) -> Resu
     ensures verdict { IfOk result (λ p.
         HasVerdict (map string_bytes words.now) (F.files shelf.old) (λ v. v ≡ verdict_in p)) }
     ensures new { IfOk result (λ p. IsNew (verdict_in p)) }
+    ensures quiet { StaysUnlessFailed result (F.faults shelf.old) (F.faults shelf.new) }
     ensures failed { IsErrOf result Stop.Shelf →
         NamedFailed (map string_bytes words.now) (F.faults shelf.old) (F.faults shelf.new) (F.blamed shelf.new)
         ⊎ IsAbsent (map string_bytes words.now) (F.files shelf.old) }

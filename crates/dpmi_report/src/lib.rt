@@ -14,6 +14,5 @@ mod summary;
 mod tests;
 mod trace;
 
-pub use parts::{put_console, put_dos, put_exit};
 pub use report::{write_all_of, write_memory, write_run, write_state};
 pub use summary::write_summary;

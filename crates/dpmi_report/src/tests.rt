@@ -51,29 +51,15 @@ fn each_event_has_its_line(rt: HostRuntime) -> Result<(), Fail> {
 // The first descriptor of a client after its entry, and the same with 32 bits and a limit of pages.
 #[test]
 fn each_descriptor_has_its_line(rt: HostRuntime) -> Result<(), Fail> {
-    let code = Desc {
-        base: 0x740,
-        limit: 0xFFFF,
-        gran: false,
-        size: false,
-        avl: false,
-        present: true,
-        kind: Kind::Code,
-    };
+    let code = Desc::plain(Kind::Code, 0x740, 0xFFFF, false);
     let line = descriptor_line(0x207, &code, Origin::Entry);
     assert!(rt;
         line.as_slice()
             == b"desc 0207 base=00000740 limit=0000ffff access=fb flags=0 origin=entry\n".as_slice()
     );
     let flat = Desc {
-        limit: 0xFFFFF,
         gran: true,
-        size: true,
-        kind: Kind::Data {
-            writable: true,
-            down: false,
-        },
-        ..code
+        ..Desc::plain(Kind::WRITABLE_DATA, 0x740, 0xFFFFF, true)
     };
     let line = descriptor_line(0x22F, &flat, Origin::Own);
     assert!(rt;

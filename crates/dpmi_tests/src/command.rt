@@ -1,20 +1,11 @@
-// The command over files and an output in memory.
-ghost use Rattle.std.specs.Prelude.{◌≡◌, ◌≤◌, ◌⊎◌};
-
-use crate::files::{ONE_LETTER, answer, client, owned_words};
-use dpmi_cli::dpmi;
-use dpmi_cli::status::{NO_MEMORY, REFUSED};
-use dpmi_io::{MemShelf, MemSink, SureShelf, SureSink};
+// The command over files and an output in memory, of which none fails.
+use crate::files::{LETTER_TEXT, ONE_LETTER, answer, client, is_first_of};
+use dpmi_io::{MemShelf, MemSink};
 use std::alloc::{AllocError, Global};
 use std::process::Abort;
 use std::test::Fail;
 
-// What is written of the run of the client that prints the letter `A`. The megabyte of the digest holds the vectors, the blocks of DOS memory, the environment, the prefix and the
-// code, by their definitions, and the frame of the last interrupt on the stack.
-const LETTER_TEXT: &str =
-    "console 1\nA\ntrace 2 of 2\nint21 02\nint21 4c\nreport\nexit exited 0\nsteps 7\nmode real\ndepth 0\nregs eax=00004c00 ebx=00000000 ecx=00000000 edx=00000041 esi=00000000 edi=00000000 ebp=00000000 esp=000000fa eip=00000021 fl=0002 cs=f000 ss=0075 ds=0064 es=0064 fs=0000 gs=0000\ndescs 0\nblocks 0\ndos sha256=220e234fe35f69a2ba2e07da76cf70cd8b99b83b215fd0727bd9dc65ea7956ae\n";
-
-// The console, the exit and the turns of that run.
+// The console, the exit and the turns of the client that prints the letter `A`.
 const LETTER: &str = "console 1\nA\nexit exited 0\nsteps 7\n";
 
 // Whether a text starts so, and has that part.
@@ -25,7 +16,7 @@ fn shows(bytes: &[u8], start: &str, part: &str) -> bool {
     }
 }
 
-// Whether it is that line of a refusal, or a text with that console, exit and turns.
+// Whether it is that line of a refusal, or a text that begins so and has that exit with its turns.
 fn has(bytes: &[u8], text: &str) -> bool {
     match text.split_once("\nexit ") {
         Some((console, end)) => shows(bytes, console, "\nreport\nexit ")
@@ -124,6 +115,17 @@ const HEADER_WORDS: [(usize, &str, &str); 13] = [
     (0x1A, LETTER, LETTER),
 ];
 
+// The status that goes with a text: that of a refusal, of a client that ended itself, or of any other exit.
+fn status_of(text: &str) -> u8 {
+    if text.starts_with("refused ") {
+        2
+    } else if text.contains("\nexit exited ") {
+        0
+    } else {
+        1
+    }
+}
+
 // Whether the client of the letter with that word in its header is answered so.
 fn is_word_answered(
     rt: &(impl Abort + AllocGlobal),
@@ -138,8 +140,8 @@ fn is_word_answered(
     let mut shelf = MemShelf::new(rt.alloc());
     shelf.add("A.EXE", &file)?;
     let mut out = MemSink::new(rt.alloc(), 2000, 100)?;
-    let _ = answer(rt.alloc(), &["run", "A.EXE"], &mut shelf, &mut out)?;
-    Ok(has(out.bytes(), text))
+    let status = answer(rt.alloc(), &["run", "A.EXE"], &mut shelf, &mut out)?;
+    Ok(status == status_of(text) && has(out.bytes(), text))
 }
 
 #[test]
@@ -194,7 +196,7 @@ const HOSTILE: [(&[u8], u8, &str); 9] = [
     (
         b"\xBA\x03\x01\xB8\x00\xF0\x8E\xD8\xB8\x21\x25\xCD\x21\xCD\x21",
         1,
-        "console 0\n\nexit stray\nsteps 8\n",
+        "console 0\n\ntrace 1 of 1\nint21 25\nreport\nexit stray\nsteps 8\n",
     ),
     (
         b"\x31\xC0\x8E\xD8\xC7\x06\x80\x01\x00\x01\xC7\x06\x82\x01\x00\xF0\xCD\x60",
@@ -266,40 +268,53 @@ fn each_relocation_has_its_answer(rt: HostRuntime) -> Result<(), Fail> {
     Ok(())
 }
 
-// The client of the letter with one relocation, 0000h:010Eh, or none, cut to a length. A cut image is filled up with zeros, 32,768 instructions of
-// two bytes; then there is no byte to fetch at 10000h.
-const CUT_FILES: [(u8, usize, u8, &str); 7] = [
-    (1, 0, 2, "refused ShortHeader\n"),
-    (1, 27, 2, "refused ShortHeader\n"),
-    (1, 28, 2, "refused RelocTable\n"),
-    (1, 31, 2, "refused RelocTable\n"),
-    (1, 43, 0, LETTER),
-    (
-        0,
-        28,
-        1,
-        "console 0\n\nexit fault 0d code=00000000\nsteps 32769\n",
-    ),
-    (
-        0,
-        32,
-        1,
-        "console 0\n\nexit fault 0d code=00000000\nsteps 32769\n",
-    ),
-];
+// Whether the client of the letter with one relocation, cut to that length, is answered as it must be. Shorter than the header, 28 bytes, or than the
+// relocation, which ends at 32, it is refused. A longer one is loaded, and its image is filled up with zeros: its run ends with some exit, since its
+// turns have a bound, and the whole file prints its letter.
+fn is_cut_answered(alloc: Global, file: &[u8], length: usize) -> Result<bool, AllocError> {
+    let mut shelf = MemShelf::new(alloc);
+    shelf.add("A.EXE", file.get(..length).unwrap_or(&[]))?;
+    let mut out = MemSink::new(alloc, 2000, 100)?;
+    let words = ["run", "A.EXE", "--bound", "40000"];
+    let status = answer(alloc, &words, &mut shelf, &mut out)?;
+    Ok(if length < 28 {
+        status == 2 && out.bytes() == b"refused ShortHeader\n".as_slice()
+    } else if length < 32 {
+        status == 2 && out.bytes() == b"refused RelocTable\n".as_slice()
+    } else if length < 43 {
+        status <= 1 && out.bytes().starts_with(b"console ")
+    } else {
+        status == 0 && has(out.bytes(), LETTER)
+    })
+}
 
 #[test]
 fn each_cut_file_has_its_answer(rt: HostRuntime) -> Result<(), Fail> {
     let mut file = ONE_LETTER;
+    file[0x06] = 0x01;
+    file[0x0C] = 0x10;
+    file[0x0D] = 0x00;
+    file[0x1C] = 0x0E;
+    file[0x1D] = 0x01;
     let mut wrong = None;
-    for (row, (relocations, length, status, text)) in CUT_FILES.iter().enumerate() {
-        file[0x06] = *relocations;
-        let low = if *relocations == 0 { 0x00 } else { 0x0E };
-        file[0x1C] = low;
-        file[0x1D] = *relocations;
-        let cut = file.get(..*length).unwrap_or(&[]);
-        if !is_answered(&rt, &["run", "A.EXE"], cut, *status, *text)? {
-            wrong = Some(row);
+    for length in 0..44 {
+        if !is_cut_answered(rt.alloc(), &file, length)? {
+            wrong = Some(length);
+        }
+    }
+    assert_eq!(rt; wrong, None);
+    Ok(())
+}
+
+// The client of the letter without its code: zeros, 32,768 instructions of two bytes; then there is no byte to fetch at 10000h.
+#[test]
+fn a_file_without_its_image_runs_zeros(rt: HostRuntime) -> Result<(), Fail> {
+    let text = "console 0\n\nexit fault 0d code=00000000\nsteps 32769\n";
+    let mut wrong = None;
+    for length in 28..33 {
+        let cut = ONE_LETTER.get(..length).unwrap_or(&[]);
+        if !is_answered(&rt, &["run", "A.EXE"], cut, 1, text)? {
+            wrong = Some(length);
         }
     }
     assert_eq!(rt; wrong, None);
@@ -584,148 +599,5 @@ fn a_made_client_has_its_summary(rt: HostRuntime) -> Result<(), Fail> {
     );
     let is_same = answers == (0, 0) && first.bytes() == second.bytes();
     assert!(rt; is_same && is_summary(first.bytes(), b"soak 7\nexit exited 0\nsteps "));
-    Ok(())
-}
-
-// The status, and how many bytes are written, where so many calls of the files succeed and the next one fails.
-fn answer_with_failure(
-    alloc: Global,
-    texts: &[&str],
-    before: u64,
-) -> Result<(u8, usize), AllocError> {
-    let mut out = MemSink::new(alloc, 1000, 100)?;
-    let mut shelf = MemShelf::new(alloc);
-    shelf.add("A.EXE", &ONE_LETTER)?;
-    shelf.add("B.EXE", &ONE_LETTER)?;
-    shelf.add("K", b"Y")?;
-    shelf.fail_at(before.saturating_add(1))?;
-    let status = answer(alloc, texts, &mut shelf, &mut out)?;
-    Ok((status, out.bytes().len()))
-}
-
-// Words that name two files, and how many bytes are written where no call fails.
-const TWO_FILES: [(&[&str], usize); 2] = [
-    (&["run", "A.EXE", "--keys-file", "K"], 361),
-    (&["pair", "A.EXE", "B.EXE"], 784),
-];
-
-// The calls are: the first file is opened, read and read to its end, and so is the second. No seventh is made.
-#[test]
-fn each_call_of_the_files_fails_in_turn(rt: HostRuntime) -> Result<(), Fail> {
-    let mut wrong = None;
-    for (row, (texts, count)) in TWO_FILES.iter().enumerate() {
-        for before in 0..7 {
-            let wanted = if before < 6 { (3, 0) } else { (0, *count) };
-            if answer_with_failure(rt.alloc(), *texts, before)? != wanted {
-                wrong = Some((row, before));
-            }
-        }
-    }
-    assert_eq!(rt; wrong, None);
-    Ok(())
-}
-
-// Whether a text is as much as there is of these parts, one after another.
-fn is_first_of(text: &str, parts: &[&str]) -> bool {
-    let mut left = text;
-    for part in parts {
-        match left.strip_prefix(*part) {
-            Some(after) => left = after,
-            None => return part.starts_with(left),
-        }
-    }
-    left.is_empty()
-}
-
-// Whether the command whose output fails after so many bytes has that status, and has written as many bytes of that text.
-fn is_cut(
-    alloc: Global,
-    texts: &[&str],
-    parts: &[&str],
-    count: u64,
-    status: u8,
-) -> Result<bool, AllocError> {
-    let mut shelf = MemShelf::new(alloc);
-    shelf.add("A.EXE", &ONE_LETTER)?;
-    let mut out = MemSink::new(alloc, 1000, 1)?;
-    out.fail_at(count.saturating_add(1))?;
-    let answered = answer(alloc, texts, &mut shelf, &mut out)?;
-    let text = str::from_utf8(out.bytes()).unwrap_or("not text");
-    Ok(answered == status && text.len() as u64 == count && is_first_of(text, parts))
-}
-
-// In pieces of one byte each put writes one: where one fails, those before it are written. The text of the run has 361 bytes.
-#[test]
-fn each_put_of_a_run_fails_in_turn(rt: HostRuntime) -> Result<(), Fail> {
-    let mut wrong = None;
-    for count in 0..362 {
-        let status = if count < 361 { 4 } else { 0 };
-        if !is_cut(rt.alloc(), &["run", "A.EXE"], &[LETTER_TEXT], count, status)? {
-            wrong = Some(count);
-        }
-    }
-    assert_eq!(rt; wrong, None);
-    Ok(())
-}
-
-// The text of the pair has 784 bytes: the letters come in the first slice of 1,000 turns.
-const PAIR_PARTS: [&str; 4] = [
-    "pair slice 1000\nslice 0 a 1\nA\nslice 0 b 1\nA\nclient a\n",
-    LETTER_TEXT,
-    "client b\n",
-    LETTER_TEXT,
-];
-
-#[test]
-fn each_put_of_a_pair_fails_in_turn(rt: HostRuntime) -> Result<(), Fail> {
-    let pair = ["pair", "A.EXE", "A.EXE"];
-    let mut wrong = None;
-    for count in 0..785 {
-        let status = if count < 784 { 4 } else { 0 };
-        if !is_cut(rt.alloc(), &pair, &PAIR_PARTS, count, status)? {
-            wrong = Some(count);
-        }
-    }
-    assert_eq!(rt; wrong, None);
-    Ok(())
-}
-
-// The command over files and an output that never fail.
-fn answer_surely(alloc: Global, words: &[String], shelf: &mut SureShelf, out: &mut SureSink) -> u8
-    ensures { (result ≤ REFUSED) ⊎ (result ≡ NO_MEMORY) }
-{
-    dpmi(alloc, words, shelf, out)
-}
-
-// Words, the status, and how many bytes are written.
-const SURE_RUNS: [(&[&str], u8, u64); 4] = [
-    (&["run", "A.EXE"], 0, 361),
-    (&["run", "B.EXE", "--keys-file", "K"], 0, 361),
-    (&["walk", "A.EXE"], 2, 14),
-    (&["pair", "A.EXE", "B.EXE"], 0, 784),
-];
-
-#[test]
-fn nothing_fails_where_nothing_can(rt: HostRuntime) -> Result<(), Fail> {
-    let mut wrong = None;
-    for (row, (texts, status, count)) in SURE_RUNS.iter().enumerate() {
-        let given = owned_words(rt.alloc(), *texts)?;
-        let mut shelf = SureShelf::new(rt.alloc(), &ONE_LETTER)?;
-        let mut out = SureSink::new();
-        let answered = answer_surely(rt.alloc(), given.as_slice(), &mut shelf, &mut out);
-        if answered != *status || out.count() != *count {
-            wrong = Some(row);
-        }
-    }
-    assert_eq!(rt; wrong, None);
-    Ok(())
-}
-
-#[test]
-fn a_refusal_that_is_cut_off_keeps_its_status(rt: HostRuntime) -> Result<(), Fail> {
-    let mut shelf = MemShelf::new(rt.alloc());
-    let mut full = MemSink::new(rt.alloc(), 4, 9)?;
-    let status = answer(rt.alloc(), &[], &mut shelf, &mut full)?;
-    assert!(rt; status == 2 && full.bytes() == b"refu".as_slice());
     Ok(())
 }

@@ -2,7 +2,6 @@
 #![tactic(auto, unfolding(crate::specs::Decimal::adjust, crate::specs::Decimal::aad, crate::specs::Decimal::aam, insn_plan::specs::Plan::carried_out, insn_plan::specs::Plan::after_commit, guest_space::specs::Pending::first_refusal, guest_space::specs::Pending::all_written))]
 
 ghost use Rattle.std.specs.Prelude.{◌≡◌};
-ghost use Rattle.client_world.specs.Registers.{low_half};
 ghost use Rattle.cpu_alu.specs.Decimal.{daa_of, das_of, aaa_of, aas_of};
 ghost use Rattle.exec_core.specs.Decimal.{adjust, aad, aam, with_ax_in};
 ghost use Rattle.guest_space.specs.Registers.{with_registers};
@@ -15,13 +14,6 @@ use cpu_alu::{aaa, aad, aam, aas, daa, das};
 use guest_space::Machine;
 use insn_forms::Insn;
 use insn_plan::{put_register, source};
-
-// AX.
-fn ax(m: &Machine) -> u16
-    ensures { result ≡ low_half m.now.world.regs.eax }
-{
-    (m.registers().eax % 0x1_0000) as u16
-}
 
 // Sets AX and the flags.
 fn set_ax(m: &mut Machine, ax: u16, flags: Flags)
@@ -36,7 +28,7 @@ fn set_ax(m: &mut Machine, ax: u16, flags: Flags)
 pub(crate) fn decimal_adjust_after_addition(m: &mut Machine) -> Result<(), Event>
     ensures { CarriesOut m.old m.new result (adjust daa_of m.old.world) }
 {
-    let (ax, flags) = daa(ax(m), m.registers().flags);
+    let (ax, flags) = daa(m.registers().ax(), m.registers().flags);
     set_ax(m, ax, flags);
     Ok(())
 }
@@ -46,7 +38,7 @@ pub(crate) fn decimal_adjust_after_addition(m: &mut Machine) -> Result<(), Event
 pub(crate) fn decimal_adjust_after_subtraction(m: &mut Machine) -> Result<(), Event>
     ensures { CarriesOut m.old m.new result (adjust das_of m.old.world) }
 {
-    let (ax, flags) = das(ax(m), m.registers().flags);
+    let (ax, flags) = das(m.registers().ax(), m.registers().flags);
     set_ax(m, ax, flags);
     Ok(())
 }
@@ -56,7 +48,7 @@ pub(crate) fn decimal_adjust_after_subtraction(m: &mut Machine) -> Result<(), Ev
 pub(crate) fn adjust_after_addition(m: &mut Machine) -> Result<(), Event>
     ensures { CarriesOut m.old m.new result (adjust aaa_of m.old.world) }
 {
-    let (ax, flags) = aaa(ax(m), m.registers().flags);
+    let (ax, flags) = aaa(m.registers().ax(), m.registers().flags);
     set_ax(m, ax, flags);
     Ok(())
 }
@@ -66,7 +58,7 @@ pub(crate) fn adjust_after_addition(m: &mut Machine) -> Result<(), Event>
 pub(crate) fn adjust_after_subtraction(m: &mut Machine) -> Result<(), Event>
     ensures { CarriesOut m.old m.new result (adjust aas_of m.old.world) }
 {
-    let (ax, flags) = aas(ax(m), m.registers().flags);
+    let (ax, flags) = aas(m.registers().ax(), m.registers().flags);
     set_ax(m, ax, flags);
     Ok(())
 }
@@ -77,7 +69,11 @@ pub(crate) fn adjust_before_division(m: &mut Machine, i: &Insn) -> Result<(), Ev
     ensures { CarriesOut m.old m.new result (aad m.old.world i.now) }
 {
     let base = source(m, i.addr32, 8, &i.first)?;
-    let (ax, flags) = aad(ax(m), (base % 0x100) as u8, m.registers().flags);
+    let (ax, flags) = aad(
+        m.registers().ax(),
+        (base % 0x100) as u8,
+        m.registers().flags,
+    );
     set_ax(m, ax, flags);
     Ok(())
 }
@@ -88,7 +84,11 @@ pub(crate) fn adjust_after_product(m: &mut Machine, i: &Insn) -> Result<(), Even
     ensures { CarriesOut m.old m.new result (aam m.old.world i.now) }
 {
     let base = source(m, i.addr32, 8, &i.first)?;
-    match aam(ax(m), (base % 0x100) as u8, m.registers().flags) {
+    match aam(
+        m.registers().ax(),
+        (base % 0x100) as u8,
+        m.registers().flags,
+    ) {
         None => Err(divide_error()),
         Some((ax, flags)) => {
             set_ax(m, ax, flags);

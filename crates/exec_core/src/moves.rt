@@ -134,7 +134,7 @@ pub(crate) fn xlat(m: &mut Machine, i: &Insn) -> Result<(), Event>
 {
     let r = m.registers();
     let off = cut_address(i.addr32, u64::from(r.ebx) + u64::from(r.eax % 0x100));
-    let v = read_width(m, i.seg, off, 1)?;
+    let v = read_width(m, i.seg, off, 8)?;
     put_register(m, 8, EAX, v);
     Ok(())
 }

@@ -50,7 +50,7 @@ pub(crate) fn pop(m: &mut Machine, i: &Insn) -> Result<(), Event>
     let big = has_big_stack(m);
     let esp = m.registers().esp;
     let size = byte_count(i.width);
-    let v = read_width(m, SegReg::Ss, cut_address(big, u64::from(esp)), size)?;
+    let v = read_width(m, SegReg::Ss, cut_address(big, u64::from(esp)), i.width)?;
     let esp = esp_up(big, u32::from(size), esp);
     match &i.first {
         Operand::Reg { width, number } => {

@@ -171,17 +171,17 @@ pub(crate) fn movs(m: &mut Machine, i: &Insn, len: u8) -> Result<(), Event>
     }
 }
 
-// The same, where the tables have to be asked; the pages of both elements are noted.
+// The same, where the tables have to be asked.
 #[inline(never)]
 #[tactic(auto, unfolding(crate::specs::Strings::movs, insn_plan::specs::Plan::carried_out, insn_plan::specs::Plan::after_commit, guest_space::specs::Pending::first_refusal, guest_space::specs::Pending::all_written))]
 fn movs_by_tables(m: &mut Machine, i: &Insn, len: u8) -> Result<(), Event>
     requires { is_over m.old.world i.now ≡ false }
     ensures { CarriesOut m.old m.new result (movs m.old.world i.now len) }
 {
-    m.warm(i.seg, source_offset(m, i));
-    m.warm(SegReg::Es, destination_offset(m, i));
-    let v = read_width(m, i.seg, source_offset(m, i), byte_count(i.width))?;
-    write_number(m, SegReg::Es, destination_offset(m, i), i.width, v)?;
+    let from = source_offset(m, i);
+    let v = read_width(m, i.seg, from, i.width)?;
+    let to = destination_offset(m, i);
+    write_number(m, SegReg::Es, to, i.width, v)?;
     move_both(m, i);
     count_element(m, i, len, true);
     Ok(())
@@ -198,9 +198,10 @@ pub(crate) fn cmps(m: &mut Machine, i: &Insn, len: u8) -> Result<(), Event>
     if is_over(m, i) {
         return Ok(());
     }
-    let size = byte_count(i.width);
-    let a = read_width(m, i.seg, source_offset(m, i), size)?;
-    let b = read_width(m, SegReg::Es, destination_offset(m, i), size)?;
+    let first = source_offset(m, i);
+    let a = read_width(m, i.seg, first, i.width)?;
+    let second = destination_offset(m, i);
+    let b = read_width(m, SegReg::Es, second, i.width)?;
     let flags = difference_flags(i.width, a, b, m.registers().flags);
     move_both(m, i);
     count_element(m, i, len, goes_on_while(i.rep, flags));
@@ -219,13 +220,8 @@ pub(crate) fn stos(m: &mut Machine, i: &Insn, len: u8) -> Result<(), Event>
         return Ok(());
     }
     let accumulator = register(m.registers(), i.width, EAX);
-    write_number(
-        m,
-        SegReg::Es,
-        destination_offset(m, i),
-        i.width,
-        accumulator,
-    )?;
+    let to = destination_offset(m, i);
+    write_number(m, SegReg::Es, to, i.width, accumulator)?;
     move_destination(m, i);
     count_element(m, i, len, true);
     Ok(())
@@ -241,7 +237,8 @@ pub(crate) fn lods(m: &mut Machine, i: &Insn, len: u8) -> Result<(), Event>
     if is_over(m, i) {
         return Ok(());
     }
-    let v = read_width(m, i.seg, source_offset(m, i), byte_count(i.width))?;
+    let from = source_offset(m, i);
+    let v = read_width(m, i.seg, from, i.width)?;
     put_register(m, i.width, EAX, v);
     move_source(m, i);
     count_element(m, i, len, true);
@@ -259,7 +256,8 @@ pub(crate) fn scas(m: &mut Machine, i: &Insn, len: u8) -> Result<(), Event>
     if is_over(m, i) {
         return Ok(());
     }
-    let b = read_width(m, SegReg::Es, destination_offset(m, i), byte_count(i.width))?;
+    let from = destination_offset(m, i);
+    let b = read_width(m, SegReg::Es, from, i.width)?;
     let a = register(m.registers(), i.width, EAX);
     let flags = difference_flags(i.width, a, b, m.registers().flags);
     move_destination(m, i);

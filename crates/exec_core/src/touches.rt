@@ -183,7 +183,7 @@ fn aam(a: &mut Accesses<'_>, i: &Insn) -> Result<(), Event>
 {
     let base = a.operand(i.addr32, 8, &i.first)?;
     let r = a.regs();
-    match cpu_alu::aam((r.eax % 0x1_0000) as u16, (base % 0x100) as u8, r.flags) {
+    match cpu_alu::aam(r.ax(), (base % 0x100) as u8, r.flags) {
         None => Err(divide_error()),
         Some(_) => Ok(()),
     }

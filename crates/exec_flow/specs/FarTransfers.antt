@@ -1,12 +1,11 @@
 -- Far transfers in both modes: JMP, CALL, RETF, IRET.
 -- Source: 80386 Programmer's Reference Manual, ch. 17, JMP, CALL, RET, IRET; that a far jump or call takes a selector of any privilege
 -- level and stores level 3 is own.
-use Rattle.std.specs.Prelude.{ℕ, ◌+◌, Bool, false, true}
+use Rattle.std.specs.Prelude.{ℕ, Bool, false, true}
 use Rattle.client_world.specs.declared.registers.Mode.TheVariants.{Real, Protected}
-use Rattle.client_world.specs.declared.selectors.TheConstants.{CLIENT_PRIVILEGE}
 use Rattle.client_world.specs.Loading.{transfer_fault}
 use Rattle.client_world.specs.Registers.{low_half}
-use Rattle.client_world.specs.Selector.{selector_code}
+use Rattle.client_world.specs.Selector.{client_selector}
 use Rattle.client_world.specs.World.{World}
 use Rattle.insn_forms.specs.declared.insn.Insn.{Insn}
 use Rattle.insn_plan.specs.Act.{Act, ◌>>=◌, Pending, done, unchanged, unless_fault, with_regs}
@@ -17,7 +16,7 @@ use Rattle.exec_flow.specs.Transfers.{immediate, released}
 
 -- what CS holds after a transfer to a selector: in protected mode with privilege level 3
 unfoldable pub code_selector : World → ℕ → ℕ
-code_selector w sel = elim w.mode [ Real ↦ sel | Protected ↦ selector_code sel + CLIENT_PRIVILEGE ]
+code_selector w sel = elim w.mode [ Real ↦ sel | Protected ↦ client_selector sel ]
 
 -- the transfer itself, with what else the instruction leaves; a return takes privilege level 3 alone
 unfoldable pub far_transfer : World → ℕ → ℕ → Bool → Pending → Act

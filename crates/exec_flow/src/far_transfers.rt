@@ -10,8 +10,8 @@ use crate::pointers::{pointer, pointer_offset, pointer_selector};
 use crate::stack_tops::{popped_esp, released_esp};
 use crate::transfers::{check_transfer, immediate};
 use client_world::general::ESP;
-use client_world::selectors::{CLIENT_PRIVILEGE, privilege_of};
-use client_world::{Event, Fault, Mode, Regs, SegReg};
+use client_world::selectors::client_selector;
+use client_world::{Event, Fault, Mode, Regs, SegReg, low_half};
 use guest_space::Machine;
 use insn_forms::Insn;
 use insn_plan::{Next, stack_item};
@@ -24,7 +24,7 @@ pub fn code_selector(m: &Machine, sel: u16) -> u16
 {
     match m.mode() {
         Mode::Real => sel,
-        Mode::Protected => sel - privilege_of(sel) + CLIENT_PRIVILEGE,
+        Mode::Protected => client_selector(sel),
     }
 }
 
@@ -95,7 +95,7 @@ pub fn pop_far_frame(m: &mut Machine, bits: u8, bytes: u32) -> Result<(), Event>
     let ip = stack_item(m, bits, 0)?;
     let cs = stack_item(m, bits, 1)?;
     let esp = released_esp(m, bits, 2, bytes);
-    far_transfer(m, (cs % 0x1_0000) as u16, ip, true)?;
+    far_transfer(m, low_half(cs), ip, true)?;
     m.set_general(ESP, esp);
     Ok(())
 }
@@ -127,7 +127,7 @@ fn frame_at_top(m: &Machine, bits: u8) -> Result<Frame, Event>
         (λ event. planned m.now.world (frame_popped m.now.world bits) ≡ Err event) }
 {
     let ip = stack_item(m, bits, 0)?;
-    let cs = (stack_item(m, bits, 1)? % 0x1_0000) as u16;
+    let cs = low_half(stack_item(m, bits, 1)?);
     let image = stack_item(m, bits, 2)?;
     check_transfer(m, cs, ip, true)?;
     Ok(Frame { ip, cs, image })

@@ -6,7 +6,7 @@ ghost use Rattle.insn_plan.specs.Plan.{CarriesOut, with_state};
 
 use crate::stack_tops::popped_esp;
 use client_world::general::ESP;
-use client_world::{Event, Flags, Mode, is_interrupt_set};
+use client_world::{Event, Flags, Mode, is_interrupt_set, low_half};
 use guest_space::Machine;
 use insn_forms::Insn;
 use insn_plan::{push_item, stack_item};
@@ -38,7 +38,7 @@ fn popped_interrupt(m: &Machine, image: u32) -> bool
     ensures { result ≡ popped_interrupt m.now.world image }
 {
     match m.mode() {
-        Mode::Real => is_interrupt_set((image % 0x1_0000) as u16),
+        Mode::Real => is_interrupt_set(low_half(image)),
         Mode::Protected => m.vif(),
     }
 }
@@ -51,7 +51,7 @@ pub(crate) fn set_popped_flags(m: &mut Machine, image: u32)
         (popped_interrupt m.old.world image) m.old }
 {
     let on = popped_interrupt(m, image);
-    m.set_flags(Flags::from_image((image % 0x1_0000) as u16));
+    m.set_flags(Flags::from_image(low_half(image)));
     m.set_vif(on);
 }
 

@@ -27,8 +27,8 @@ use client_world::{Event, SegReg};
 use guest_space::{Machine, byte_count};
 use insn_forms::Insn;
 use insn_plan::{
-    Next, cut_address, esp_up, has_big_stack, put_register, read_width, register, set_register,
-    source, stack_pointer, with_pointer,
+    Next, cut_address, esp_up, has_big_stack, number_at, put_register, read_width, register,
+    set_register, source, stack_pointer, with_pointer,
 };
 
 /// Where the frame pointer of a level was saved: that many items below (E)BP.
@@ -45,7 +45,7 @@ fn read_frame(m: &Machine, i: &Insn, level: u8) -> Result<u32, Event>
         ≡ value_of m.now.world (From Ss (saved_frame m.now.world i.now level) (byte_count i.now.width)) }
 {
     let at = saved_frame(m.registers().ebp, i, level);
-    read_width(m, SegReg::Ss, at, byte_count(i.width))
+    number_at(m, SegReg::Ss, at, byte_count(i.width))
 }
 
 // Reads and pushes the saved frame pointers of n levels, from level 1 on, or gives the fault of a read.
@@ -117,7 +117,7 @@ pub(crate) fn leave(m: &mut Machine, i: &Insn) -> Result<(), Event>
     let big = has_big_stack(m);
     let frame = cut_address(big, u64::from(m.registers().ebp));
     let count = byte_count(i.width);
-    let bp = read_width(m, SegReg::Ss, frame, count)?;
+    let bp = read_width(m, SegReg::Ss, frame, i.width)?;
     let at_frame = with_pointer(big, m.registers().esp, frame);
     m.set_general(ESP, esp_up(big, u32::from(count), at_frame));
     put_register(m, i.width, EBP, bp);
@@ -147,9 +147,9 @@ pub(crate) fn is_less_signed(width: u8, a: u64, b: u64) -> bool
 /// BOUND. Source: 80386 Programmer's Reference Manual, ch. 17; that the pair is one access is own.
 #[inline(never)]
 #[tactic(auto, unfolding(crate::specs::Frames::bound, insn_plan::specs::Plan::carried_out, insn_plan::specs::Plan::after_commit, guest_space::specs::Pending::first_refusal, guest_space::specs::Pending::all_written))]
-pub(crate) fn bound(m: &Machine, i: &Insn) -> Result<(), Event>
+pub(crate) fn bound(m: &mut Machine, i: &Insn) -> Result<(), Event>
     requires { IsTrue (is_width i.now.width) }
-    ensures { CarriesOut m.now m.now result (bound m.now.world i.now) }
+    ensures { CarriesOut m.old m.new result (bound m.old.world i.now) }
 {
     let index = u64::from(source(m, i.addr32, i.width, &i.first)?);
     let pair = memory_bytes(m, i, 2 * byte_count(i.width), &i.second)?;

@@ -11,12 +11,22 @@ use insn_plan::{offset_of, read_number};
 /// Reads an operand in memory as a number of n bytes, or gives the fault of the access.
 #[inline(always)]
 #[tactic(auto, unfolding(crate::specs::Pointers::memory_bytes, insn_plan::specs::Act::value_of))]
-pub(crate) fn memory_bytes(m: &Machine, i: &Insn, n: u8, operand: &Operand) -> Result<u64, Event>
+pub(crate) fn memory_bytes(
+    m: &mut Machine,
+    i: &Insn,
+    n: u8,
+    operand: &Operand,
+) -> Result<u64, Event>
     requires count { IsCount n }
-    ensures { result ≡ value_of m.now.world (memory_bytes m.now.world i.now n operand.now) }
+    ensures value { result ≡ value_of m.old.world (memory_bytes m.old.world i.now n operand.now) }
+    ensures kept { m.new ≡ m.old }
 {
     match operand {
-        Operand::Mem(f) => read_number(m, f.seg, offset_of(m.registers(), i.addr32, f), n),
+        Operand::Mem(f) => {
+            let off = offset_of(m.registers(), i.addr32, f);
+            m.warm(f.seg, off);
+            read_number(m, f.seg, off, n)
+        }
         Operand::Reg { .. }
         | Operand::Seg(_)
         | Operand::Imm(_)
@@ -50,8 +60,9 @@ pub(crate) fn pointer_size(i: &Insn) -> u8
 /// Source: 80386 Programmer's Reference Manual, ch. 2, "Pointer"; that it is one access is own.
 #[inline(always)]
 #[tactic(auto, unfolding(crate::specs::Pointers::pointer, insn_plan::specs::Act::value_of))]
-pub(crate) fn pointer(m: &Machine, i: &Insn, operand: &Operand) -> Result<u64, Event>
-    ensures { result ≡ value_of m.now.world (pointer m.now.world i.now operand.now) }
+pub(crate) fn pointer(m: &mut Machine, i: &Insn, operand: &Operand) -> Result<u64, Event>
+    ensures value { result ≡ value_of m.old.world (pointer m.old.world i.now operand.now) }
+    ensures kept { m.new ≡ m.old }
 {
     match operand {
         Operand::Mem(_) => memory_bytes(m, i, pointer_size(i), operand),

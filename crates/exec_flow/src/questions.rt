@@ -18,7 +18,7 @@ ghost use Rattle.insn_plan.specs.Plan.{CarriesOut, Follows, after_commit};
 
 use crate::raising::exception;
 use client_world::faults::INVALID_OPCODE;
-use client_world::{Desc, Event, Flags, Mode, Origin};
+use client_world::{Desc, Event, Flags, Mode, Origin, low_half};
 use desc_table::pack;
 use guest_space::Machine;
 use insn_forms::Insn;
@@ -42,7 +42,7 @@ pub(crate) fn row_of(m: &Machine, sel: u32) -> Option<(Desc, Origin)>
     ensures row { result ≡ row_of_selector m.now.world.descriptors (low_half sel) }
     ensures fits { FitsRow result }
 {
-    m.desc_of((sel % 0x1_0000) as u16)
+    m.desc_of(low_half(sel))
 }
 
 // Whether a segment is held, and may be read.

@@ -17,7 +17,7 @@ ghost use Rattle.insn_plan.specs.Plan.{CarriesOut};
 use crate::pointers::{pointer, pointer_offset, pointer_selector};
 use crate::stack_tops::popped_esp;
 use client_world::general::ESP;
-use client_world::{Event, Fault, Mode, SegReg};
+use client_world::{Event, Fault, Mode, SegReg, low_half};
 use guest_space::Machine;
 use insn_forms::{Insn, Operand};
 use insn_plan::{push_item, put_operand, source, stack_item};
@@ -54,7 +54,7 @@ fn mov_to_segment(m: &mut Machine, i: &Insn, seg: SegReg) -> Result<(), Event>
     ensures { CarriesOut m.old m.new result (mov_to_segment m.old.world i.now seg) }
 {
     let v = source(m, i.addr32, 16, &i.second)?;
-    load_segment(m, seg, (v % 0x1_0000) as u16)?;
+    load_segment(m, seg, low_half(v))?;
     Ok(())
 }
 
@@ -101,7 +101,7 @@ fn pop_into(m: &mut Machine, i: &Insn, seg: SegReg) -> Result<(), Event>
     ensures { CarriesOut m.old m.new result (pop_into m.old.world i.now seg) }
 {
     let v = stack_item(m, i.width, 0)?;
-    let sel = (v % 0x1_0000) as u16;
+    let sel = low_half(v);
     check_load(m, seg, sel)?;
     m.set_general(ESP, popped_esp(m, i.width, 1));
     m.set_selector(seg, sel);

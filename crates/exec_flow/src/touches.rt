@@ -26,7 +26,7 @@ use crate::segments::check_load;
 use crate::transfers::{at_operand_size, check_transfer, immediate};
 use arrayvec::ArrayVec;
 use client_world::faults::{BOUNDS_CHECK, GENERAL_PROTECTION, INVALID_OPCODE};
-use client_world::{Event, Fault, Mode, SegReg, Touch};
+use client_world::{Event, Fault, Mode, SegReg, Touch, low_half};
 use guest_space::{Machine, byte_count};
 use insn_forms::{Insn, Op, Operand};
 use insn_plan::{Accesses, MAX_ACCESSES, condition, cut_address, offset_of};
@@ -213,7 +213,7 @@ fn retf(a: &mut Accesses<'_>, i: &Insn) -> Result<(), Event>
 {
     let ip = a.stack_item(i.width, 0)?;
     let cs = a.stack_item(i.width, 1)?;
-    check_code(a, (cs % 0x1_0000) as u16, ip, true)?;
+    check_code(a, low_half(cs), ip, true)?;
     Ok(())
 }
 
@@ -226,7 +226,7 @@ fn iret(a: &mut Accesses<'_>, i: &Insn) -> Result<(), Event>
     let ip = a.stack_item(i.width, 0)?;
     let cs = a.stack_item(i.width, 1)?;
     a.stack_item(i.width, 2)?;
-    check_code(a, (cs % 0x1_0000) as u16, ip, true)?;
+    check_code(a, low_half(cs), ip, true)?;
     Ok(())
 }
 
@@ -326,7 +326,7 @@ fn mov_to_segment(a: &mut Accesses<'_>, i: &Insn, seg: SegReg) -> Result<(), Eve
     ensures { Notes a.old a.new result (mov_to_segment a.old.world i.now seg) }
 {
     let v = a.operand(i.addr32, 16, &i.second)?;
-    check_register(a, seg, (v % 0x1_0000) as u16)?;
+    check_register(a, seg, low_half(v))?;
     Ok(())
 }
 
@@ -375,7 +375,7 @@ fn pop_into(a: &mut Accesses<'_>, i: &Insn, seg: SegReg) -> Result<(), Event>
     ensures { Notes a.old a.new result (pop_into a.old.world i.now seg) }
 {
     let v = a.stack_item(i.width, 0)?;
-    check_register(a, seg, (v % 0x1_0000) as u16)?;
+    check_register(a, seg, low_half(v))?;
     Ok(())
 }
 

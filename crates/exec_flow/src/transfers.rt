@@ -28,8 +28,9 @@ use insn_plan::{condition, counter, cut_address, push_item, source, stack_item, 
 // Reads the target of a near transfer, before it is cut, or gives the fault of the access.
 #[inline(always)]
 #[tactic(auto, unfolding(crate::specs::Transfers::target, insn_plan::specs::Act::value_of))]
-fn target(m: &Machine, i: &Insn) -> Result<u64, Event>
-    ensures { result ≡ value_of m.now.world (target m.now.world i.now i.now.first) }
+fn target(m: &mut Machine, i: &Insn) -> Result<u64, Event>
+    ensures value { result ≡ value_of m.old.world (target m.old.world i.now i.now.first) }
+    ensures kept { m.new ≡ m.old }
 {
     match &i.first {
         Operand::Imm(distance) => Ok(u64::from(m.registers().eip) + u64::from(*distance)),

@@ -1,175 +1,187 @@
--- An interrupt, an exception and a return lead from a sound world to a sound one.
-use Rattle.std.proofs.Common.{◌≡◌, ℕ, ◌+◌, ◌*◌, ◌<◌, inl, inr, List, length, refl, subst, arith, if◌then◌else◌, Bool, true, false, Option, None, Some, Result, Ok, Err}
-use Rattle.std.specs.Prelude.{IfOk}
+-- A delivery and a return lead from a sound world to a sound one, and depend on the world alone.
+use Rattle.std.proofs.Common.{◌≡◌, ◌≢◌, ℕ, zero, suc, ◌-◌, ◌<◌, ◌≤◌, inl, inr, Bool, true, false, List, [], ◌∷◌, ◌++◌, length, take, refl, ap, ◌∙◌, sym, subst, arith, if◌then◌else◌, Option, None, Some, Result, Ok, Err}
+use Rattle.std.specs.Prelude.{nat_le, slice_index}
 use Rattle.std.proofs.lemmas.Bool.{cases_lt}
-use Rattle.std.proofs.lemmas.List.{get_or_past}
+use Rattle.std.proofs.lemmas.List.{get_or_past, length-append, length-take-le}
+use Rattle.client_world.specs.declared.calls.Record.TheVariants.{Exc}
 use Rattle.client_world.specs.declared.faults.Event.{Event}
 use Rattle.client_world.specs.declared.faults.Fault.{Fault}
-use Rattle.client_world.specs.declared.faults.TheConstants.{GENERAL_PROTECTION}
-use Rattle.client_world.specs.declared.host_frames.TheConstants.{DESCRIPTORS}
-use Rattle.client_world.specs.declared.registers.Mode.{Mode}
-use Rattle.client_world.specs.declared.registers.Mode.TheVariants.{Real, Protected}
+use Rattle.client_world.specs.declared.limits.TheConstants.{GREATEST_DEPTH}
+use Rattle.client_world.specs.declared.outcome.Exit.{Exit}
+use Rattle.client_world.specs.declared.outcome.Exit.TheVariants as exits
+use Rattle.client_world.specs.declared.registers.Mode.TheVariants.{Protected}
+use Rattle.client_world.specs.declared.registers.Width.{Width}
 use Rattle.client_world.specs.declared.segments.FarPtr.{FarPtr}
 use Rattle.client_world.specs.declared.segments.SegReg.TheVariants.{Cs}
-use Rattle.client_world.specs.Access.{fault_with}
-use Rattle.client_world.specs.Loading.{code_row_fault, load_fault, transfer_fault}
-use Rattle.client_world.specs.Selector.{Row, is_null, is_local, index_of, row_at_index}
-use Rattle.client_world.specs.Soundness.{IsSound}
-use Rattle.client_world.specs.World.{World}
-use Rattle.cpu_step.specs.Step.{behind, client_step}
-use Rattle.cpu_step.proofs.FlowSegments.{code_is_word, frame_leaves}
-use Rattle.cpu_step.proofs.SegmentWords.{HoldWords, words_of, segments_of, words_pushed}
-use Rattle.cpu_step.proofs.SoundSteps.{sound_behind, sound_by_plan, sound_step}
-use Rattle.cpu_step.proofs.SoundWritten.{sound_all_written, sound_state}
-use Rattle.exec_flow.specs.FarTransfers.{code_selector, frame_popped}
-use Rattle.exec_flow.specs.Interrupts.{frame_bits, interrupt_pushed}
-use Rattle.guest_space.specs.Pending.{all_written, first_refusal}
+use Rattle.client_world.specs.Loading.{load_fault}
+use Rattle.client_world.specs.Soundness.{IsSound, SoundWidth, HasSegments}
+use Rattle.client_world.specs.World.{World, depth}
+use Rattle.client_world.proofs.SoundWrites.{IsSound-regs, IsSound-vif}
+use Rattle.exec_flow.specs.Interrupts.{frame_bits}
+use Rattle.guest_ram.specs.Bytes.{AreBytes}
+use Rattle.guest_space.specs.Pending.{number_bytes}
+use Rattle.guest_space.proofs.FarPuts.{sound_far, far_alone}
+use Rattle.guest_space.proofs.MemoryAlone.{other_far}
+use Rattle.guest_space.specs.VectorLists.{vector_at}
+use Rattle.cpu_step.proofs.FlowSegments.{code_is_word}
+use Rattle.cpu_step.proofs.SoundWritten.{number_is_bytes}
+use Rattle.interrupts.proofs.SoundAnswers.{code_is_named_by_a_word}
+use Rattle.interrupts.specs.Delivery.{unserved}
+use Rattle.interrupts.specs.Worlds.{bare, its_world}
+use Rattle.insn_plan.specs.Act.{Pending}
+use Rattle.guest_space.proofs.RecordWrites.{has_width}
+use Rattle.guest_space.proofs.SoundLists.{IsSound-calls}
 use Rattle.host_memory.specs.View.{MachineView}
-use Rattle.insn_plan.specs.Act.{unchanged}
-use Rattle.insn_plan.specs.Plan.{planned, carried_out, with_state}
-use Rattle.fault_service.specs.Delivery.{frame_pushed, handler_entered, handler_interrupts, has_real_vector, interrupt_of, interrupt_vector, interrupted, iret_popped, popped_or_bad, real_delivery, software_interrupt, unserved}
-use Rattle.fault_service.specs.Worlds.{bare, its_world, world_delivery, world_interrupt, world_popped, world_step}
+use Rattle.insn_plan.specs.Plan.{carried_out, planned}
+use Rattle.mode_stack.specs.Stack.{top}
+use Rattle.fault_service.specs.Delivery.{after_delivery, delivery_to, exception_frame, exception_items, frame_address, frame_size, handler_regs, items_bytes, protected_delivery}
+use Rattle.fault_service.specs.Return.{exception_popped, exception_return, is_exception, returned_or_bad}
+use Rattle.fault_service.specs.Worlds.{world_exception_return, world_protected_delivery}
+use Rattle.fault_service.proofs.KeptRecords.{exception_there}
+use Rattle.fault_service.proofs.MemoryLaws.{is_delivered, frame_written, depth_kept}
+use Rattle.fault_service.proofs.Plans.{Restores, OfPlan, of_popped, pop_restores, settled_is}
 
--- ---- a selector that names a descriptor is a word
+-- ---- what is written are bytes
 
-no_code_there : (null local : Bool) (row : Row) (sel offset : ℕ) (return : Bool) → row ≡ None →
-    (if null then Some (fault_with GENERAL_PROTECTION 0) else code_row_fault (if local then row else None) sel offset return) ≡ None → ⊥
-no_code_there true local row sel offset return none e = absurd cc
-no_code_there false true None sel offset return none e = absurd cc
-no_code_there false true (Some row) sel offset return none e = absurd cc
-no_code_there false false row sel offset return none e = absurd cc
+no_bytes : AreBytes []
+no_bytes at = omega arith
 
-pub code_is_named_by_a_word : (rows : List Row) (sel offset : ℕ) (return : Bool) → length rows ≡ DESCRIPTORS →
-    load_fault rows Cs sel offset return ≡ None → sel < 0x10000
-unfolding load_fault
-code_is_named_by_a_word rows sel offset return size e = elim (cases_lt sel 0x10000) [
-  | inl small ↦ small
-  | inr large ↦ absurd (no_code_there (is_null sel) (is_local sel) (row_at_index rows (index_of sel)) sel offset return
-      (get_or_past rows (index_of sel) None (omega (arith, size))) e)
+one_byte : (byte : ℕ) (bytes : List ℕ) → byte < 0x100 → AreBytes bytes → AreBytes (byte ∷ bytes)
+one_byte byte bytes small rest zero = small
+one_byte byte bytes small rest (suc at) = rest at
+
+join_bytes : (xs ys : List ℕ) → AreBytes xs → AreBytes ys → AreBytes (xs ++ ys)
+join_bytes [] ys one other = other
+join_bytes (x ∷ xs) ys one other = one_byte x (xs ++ ys) (one 0) (join_bytes xs ys (λ at. one (suc at)) other)
+
+item_is_bytes : (bits v : ℕ) → AreBytes (number_bytes bits v)
+item_is_bytes bits v at = elim (cases_lt at (length (number_bytes bits v))) [
+  | inl inside ↦ number_is_bytes bits v at inside
+  | inr past ↦ (let none : slice_index (number_bytes bits v) at ≡ 0 = get_or_past (number_bytes bits v) at 0 past in omega arith)
 ]
 
--- ---- an interrupt
+items_are_bytes : (bits : ℕ) (items : List ℕ) → AreBytes (items_bytes bits items)
+items_are_bytes bits [] = no_bytes
+items_are_bytes bits (x ∷ xs) = join_bytes (number_bytes bits x) (items_bytes bits xs) (item_is_bytes bits x) (items_are_bytes bits xs)
 
--- the handler's segment, where it may be loaded, is a word: in real mode always
-handler_by_mode : (m : Mode) (w : World) (n : ℕ) → IsSound w →
-    transfer_fault (record w { mode = m }) (interrupt_vector (record w { mode = m }) n).sel (interrupt_vector (record w { mode = m }) n).off false ≡ None →
-    (interrupt_vector (record w { mode = m }) n).sel < 0x10000
-handler_by_mode Real w n s e = omega (arith, s.megabyte.bytes (4 * n + 2), s.megabyte.bytes (4 * n + 2 + 1))
-handler_by_mode Protected w n s e = code_is_named_by_a_word w.descriptors _ _ false s.descriptors.indices e
+frame_is_bytes : (w : World) (f : Fault) → AreBytes (exception_frame w f)
+unfolding exception_frame
+frame_is_bytes w f = items_are_bytes (frame_bits w) (exception_items w f)
 
-handler_is_word : (w : World) (n : ℕ) → IsSound w →
-    transfer_fault w (interrupt_vector w n).sel (interrupt_vector w n).off false ≡ None → (interrupt_vector w n).sel < 0x10000
-handler_is_word w n s e = handler_by_mode w.mode w n s e
+-- ---- a delivery
 
-sound_at_handler : (v : MachineView) (p : FarPtr) → IsSound v.world → p.sel < 0x10000 →
-    IsSound (with_state (record v.world.regs { cs = code_selector v.world p.sel; eip = p.off }) (handler_interrupts v.world) v).world
-sound_at_handler v p s small =
-    let r = record v.world.regs { cs = code_selector v.world p.sel; eip = p.off } in
-    let words = words_of v.world.regs s.segments in
-    sound_state v (record (unchanged v.world) { regs = r; vif = handler_interrupts v.world })
-    (segments_of r (record {
-      es_fits = words.es_fits;
-      cs_fits = code_is_word v.world p.sel small;
-      ss_fits = words.ss_fits;
-      ds_fits = words.ds_fits;
-      fs_fits = words.fs_fits;
-      gs_fits = words.gs_fits;
-    })) s
+handler_segments : (w : World) (p : FarPtr) → HasSegments w.regs → p.sel < 0x10000 → HasSegments (handler_regs w p)
+handler_segments w p s small = record {
+  es = s.es;
+  cs = code_is_word w p.sel small;
+  ss = omega arith;
+  ds = s.ds;
+  fs = s.fs;
+  gs = s.gs;
+}
 
-sound_where_granted : (o : Option Fault) (at u : MachineView) → (o ≡ None → IsSound at.world) →
-    elim o as (λ _. Result MachineView Fault) [ Some f ↦ Err f | None ↦ Ok at ] ≡ Ok u → IsSound u.world
-sound_where_granted None at u s e =
-    let same : at ≡ u = cc in
-    subst (λ (m : MachineView). IsSound m.world) same (s refl)
-sound_where_granted (Some f) at u s e = absurd cc
+pub protected_by : (width : Option Width) (w : World) → w.mode ≡ Protected → SoundWidth width w → width ≢ None
+protected_by None w is s = λ e. (let real = s.mode in cc)
+protected_by (Some width) w is s = λ e. cc
 
-sound_entered : (v u : MachineView) (n : ℕ) → IsSound v.world → handler_entered v (interrupt_vector v.world n) ≡ Ok u → IsSound u.world
-sound_entered v u n s e =
-    let p = interrupt_vector v.world n in
-    sound_where_granted (transfer_fault v.world p.sel p.off false)
-    (with_state (record v.world.regs { cs = code_selector v.world p.sel; eip = p.off }) (handler_interrupts v.world) v) u
-    (λ granted. sound_at_handler v p s (handler_is_word v.world n s granted)) e
+width_kept : (v : MachineView) (f : Fault) → (frame_written v f).world.width ≡ v.world.width
+unfolding frame_written
+width_kept v f = ap (λ (w : World). w.width) (other_far v (frame_address v.world) (frame_size v.world) (exception_frame v.world f))
 
-pushed_words : (w : World) → HoldWords w.regs → HoldWords (interrupt_pushed w).regs
-unfolding interrupt_pushed
-pushed_words w s = words_pushed _ _ _ _ (words_pushed _ _ _ _ (words_pushed _ _ _ _ s))
+sound_frame : (v : MachineView) (f : Fault) → IsSound v.world → IsSound (frame_written v f).world
+unfolding frame_written
+sound_frame v f s = sound_far v (frame_address v.world) (frame_size v.world) (exception_frame v.world f) s (frame_is_bytes v.world f)
 
-sound_pushed : (v : MachineView) → IsSound v.world → IsSound (frame_pushed v).world
-sound_pushed v s =
-    let p = interrupt_pushed v.world in
-    sound_state (all_written v p.writes) p (segments_of p.regs (pushed_words v.world (words_of v.world.regs s.segments)))
-    (sound_all_written v p.writes s)
+pub sound_delivered : (v : MachineView) (f : Fault) (p : FarPtr) → IsSound v.world → v.world.width ≢ None → depth v.world < GREATEST_DEPTH → p.sel < 0x10000 →
+    IsSound (after_delivery v f p).world
+unfolding after_delivery frame_written
+sound_delivered v f p s some room small =
+    let x = (frame_written v f).world in
+    let calls = x.calls ++ Exc f.number f.code ∷ [] in
+    let few : length calls ≤ GREATEST_DEPTH = omega (arith, length-append x.calls (Exc f.number f.code ∷ []), depth_kept v f, room) in
+    IsSound-vif (record x { calls = calls; regs = handler_regs v.world p }) false
+    (IsSound-regs (record x { calls = calls }) (handler_regs v.world p)
+    (IsSound-calls x calls (sound_frame v f s) (λ e. some (sym (width_kept v f) ∙ e)) few) (handler_segments v.world p s.segments small))
 
--- what is answered where there is no fault
-pub granted_was : {E : Type 0} (err : Fault → E) (o : Option Fault) (r : Result MachineView E) (u : MachineView) →
-    elim o as (λ _. Result MachineView E) [ Some f ↦ Err (err f) | None ↦ r ] ≡ Ok u → r ≡ Ok u
-granted_was err None r u e = e
-granted_was err (Some f) r u e = absurd cc
-
-sound_interrupted : (v u : MachineView) (n : ℕ) → IsSound v.world → interrupted v n ≡ Ok u → IsSound u.world
-sound_interrupted v u n s e =
-    sound_entered (frame_pushed v) u n (sound_pushed v s)
-    (granted_was (λ (f : Fault). f) (first_refusal v.world (interrupt_pushed v.world).writes)
-    (handler_entered (frame_pushed v) (interrupt_vector (frame_pushed v).world n)) u e)
-
-pub sound_interrupt : (v u : MachineView) (n len : ℕ) → IsSound v.world → software_interrupt v n len ≡ Ok u → IsSound u.world
-unfolding software_interrupt
-sound_interrupt v u n len s e = sound_interrupted (behind len v) u n (sound_behind v len s) e
-
--- ---- an exception
-
-interrupt_was : (f : Fault) (r : Result MachineView Fault) (u : MachineView) → interrupt_of f r ≡ Ok u → r ≡ Ok u
-interrupt_was f (Ok v) u e = cc
-interrupt_was f (Err g) u e = absurd cc
-
-pub delivered_was : (served : Bool) (f : Fault) (r : Result MachineView Fault) (u : MachineView) →
-    (if served then interrupt_of f r else Err (unserved f)) ≡ Ok u → r ≡ Ok u
-delivered_was true f r u e = interrupt_was f r u e
-delivered_was false f r u e = absurd cc
-
-pub sound_delivery : (v u : MachineView) (f : Fault) → IsSound v.world → real_delivery v f ≡ Ok u → IsSound u.world
-unfolding real_delivery
-sound_delivery v u f s e =
-    sound_interrupt v u f.number 0 s (delivered_was (has_real_vector f.number) f (software_interrupt v f.number 0) u e)
+pub sound_delivery : (v u : MachineView) (f : Fault) → IsSound v.world → v.world.mode ≡ Protected → protected_delivery v f ≡ Ok u → IsSound u.world
+sound_delivery v u f s mode e =
+    let done = is_delivered v u f e in
+    let p = vector_at v.world.exception_vectors f.number in
+    subst (λ (x : MachineView). IsSound x.world) (sym done.is)
+    (sound_delivered v f p s (protected_by v.world.width v.world mode s.width) done.room
+    (code_is_named_by_a_word v.world.descriptors p.sel p.off false s.descriptors.indices done.loads))
 
 -- ---- a return
 
-pub return_was : (r : Result MachineView Event) (u : MachineView) → popped_or_bad r ≡ Ok u → r ≡ Ok u
-return_was (Ok v) u e = cc
-return_was (Err g) u e = absurd cc
+sound_returned : (r : Result MachineView Event) (v u : MachineView) → IsSound v.world → 0 < depth v.world → ((x : MachineView) → r ≡ Ok x → Restores v x) →
+    returned_or_bad r ≡ Ok u → IsSound u.world
+sound_returned (Ok x) v u s some restores e =
+    let h = restores x refl in
+    let calls = take (depth v.world - 1) v.world.calls in
+    let depths = s.depth in
+    let few : length calls ≤ GREATEST_DEPTH = omega (arith, length-take-le (depth v.world - 1) v.world.calls (omega arith), depths) in
+    let sound = IsSound-calls (record v.world { regs = h.regs; vif = h.vif }) calls
+    (IsSound-vif (record v.world { regs = h.regs }) h.vif (IsSound-regs v.world h.regs s (h.segments s.segments))) (has_width v.world s some) few in
+    subst IsSound (ap (λ (t : MachineView). record t.world { calls = take (depth t.world - 1) t.world.calls }) (sym h.is) ∙ ap world_of e) sound
+  where
+    world_of : Result MachineView Exit → World
+    world_of (Ok t) = t.world
+    world_of (Err g) = v.world
+sound_returned (Err g) v u s some restores e = absurd cc
 
-pub sound_popped : (v u : MachineView) → IsSound v.world → iret_popped v ≡ Ok u → IsSound u.world
-unfolding iret_popped
-sound_popped v u s e =
-    let act = frame_popped v.world (frame_bits v.world) in
-    sound_by_plan v u act (planned v.world act) refl (frame_leaves v.world (frame_bits v.world) (words_of v.world.regs s.segments)) s
-    (return_was (carried_out v (planned v.world act)) u e)
+where_exception : (exception : Bool) (v u : MachineView) → IsSound v.world → is_exception (top v.world) ≡ exception →
+    (if exception then returned_or_bad (carried_out v (planned v.world (exception_popped v.world (frame_bits v.world)))) else Err exits.Stray) ≡ Ok u →
+    IsSound u.world
+where_exception true v u s is e =
+    sound_returned (carried_out v (planned v.world (exception_popped v.world (frame_bits v.world)))) v u s (exception_there v.world is)
+    (λ x was. pop_restores v x (frame_bits v.world) was) e
+where_exception false v u s is e = absurd cc
+
+pub sound_return : (v u : MachineView) → IsSound v.world → exception_return v ≡ Ok u → IsSound u.world
+unfolding exception_return
+sound_return v u s e = where_exception (is_exception (top v.world)) v u s refl e
 
 -- ---- of worlds
 
--- what holds of each answer holds of its world
-pub holds_of_world : {E : Type 0} (P : World → Type 0) (r : Result MachineView E) (u : World) →
-    ((v : MachineView) → r ≡ Ok v → P v.world) → its_world r ≡ Ok u → P u
-holds_of_world P (Ok v) u holds e = let same : v.world ≡ u = cc in subst P same (holds v refl)
-holds_of_world P (Err g) u holds e = absurd cc
+delivered_alone : (v : MachineView) (f : Fault) (p : FarPtr) → (after_delivery v f p).world ≡ (after_delivery (bare v.world) f p).world
+unfolding after_delivery
+delivered_alone v f p =
+    ap (λ (x : World). record x { calls = x.calls ++ Exc f.number f.code ∷ []; regs = handler_regs v.world p; vif = false })
+    (far_alone v (bare v.world) (frame_address v.world) (frame_size v.world) (exception_frame v.world f) refl)
 
--- what holds of the answer that was found holds of the one that is given
-pub holds_of_answer : {E : Type 0} (P : MachineView → Type 0) (r : Result MachineView E) (u : MachineView) → IfOk r P → r ≡ Ok u → P u
-holds_of_answer P (Ok v) u holds e = let same : v ≡ u = cc in subst P same holds
-holds_of_answer P (Err g) u holds e = absurd cc
+by_fault : (o : Option Fault) (x y : MachineView) (g : Exit) → x.world ≡ y.world →
+    its_world (elim o as (λ _. Result MachineView Exit) [ Some h ↦ Err g | None ↦ Ok x ]) ≡ its_world (elim o as (λ _. Result MachineView Exit) [ Some h ↦ Err g | None ↦ Ok y ])
+by_fault None x y g same = ap (λ (w : World). Ok w) same
+by_fault (Some h) x y g same = refl
 
-pub sound_world_step : (w u : World) → IsSound w → world_step w ≡ Ok u → IsSound u
-unfolding world_step
-sound_world_step w u s e = holds_of_world IsSound (client_step (bare w)) u (λ v. sound_step (bare w) v s) e
+by_depth : (deep : Bool) (r s : Result MachineView Exit) → its_world r ≡ its_world s →
+    its_world (if deep then Err exits.Deep else r) ≡ its_world (if deep then Err exits.Deep else s)
+by_depth true r s same = refl
+by_depth false r s same = same
 
-pub sound_world_interrupt : (w u : World) (n len : ℕ) → IsSound w → world_interrupt w n len ≡ Ok u → IsSound u
-unfolding world_interrupt
-sound_world_interrupt w u n len s e = holds_of_world IsSound (software_interrupt (bare w) n len) u (λ v. sound_interrupt (bare w) v n len s) e
+pub delivery_alone : (v : MachineView) (f : Fault) → its_world (protected_delivery v f) ≡ world_protected_delivery v.world f
+unfolding protected_delivery world_protected_delivery
+delivery_alone v f =
+    let p = vector_at v.world.exception_vectors f.number in
+    by_depth (nat_le GREATEST_DEPTH (depth v.world)) (delivery_to v f p) (delivery_to (bare v.world) f p)
+    (by_fault (load_fault v.world.descriptors Cs p.sel p.off false) (after_delivery v f p) (after_delivery (bare v.world) f p) (unserved f) (delivered_alone v f p))
 
-pub sound_world_delivery : (w u : World) (f : Fault) → IsSound w → world_delivery w f ≡ Ok u → IsSound u
-unfolding world_delivery
-sound_world_delivery w u f s e = holds_of_world IsSound (real_delivery (bare w) f) u (λ v. sound_delivery (bare w) v f s) e
+returned_alone : (v : MachineView) (r : Result Pending Event) → OfPlan v.world.regs r →
+    its_world (returned_or_bad (carried_out v r)) ≡ its_world (returned_or_bad (carried_out (bare v.world) r))
+unfolding carried_out
+returned_alone v (Ok p) h =
+    ap (λ (r : Result MachineView Event). its_world (returned_or_bad r)) (settled_is v p h.writes)
+    ∙ ap (λ (r : Result MachineView Event). its_world (returned_or_bad r)) (sym (settled_is (bare v.world) p h.writes))
+returned_alone v (Err g) h = refl
 
-pub sound_world_popped : (w u : World) → IsSound w → world_popped w ≡ Ok u → IsSound u
-unfolding world_popped
-sound_world_popped w u s e = holds_of_world IsSound (iret_popped (bare w)) u (λ v. sound_popped (bare w) v s) e
+by_exception : (exception : Bool) (r s : Result MachineView Exit) → its_world r ≡ its_world s →
+    its_world (if exception then r else Err exits.Stray) ≡ its_world (if exception then s else Err exits.Stray)
+by_exception true r s same = same
+by_exception false r s same = refl
+
+pub return_alone : (v : MachineView) → its_world (exception_return v) ≡ world_exception_return v.world
+unfolding exception_return world_exception_return
+return_alone v =
+    let plan = planned v.world (exception_popped v.world (frame_bits v.world)) in
+    by_exception (is_exception (top v.world)) (returned_or_bad (carried_out v plan)) (returned_or_bad (carried_out (bare v.world) plan))
+    (returned_alone v plan (of_popped v.world (frame_bits v.world)).plan)

@@ -1,102 +1,76 @@
--- Software interrupts, exceptions in real mode, and the return from an interrupt at a trap.
--- Source: 80386 Programmer's Reference Manual, ch. 17, INT/INTO and IRET, and ch. 9; DPMI 0.9, "Interrupts"; which exceptions the vectors of
--- real mode serve, and that all others end the client, is own.
-use Rattle.std.specs.Prelude.{ℕ, ◌+◌, ◌*◌, Bool, false, ◌||◌, nat_eq, if◌then◌else◌, Ok, Err, Some, None, slice_index_or}
-use Rattle.std.specs.declared.option.Option.{Option}
+-- Exceptions in protected mode: the frame on the host's protected-mode stack of the depth, and the handler.
+-- Source: DPMI 0.9, "Exceptions"; where the frame lies, and that an exception whose handler can't be loaded ends the client, is own.
+use Rattle.std.specs.Prelude.{ℕ, ◌+◌, ◌-◌, ◌*◌, false, List, [], ◌∷◌, ◌++◌, nat_le, if◌then◌else◌, Ok, Err, Some, None}
 use Rattle.std.specs.declared.result.Result.{Result}
-use Rattle.client_world.specs.declared.faults.Event.{Event}
+use Rattle.client_world.specs.declared.calls.Record.TheVariants.{Exc}
 use Rattle.client_world.specs.declared.faults.Fault.{Fault}
-use Rattle.client_world.specs.declared.faults.TheConstants.{DIVIDE_ERROR, BOUNDS_CHECK, INVALID_OPCODE, COPROCESSOR_NOT_AVAILABLE}
+use Rattle.client_world.specs.declared.limits.TheConstants.{GREATEST_DEPTH}
+use Rattle.client_world.specs.declared.memory_map.TheConstants.{PROTECTED_STACK_SIZE, ROM_START}
 use Rattle.client_world.specs.declared.outcome.Exit.{Exit}
 use Rattle.client_world.specs.declared.outcome.Exit.TheVariants as exits
-use Rattle.client_world.specs.declared.registers.Mode.TheVariants.{Real, Protected}
+use Rattle.client_world.specs.declared.registers.Regs.{Regs}
 use Rattle.client_world.specs.declared.segments.FarPtr.{FarPtr}
-use Rattle.client_world.specs.Loading.{transfer_fault}
-use Rattle.client_world.specs.World.{World}
-use Rattle.cpu_step.specs.Step.{behind}
-use Rattle.exec_flow.specs.FarTransfers.{code_selector, frame_popped}
-use Rattle.exec_flow.specs.Interrupts.{frame_bits, interrupt_pushed}
-use Rattle.guest_ram.specs.Bytes.{word_of}
-use Rattle.guest_space.specs.Pending.{first_refusal, all_written}
+use Rattle.client_world.specs.declared.segments.SegReg.TheVariants.{Cs}
+use Rattle.client_world.specs.declared.selectors.TheConstants.{HOST_CODE, HOST_STACKS}
+use Rattle.client_world.specs.declared.traps.TheConstants.{EXCEPTION_RETURN_TRAP}
+use Rattle.client_world.specs.Loading.{load_fault}
+use Rattle.client_world.specs.Registers.{flags_image}
+use Rattle.client_world.specs.Selector.{selector_of}
+use Rattle.client_world.specs.World.{World, depth}
+use Rattle.exec_flow.specs.FarTransfers.{code_selector}
+use Rattle.exec_flow.specs.Interrupts.{frame_bits}
+use Rattle.interrupts.specs.Delivery.{unserved}
+use Rattle.guest_space.specs.Far.{far_written}
+use Rattle.guest_space.specs.Pending.{byte_count, number_bytes}
+use Rattle.guest_space.specs.VectorLists.{vector_at}
 use Rattle.host_memory.specs.View.{MachineView}
-use Rattle.insn_plan.specs.Plan.{planned, carried_out, with_state}
+use Rattle.insn_plan.specs.Plan.{with_state}
+use Rattle.mode_stack.specs.Stack.{after_push}
 
--- ---- software interrupts
+-- the items of the frame, from the stack pointer up: the return address of the handler, the error code, and the client's EIP, CS, flags
+-- image with the virtual interrupt flag, ESP and SS
+unfoldable pub exception_items : World → Fault → List ℕ
+exception_items w f =
+    (EXCEPTION_RETURN_TRAP - ROM_START) ∷ selector_of HOST_CODE ∷ f.code
+    ∷ w.regs.eip ∷ w.regs.cs ∷ flags_image w.regs.flags w.vif ∷ w.regs.esp ∷ w.regs.ss ∷ []
 
--- the vector of real mode: an offset and a segment, words at 4 · n
-abbrev pub real_vector : World → ℕ → FarPtr
-real_vector w n = record { sel = word_of w.dos (4 * n + 2); off = word_of w.dos (4 * n) }
+-- items of that many bits, one after the other; each is cut to its width
+abbrev pub items_bytes : ℕ → List ℕ → List ℕ
+items_bytes bits [] = []
+items_bytes bits (item ∷ items) = number_bytes bits item ++ items_bytes bits items
 
--- the vector of the mode; each number below 256 has one in protected mode
-abbrev pub interrupt_vector : World → ℕ → FarPtr
-interrupt_vector w n = elim w.mode [
-  | Real ↦ real_vector w n
-  | Protected ↦ slice_index_or w.interrupt_vectors n (record { sel = 0; off = 0 })
+-- the bytes of the frame: the items are words for a 16-bit client, and doublewords for a 32-bit client
+unfoldable pub exception_frame : World → Fault → List ℕ
+exception_frame w f = items_bytes (frame_bits w) (exception_items w f)
+
+abbrev pub frame_size : World → ℕ
+frame_size w = 8 * byte_count (frame_bits w)
+
+-- where it lies: at the end of the host's stack of the depth
+abbrev pub frame_offset : World → ℕ
+frame_offset w = (depth w + 1) * PROTECTED_STACK_SIZE - frame_size w
+
+abbrev pub frame_address : World → FarPtr
+frame_address w = record { sel = selector_of HOST_STACKS; off = frame_offset w }
+
+-- the registers at the handler: it runs on the host's stack, with the frame at the stack's top
+abbrev pub handler_regs : World → FarPtr → Regs
+handler_regs w p = record w.regs { cs = code_selector w p.sel; eip = p.off; ss = selector_of HOST_STACKS; esp = frame_offset w }
+
+-- the machine at the handler: the frame is written, the exception is the innermost record, and virtual interrupts are off
+unfoldable pub after_delivery : MachineView → Fault → FarPtr → MachineView
+after_delivery v f p = with_state (handler_regs v.world p) false
+    (after_push (far_written v (frame_address v.world) (frame_size v.world) (exception_frame v.world f)) (Exc f.number f.code))
+
+-- the delivery to a handler: where its address can't be loaded into CS, the exception ends the client
+abbrev pub delivery_to : MachineView → Fault → FarPtr → Result MachineView Exit
+delivery_to v f p = elim (load_fault v.world.descriptors Cs p.sel p.off false) [
+  | Some g ↦ Err (unserved f)
+  | None ↦ Ok (after_delivery v f p)
 ]
 
--- the fault of loading the handler's address into CS
-abbrev pub vector_fault : World → ℕ → Option Fault
-vector_fault w n = transfer_fault w (interrupt_vector w n).sel (interrupt_vector w n).off false
-
--- the same before the pushes: in real mode they may change the vector, but every vector can be loaded; in protected mode they leave it
-abbrev pub handler_fault : World → ℕ → Option Fault
-handler_fault w n = elim w.mode [ Real ↦ None | Protected ↦ vector_fault w n ]
-
--- virtual interrupts while the handler runs: in real mode off, in protected mode as before
-abbrev pub handler_interrupts : World → Bool
-handler_interrupts w = elim w.mode [ Real ↦ false | Protected ↦ w.vif ]
-
--- the machine at a handler, or the fault of loading its address into CS
-abbrev pub handler_entered : MachineView → FarPtr → Result MachineView Fault
-handler_entered v p = elim (transfer_fault v.world p.sel p.off false) [
-  | Some f ↦ Err f
-  | None ↦ Ok (with_state (record v.world.regs { cs = code_selector v.world p.sel; eip = p.off }) (handler_interrupts v.world) v)
-]
-
--- the machine with what the interrupt pushes
-abbrev pub frame_pushed : MachineView → MachineView
-frame_pushed v =
-    with_state (interrupt_pushed v.world).regs (interrupt_pushed v.world).vif (all_written v (interrupt_pushed v.world).writes)
-
--- the interrupt n of a machine whose instruction pointer is the one to push; the vector is read as the pushes left it
-abbrev pub interrupted : MachineView → ℕ → Result MachineView Fault
-interrupted v n = elim (first_refusal v.world (interrupt_pushed v.world).writes) [
-  | Some f ↦ Err f
-  | None ↦ handler_entered (frame_pushed v) (interrupt_vector (frame_pushed v).world n)
-]
-
--- the machine after the software interrupt n, whose instruction has `len` bytes; or its fault, with nothing changed
-unfoldable pub software_interrupt : MachineView → ℕ → ℕ → Result MachineView Fault
-software_interrupt v n len = interrupted (behind len v) n
-
--- ---- exceptions in real mode
-
--- the exceptions that real vectors serve
-abbrev pub has_real_vector : ℕ → Bool
-has_real_vector number =
-    nat_eq number DIVIDE_ERROR || nat_eq number BOUNDS_CHECK || nat_eq number INVALID_OPCODE
-    || nat_eq number COPROCESSOR_NOT_AVAILABLE
-
--- an exception that nothing serves
-abbrev pub unserved : Fault → Exit
-unserved f = exits.Fault f.number f.code
-
--- the interrupt that an exception is, with the instruction pointer of its instruction; where that faults the exception ends the client
-abbrev pub interrupt_of : Fault → Result MachineView Fault → Result MachineView Exit
-interrupt_of f (Ok v) = Ok v
-interrupt_of f (Err g) = Err (unserved f)
-
--- the machine after an exception of real mode, or the exit
-unfoldable pub real_delivery : MachineView → Fault → Result MachineView Exit
-real_delivery v f =
-    if has_real_vector f.number then interrupt_of f (software_interrupt v f.number 0) else Err (unserved f)
-
--- ---- the return at a trap
-
-abbrev pub popped_or_bad : Result MachineView Event → Result MachineView Exit
-popped_or_bad (Ok v) = Ok v
-popped_or_bad (Err e) = Err exits.BadFrame
-
--- the machine after the frame at the stack's top is popped; one that can't be popped ends the client
-unfoldable pub iret_popped : MachineView → Result MachineView Exit
-iret_popped v = popped_or_bad (carried_out v (planned v.world (frame_popped v.world (frame_bits v.world))))
+-- the machine after an exception of protected mode, or the exit: first that calls are nested too deeply, then that the handler can't be
+-- loaded
+unfoldable pub protected_delivery : MachineView → Fault → Result MachineView Exit
+protected_delivery v f =
+    if nat_le GREATEST_DEPTH (depth v.world) then Err exits.Deep else delivery_to v f (vector_at v.world.exception_vectors f.number)

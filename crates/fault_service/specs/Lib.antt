@@ -1,3 +1,7 @@
+pub mod ByMode
 pub mod Delivery
-pub mod RealFrames
+pub mod Memory
+pub mod Return
+pub mod StepMemory
+pub mod Trip
 pub mod Worlds

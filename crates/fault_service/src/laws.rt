@@ -1,48 +1,89 @@
-// What holds of every answer. Each is a function with nothing to do: its contract is the law.
-ghost use Rattle.std.specs.Prelude.{◌≡◌, ℕ, Ok, is_ok};
+// What holds of every delivery and every return. Each function has nothing to do: its contract is the law.
+ghost use Rattle.std.specs.Prelude.{◌≡◌, ◌≢◌, ◌<◌, ℕ, All, Contains, None, Ok, Err};
+ghost use Rattle.client_world.specs.declared.faults.Event.TheVariants.{Soft};
 ghost use Rattle.client_world.specs.declared.faults.Fault.{Fault};
-ghost use Rattle.client_world.specs.declared.registers.Mode.TheVariants.{Real};
+ghost use Rattle.client_world.specs.declared.registers.Mode.TheVariants.{Protected};
+ghost use Rattle.client_world.specs.declared.limits.TheConstants.{GREATEST_DEPTH};
+ghost use Rattle.client_world.specs.Access.{IsHeld};
 ghost use Rattle.client_world.specs.Soundness.{IsSound};
-ghost use Rattle.client_world.specs.World.{World};
+ghost use Rattle.client_world.specs.World.{World, depth};
 ghost use Rattle.cpu_step.specs.Step.{client_step};
+ghost use Rattle.cpu_step.specs.Touched.{touched};
 ghost use Rattle.host_memory.specs.View.{MachineView};
-ghost use Rattle.fault_service.specs.Delivery.{iret_popped, real_delivery, software_interrupt};
-ghost use Rattle.fault_service.specs.RealFrames.{frame_fits};
-ghost use Rattle.fault_service.specs.Worlds.{HasOtherRegisters, HasOtherRegistersAndMemory, HasOtherState, its_world, world_delivery, world_interrupt, world_popped, world_step};
+ghost use Rattle.fault_service.specs.Delivery.{protected_delivery};
+ghost use Rattle.fault_service.specs.Return.{exception_return};
+ghost use Rattle.fault_service.specs.StepMemory.{InterruptLaw, RealDeliveryLaw, StepLaw, interrupt_places, written_places};
+ghost use Rattle.fault_service.specs.Trip.{FrameLaw, RecordsLaw, TripLaw};
+ghost use Rattle.fault_service.specs.Worlds.{world_exception_return, world_protected_delivery};
+ghost use Rattle.interrupts.specs.Delivery.{software_interrupt};
+ghost use Rattle.interrupts.specs.Worlds.{its_world};
+ghost use Rattle.fault_service.specs.Memory.{DeliveryLaw, IsMachineView, ReturnLaw, LiesInStack};
 
-/// What a step, an interrupt, an exception and a return make of the world depends on the world alone, and not on the bytes that hold it.
+use client_world::a_flags_image_gives_its_flags_back;
+use guest_space::Machine;
+
+/// A delivery changes no bytes of the memory but those of its frame and of its record's row, and a return none but those of the row of the
+/// record that it pops. The frame lies in the host's protected-mode stack of the depth.
+pub fn every_delivery_and_return_changes_only_its_bytes()
+    ensures delivery { (v : MachineView) → IsMachineView v → DeliveryLaw v }
+    ensures back { (v : MachineView) → IsMachineView v → ReturnLaw v }
+    ensures frame { (w : World) → IsSound w → w.width ≢ None → depth w < GREATEST_DEPTH → LiesInStack w }
+{}
+
+/// What a delivery and a return make of the world depends on the world alone, and not on the bytes that hold it.
 pub fn every_answer_depends_on_the_world_alone()
-    ensures step { (v : MachineView) → its_world (client_step v) ≡ world_step v.world }
-    ensures interrupt { (v : MachineView) (n len : ℕ) → its_world (software_interrupt v n len) ≡ world_interrupt v.world n len }
-    ensures delivery { (v : MachineView) (f : Fault) → its_world (real_delivery v f) ≡ world_delivery v.world f }
-    ensures popped { (v : MachineView) → its_world (iret_popped v) ≡ world_popped v.world }
+    ensures delivery { (v : MachineView) (f : Fault) → its_world (protected_delivery v f) ≡ world_protected_delivery v.world f }
+    ensures back { (v : MachineView) → its_world (exception_return v) ≡ world_exception_return v.world }
 {}
 
-/// An interrupt, an exception and a return lead from a sound world to a sound one, and so does a step.
+/// A delivery in protected mode and a return lead from a sound world to a sound one.
 pub fn every_answer_is_sound()
-    ensures interrupt { (v u : MachineView) (n len : ℕ) → IsSound v.world → software_interrupt v n len ≡ Ok u → IsSound u.world }
-    ensures delivery { (v u : MachineView) (f : Fault) → IsSound v.world → real_delivery v f ≡ Ok u → IsSound u.world }
-    ensures popped { (v u : MachineView) → IsSound v.world → iret_popped v ≡ Ok u → IsSound u.world }
-    ensures world_step { (w u : World) → IsSound w → world_step w ≡ Ok u → IsSound u }
-    ensures world_interrupt { (w u : World) (n len : ℕ) → IsSound w → world_interrupt w n len ≡ Ok u → IsSound u }
-    ensures world_delivery { (w u : World) (f : Fault) → IsSound w → world_delivery w f ≡ Ok u → IsSound u }
-    ensures world_popped { (w u : World) → IsSound w → world_popped w ≡ Ok u → IsSound u }
+    ensures delivery { (v u : MachineView) (f : Fault) → IsSound v.world → v.world.mode ≡ Protected → protected_delivery v f ≡ Ok u → IsSound u.world }
+    ensures back { (v u : MachineView) → IsSound v.world → exception_return v ≡ Ok u → IsSound u.world }
 {}
 
-/// A return changes registers and the virtual interrupt flag alone, and no byte of the memory; the mode stays.
-pub fn a_return_changes_registers_alone()
-    ensures state { (v u : MachineView) → iret_popped v ≡ Ok u → HasOtherState v u }
-    ensures world { (w u : World) → world_popped w ≡ Ok u → HasOtherRegisters w u }
+/// At the handler the frame is read at SS:ESP: the return address, the error code, and what the return restores.
+pub fn the_frame_lies_at_the_handlers_stack_pointer()
+    ensures { FrameLaw }
 {}
 
-/// A step, a software interrupt and an exception of real mode change registers, the virtual interrupt flag and memory alone.
-pub fn every_answer_keeps_the_rest()
-    ensures step { (w u : World) → world_step w ≡ Ok u → HasOtherRegistersAndMemory w u }
-    ensures interrupt { (w u : World) (n len : ℕ) → world_interrupt w n len ≡ Ok u → HasOtherRegistersAndMemory w u }
-    ensures delivery { (w u : World) (f : Fault) → world_delivery w f ≡ Ok u → HasOtherRegistersAndMemory w u }
+/// After a handler has popped its return address, and where it leaves the memory as it was, whatever it leaves in the other registers: the
+/// return leads to where the exception was, with the flags, the stack and the virtual interrupt flag of that time, and the records are
+/// those from before the delivery.
+pub fn a_return_gives_back_what_the_delivery_took()
+    ensures back { TripLaw }
+    ensures records { RecordsLaw }
+{
+    a_flags_image_gives_its_flags_back();
+}
+
+/// A client instruction changes no bytes of the memory but those of the places that it writes, and none of the host's frames. A software
+/// interrupt, and an exception of real mode, changes none but those of the places to which it pushes.
+pub fn every_step_changes_only_what_it_writes()
+    ensures step { (v : MachineView) → IsMachineView v → StepLaw v }
+    ensures interrupt { (v : MachineView) → IsMachineView v → InterruptLaw v }
+    ensures exception { (v : MachineView) → IsMachineView v → RealDeliveryLaw v }
 {}
 
-/// In real mode a frame can be popped exactly where its three words lie inside the stack segment.
-pub fn a_real_frame_is_popped_where_it_fits()
-    ensures { (w : World) → IsSound w → w.mode ≡ Real → is_ok (world_popped w) ≡ frame_fits w.regs.esp }
+/// What a client instruction writes, or its software interrupt pushes, it touches; and each such place lies in memory that the client holds.
+pub fn every_written_place_is_touched_and_held()
+    ensures touched { (v u : MachineView) → client_step v ≡ Ok u → All (Contains (touched v.world)) (written_places v.world) }
+    ensures pushed_touched { (v u : MachineView) (number len : ℕ) → client_step v ≡ Err (Soft number len) → software_interrupt v number len ≡ Ok u →
+        All (Contains (touched v.world)) (interrupt_places v.world len) }
+    ensures held { (w : World) → All (IsHeld w) (written_places w) }
+    ensures pushed { (w : World) (len : ℕ) → All (IsHeld w) (interrupt_places w len) }
 {}
+
+/// The laws on bytes, of a machine that a caller has.
+#[inline(always)]
+pub fn a_machine_changes_only_what_is_written(m: &Machine)
+    ensures step { StepLaw m.now }
+    ensures interrupt { InterruptLaw m.now }
+    ensures exception { RealDeliveryLaw m.now }
+    ensures delivery { DeliveryLaw m.now }
+    ensures back { ReturnLaw m.now }
+{
+    every_step_changes_only_what_it_writes();
+    every_delivery_and_return_changes_only_its_bytes();
+    let _ram = m.ram();
+}

@@ -1,19 +1,21 @@
-//! Software interrupts, exceptions of real mode, and the return from an interrupt at a trap.
-//! It promises that each leaves the machine that its definition names, or gives its fault or exit and changes nothing; that its answer
-//! depends on the world alone; that a sound world leads to a sound one; that nothing but registers, the virtual interrupt flag and memory
-//! changes; and that in real mode a frame is popped exactly where its words lie inside the stack segment. It uses plans of instructions
-//! and the executing crates.
+//! Software interrupts, exceptions in both modes, and the returns from them.
+//! It promises that each leaves the machine that its definition names, or gives its fault or exit and changes nothing.
+//! It is built on the stack of records, on `interrupts`, and on the stack items and frames of the executing crates.
 #![tactic(auto)]
 
-mod exceptions;
-mod interrupts;
+mod by_mode;
+mod delivery;
+mod frame;
 mod laws;
-mod returns;
+mod returning;
 
-pub use exceptions::deliver;
-pub use interrupts::soft_int;
+pub use by_mode::{deliver, every_delivery_is_sound};
+pub use delivery::deliver_in_protected_mode;
+pub use interrupts::{pop_iret, soft_int};
 pub use laws::{
-    a_real_frame_is_popped_where_it_fits, a_return_changes_registers_alone,
-    every_answer_depends_on_the_world_alone, every_answer_is_sound, every_answer_keeps_the_rest,
+    a_machine_changes_only_what_is_written, a_return_gives_back_what_the_delivery_took,
+    every_answer_depends_on_the_world_alone, every_answer_is_sound,
+    every_delivery_and_return_changes_only_its_bytes, every_step_changes_only_what_it_writes,
+    every_written_place_is_touched_and_held, the_frame_lies_at_the_handlers_stack_pointer,
 };
-pub use returns::{can_pop_iret, pop_iret};
+pub use returning::{back, default_handler_exit};

@@ -7,4 +7,4 @@ mod ram;
 #[cfg(test)]
 mod tests;
 
-pub use ram::{FRAME_SIZE, MAX_FRAMES, Ram};
+pub use ram::{FRAME_SIZE, MAX_FRAMES, Ram, doubleword, word};

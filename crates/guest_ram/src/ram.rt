@@ -269,17 +269,17 @@ impl Drop for Ram {
     }
 }
 
-// Two bytes of a run, least byte first.
-fn word(bytes: &[u8], i: usize) -> u16
+/// The word at an index of a run of bytes, least byte first.
+pub fn word(bytes: &[u8], i: usize) -> u16
     requires { i + 1 < length bytes.now }
     ensures { result ≡ word_of bytes.now i }
 {
     u16::from(bytes[i]) + 0x100 * u16::from(bytes[i + 1])
 }
 
-// Four bytes of a run, least byte first.
+/// The doubleword at an index of a run of bytes, least byte first.
 #[tactic(auto, unfolding(crate::specs::Bytes::dword))]
-fn doubleword(bytes: &[u8], i: usize) -> u32
+pub fn doubleword(bytes: &[u8], i: usize) -> u32
     requires { i + 3 < length bytes.now }
     ensures { result ≡ dword bytes.now i }
 {

@@ -28,7 +28,8 @@ use Rattle.page_tables.specs.Entry.{allows}
 use Rattle.page_tables.specs.Walk.{walked, walk_end, fault, frame_of, directory_entry, table_entry}
 use Rattle.page_tables.specs.declared.entry.TheConstants.{TABLE_SPAN, PRESENT}
 use Rattle.guest_space.specs.declared.cache.CacheEntry.{CacheEntry}
-use Rattle.guest_space.specs.Cache.{Hit, Warm, empty_entry}
+use Rattle.guest_space.specs.Cache.{ends, Hit, noted, Warm, empty_entry}
+use Rattle.guest_space.specs.declared.cache.TheConstants.{CACHE_SIZE}
 use Rattle.guest_space.specs.Machines.{Processor, IsMachine, held_world}
 use Rattle.guest_space.specs.Records.{record_place}
 use Rattle.guest_space.specs.Transfer.{translated, with_places}
@@ -50,18 +51,28 @@ empty_at zero i = refl
 empty_at (suc n) zero = refl
 empty_at (suc n) (suc i) = empty_at n i
 
+none_used : (i : ℕ) → (slice_index_or (replicate 64 empty_entry) i empty_entry).used ≡ true → ⊥
+none_used i used = subst IsYes (sym used ∙ ap (λ (e : CacheEntry). e.used) (empty_at 64 i)) tt
+
 pub empty_warm : (b : List ℕ) → Warm b (replicate 64 empty_entry)
 empty_warm b = record {
   long = refl;
-  hit = λ i within used. absurd (subst IsYes (sym used ∙ ap (λ (e : CacheEntry). e.used) (empty_at 64 i)) tt);
+  hit = λ i within used. absurd (none_used i used);
+  place = λ i within used. absurd (none_used i used);
 }
 
 -- an entry that serves says where the walk ends
+noted_ends : (e : CacheEntry) (at : ℕ) (write : Bool) → (write ≡ true → e.writable ≡ true) → noted e at write ≡ Ok (PAGE_SIZE * e.frame + at)
+noted_ends e at true may = rw (may refl) refl
+noted_ends e at false may = refl
+
 pub hit_ends : (b : List ℕ) (e : CacheEntry) (lin : ℕ) (write : Bool) → Hit b e → e.page ≡ lin / PAGE_SIZE → (write ≡ true → e.writable ≡ true) →
     walked b PAGE_DIRECTORY lin write ≡ Ok (PAGE_SIZE * e.frame + lin % PAGE_SIZE)
 hit_ends b e lin write hit page may =
     let whole : lin ≡ PAGE_SIZE * e.page + lin % PAGE_SIZE = omega arith in
-    ap (λ (at : ℕ). walked b PAGE_DIRECTORY at write) whole ∙ hit.same (lin % PAGE_SIZE) write (omega arith) may
+    ap (λ (at : ℕ). walked b PAGE_DIRECTORY at write) whole
+    ∙ hit.same (lin % PAGE_SIZE) write (omega arith)
+    ∙ noted_ends e (lin % PAGE_SIZE) write may
 
 -- a walk that ends at one byte of a page ends at each
 
@@ -106,38 +117,86 @@ same_page b lin at p write within e =
     walk_end (directory_entry b PAGE_DIRECTORY lin) (table_entry b PAGE_DIRECTORY lin) other write ≡ end_at (PAGE_SIZE * (p / PAGE_SIZE) + x)) rest
     (end_moved (directory_entry b PAGE_DIRECTORY lin) (table_entry b PAGE_DIRECTORY lin) lin other p write e))
 
+-- and a write, which ends at each byte of the page or fails at each
+
+tests_noted : (absent reads writes : Bool) (frame lin other p : ℕ) → by_tests absent reads frame lin ≡ end_at p →
+    by_tests absent writes frame other
+    ≡ if ends (by_tests absent writes frame lin) then end_at (PAGE_SIZE * (p / PAGE_SIZE) + other % PAGE_SIZE) else fault true
+tests_noted true reads writes frame lin other p e = absurd (subst IsEnd (sym e) tt)
+tests_noted false false writes frame lin other p e = absurd (subst IsEnd (sym e) tt)
+tests_noted false true false frame lin other p e = refl
+tests_noted false true true frame lin other p e = tests_moved false true frame lin other p e
+
+end_noted : (directory table lin other p : ℕ) → walk_end directory table lin false ≡ end_at p →
+    walk_end directory table other true
+    ≡ if ends (walk_end directory table lin true) then end_at (PAGE_SIZE * (p / PAGE_SIZE) + other % PAGE_SIZE) else fault true
+unfolding walk_end
+end_noted directory table lin other p e =
+    tests_noted (not (has_bit directory PRESENT) || not (has_bit table PRESENT)) (allows directory false && allows table false)
+    (allows directory true && allows table true) (frame_of table) lin other p e
+
+page_noted : (b : List ℕ) (lin at p : ℕ) → at < PAGE_SIZE → walked b PAGE_DIRECTORY lin false ≡ end_at p →
+    walked b PAGE_DIRECTORY (PAGE_SIZE * (lin / PAGE_SIZE) + at) true
+    ≡ if ends (walked b PAGE_DIRECTORY lin true) then end_at (PAGE_SIZE * (p / PAGE_SIZE) + at) else fault true
+unfolding walked
+page_noted b lin at p within e =
+    let other = PAGE_SIZE * (lin / PAGE_SIZE) + at in
+    let directory : other / TABLE_SPAN ≡ lin / TABLE_SPAN = omega arith in
+    let table : other / PAGE_SIZE % TABLE_ENTRIES ≡ lin / PAGE_SIZE % TABLE_ENTRIES = omega arith in
+    let rest : other % PAGE_SIZE ≡ at = omega arith in
+    rw (directory, table) (subst (λ (x : ℕ).
+    walk_end (directory_entry b PAGE_DIRECTORY lin) (table_entry b PAGE_DIRECTORY lin) other true
+    ≡ if ends (walk_end (directory_entry b PAGE_DIRECTORY lin) (table_entry b PAGE_DIRECTORY lin) lin true)
+    then end_at (PAGE_SIZE * (p / PAGE_SIZE) + x) else fault true) rest
+    (end_noted (directory_entry b PAGE_DIRECTORY lin) (table_entry b PAGE_DIRECTORY lin) lin other p e))
+
 pub entry_hits : (b : List ℕ) (lin p : ℕ) (on : Bool) → lin < 2 ^ 32 → p < 2 ^ 32 → walked b PAGE_DIRECTORY lin false ≡ end_at p →
-    (on ≡ true → walked b PAGE_DIRECTORY lin true ≡ end_at p) →
+    on ≡ ends (walked b PAGE_DIRECTORY lin true) →
     Hit b (record { used = true; page = lin / PAGE_SIZE; frame = p / PAGE_SIZE; writable = on })
 entry_hits b lin p on small low reads writes =
-    record { page = omega arith; frame = omega arith; same = λ at write within may. by_kind at write within may }
+    record { page = omega arith; frame = omega arith; same = λ at write within. by_kind at write within }
   where
-    by_kind : (at : ℕ) (write : Bool) → at < PAGE_SIZE → (write ≡ true → on ≡ true) →
-        walked b PAGE_DIRECTORY (PAGE_SIZE * (lin / PAGE_SIZE) + at) write ≡ end_at (PAGE_SIZE * (p / PAGE_SIZE) + at)
-    by_kind at true within may = same_page b lin at p true within (writes (may refl))
-    by_kind at false within may = same_page b lin at p false within reads
+    by_kind : (at : ℕ) (write : Bool) → at < PAGE_SIZE → walked b PAGE_DIRECTORY (PAGE_SIZE * (lin / PAGE_SIZE) + at) write
+        ≡ noted (record { used = true; page = lin / PAGE_SIZE; frame = p / PAGE_SIZE; writable = on }) at write
+    by_kind at true within =
+        subst (λ (x : Bool). walked b PAGE_DIRECTORY (PAGE_SIZE * (lin / PAGE_SIZE) + at) true
+        ≡ if x then end_at (PAGE_SIZE * (p / PAGE_SIZE) + at) else fault true) (sym writes) (page_noted b lin at p within reads)
+    by_kind at false within = same_page b lin at p false within reads
 
--- one entry set
-pub set_warm : (b : List ℕ) (cache : List CacheEntry) (j : ℕ) (e : CacheEntry) → j < 64 → Warm b cache → Hit b e → Warm b (set cache j e)
-set_warm b cache j e inside warm hit = record { long = length-set cache j e ∙ warm.long; hit = λ i within used. by_place i within used (cases_lt i j) }
+-- one entry set: what holds of each entry in use at its place
+
+abbrev AllUsed : (ℕ → CacheEntry → Type 0) → List CacheEntry → Type 0
+AllUsed Q cache = (i : ℕ) → i < 64 → (slice_index_or cache i empty_entry).used ≡ true → Q i (slice_index_or cache i empty_entry)
+
+all_set : (Q : ℕ → CacheEntry → Type 0) (cache : List CacheEntry) (j : ℕ) (e : CacheEntry) → j < length cache → AllUsed Q cache → Q j e →
+    AllUsed Q (set cache j e)
+all_set Q cache j e low all its = λ i within used. by_place i within used (cases_lt i j)
   where
-    low : j < length cache
-    low = subst (λ (n : ℕ). j < n) (sym warm.long) inside
-
-    beside : (i : ℕ) → i < 64 → i ≢ j → (slice_index_or (set cache j e) i empty_entry).used ≡ true → Hit b (slice_index_or (set cache j e) i empty_entry)
+    beside : (i : ℕ) → i < 64 → i ≢ j → (slice_index_or (set cache j e) i empty_entry).used ≡ true → Q i (slice_index_or (set cache j e) i empty_entry)
     beside i within other used =
         let same = get_or-set_other cache j i e empty_entry other in
-        subst (Hit b) (sym same) (warm.hit i within (sym (ap (λ (x : CacheEntry). x.used) same) ∙ used))
+        subst (Q i) (sym same) (all i within (sym (ap (λ (x : CacheEntry). x.used) same) ∙ used))
 
-    by_place : (i : ℕ) → i < 64 → (slice_index_or (set cache j e) i empty_entry).used ≡ true → (i < j) ⊎ (j ≤ i) → Hit b (slice_index_or (set cache j e) i empty_entry)
+    by_place : (i : ℕ) → i < 64 → (slice_index_or (set cache j e) i empty_entry).used ≡ true → (i < j) ⊎ (j ≤ i) →
+        Q i (slice_index_or (set cache j e) i empty_entry)
     by_place i within used (inl below) = beside i within (λ same. absurd (omega (arith, below, same))) used
     by_place i within used (inr from) = elim (cases_lt j i) [
       | inl above ↦ beside i within (λ same. absurd (omega (arith, above, same))) used
       | inr to ↦ (
           let same : i ≡ j = omega arith in
-          subst (λ (x : ℕ). Hit b (slice_index_or (set cache j e) x empty_entry)) (sym same)
-          (subst (Hit b) (sym (get_or-set_same cache j e empty_entry low)) hit))
+          subst (λ (x : ℕ). Q x (slice_index_or (set cache j e) x empty_entry)) (sym same)
+          (subst (Q j) (sym (get_or-set_same cache j e empty_entry low)) its))
     ]
+
+pub set_warm : (b : List ℕ) (cache : List CacheEntry) (j : ℕ) (e : CacheEntry) → j < 64 → Warm b cache → Hit b e → e.page % CACHE_SIZE ≡ j →
+    Warm b (set cache j e)
+set_warm b cache j e inside warm hit place =
+    let low : j < length cache = subst (λ (n : ℕ). j < n) (sym warm.long) inside in
+    record {
+      long = length-set cache j e ∙ warm.long;
+      hit = all_set (λ i x. Hit b x) cache j e low warm.hit hit;
+      place = all_set (λ i x. x.page % CACHE_SIZE ≡ i) cache j e low warm.place place;
+    }
 
 -- other bytes with the same walks
 
@@ -148,13 +207,14 @@ hit_kept : (b c : List ℕ) (e : CacheEntry) → SameWalks b c → Hit b e → H
 hit_kept b c e walks hit = record {
   page = hit.page;
   frame = hit.frame;
-  same = λ at write within may. walks (PAGE_SIZE * e.page + at) write (omega (arith, hit.page, within)) ∙ hit.same at write within may;
+  same = λ at write within. walks (PAGE_SIZE * e.page + at) write (omega (arith, hit.page, within)) ∙ hit.same at write within;
 }
 
 warm_kept : (b c : List ℕ) (cache : List CacheEntry) → SameWalks b c → Warm b cache → Warm c cache
 warm_kept b c cache walks warm = record {
   long = warm.long;
   hit = λ i within used. hit_kept b c (slice_index_or cache i empty_entry) walks (warm.hit i within used);
+  place = warm.place;
 }
 
 walk_of : (k : Processor) (b : List ℕ) → Holds b k.budget → IsSound (held_world k b) → (lin : ℕ) (write : Bool) → lin < 2 ^ 32 →
@@ -169,14 +229,19 @@ unfolding walk_result
 told_same b c p q write same addresses = rw (same, addresses p) refl
 
 -- two machines with the same places and addresses
+pub kept_warm_of : (k j : Processor) (b c : List ℕ) (cache : List CacheEntry) → Holds b k.budget → IsSound (held_world k b) → Holds c j.budget →
+    IsSound (held_world j c) → ((lin : ℕ) → place_in (held_world j c).blocks lin ≡ place_in (held_world k b).blocks lin) →
+    ((p : Place) → address_of c p ≡ address_of b p) → Warm b cache → Warm c cache
+kept_warm_of k j b c cache holds sound held sounds places addresses =
+    warm_kept b c cache (λ lin write small.
+    walk_of j c held sounds lin write small
+    ∙ told_same b c (place_of (held_world k b) lin) (place_of (held_world j c) lin) write (places lin) addresses
+    ∙ sym (walk_of k b holds sound lin write small))
+
 pub kept_warm : (k : Processor) (b c : List ℕ) (cache : List CacheEntry) → Holds b k.budget → IsSound (held_world k b) → Holds c k.budget →
     IsSound (held_world k c) → ((lin : ℕ) → place_in (held_world k c).blocks lin ≡ place_in (held_world k b).blocks lin) →
     ((p : Place) → address_of c p ≡ address_of b p) → Warm b cache → Warm c cache
-kept_warm k b c cache holds sound held sounds places addresses =
-    warm_kept b c cache (λ lin write small.
-    walk_of k c held sounds lin write small
-    ∙ told_same b c (place_of (held_world k b) lin) (place_of (held_world k c) lin) write (places lin) addresses
-    ∙ sym (walk_of k b holds sound lin write small))
+kept_warm k b c cache = kept_warm_of k k b c cache
 
 -- bytes that are put beside the tables of the blocks' pages and the rows of blocks move no address
 pub record IsBeside (at n : ℕ) : Type 0 where

@@ -97,7 +97,7 @@ of_each_row rows run k P room inside outside index = elim (cases_lt index run.fi
 
 -- ---- in the memory
 
-run_bytes_suc : (b : List ℕ) (run : DosRun) (k : ℕ) →
+pub run_bytes_suc : (b : List ℕ) (run : DosRun) (k : ℕ) →
     with_run_bytes b run (suc k) ≡ put (with_run_bytes b run k) (row_address (run.first + k)) (row_bytes (dos_row run.seg run.after k))
 unfolding with_run_bytes
 run_bytes_suc b run k = refl

@@ -8,9 +8,12 @@ use Rattle.client_world.specs.Soundness.{IsSound, host_code, host_stacks}
 use Rattle.client_world.specs.World.{World}
 use Rattle.guest_ram.specs.Bytes.{put}
 use Rattle.desc_table.specs.Rows.{row_address, row_bytes}
-use Rattle.host_memory.specs.Layout.{world_of}
+use Rattle.client_world.specs.declared.place.Place.{Place}
+use Rattle.guest_ram.proofs.PutLaws.{length-put}
+use Rattle.host_memory.specs.Layout.{address_of, world_of}
 use Rattle.host_memory.specs.Holds.{Holds}
 use Rattle.host_memory.proofs.RowWrites.{row_world, row_holds}
+use Rattle.guest_space.proofs.CacheLaws.{put_beside, row_beside}
 use Rattle.guest_space.proofs.HostRows.{with_host_rows, fits_code, fits_stacks, IsSound-width}
 use Rattle.guest_space.proofs.OwnParts.{width_world}
 
@@ -44,3 +47,10 @@ pub entered_sound : (b : List ℕ) (budget : ℕ) → Holds b budget → (mode :
     IsSound (world_of (with_rows b w) budget mode regs vif (Some w))
 entered_sound b budget holds mode regs vif width w sound none =
     subst IsSound (sym (entered_world b budget holds mode regs vif width w)) (IsSound-width (world_of b budget mode regs vif width) w sound none)
+
+-- its rows lie beside the tables of pages
+pub entered_addresses : (b : List ℕ) (budget : ℕ) → Holds b budget → (w : Width) → (p : Place) → address_of (with_rows b w) p ≡ address_of b p
+entered_addresses b budget holds w p =
+    put_beside (with_code b) (row_address HOST_STACKS) (row_bytes (host_stacks w)) (row_beside HOST_STACKS (host_stacks w) (omega arith))
+    (omega (arith, length-put b (row_address HOST_CODE) (row_bytes host_code), holds.size)) p
+    ∙ put_beside b (row_address HOST_CODE) (row_bytes host_code) (row_beside HOST_CODE host_code (omega arith)) (omega (arith, holds.size)) p

@@ -28,6 +28,7 @@ pub mod HiddenLaws
 pub mod HostRows
 pub mod HostStacks
 pub mod KeptAccess
+mod KeptPlaces
 pub mod MachineLaws
 pub mod Machines
 pub mod MemoryAlone

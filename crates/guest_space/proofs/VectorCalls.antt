@@ -5,6 +5,7 @@ use Rattle.client_world.specs.declared.limits.TheConstants.{CALLBACKS, INTERRUPT
 use Rattle.client_world.specs.declared.memory_map.TheConstants.{DOS_VIEW_PAGES}
 use Rattle.client_world.specs.declared.place.Place.{Place}
 use Rattle.client_world.specs.declared.segments.FarPtr.{FarPtr}
+use Rattle.client_world.specs.Segments.{null_pointer}
 use Rattle.client_world.specs.Soundness.{IsSound}
 use Rattle.client_world.specs.World.{Callback}
 use Rattle.guest_ram.specs.Bytes.{word_of}
@@ -45,7 +46,7 @@ pub interrupt_read : (k : Processor) (b : List ℕ) (v : MachineView) → IsView
     pointer_at b (PAGE_SIZE * VECTORS + VECTOR_SIZE * n) ≡ vector_at v.world.interrupt_vectors n
 interrupt_read k b v is n within =
     part_pointer b (VECTOR_SIZE * n) (omega arith)
-    ∙ sym (at_listed INTERRUPT_VECTORS (λ i. pointer_at (vectors_part b) (VECTOR_SIZE * i)) n (record { sel = 0; off = 0 }) within)
+    ∙ sym (at_listed INTERRUPT_VECTORS (λ i. pointer_at (vectors_part b) (VECTOR_SIZE * i)) n null_pointer within)
     ∙ ap (λ (xs : List FarPtr). vector_at xs n) (sym (interrupts_of k b))
     ∙ ap (λ (x : MachineView). vector_at x.world.interrupt_vectors n) is
 
@@ -53,7 +54,7 @@ pub exception_read : (k : Processor) (b : List ℕ) (v : MachineView) → IsView
     pointer_at b (PAGE_SIZE * VECTORS + (exceptions_start + VECTOR_SIZE * n)) ≡ vector_at v.world.exception_vectors n
 exception_read k b v is n within =
     part_pointer b (exceptions_start + VECTOR_SIZE * n) (omega arith)
-    ∙ sym (at_listed EXCEPTION_VECTORS (λ i. pointer_at (vectors_part b) (exceptions_start + VECTOR_SIZE * i)) n (record { sel = 0; off = 0 }) within)
+    ∙ sym (at_listed EXCEPTION_VECTORS (λ i. pointer_at (vectors_part b) (exceptions_start + VECTOR_SIZE * i)) n null_pointer within)
     ∙ ap (λ (xs : List FarPtr). vector_at xs n) (sym (exceptions_of k b))
     ∙ ap (λ (x : MachineView). vector_at x.world.exception_vectors n) is
 

@@ -149,14 +149,3 @@ left_written v new w xs i d within e left =
 
 pub none_left : (v w : MachineView) (xs : List Write) (i : ℕ) → length xs ≤ i → all_written v (drop i xs) ≡ w → v ≡ w
 none_left v w xs i done left = sym (ap (all_written v) (drop_all i xs done) ∙ all_none v) ∙ left
-
--- the bytes of a number, as the processor stores them
-pub word_is : (value : ℕ) → value % 0x10000 % 0x100 ∷ value % 0x10000 / 0x100 % 0x100 ∷ [] ≡ number_bytes 16 value
-word_is value = ap (λ (high : ℕ). value % 0x10000 % 0x100 ∷ high ∷ []) (omega arith)
-
-pub dword_is : (value : ℕ) → value < 0x100000000 →
-    value % 0x100 ∷ value / 0x100 % 0x100 ∷ value / 0x10000 % 0x100 ∷ value / 0x1000000 % 0x100 ∷ [] ≡ number_bytes 32 value
-dword_is value small =
-    let whole : value % 2 ^ 32 ≡ value = omega arith in
-    let last : value / 0x1000000 % 0x100 ≡ value / 0x1000000 = omega arith in
-    ap (λ (high : ℕ). value % 0x100 ∷ value / 0x100 % 0x100 ∷ value / 0x10000 % 0x100 ∷ high ∷ []) last ∙ ap dword_bytes (sym whole)

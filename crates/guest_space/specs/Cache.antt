@@ -1,8 +1,10 @@
--- The cache of translations: what a used entry says. That entries are forgotten when blocks change is own.
+-- The cache of translations: what a used entry says, and its place. That entries are forgotten when blocks change is own.
 -- Source: 80386 Programmer's Reference Manual, ch. 5, "Page Translation Cache".
-use Rattle.std.specs.Prelude.{◌≡◌, ℕ, ◌+◌, ◌*◌, ◌<◌, Bool, true, false, List, length, Ok, slice_index_or}
+use Rattle.std.specs.Prelude.{◌≡◌, ℕ, ◌+◌, ◌*◌, ◌%◌, ◌<◌, Bool, true, false, List, length, Ok, Err, slice_index_or, if◌then◌else◌}
+use Rattle.std.specs.declared.result.Result.{Result}
+use Rattle.client_world.specs.declared.faults.PageFault.{PageFault}
 use Rattle.client_world.specs.declared.host_frames.TheConstants.{PAGE_SIZE, PAGE_DIRECTORY}
-use Rattle.page_tables.specs.Walk.{walked}
+use Rattle.page_tables.specs.Walk.{fault, walked}
 use Rattle.guest_space.specs.declared.cache.CacheEntry.{CacheEntry}
 use Rattle.guest_space.specs.declared.cache.TheConstants.{CACHE_SIZE}
 
@@ -10,17 +12,29 @@ use Rattle.guest_space.specs.declared.cache.TheConstants.{CACHE_SIZE}
 abbrev pub pages_in_all : ℕ
 pages_in_all = 0x100000
 
--- the entry gives what the walk gives at each byte of its page; for a write only where it says so
+-- whether a walk ends, and doesn't fail
+abbrev pub ends : Result ℕ PageFault → Bool
+ends (Ok address) = true
+ends (Err f) = false
+
+-- what an entry says of a byte of its page: it may be read, and written where the entry says so
+abbrev pub noted : CacheEntry → ℕ → Bool → Result ℕ PageFault
+noted entry at true = if entry.writable then Ok (PAGE_SIZE * entry.frame + at) else fault true
+noted entry at false = Ok (PAGE_SIZE * entry.frame + at)
+
+-- this is what the walk gives at each byte of the page
 pub record Hit (b : List ℕ) (entry : CacheEntry) : Type 0 where
   pub page : entry.page < pages_in_all
   pub frame : entry.frame < pages_in_all
-  pub same : (at : ℕ) (write : Bool) → at < PAGE_SIZE → (write ≡ true → entry.writable ≡ true) →
-      walked b PAGE_DIRECTORY (PAGE_SIZE * entry.page + at) write ≡ Ok (PAGE_SIZE * entry.frame + at)
+  pub same : (at : ℕ) (write : Bool) → at < PAGE_SIZE →
+      walked b PAGE_DIRECTORY (PAGE_SIZE * entry.page + at) write ≡ noted entry at write
 
 abbrev pub empty_entry : CacheEntry
 empty_entry = record { used = false; page = 0; frame = 0; writable = false }
 
--- so does each entry that is in use
+-- so it is for each entry that is in use; and that of page p is entry p modulo the number of entries
 pub record Warm (b : List ℕ) (cache : List CacheEntry) : Type 0 where
   pub long : length cache ≡ CACHE_SIZE
   pub hit : (i : ℕ) → i < CACHE_SIZE → (slice_index_or cache i empty_entry).used ≡ true → Hit b (slice_index_or cache i empty_entry)
+  pub place : (i : ℕ) → i < CACHE_SIZE → (slice_index_or cache i empty_entry).used ≡ true →
+      (slice_index_or cache i empty_entry).page % CACHE_SIZE ≡ i

@@ -8,6 +8,7 @@ use Rattle.client_world.specs.declared.dos_memory.DosEntry.{DosEntry}
 use Rattle.client_world.specs.declared.dos_memory.DosRun.{DosRun}
 use Rattle.client_world.specs.declared.host_frames.TheConstants.{FIRST_FREE_DESCRIPTOR}
 use Rattle.client_world.specs.declared.memory_map.TheConstants.{PARAGRAPH_SIZE}
+use Rattle.client_world.specs.Descriptor.{plain}
 use Rattle.client_world.specs.DosMemory.{IsArena, is_dpmi, block_segment}
 use Rattle.client_world.specs.FreeRuns.{IsFreeRunOf}
 use Rattle.client_world.specs.Selector.{Row}
@@ -23,15 +24,7 @@ dos_limit n j = if nat_eq j 0 then PARAGRAPH_SIZE * n - 1 else min 0xFFFF (PARAG
 
 -- present, writable data
 abbrev pub dos_descriptor : ℕ → ℕ → ℕ → Desc
-dos_descriptor segment n j = record {
-  base = PARAGRAPH_SIZE * segment + 0x10000 * j;
-  limit = dos_limit n j;
-  gran = false;
-  size = false;
-  avl = false;
-  present = true;
-  kind = Data true false;
-}
+dos_descriptor segment n j = plain (Data true false) (PARAGRAPH_SIZE * segment + 0x10000 * j) (dos_limit n j) false
 
 -- descriptor j of the block, nothing where it has fewer
 unfoldable pub dos_row : ℕ → ℕ → ℕ → Row

@@ -3,11 +3,12 @@
 use Rattle.std.specs.Prelude.{ℕ, Bool, false, List, None, slice_index_or}
 use Rattle.std.specs.declared.option.Option.{Option}
 use Rattle.client_world.specs.declared.segments.FarPtr.{FarPtr}
+use Rattle.client_world.specs.Segments.{null_pointer}
 use Rattle.client_world.specs.World.{Callback}
 
 -- the vector of a number; a number past the list has a null pointer
 abbrev pub vector_at : List FarPtr → ℕ → FarPtr
-vector_at vectors n = slice_index_or vectors n (record { sel = 0; off = 0 })
+vector_at vectors n = slice_index_or vectors n null_pointer
 
 -- the callback of a slot; a slot past the list is free
 abbrev pub callback_of_slot : List (Option Callback) → ℕ → Option Callback

@@ -94,7 +94,6 @@ impl Machine {
         let page = region_page(lin);
         self.ram
             .set16(PAGE_SIZE * LOCK_COUNTS + LOCK_COUNT_SIZE * page, n);
-        self.cache = empty_cache();
     }
 
     /// Fills the page of a linear address that a memory block covers with zeros. Source: own.
@@ -105,7 +104,6 @@ impl Machine {
     {
         let entry = self.ram.get32(PAGE_SIZE * BLOCK_TABLES + PAGE_ENTRY_SIZE * region_page(lin));
         self.ram.fill(PAGE_SIZE * (entry / PAGE_SIZE), PAGE_SIZE, 0);
-        self.cache = empty_cache();
     }
 
     /// The number of pages of all memory blocks. Source: own.

@@ -1,7 +1,8 @@
 // The cache of translations.
 ghost use Rattle.std.specs.Prelude.{◌≡◌, ◌<◌, ◌≤◌, ◌+◌, ◌*◌, ◌/◌, ◌%◌, IsTrue, Ok, length, true, false, List, ℕ};
 ghost use Rattle.client_world.specs.declared.host_frames.TheConstants.{PAGE_SIZE, PAGE_DIRECTORY};
-ghost use Rattle.guest_space.specs.Cache.{Hit, Warm};
+ghost use Rattle.guest_space.specs.Cache.{ends, Hit, Warm};
+ghost use Rattle.guest_space.specs.declared.cache.TheConstants.{CACHE_SIZE};
 ghost use Rattle.page_tables.specs.Walk.{IsFrame, TablesInside, walked};
 
 use crate::machine::Machine;
@@ -13,7 +14,8 @@ use page_tables::walk;
 /// The number of entries of the cache.
 pub(crate) const CACHE_SIZE: usize = 64;
 
-/// Where a linear page lies in the memory: its frame, and whether it may be written. Only a page that may be read is in use.
+/// Where a linear page lies in the memory: its frame, and whether it may be written. Only a page that may be read is in use, and it is at
+/// its own place: its number modulo the number of entries.
 /// Source: 80386 Programmer's Reference Manual, ch. 5, "Page Translation Cache".
 #[derive(Clone, Copy, Debug, PartialEq, Eq)]
 pub struct CacheEntry {
@@ -31,7 +33,7 @@ const EMPTY: CacheEntry = CacheEntry {
 };
 
 /// A cache with no entry in use.
-pub(crate) fn empty_cache() -> [CacheEntry; 64]
+pub(crate) fn empty_cache() -> [CacheEntry; CACHE_SIZE]
     ensures { (b : List ℕ) → Warm b result }
 {
     [EMPTY; CACHE_SIZE]
@@ -40,8 +42,8 @@ pub(crate) fn empty_cache() -> [CacheEntry; 64]
 /// The place of a linear address's page in the cache.
 #[inline(always)]
 pub(crate) fn cache_place(lin: u32) -> usize
-    ensures place { result ≡ lin / PAGE_SIZE % 64 }
-    ensures inside { result < 64 }
+    ensures place { result ≡ lin / PAGE_SIZE % CACHE_SIZE }
+    ensures inside { result < CACHE_SIZE }
 {
     (lin / PAGE_SIZE) as usize % CACHE_SIZE
 }
@@ -56,16 +58,13 @@ impl CacheEntry {
     }
 }
 
-// Whether a write at a linear address ends there.
-fn is_written_at(ram: &Ram, lin: u32, at: u32) -> bool
+// Whether the byte of a linear address may be written.
+fn is_writable(ram: &Ram, lin: u32) -> bool
     requires root { IsFrame ram.now PAGE_DIRECTORY }
     requires tables { TablesInside ram.now PAGE_DIRECTORY }
-    ensures { IsTrue result → walked ram.now PAGE_DIRECTORY lin true ≡ Ok at }
+    ensures { result ≡ ends (walked ram.now PAGE_DIRECTORY lin true) }
 {
-    match walk(ram, PAGE_DIRECTORY, lin, true) {
-        Ok(end) => end == at,
-        Err(_) => false,
-    }
+    walk(ram, PAGE_DIRECTORY, lin, true).is_ok()
 }
 
 // The entry of a page of which a byte may be read, by where that ends.
@@ -73,13 +72,14 @@ fn entry_of(ram: &Ram, lin: u32, at: u32) -> CacheEntry
     requires root { IsFrame ram.now PAGE_DIRECTORY }
     requires tables { TablesInside ram.now PAGE_DIRECTORY }
     requires ends { walked ram.now PAGE_DIRECTORY lin false ≡ Ok at }
-    ensures { Hit ram.now result }
+    ensures hit { Hit ram.now result }
+    ensures page { result.page ≡ lin / PAGE_SIZE }
 {
     CacheEntry {
         used: true,
         page: lin / PAGE_SIZE,
         frame: at / PAGE_SIZE,
-        writable: is_written_at(ram, lin, at),
+        writable: is_writable(ram, lin),
     }
 }
 
@@ -99,7 +99,10 @@ impl Machine {
         ensures { self.new ≡ self.old }
     {
         if let Ok(base) = self.segment_base(seg, off, 1, false) {
-            self.note(base.wrapping_add(off));
+            let lin = base.wrapping_add(off);
+            if self.noted_address(lin, false).is_none() {
+                self.note(lin);
+            }
         }
     }
 }

@@ -41,7 +41,7 @@ impl Machine {
         Ok(byte)
     }
 
-    // The 15 bytes from a linear address on, where they lie in one page and may be read; `None` says nothing.
+    // The 15 bytes from a linear address on, where they lie in one page that the cache has; `None` says nothing.
     #[inline(always)]
     fn load_words(&self, lin: u32) -> Option<CodeWords>
         ensures { IfSome result (λ words.
@@ -50,10 +50,8 @@ impl Machine {
         if !is_in_page(lin, MAX_CODE as u32) {
             return None;
         }
-        match self.translate(lin, false) {
-            Ok(at) => Some(words_of(&self.ram, at)),
-            Err(_) => None,
-        }
+        let at = self.noted_address(lin, false)?;
+        Some(words_of(&self.ram, at))
     }
 
     /// The code bytes from CS:EIP on, where a quick look shows all 15 of them; `None` says nothing.

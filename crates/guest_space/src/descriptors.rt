@@ -9,7 +9,6 @@ ghost use Rattle.client_world.specs.Soundness.{IsSound, IsOfDosBlock, host_code,
 ghost use Rattle.guest_ram.specs.Bytes.{put};
 ghost use Rattle.desc_table.specs.Rows.{row_address, row_bytes};
 
-use crate::cache::empty_cache;
 use crate::hidden_parts::all_parts;
 use crate::machine::Machine;
 use client_world::host_frames::DESCRIPTORS;
@@ -23,33 +22,19 @@ use desc_table::{free_run, look, set};
 fn host_code() -> Desc
     ensures { Some (result, host) ≡ host_code }
 {
-    Desc {
-        base: ROM_START,
-        limit: 0xFFFF,
-        gran: false,
-        size: false,
-        avl: false,
-        present: true,
-        kind: Kind::Code,
-    }
+    Desc::plain(Kind::Code, ROM_START, 0xFFFF, false)
 }
 
 // The segment of the host's protected-mode stacks, of the client's width.
 fn host_stacks(width: Width) -> Desc
     ensures { Some (result, host) ≡ host_stacks width }
 {
-    Desc {
-        base: PROTECTED_STACKS,
-        limit: GREATEST_DEPTH * PROTECTED_STACK_SIZE - 1,
-        gran: false,
-        size: width == Width::ThirtyTwo,
-        avl: false,
-        present: true,
-        kind: Kind::Data {
-            writable: true,
-            down: false,
-        },
-    }
+    Desc::plain(
+        Kind::WRITABLE_DATA,
+        PROTECTED_STACKS,
+        GREATEST_DEPTH * PROTECTED_STACK_SIZE - 1,
+        width == Width::ThirtyTwo,
+    )
 }
 
 impl Machine {
@@ -131,7 +116,6 @@ impl Machine {
             Some((host_stacks(w), Origin::Host)),
         );
         self.width = Some(w);
-        self.cache = empty_cache();
         self.hidden = all_parts(&self.ram, self.mode, &self.regs);
     }
 }

@@ -1,13 +1,14 @@
 // The arena and the descriptors of a block of DOS memory, changed together.
 ghost use Rattle.std.specs.Prelude.{◌≡◌, ◌≤◌, ◌<◌, ◌+◌};
 ghost use Rattle.client_world.specs.declared.host_frames.TheConstants.{DESCRIPTORS};
+ghost use Rattle.client_world.specs.declared.place.Place.{Place};
 ghost use Rattle.client_world.specs.Selector.{FitsRow};
 ghost use Rattle.client_world.specs.Soundness.{descriptors_for};
 ghost use Rattle.desc_table.specs.Rows.{HasRows};
+ghost use Rattle.host_memory.specs.Layout.{address_of};
 ghost use Rattle.guest_space.specs.DosRuns.{CanPutRun, dos_descriptor, dos_limit, dos_row, rows_of_run, with_entries_and_run, with_run_bytes};
 
 use crate::arena::put_entries;
-use crate::cache::empty_cache;
 use crate::hidden_parts::all_parts;
 use crate::machine::Machine;
 use arrayvec::ArrayVec;
@@ -42,18 +43,12 @@ fn dos_descriptor(segment: u16, paras: u16, number: u16) -> Desc
     requires { number < descriptors_for paras }
     ensures { result ≡ dos_descriptor segment paras number }
 {
-    Desc {
-        base: PARAGRAPH_SIZE * u32::from(segment) + 0x1_0000 * u32::from(number),
-        limit: dos_limit(paras, number),
-        gran: false,
-        size: false,
-        avl: false,
-        present: true,
-        kind: Kind::Data {
-            writable: true,
-            down: false,
-        },
-    }
+    Desc::plain(
+        Kind::WRITABLE_DATA,
+        PARAGRAPH_SIZE * u32::from(segment) + 0x1_0000 * u32::from(number),
+        dos_limit(paras, number),
+        false,
+    )
 }
 
 // The row of a descriptor of a block of DOS memory, nothing where the block has fewer.
@@ -86,11 +81,11 @@ impl Machine {
     /// Source: own.
     pub fn arena_put_dpmi(&mut self, place: u16, old: u16, new: &ArrayVec<DosEntry, 3>, run: DosRun)
         requires { CanPutRun self.old.world place old new.now.items run }
-        ensures { self.new.world ≡ with_entries_and_run self.old.world place old new.now.items run }
+        ensures world { self.new.world ≡ with_entries_and_run self.old.world place old new.now.items run }
+        ensures addresses { (p : Place) → address_of self.new.bytes p ≡ address_of self.old.bytes p }
     {
         put_entries(&mut self.ram, place, old, new);
         put_dos_rows(&mut self.ram, run);
-        self.cache = empty_cache();
         self.hidden = all_parts(&self.ram, self.mode, &self.regs);
     }
 }

@@ -35,4 +35,4 @@ pub use laws::{
     what_was_written_is_read,
 };
 pub use machine::Machine;
-pub use pending::{Write, byte_count};
+pub use pending::{Write, byte_count, dword_bytes, word_bytes};

@@ -13,7 +13,7 @@ ghost use Rattle.host_memory.specs.Law.{walk_result, StandsAt};
 ghost use Rattle.page_tables.specs.Walk.{walked};
 ghost use Rattle.guest_space.specs.Registers.{with_registers};
 
-use crate::cache::{CacheEntry, empty_cache};
+use crate::cache::{CACHE_SIZE, CacheEntry, empty_cache};
 use crate::hidden_parts::{
     Hidden, all_parts, have_same_selectors, number, part_of_selector, parts_after,
 };
@@ -36,7 +36,7 @@ pub struct Machine {
     pub(crate) width: Option<Width>,
     pub(crate) vif: bool,
     pub(crate) hidden: [Option<Hidden>; 6],
-    pub(crate) cache: [CacheEntry; 64],
+    pub(crate) cache: [CacheEntry; CACHE_SIZE],
 }
 
 impl Model for Machine {

@@ -1,12 +1,14 @@
 // Writes that are probed all together before the first is made.
 ghost use Rattle.std.specs.Prelude.{◌≡◌, IsTrue, IsFalse, OnOk, IfErr, MatchResult, None, Some, true};
 ghost use Rattle.client_world.specs.Access.{access};
+ghost use Rattle.guest_ram.specs.Bytes.{dword_bytes};
+ghost use Rattle.host_memory.specs.Vectors.{word_bytes};
 ghost use Rattle.host_memory.specs.View.{OnlyAt};
 ghost use Rattle.guest_space.specs.Pending.{IsCountOfWidth, byte_count, number_bytes, write_refusal, written, first_refusal, all_written, places_of_writes};
 ghost use Rattle.guest_space.specs.Transfer.{places_of_access};
 
 use crate::machine::Machine;
-use client_world::{Fault, SegReg};
+use client_world::{Fault, SegReg, low_half};
 
 /// A write that is asked for: a number of 8, 16 or 32 bits (any other width counts as 32) at an offset of a segment register. Source: own.
 #[derive(Clone, Copy, Debug, PartialEq, Eq)]
@@ -30,18 +32,20 @@ pub fn byte_count(width: u8) -> u8
     }
 }
 
-// The bytes of the low 16 bits of a number.
+/// The bytes of a word, least byte first.
 #[inline(always)]
-pub(crate) fn word_bytes(v: u32) -> [u8; 2]
-    ensures { result ≡ number_bytes 16 v }
+pub fn word_bytes(v: u16) -> [u8; 2]
+    ensures word { result ≡ word_bytes v }
+    ensures number { result ≡ number_bytes 16 v }
 {
-    ((v % 0x1_0000) as u16).to_le_bytes()
+    v.to_le_bytes()
 }
 
-// The bytes of a number of 32 bits.
+/// The bytes of a doubleword, least byte first.
 #[inline(always)]
-pub(crate) fn dword_bytes(v: u32) -> [u8; 4]
-    ensures { result ≡ number_bytes 32 v }
+pub fn dword_bytes(v: u32) -> [u8; 4]
+    ensures dword { result ≡ dword_bytes v }
+    ensures number { result ≡ number_bytes 32 v }
 {
     v.to_le_bytes()
 }
@@ -71,7 +75,7 @@ impl Machine {
         if x.width == 8 {
             self.write(x.seg, x.off, [(x.value % 0x100) as u8])
         } else if x.width == 16 {
-            self.write(x.seg, x.off, word_bytes(x.value))
+            self.write(x.seg, x.off, word_bytes(low_half(x.value)))
         } else {
             self.write(x.seg, x.off, dword_bytes(x.value))
         }

@@ -9,8 +9,8 @@ ghost use Rattle.guest_space.specs.WriteRuns.{IsRun};
 use crate::machine::Machine;
 use crate::memory::is_in_page;
 use crate::pending::{Write, dword_bytes, word_bytes};
-use client_world::SegReg;
 use client_world::host_frames::PAGE_SIZE;
+use client_world::{SegReg, low_half};
 
 impl Machine {
     // The N bytes from a linear address on, where they lie in one page that the cache has; `None` says nothing.
@@ -83,7 +83,7 @@ impl Machine {
         if x.width == 8 {
             self.put_quickly(x.seg, x.off, &[(x.value % 0x100) as u8])
         } else if x.width == 16 {
-            self.put_quickly(x.seg, x.off, &word_bytes(x.value))
+            self.put_quickly(x.seg, x.off, &word_bytes(low_half(x.value)))
         } else {
             self.put_quickly(x.seg, x.off, &dword_bytes(x.value))
         }

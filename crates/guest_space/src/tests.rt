@@ -1,5 +1,5 @@
 // A machine is the memory and what the processor keeps, and nothing else. Its other tests are in `unit_tests`.
-use crate::cache::CacheEntry;
+use crate::cache::{CACHE_SIZE, CacheEntry};
 use crate::hidden_parts::Hidden;
 use crate::machine::Machine;
 use client_world::{Mode, Regs, Width};
@@ -17,7 +17,7 @@ fn parts(
     Option<Width>,
     bool,
     [Option<Hidden>; 6],
-    [CacheEntry; 64],
+    [CacheEntry; CACHE_SIZE],
 ) {
     let Machine {
         ram,
@@ -36,7 +36,7 @@ fn parts(
     let width: Option<Width> = *width;
     let vif: bool = *vif;
     let hidden: [Option<Hidden>; 6] = *hidden;
-    let cache: [CacheEntry; 64] = *cache;
+    let cache: [CacheEntry; CACHE_SIZE] = *cache;
     (ram, pages, regs, mode, width, vif, hidden, cache)
 }
 
@@ -60,7 +60,13 @@ fn compare(machine: &Machine) -> Result<(), &'static str> {
         size: false,
     };
     same("hidden parts", hidden == [Some(part); 6])?;
-    same("cache", !cache.iter().any(|entry| entry.used))
+    let entry = CacheEntry {
+        used: false,
+        page: 0,
+        frame: 0,
+        writable: false,
+    };
+    same("cache", cache == [entry; CACHE_SIZE])
 }
 
 #[test]

@@ -30,9 +30,6 @@ const STRUCTURE: u32 = 6;
 // Where it has whether it is held.
 const HELD: u32 = 12;
 
-// What a free slot has in place of far pointers.
-const NOWHERE: FarPtr = FarPtr { sel: 0, off: 0 };
-
 // The far pointer at a place of the frame of the vectors: an offset, and then a selector.
 fn pointer(ram: &Ram, at: u32) -> FarPtr
     requires size { PAGE_SIZE * BUDGET_FRAMES ≤ length ram.now }
@@ -89,7 +86,7 @@ fn set_callback(ram: &mut Ram, at: u32, row: Option<(FarPtr, FarPtr)>)
 {
     match row {
         Some((procedure, structure)) => set_slot(ram, at, procedure, structure, 1),
-        None => set_slot(ram, at, NOWHERE, NOWHERE, 0),
+        None => set_slot(ram, at, FarPtr::NULL, FarPtr::NULL, 0),
     }
 }
 

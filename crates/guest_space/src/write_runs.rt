@@ -9,8 +9,8 @@ ghost use Rattle.guest_space.specs.WriteRuns.{LiesIn, IsRun, AreRuns};
 use crate::machine::Machine;
 use crate::memory::{are_bytes, is_in_page};
 use crate::pending::{Write, byte_count, dword_bytes, word_bytes};
-use client_world::SegReg;
 use client_world::host_frames::PAGE_SIZE;
+use client_world::{SegReg, low_half};
 
 // The lowest offset of some writes, and the one after their last byte, if all of them are made through that segment register.
 #[inline(always)]
@@ -96,7 +96,7 @@ impl Machine {
         if x.width == 8 {
             self.put_run(x.seg, x.off, at, &[(x.value % 0x100) as u8]);
         } else if x.width == 16 {
-            self.put_run(x.seg, x.off, at, &word_bytes(x.value));
+            self.put_run(x.seg, x.off, at, &word_bytes(low_half(x.value)));
         } else {
             self.put_run(x.seg, x.off, at, &dword_bytes(x.value));
         }

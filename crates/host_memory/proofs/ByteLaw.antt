@@ -82,11 +82,11 @@ block_stands b budget mode regs vif width place at holds within inside =
     }
 
 -- what is said of a place holds of the address where it is
-stands_by : (b : List ℕ) (w : World) (lin : ℕ) (place : Place) → place_of w lin ≡ place → StandsAt b w place → StandsAt b w (place_of w lin)
+pub stands_by : (b : List ℕ) (w : World) (lin : ℕ) (place : Place) → place_of w lin ≡ place → StandsAt b w place → StandsAt b w (place_of w lin)
 stands_by b w lin place e stands = rw e stands
 
 -- and no byte is asked for where the client may not touch
-forbidden : (b : List ℕ) (w : World) (lin : ℕ) (write : Bool) (place : Place) → place_of w lin ≡ place → may_touch place write ≡ false →
+pub forbidden : (b : List ℕ) (w : World) (lin : ℕ) (write : Bool) (place : Place) → place_of w lin ≡ place → may_touch place write ≡ false →
     may_touch (place_of w lin) write ≡ true → StandsAt b w (place_of w lin)
 forbidden b w lin write place e barred may = absurd (false≢true (sym barred ∙ ap (λ (p : Place). may_touch p write) (sym e) ∙ may))
 

@@ -31,3 +31,4 @@ pub mod VectorsClaim
 pub mod WalkAnswers
 pub mod WalkLaw
 pub mod WorldParts
+pub mod WorldWalks

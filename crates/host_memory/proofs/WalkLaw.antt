@@ -26,7 +26,7 @@ use Rattle.host_memory.proofs.PlaceRanges.{place_in_view, place_in_gap, place_be
 use Rattle.host_memory.proofs.WorldParts.{blocks_is}
 
 -- an access ends at the place that is there
-to_place : (b : List ℕ) (blocks : List (Option MemoryBlock)) (lin : ℕ) (write : Bool) (place : Place) → place_in blocks lin ≡ place →
+pub to_place : (b : List ℕ) (blocks : List (Option MemoryBlock)) (lin : ℕ) (write : Bool) (place : Place) → place_in blocks lin ≡ place →
     walk_result b place write ≡ walk_result b (place_in blocks lin) write
 to_place b blocks lin write place e = sym (ap (λ (p : Place). walk_result b p write) e)
 

@@ -9,6 +9,7 @@ use Rattle.client_world.specs.declared.calls.Record.TheVariants.{Sim, Back, Exc}
 use Rattle.client_world.specs.declared.host_frames.TheConstants.{PAGE_SIZE, RECORD_FRAMES, RECORD_SIZE}
 use Rattle.client_world.specs.declared.limits.TheConstants.{GREATEST_DEPTH}
 use Rattle.client_world.specs.Registers.{flags_image, flags_of_image}
+use Rattle.client_world.specs.Segments.{null_pointer}
 use Rattle.guest_ram.specs.Bytes.{word_of, dword, dword_bytes}
 use Rattle.guest_ram.specs.Listed.{listed, zeros}
 use Rattle.host_memory.specs.Vectors.{word_bytes, pointer_at, pointer_bytes}
@@ -68,9 +69,6 @@ abbrev pub record_head : ℕ → ℕ → Bool → ℕ → FarPtr → List ℕ
 record_head kind number vif code at =
     kind ∷ number ∷ cond vif 1 0 ∷ 0 ∷ [] ++ dword_bytes code ++ pointer_bytes at ++ 0 ∷ 0 ∷ []
 
-abbrev pub no_pointer : FarPtr
-no_pointer = record { sel = 0; off = 0 }
-
 abbrev pub call_kind : Call → ℕ
 call_kind (Int number) = 1
 call_kind Far = 2
@@ -88,7 +86,7 @@ unfoldable pub record_bytes : Record → List ℕ
 record_bytes (Sim call saved vif at) =
     record_head (call_kind call) (call_number call) vif 0 at ++ regs_bytes saved ++ zeros 62
 record_bytes (Back slot at) = record_head 5 slot false 0 at ++ zeros 112
-record_bytes (Exc number code) = record_head 6 number false code no_pointer ++ zeros 112
+record_bytes (Exc number code) = record_head 6 number false code null_pointer ++ zeros 112
 
 -- how many records lie one after another from a place on, of n at most: up to the first kind that is 0
 unfoldable pub records_from : List ℕ → ℕ → ℕ → ℕ

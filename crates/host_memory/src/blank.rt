@@ -82,8 +82,8 @@ fn window_entry(page: u32) -> u32
     }
 }
 
-// The real vector of a number.
-fn real_vector(n: u32) -> u32
+// The vector of real mode of a number in a new memory, as a doubleword.
+fn blank_vector(n: u32) -> u32
     requires { n < INTERRUPT_VECTORS }
     ensures { result ≡ real_vector_at n }
 {
@@ -143,7 +143,7 @@ fn fill_real_vectors(ram: &mut Ram)
     ensures { Written real_vector_at 0 INTERRUPT_VECTORS ram.old ram.new }
 {
     for n in 0..INTERRUPT_VECTORS {
-        ram.set32(4 * n, real_vector(n));
+        ram.set32(4 * n, blank_vector(n));
     }
 }
 

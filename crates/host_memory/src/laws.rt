@@ -3,6 +3,7 @@ ghost use Rattle.std.specs.Prelude.{◌≡◌, ◌<◌, ◌^◌, ℕ, Bool, true
 ghost use Rattle.std.specs.declared.option.Option.{Option};
 ghost use Rattle.client_world.specs.Access.{place_of, may_touch};
 ghost use Rattle.client_world.specs.Soundness.{IsSound};
+ghost use Rattle.client_world.specs.World.{World};
 ghost use Rattle.client_world.specs.declared.host_frames.TheConstants.{PAGE_DIRECTORY};
 ghost use Rattle.client_world.specs.declared.registers.Mode.{Mode};
 ghost use Rattle.client_world.specs.declared.registers.Regs.{Regs};
@@ -29,4 +30,14 @@ pub fn every_walk_ends_where_the_client_may_touch()
 pub fn every_memory_that_holds_a_world_has_its_bytes()
     ensures { (b : List ℕ) (budget : ℕ) (mode : Mode) (regs : Regs) (vif : Bool) (width : Option Width) →
         Holds b budget → IsSound (world_of b budget mode regs vif width) → HoldsWorld b (world_of b budget mode regs vif width) }
+{}
+
+/// Every memory that holds a sound world, said with no decoding, is walked so too: a walk of the page tables ends exactly where the client
+/// may touch in that world, at the address of the place, and else fails as the place says. The world's byte at a place that the client may
+/// touch is at that address, in none of the host's frames.
+pub fn every_memory_that_holds_a_world_is_walked_so()
+    ensures walks { (b : List ℕ) (w : World) → HoldsWorld b w → IsSound w → (lin : ℕ) (write : Bool) → lin < 2 ^ 32 →
+        walked b PAGE_DIRECTORY lin write ≡ walk_result b (place_of w lin) write }
+    ensures bytes { (b : List ℕ) (w : World) → HoldsWorld b w → IsSound w → (lin : ℕ) (write : Bool) →
+        may_touch (place_of w lin) write ≡ true → StandsAt b w (place_of w lin) }
 {}

@@ -10,5 +10,6 @@ mod laws;
 pub use blank::{a_blank_world_is_sound, blank_memory};
 pub use dos_list::{header, listed_entry};
 pub use laws::{
-    every_memory_that_holds_a_world_has_its_bytes, every_walk_ends_where_the_client_may_touch,
+    every_memory_that_holds_a_world_has_its_bytes, every_memory_that_holds_a_world_is_walked_so,
+    every_walk_ends_where_the_client_may_touch,
 };

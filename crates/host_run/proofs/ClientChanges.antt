@@ -8,15 +8,15 @@ use Rattle.client_world.specs.declared.outcome.Exit.{Exit}
 use Rattle.client_world.specs.declared.registers.Mode.{Mode}
 use Rattle.client_world.specs.declared.registers.Mode.TheVariants.{Real, Protected}
 use Rattle.cpu_step.specs.Step.{client_step}
-use Rattle.fault_service.specs.Delivery.{real_delivery, software_interrupt}
-use Rattle.fault_service.specs.Worlds.{its_world}
-use Rattle.fault_service.proofs.Alone.{interrupt_alone, step_alone}
+use Rattle.interrupts.specs.Delivery.{real_delivery, software_interrupt}
+use Rattle.interrupts.specs.Worlds.{its_world}
+use Rattle.interrupts.proofs.Alone.{interrupt_alone, step_alone}
 use Rattle.host_memory.specs.View.{MachineView}
 use Rattle.host_memory.proofs.OnlyAtLaws.{only_start}
-use Rattle.protected_faults.specs.ByMode.{delivery}
-use Rattle.protected_faults.specs.Delivery.{protected_delivery}
-use Rattle.protected_faults.specs.Memory.{DeliveryLaw}
-use Rattle.protected_faults.specs.StepMemory.{InterruptLaw, RealDeliveryLaw, StepLaw}
+use Rattle.fault_service.specs.ByMode.{delivery}
+use Rattle.fault_service.specs.Delivery.{protected_delivery}
+use Rattle.fault_service.specs.Memory.{DeliveryLaw}
+use Rattle.fault_service.specs.StepMemory.{InterruptLaw, RealDeliveryLaw, StepLaw}
 use Rattle.host_run.specs.Turn.{Outcome}
 use Rattle.host_run.specs.View.{ComesTo, HostView, machine_view}
 use Rattle.host_run.specs.Footprint.{ChangesOnly, Footprint, at_places, at_places_and_row, unsaid, after_client_event, after_client_interrupt, client_footprint, client_turn, delivery_footprint, event_footprint, interrupt_footprint}
@@ -63,7 +63,7 @@ unchanged (at_places_and_row places row) b =
     record { size = refl; addresses = λ p. refl; others = λ at away out. refl; host = λ at from to out. refl }
 unchanged unsaid b = tt
 
-kept : (f : Footprint) (b c : List ℕ) → c ≡ b → ChangesOnly f b c
+pub kept : (f : Footprint) (b c : List ℕ) → c ≡ b → ChangesOnly f b c
 kept f b c same = subst (λ (x : List ℕ). ChangesOnly f b x) (sym same) (unchanged f b)
 
 pub changes_or_ends : (old new : HostView) (r : Result (Unit {0}) Exit) (o : Outcome) → HasLaws (machine_view old) → ComesTo old new r o →

@@ -10,13 +10,13 @@ use Rattle.client_world.specs.Soundness.{IsSound}
 use Rattle.client_world.specs.World.{World, HostWorld, depth}
 use Rattle.client_world.specs.declared.calls.Record.{Record}
 use Rattle.client_world.specs.declared.limits.TheConstants.{GREATEST_DEPTH}
-use Rattle.fault_service.proofs.KeptWorlds.{kept_world_popped}
+use Rattle.interrupts.proofs.KeptWorlds.{kept_world_popped}
 use Rattle.std.proofs.lemmas.Bool.{le-leb}
 use Rattle.translation.specs.SimulatedCall.{reflect}
 use Rattle.dos_calls.specs.Kept.{HasSameStack}
-use Rattle.fault_service.specs.Delivery.{iret_popped, popped_or_bad}
-use Rattle.fault_service.specs.RealFrames.{frame_fits}
-use Rattle.fault_service.specs.Worlds.{its_world, world_popped}
+use Rattle.interrupts.specs.Delivery.{iret_popped, popped_or_bad}
+use Rattle.interrupts.specs.RealFrames.{frame_fits}
+use Rattle.interrupts.specs.Worlds.{its_world, world_popped}
 use Rattle.host_memory.specs.View.{MachineView}
 use Rattle.host_run.specs.Turn.{Outcome, ends, after_exit_call, after_protected_pop, after_protected_call, is_exit_call, is_presence_call, vector_served, vector_reached}
 

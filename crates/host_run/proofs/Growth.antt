@@ -1,5 +1,5 @@
 -- What a turn makes of the console and of the count of turns, whatever the world: it adds to the console at its end alone, and is counted once.
-use Rattle.std.proofs.Common.{arith, ◌≡◌, ◌∙◌, ◌≤◌, ◌+◌, ◌-◌, ◌++◌, sym, ap, subst, ℕ, zero, suc, Bool, true, false, List, [], ◌∷◌, nat_eq, add-suc, add-zero, append_assoc, refl, Option, None, Some, Ok, Err}
+use Rattle.std.proofs.Common.{arith, ◌≡◌, ◌∙◌, ◌≤◌, ◌+◌, ◌-◌, ◌++◌, sym, ap, subst, ℕ, zero, suc, Bool, true, false, List, nat_eq, add-suc, add-zero, append_assoc, refl, Option, None, Some, Ok, Err}
 use Rattle.std.specs.Prelude.{if◌then◌else◌}
 use Rattle.std.specs.declared.result.Result.{Result}
 use Rattle.client_world.specs.declared.calls.Call.{Call}
@@ -14,9 +14,8 @@ use Rattle.client_world.specs.declared.services.Carry.{Carry}
 use Rattle.client_world.specs.declared.services.Carry.TheVariants.{Clear, Set}
 use Rattle.client_world.specs.declared.services.DosDone.{DosDone}
 use Rattle.client_world.specs.declared.services.DosDone.TheVariants as done
-use Rattle.client_world.specs.declared.trace.TraceLine.{TraceLine}
 use Rattle.client_world.specs.declared.trace.TraceLine.TheVariants as lines
-use Rattle.client_world.specs.Registers.{high_byte, low_byte, low_half}
+use Rattle.client_world.specs.Registers.{high_byte, low_half}
 use Rattle.client_world.specs.Services.{Served, is_set}
 use Rattle.client_world.specs.World.{World, HostWorld}
 use Rattle.callbacks.specs.Callbacks.{enter_callback, leave_callback}
@@ -24,20 +23,18 @@ use Rattle.dos_calls.specs.Calls.{CallResult, dos_call}
 use Rattle.client_world.specs.Console.{Extends}
 use Rattle.dos_calls.specs.Multiplex.{multiplex_call}
 use Rattle.dos_calls.proofs.LeftCalls as left
-use Rattle.fault_service.specs.Worlds.{world_step, world_interrupt, world_delivery, world_popped}
+use Rattle.interrupts.specs.Worlds.{world_step, world_interrupt, world_delivery, world_popped}
 use Rattle.mode_gates.specs.Entry.{entry}
 use Rattle.mode_gates.specs.FarFrames.{world_after_far_return}
-use Rattle.mode_gates.specs.Switches.{switched_to_protected, switched_to_real}
-use Rattle.mode_stack.specs.Stack.{top}
-use Rattle.protected_faults.specs.Return.{exit_of_record}
-use Rattle.protected_faults.specs.Worlds.{world_exception_return, world_protected_delivery}
+use Rattle.mode_gates.specs.Switches.{switched_to_protected}
+use Rattle.fault_service.specs.Worlds.{world_exception_return, world_protected_delivery}
 use Rattle.translation.specs.SimulatedCall.{begin_call, end_call, reflect}
 use Rattle.host_run.specs.declared.traps.Trap.{Trap}
 use Rattle.host_run.specs.declared.traps.Trap.TheVariants.{RealVector, Entry, ToProtected, RealState, CallReturn, Callback, ProtectedVector, ExceptionHandler, ToReal, ProtectedState, ExceptionReturn, CallbackReturn, NoTrap}
 use Rattle.host_run.specs.Run.{turns, run}
 use Rattle.host_run.specs.Families.{service}
 use Rattle.host_run.specs.Traps.{current_trap}
-use Rattle.host_run.specs.Turn.{Outcome, goes_on, ends, with_machine, noted, popped, seen, dos_served, multiplex_served, ends_client, vector_served, after_entry, after_entry_trap, after_switch_to_protected, is_exit_call, is_presence_call, asked_call, call_enter_line, after_begin, after_call_return, after_reflection, after_service, goes_on_with, after_int31, after_protected_call, after_protected_pop, after_protected_vector, after_protected_delivery, after_exception_return, after_callback, after_callback_return, delivered, delivered_in, after_interrupt, after_step, stepped, trapped, work, with_turn_counted, settled, turn}
+use Rattle.host_run.specs.Turn.{Outcome, ends, with_machine, noted, popped, seen, dos_served, multiplex_served, ends_client, vector_served, after_entry, after_entry_trap, after_switch_to_protected, is_exit_call, is_presence_call, asked_call, call_enter_line, after_begin, after_call_return, after_reflection, after_service, goes_on_with, after_int31, after_protected_call, after_protected_pop, after_protected_vector, after_protected_delivery, after_exception_return, after_callback, after_callback_return, delivered, delivered_in, after_interrupt, after_step, stepped, trapped, work, with_turn_counted, settled, turn}
 
 -- what the work of a turn makes of both
 pub record Grows (h : HostWorld) (o : Outcome) : Type 0 where

@@ -1,6 +1,6 @@
 -- Two matched turns hand over what the start and the return of a call or of an exception do, since the record of the first is that of the
 -- second.
-use Rattle.std.proofs.Common.{◌≡◌, ◌∙◌, ◌⊎◌, inl, inr, ℕ, ◌+◌, List, [], ◌∷◌, ◌++◌, ap, sym, subst, Ok}
+use Rattle.std.proofs.Common.{◌≡◌, ◌∙◌, inl, inr, ℕ, ◌+◌, List, [], ◌∷◌, ◌++◌, ap, sym, subst}
 use Rattle.std.proofs.lemmas.List.{same_from_push}
 use Rattle.client_world.specs.declared.calls.Call.{Call}
 use Rattle.client_world.specs.declared.calls.Call.TheVariants.{Int, Far, Iret, Reflect}
@@ -11,8 +11,7 @@ use Rattle.client_world.specs.declared.services.Carry.TheVariants.{Clear}
 use Rattle.client_world.specs.Services.{Served, es_di}
 use Rattle.client_world.specs.Soundness.{IsSound}
 use Rattle.client_world.specs.World.{World, HostWorld}
-use Rattle.fault_service.specs.Worlds.{world_popped}
-use Rattle.fault_service.proofs.SoundAnswers.{sound_world_popped}
+use Rattle.interrupts.proofs.SoundAnswers.{sound_world_popped}
 use Rattle.callbacks.specs.HandOver.{HasEntered, HasLeft}
 use Rattle.callbacks.proofs.HandedOver.{has_entered, has_left}
 use Rattle.host_run.specs.HandOver.{HandsOver, HandsOverCall, HandsOverRealCall}

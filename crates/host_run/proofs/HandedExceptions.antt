@@ -11,18 +11,18 @@ use Rattle.client_world.specs.Registers.{low_half}
 use Rattle.client_world.specs.Soundness.{IsSound}
 use Rattle.client_world.specs.World.{World}
 use Rattle.exec_flow.specs.Interrupts.{frame_bits}
-use Rattle.fault_service.specs.Worlds.{bare}
-use Rattle.fault_service.proofs.SoundAnswers.{holds_of_world}
+use Rattle.interrupts.specs.Worlds.{bare}
+use Rattle.interrupts.proofs.SoundAnswers.{holds_of_world}
 use Rattle.host_memory.specs.View.{MachineView}
 use Rattle.insn_plan.specs.Act.{Act, Input, Pending, Read, unless_fault, value_of}
 use Rattle.insn_plan.specs.Plan.{after_commit, carried_out, planned, with_state}
 use Rattle.insn_plan.specs.Stack.{stack_item}
 use Rattle.mode_stack.specs.Stack.{after_pop, top}
-use Rattle.protected_faults.specs.Delivery.{protected_delivery}
-use Rattle.protected_faults.specs.Return.{exception_left, exception_popped, exception_return, is_exception, returned_or_bad}
-use Rattle.protected_faults.specs.Worlds.{world_exception_return, world_protected_delivery}
-use Rattle.protected_faults.proofs.Plans.{settled_is}
-use Rattle.protected_faults.proofs.RoundTrip.{frame_law}
+use Rattle.fault_service.specs.Delivery.{protected_delivery}
+use Rattle.fault_service.specs.Return.{exception_left, exception_popped, exception_return, is_exception, returned_or_bad}
+use Rattle.fault_service.specs.Worlds.{world_exception_return, world_protected_delivery}
+use Rattle.fault_service.proofs.Plans.{settled_is}
+use Rattle.fault_service.proofs.RoundTrip.{frame_law}
 use Rattle.host_run.specs.Exceptions.{HasDelivered, HasResumed}
 
 -- ---- a delivery

@@ -1,5 +1,5 @@
 mod AskedCalls
-mod ClientChanges
+pub mod ClientChanges
 mod HandedExceptions
 mod Frames
 pub mod Growth

@@ -1,5 +1,5 @@
 -- What the turns keep that are made in place of the host's own.
-use Rattle.std.proofs.Common.{arith, ◌≡◌, ◌∙◌, ◌≤◌, ◌+◌, ◌*◌, sym, ap, subst, ℕ, Bool, true, false, refl, inr, Option, None, Some, Ok, Err}
+use Rattle.std.proofs.Common.{arith, ◌≡◌, ap, ℕ, Bool, true, false, refl, inr, Option, None, Some, Ok, Err}
 use Rattle.std.specs.Prelude.{IfOk, IsSome, if◌then◌else◌}
 use Rattle.std.specs.declared.result.Result.{Result}
 use Rattle.client_world.specs.declared.faults.Fault.{Fault}
@@ -13,19 +13,19 @@ use Rattle.client_world.specs.Registers.{low_half}
 use Rattle.client_world.specs.Soundness.{IsSound, IsSoundHost}
 use Rattle.client_world.specs.World.{World, HostWorld}
 use Rattle.client_world.proofs.SoundWrites.{IsSound-vif}
-use Rattle.fault_service.specs.Worlds.{world_delivery, world_interrupt, world_popped}
-use Rattle.fault_service.proofs.KeptWorlds.{kept_world_interrupt, kept_world_popped}
-use Rattle.fault_service.proofs.SoundAnswers.{sound_world_interrupt, sound_world_popped}
-use Rattle.protected_faults.specs.Worlds.{world_protected_delivery}
+use Rattle.interrupts.specs.Worlds.{world_delivery, world_interrupt, world_popped}
+use Rattle.interrupts.proofs.KeptWorlds.{kept_world_interrupt, kept_world_popped}
+use Rattle.interrupts.proofs.SoundAnswers.{sound_world_interrupt, sound_world_popped}
+use Rattle.fault_service.specs.Worlds.{world_protected_delivery}
 use Rattle.translation.specs.SimulatedCall.{reflect}
 use Rattle.host_run.specs.Keys.{HasKeys}
 use Rattle.host_run.specs.Nested.{Stacked, kept}
 use Rattle.host_run.specs.OtherTurns.{IsOneQuietTurn, after_answer, with_answer, exception_turn, int31_turn, interrupt_turn, interrupted_in, is_hosts_vector, with_interrupts_off}
 use Rattle.host_run.specs.RealCalls.{InterruptSource, from_anywhere, from_client}
 use Rattle.host_run.specs.Run.{bounded}
-use Rattle.host_run.specs.Turn.{Outcome, after_interrupt, after_protected_delivery, after_reflection, after_service, delivered, delivered_in, settled, turn, with_machine, with_turn_counted}
+use Rattle.host_run.specs.Turn.{Outcome, after_interrupt, after_protected_delivery, after_reflection, delivered_in, settled, turn, with_machine, with_turn_counted}
 use Rattle.host_run.proofs.Nested.{anywhere}
-use Rattle.host_run.proofs.TurnLaws.{IsNext, IsReached, IsServed, KeepsTurn, TurnKeeps, answer_next, counted_reached, delivered_keeps, interrupted_keeps, reflection_by, same_machine, service_keeps, settled_keeps, stops_same, turn_keeps, with_regs_sound}
+use Rattle.host_run.proofs.TurnLaws.{IsNext, IsReached, KeepsTurn, TurnKeeps, answer_next, counted_reached, delivered_keeps, interrupted_keeps, reflection_by, same_machine, service_keeps, settled_keeps, stops_same, turn_keeps, with_regs_sound}
 
 -- ---- what such a turn leaves of the world around the machine
 

@@ -11,10 +11,10 @@ use Rattle.client_world.specs.World.{World}
 use Rattle.exec_flow.specs.FarTransfers.{far_transfer, frame_popped}
 use Rattle.exec_flow.specs.FlagImages.{flags_popped}
 use Rattle.exec_flow.specs.Interrupts.{frame_bits}
-use Rattle.fault_service.specs.Delivery.{iret_popped}
-use Rattle.fault_service.specs.Worlds.{bare, world_popped}
-use Rattle.fault_service.proofs.ReturnPlans.{left, with_cs, with_image, with_ip}
-use Rattle.fault_service.proofs.SoundAnswers.{granted_was, holds_of_answer, holds_of_world, return_was}
+use Rattle.interrupts.specs.Delivery.{iret_popped}
+use Rattle.interrupts.specs.Worlds.{bare, world_popped}
+use Rattle.interrupts.proofs.ReturnPlans.{left, with_cs, with_image, with_ip}
+use Rattle.interrupts.proofs.SoundAnswers.{granted_was, holds_of_answer, holds_of_world, return_was}
 use Rattle.guest_space.specs.Pending.{all_written, first_refusal}
 use Rattle.host_memory.specs.View.{MachineView}
 use Rattle.insn_plan.specs.Act.{Act, Input, Pending, Read, done, unless_fault, value_of}

@@ -11,11 +11,11 @@ use Rattle.client_world.specs.Access.{IsHeld}
 use Rattle.client_world.specs.World.{World, HostWorld}
 use Rattle.cpu_step.specs.Step.{client_step}
 use Rattle.cpu_step.specs.Touched.{touched as step_touches}
-use Rattle.fault_service.specs.Delivery.{software_interrupt}
-use Rattle.fault_service.specs.Worlds.{bare, its_world, world_interrupt, world_step}
-use Rattle.fault_service.proofs.SoundAnswers.{holds_of_world}
+use Rattle.interrupts.specs.Delivery.{software_interrupt}
+use Rattle.interrupts.specs.Worlds.{bare, its_world, world_interrupt, world_step}
+use Rattle.interrupts.proofs.SoundAnswers.{holds_of_world}
 use Rattle.host_memory.specs.View.{MachineView}
-use Rattle.protected_faults.specs.StepMemory.{interrupt_places, written_places}
+use Rattle.fault_service.specs.StepMemory.{interrupt_places, written_places}
 use Rattle.host_run.specs.declared.traps.Trap.{Trap}
 use Rattle.host_run.specs.declared.traps.Trap.TheVariants.{NoTrap}
 use Rattle.host_run.specs.Touched.{touched_by_turn, unless_trapped}

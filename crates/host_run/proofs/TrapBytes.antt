@@ -1,7 +1,6 @@
 -- A trap byte is HLT, which raises a general protection exception: no client instruction runs there.
-use Rattle.std.proofs.Common.{arith, ◌≡◌, ◌≢◌, ◌∙◌, ◌≤◌, ◌<◌, ◌+◌, ◌%◌, ◌^◌, ℕ, Bool, true, false, not, List, [], ◌∷◌, ◌++◌, slice_index, nat_le, nat_lt, if◌then◌else◌, inl, inr, refl, sym, ap, subst, Option, None, Some, Result, Ok, Err}
+use Rattle.std.proofs.Common.{arith, ◌≡◌, ◌≢◌, ◌∙◌, ◌≤◌, ◌<◌, ◌+◌, ◌%◌, ◌^◌, ℕ, Bool, true, false, not, List, [], ◌∷◌, slice_index, nat_le, nat_lt, if◌then◌else◌, inl, inr, refl, sym, ap, subst, None, Some, Result, Ok, Err}
 use Rattle.std.proofs.lemmas.Bool.{cases_lt, lt-ltb}
-use Rattle.client_world.specs.declared.faults.Event.{Event}
 use Rattle.client_world.specs.declared.faults.Event.TheVariants.{Fault as fault}
 use Rattle.client_world.specs.declared.faults.Fault.{Fault}
 use Rattle.client_world.specs.declared.faults.TheConstants.{GENERAL_PROTECTION}
@@ -17,17 +16,16 @@ use Rattle.client_world.specs.Descriptor.{is_code, is_inside}
 use Rattle.client_world.specs.Selector.{Row, is_null, row_of_selector}
 use Rattle.client_world.specs.Soundness.{IsSound}
 use Rattle.client_world.specs.World.{World}
-use Rattle.cpu_step.specs.Step.{behind, client_row, client_step, code, executed, has_big_code, step_of}
+use Rattle.cpu_step.specs.Step.{client_row, client_step, executed, has_big_code, step_of}
 use Rattle.exec_core.specs.Dispatch.{is_core}
 use Rattle.exec_flow.specs.Dispatch.{flow_row}
 use Rattle.exec_flow.specs.Raising.{privileged}
-use Rattle.fault_service.specs.Worlds.{bare, its_world, world_step}
+use Rattle.interrupts.specs.Worlds.{bare, its_world, world_step}
 use Rattle.guest_space.specs.Code.{code_byte, code_from, one_byte}
 use Rattle.guest_space.specs.SegmentRows.{base_of_row, first_byte}
 use Rattle.guest_space.specs.Transfer.{bytes_at, linear_access}
 use Rattle.guest_space.proofs.Codes as codes
 use Rattle.host_memory.specs.View.{MachineView}
-use Rattle.insn_decode.specs.declared.decoding.Decoded.{Decoded}
 use Rattle.insn_decode.specs.declared.decoding.Decoded.TheVariants.{Whole}
 use Rattle.insn_decode.specs.Decode.{decoded}
 use Rattle.insn_decode.proofs.Answering.{decoded_only}
@@ -38,7 +36,7 @@ use Rattle.insn_forms.specs.Grammar.{Encoding, Pieces, addressing_of, head_of, i
 use Rattle.insn_forms.specs.OpcodeMap.{map_one_e0, opcode_row, row_one}
 use Rattle.insn_forms.specs.Operands.{insn_of, is_row}
 use Rattle.insn_forms.specs.Prefixes.{prefixes_of}
-use Rattle.insn_plan.specs.Plan.{carried_out, planned}
+use Rattle.insn_plan.specs.Plan.{carried_out}
 use Rattle.host_run.specs.declared.traps.Trap.TheVariants.{NoTrap}
 use Rattle.host_run.specs.Traps.{address_in, code_address, code_linear, current_trap, trap_where}
 use Rattle.host_run.proofs.NoTraps.{none_at}

@@ -22,6 +22,7 @@ use Rattle.client_world.specs.declared.services.DosDone.TheVariants as done
 use Rattle.client_world.specs.declared.trace.TraceLine.{TraceLine}
 use Rattle.client_world.specs.declared.trace.TraceLine.TheVariants as lines
 use Rattle.client_world.specs.Registers.{high_byte, low_byte, low_half, with_low_half}
+use Rattle.client_world.specs.Segments.{null_pointer}
 use Rattle.client_world.specs.Services.{Served, es_di, is_set}
 use Rattle.client_world.specs.Soundness.{IsSound}
 use Rattle.client_world.specs.World.{World, HostWorld}
@@ -34,10 +35,10 @@ use Rattle.dos_calls.specs.Calls.{CallResult, dos_call}
 use Rattle.dos_calls.specs.Multiplex.{multiplex_call}
 use Rattle.dos_calls.proofs.LeftCalls as left
 use Rattle.dos_calls.proofs.SoundCalls.{IsGood, call_keeps, multiplex_keeps}
-use Rattle.fault_service.specs.Worlds.{world_step, world_interrupt, world_delivery, world_popped}
-use Rattle.fault_service.proofs.KeptWorlds.{kept_world_delivery, kept_world_interrupt, kept_world_popped, kept_world_step}
-use Rattle.fault_service.proofs.RealFrameLaws.{popped_where_it_fits}
-use Rattle.fault_service.proofs.SoundAnswers.{sound_world_delivery, sound_world_interrupt, sound_world_popped, sound_world_step}
+use Rattle.interrupts.specs.Worlds.{world_step, world_interrupt, world_delivery, world_popped}
+use Rattle.interrupts.proofs.KeptWorlds.{kept_world_delivery, kept_world_interrupt, kept_world_popped, kept_world_step}
+use Rattle.interrupts.proofs.RealFrameLaws.{popped_where_it_fits}
+use Rattle.interrupts.proofs.SoundAnswers.{sound_world_delivery, sound_world_interrupt, sound_world_popped, sound_world_step}
 use Rattle.guest_ram.specs.Bytes.{AreBytes}
 use Rattle.mode_gates.specs.Entry.{entry, with_carry}
 use Rattle.mode_gates.proofs.FarStates.{kept_entry, kept_far}
@@ -46,10 +47,10 @@ use Rattle.mode_gates.specs.Switches.{switched_to_protected, switched_to_real}
 use Rattle.mode_gates.proofs.SoundGates.{sound_entry, sound_world_far}
 use Rattle.mode_gates.proofs.SwitchLaws.{sound_to_protected, sound_to_real, to_protected_switches, to_real_switches}
 use Rattle.mode_stack.specs.Stack.{top}
-use Rattle.protected_faults.specs.Return.{exit_of_record}
-use Rattle.protected_faults.specs.Worlds.{world_exception_return, world_protected_delivery}
-use Rattle.protected_faults.proofs.WorldLaws as faults
-use Rattle.translation.specs.SimulatedCall.{begin_call, end_call, is_reflection, no_structure, reflect}
+use Rattle.fault_service.specs.Return.{exit_of_record}
+use Rattle.fault_service.specs.Worlds.{world_exception_return, world_protected_delivery}
+use Rattle.fault_service.proofs.WorldLaws as faults
+use Rattle.translation.specs.SimulatedCall.{begin_call, end_call, is_reflection, reflect}
 use Rattle.translation.proofs.Begun.{refused_world}
 use Rattle.translation.specs.HandOver.{IsPopped}
 use Rattle.translation.proofs.SoundCalls.{sound_begin, sound_reflect}
@@ -59,7 +60,7 @@ use Rattle.host_run.specs.declared.traps.Trap.{Trap}
 use Rattle.host_run.specs.declared.traps.Trap.TheVariants.{RealVector, Entry, ToProtected, RealState, CallReturn, Callback, ProtectedVector, ExceptionHandler, ToReal, ProtectedState, ExceptionReturn, CallbackReturn, NoTrap}
 use Rattle.host_run.specs.Keys.{HasKeys}
 use Rattle.host_run.specs.Nested.{PushesRecord, PopsRecord, Stacked, kept, popped as left_one, pushed}
-use Rattle.host_run.specs.RealCalls.{InterruptSource, ReflectedFrom, StartsCall, StartsRealCall, from_anywhere, from_client}
+use Rattle.host_run.specs.RealCalls.{InterruptSource, ReflectedFrom, StartsCall, StartsRealCall, from_client}
 use Rattle.host_run.specs.Families.{service}
 use Rattle.host_run.specs.Traps.{current_trap}
 use Rattle.host_run.specs.Turn.{Outcome, goes_on, ends, with_machine, noted, popped, seen, dos_served, multiplex_served, ends_client, vector_served, entry_line, after_entry, after_entry_trap, after_switch_to_protected, is_exit_call, is_presence_call, asked_call, call_enter_line, call_leave_line, call_of_record, after_begin, after_call_return, after_reflection, after_service, goes_on_with, after_presence_call, after_int31, after_protected_call, after_protected_pop, after_protected_vector, enter_line, after_protected_delivery, exception_number, leave_line, after_exception_return, after_callback, callback_slot, after_callback_return, delivered_in, after_interrupt, after_step, stepped, trapped, work, with_turn_counted, settled, turn}
@@ -370,7 +371,7 @@ presence_keeps h w s next =
 pub reflection_by : (source : InterruptSource) (h : HostWorld) (n : ℕ) (w : World) (r : Result World Exit) → reflect w n ≡ r → IsReached h →
     IsServed source h w → TurnKeeps source h (after_reflection h n w r)
 reflection_by source h n w (Ok v) is s c =
-    let r : Record = Sim (Reflect n) w.regs w.vif no_structure in
+    let r : Record = Sim (Reflect n) w.regs w.vif null_pointer in
     goes_changed h (record (noted (call_enter_line w (Reflect n) v) h) { machine = v }) s (sound_reflect w v n c.next.sound c.mode is)
     (pushed r (reflect_pushes w v n is ∙ ap (λ (calls : List Record). calls ++ r ∷ []) c.next.calls)
     (record { client = w; from = c.from; mode = c.was; vif = c.vif; starts = is; keeps = refl; lines = (refl, refl) })) refl (omega arith)

@@ -11,8 +11,8 @@ use Rattle.exec_flow.specs.Interrupts.{frame_bits}
 use Rattle.guest_space.specs.Transfer.{read_result}
 use Rattle.insn_plan.specs.Act.{value_of}
 use Rattle.insn_plan.specs.Stack.{stack_item}
-use Rattle.protected_faults.specs.Delivery.{exception_frame, frame_size}
-use Rattle.protected_faults.specs.Return.{frame_regs}
+use Rattle.fault_service.specs.Delivery.{exception_frame, frame_size}
+use Rattle.fault_service.specs.Return.{frame_regs}
 
 -- from w an exception was delivered, which led to v: at SS:ESP of the handler its frame is read
 abbrev pub HasDelivered : World → Fault → World → Type 0

@@ -10,13 +10,13 @@ use Rattle.client_world.specs.declared.registers.Mode.{Mode}
 use Rattle.client_world.specs.declared.registers.Mode.TheVariants.{Real, Protected}
 use Rattle.client_world.specs.World.{World, HostWorld, depth}
 use Rattle.cpu_step.specs.Step.{client_step}
-use Rattle.fault_service.specs.Delivery.{software_interrupt}
-use Rattle.fault_service.specs.Worlds.{world_interrupt, world_step}
+use Rattle.interrupts.specs.Delivery.{software_interrupt}
+use Rattle.interrupts.specs.Worlds.{world_interrupt, world_step}
 use Rattle.guest_space.specs.Records.{OnlyAtAndRow}
 use Rattle.host_memory.specs.View.{MachineView, OnlyAt}
-use Rattle.protected_faults.specs.ByMode.{delivery}
-use Rattle.protected_faults.specs.Memory.{frame_places}
-use Rattle.protected_faults.specs.StepMemory.{interrupt_places, written_places}
+use Rattle.fault_service.specs.ByMode.{delivery}
+use Rattle.fault_service.specs.Memory.{frame_places}
+use Rattle.fault_service.specs.StepMemory.{interrupt_places, written_places}
 use Rattle.host_run.specs.declared.traps.Trap.{Trap}
 use Rattle.host_run.specs.declared.traps.Trap.TheVariants.{RealVector, Entry, CallReturn, Callback, ProtectedVector, ExceptionReturn, CallbackReturn, NoTrap}
 use Rattle.host_run.specs.Traps.{current_trap}

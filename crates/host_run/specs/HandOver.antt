@@ -13,15 +13,15 @@ use Rattle.client_world.specs.declared.segments.FarPtr.{FarPtr}
 use Rattle.client_world.specs.declared.services.Carry.TheVariants.{Clear}
 use Rattle.client_world.specs.declared.trace.TraceLine.TheVariants.{Int31}
 use Rattle.client_world.specs.Registers.{low_half}
+use Rattle.client_world.specs.Segments.{null_pointer}
 use Rattle.client_world.specs.Services.{es_di}
 use Rattle.client_world.specs.World.{World, HostWorld}
 use Rattle.callbacks.specs.HandOver.{HasEntered, HasLeft}
-use Rattle.fault_service.specs.Worlds.{world_popped}
+use Rattle.interrupts.specs.Worlds.{world_popped}
 use Rattle.host_run.specs.Exceptions.{HasDelivered, HasResumed}
 use Rattle.host_run.specs.RealCalls.{HasMoreLines, InterruptSource, ReflectedFrom}
 use Rattle.host_run.specs.Turn.{call_enter_line, call_leave_line, enter_line, leave_line}
 use Rattle.translation.specs.HandOver.{HasBegun, HasEnded, HasReflected}
-use Rattle.translation.specs.SimulatedCall.{no_structure}
 use Rattle.translation.specs.Structure.{structure_bytes}
 
 -- the turn from w to v starts a call that the client asks for, and the turn from x to y ends it. `popped` is the machine with the frame of the
@@ -45,7 +45,7 @@ pub record HandsOverReflection (source : InterruptSource) (w v x y : HostWorld) 
   pub vif : client.vif ≡ w.machine.vif
   pub begun : HasReflected client v.machine n
   pub ended : HasEnded x.machine y.machine
-  pub same : Sim ended.call ended.saved ended.on ended.at ≡ Sim (Reflect n) client.regs client.vif no_structure
+  pub same : Sim ended.call ended.saved ended.on ended.at ≡ Sim (Reflect n) client.regs client.vif null_pointer
   pub enter : HasMoreLines w (call_enter_line client (Reflect n) v.machine ∷ []) v
   pub leave : HasMoreLines x (call_leave_line x.machine (Reflect n) y.machine ∷ []) y
 

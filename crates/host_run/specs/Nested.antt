@@ -6,7 +6,7 @@ use Rattle.client_world.specs.declared.calls.What.TheVariants as whats
 use Rattle.client_world.specs.declared.registers.Mode.TheVariants.{Protected}
 use Rattle.client_world.specs.World.{HostWorld, depth}
 use Rattle.callbacks.specs.Callbacks.{enter_callback, leave_callback}
-use Rattle.protected_faults.specs.Worlds.{world_exception_return, world_protected_delivery}
+use Rattle.fault_service.specs.Worlds.{world_exception_return, world_protected_delivery}
 use Rattle.host_run.specs.RealCalls.{HasMoreLines, InterruptSource, ReturnsFromCall, StartsRealCall}
 use Rattle.host_run.specs.Turn.{enter_line, leave_line}
 

@@ -1,6 +1,6 @@
 -- Turns that are made in place of the host's own: INT 31h that is served from outside, an exception and an interrupt that come from outside. Each
 -- is counted as a turn. Source: own.
-use Rattle.std.specs.Prelude.{◌≡◌, ℕ, ◌+◌, Bool, true, false, ◌&&◌, is_ok, nat_eq, if◌then◌else◌, None, Some, Ok, Err}
+use Rattle.std.specs.Prelude.{◌≡◌, ℕ, ◌+◌, Bool, false, ◌&&◌, is_ok, nat_eq, if◌then◌else◌, None, Some, Ok, Err}
 use Rattle.std.specs.declared.option.Option.{Option}
 use Rattle.std.specs.declared.result.Result.{Result}
 use Rattle.client_world.specs.declared.faults.Fault.{Fault}
@@ -13,7 +13,7 @@ use Rattle.client_world.specs.declared.traps.TheConstants.{PROTECTED_VECTOR_TRAP
 use Rattle.client_world.specs.Registers.{low_half}
 use Rattle.client_world.specs.Services.{Served}
 use Rattle.client_world.specs.World.{World, HostWorld}
-use Rattle.fault_service.specs.Worlds.{world_interrupt, world_popped}
+use Rattle.interrupts.specs.Worlds.{world_interrupt, world_popped}
 use Rattle.guest_space.specs.VectorLists.{vector_at}
 use Rattle.host_memory.specs.Blank.{host_pointer}
 use Rattle.host_run.specs.declared.traps.Trap.{Trap}

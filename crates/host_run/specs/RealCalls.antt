@@ -10,11 +10,12 @@ use Rattle.client_world.specs.declared.services.Carry.TheVariants.{Clear}
 use Rattle.client_world.specs.declared.trace.TraceLine.{TraceLine}
 use Rattle.client_world.specs.declared.trace.TraceLine.TheVariants.{Int31}
 use Rattle.client_world.specs.Registers.{low_half}
+use Rattle.client_world.specs.Segments.{null_pointer}
 use Rattle.client_world.specs.Services.{es_di}
 use Rattle.client_world.specs.World.{World, HostWorld}
-use Rattle.fault_service.specs.Worlds.{world_popped}
+use Rattle.interrupts.specs.Worlds.{world_popped}
 use Rattle.host_run.specs.Turn.{asked_call, call_enter_line, call_leave_line, noted}
-use Rattle.translation.specs.SimulatedCall.{begin_call, end_call, no_structure, reflect}
+use Rattle.translation.specs.SimulatedCall.{begin_call, end_call, reflect}
 
 -- the trace of the second host is that of the first with these lines after it
 abbrev pub HasMoreLines : HostWorld → List TraceLine → HostWorld → Type 0
@@ -50,7 +51,7 @@ pub record StartsReflection (source : InterruptSource) (w : HostWorld) (n : ℕ)
   pub mode : w.machine.mode ≡ Protected
   pub vif : client.vif ≡ w.machine.vif
   pub starts : reflect client n ≡ Ok v.machine
-  pub keeps : r ≡ Sim (Reflect n) client.regs client.vif no_structure
+  pub keeps : r ≡ Sim (Reflect n) client.regs client.vif null_pointer
   pub lines : HasMoreLines w (call_enter_line client (Reflect n) v.machine ∷ []) v
 
 abbrev pub StartsRealCall : InterruptSource → HostWorld → Call → Record → HostWorld → Type 0

@@ -27,13 +27,13 @@ use Rattle.client_world.specs.World.{World, HostWorld, depth}
 use Rattle.callbacks.specs.Callbacks.{enter_callback, leave_callback}
 use Rattle.dos_calls.specs.Calls.{CallState, CallResult, dos_call}
 use Rattle.dos_calls.specs.Multiplex.{multiplex_call}
-use Rattle.fault_service.specs.Worlds.{world_step, world_interrupt, world_delivery, world_popped}
+use Rattle.interrupts.specs.Worlds.{world_step, world_interrupt, world_delivery, world_popped}
 use Rattle.mode_gates.specs.Entry.{asked_width, entry, with_carry}
 use Rattle.mode_gates.specs.FarFrames.{world_after_far_return}
 use Rattle.mode_gates.specs.Switches.{switched_to_protected, switched_to_real}
 use Rattle.mode_stack.specs.Stack.{top}
-use Rattle.protected_faults.specs.Return.{exit_of_record}
-use Rattle.protected_faults.specs.Worlds.{world_exception_return, world_protected_delivery}
+use Rattle.fault_service.specs.Return.{exit_of_record}
+use Rattle.fault_service.specs.Worlds.{world_exception_return, world_protected_delivery}
 use Rattle.translation.specs.SimulatedCall.{begin_call, end_call, reflect}
 use Rattle.host_run.specs.declared.traps.Trap.{Trap}
 use Rattle.host_run.specs.declared.traps.Trap.TheVariants.{RealVector, Entry, ToProtected, RealState, CallReturn, Callback, ProtectedVector, ExceptionHandler, ToReal, ProtectedState, ExceptionReturn, CallbackReturn, NoTrap}

@@ -1,26 +1,25 @@
-// Exceptions of protected mode, and the return from them.
+// Exceptions, and the return from those of protected mode.
 ghost use Rattle.std.specs.Prelude.{◌≡◌, ◌≤◌, ◌+◌, ◌-◌, ◌*◌, [], Ok, Err, MatchResult, OnOk};
-ghost use Rattle.client_world.specs.declared.registers.Mode.TheVariants.{Protected as protected};
 ghost use Rattle.client_world.specs.World.{depth};
 ghost use Rattle.guest_space.specs.Records.{OnlyAtAndRow};
 ghost use Rattle.mode_stack.specs.Stack.{top};
-ghost use Rattle.protected_faults.specs.Delivery.{protected_delivery};
-ghost use Rattle.protected_faults.specs.Worlds.{world_exception_return, world_protected_delivery};
+ghost use Rattle.fault_service.specs.ByMode.{delivery};
+ghost use Rattle.fault_service.specs.Worlds.{world_exception_return};
 ghost use Rattle.host_run.specs.Turn.{
   after_exception_return,
-  after_protected_delivery,
+  delivered,
   exception_number,
 };
 ghost use Rattle.host_run.specs.View.{ComesTo, machine_view};
 
 use crate::host::Host;
 use crate::trace::{enter_line, leave_line};
-use client_world::{Exit, Fault, Record, What};
-use guest_space::Machine;
-use mode_stack::top;
-use protected_faults::{
+use client_world::{Exit, Fault, Mode, Record, What};
+use fault_service::{
     a_machine_changes_only_what_is_written, back, deliver, every_answer_depends_on_the_world_alone,
 };
+use guest_space::Machine;
+use mode_stack::top;
 
 // The number of the innermost record's exception.
 fn exception_number(m: &Machine) -> u8
@@ -30,17 +29,6 @@ fn exception_number(m: &Machine) -> u8
         Some(Record::Exc { number, .. }) => number,
         Some(Record::Sim { .. } | Record::Back { .. }) | None => 0,
     }
-}
-
-// Delivers an exception of protected mode; an exit leaves the machine.
-fn deliver_to_machine(m: &mut Machine, f: Fault) -> Result<(), Exit>
-    requires { m.old.world.mode ≡ protected }
-    ensures machine { OnOk result (protected_delivery m.old f ≡ Ok m.new) }
-    ensures world { MatchResult result (λ _. world_protected_delivery m.old.world f ≡ Ok m.new.world)
-        (λ e. (world_protected_delivery m.old.world f ≡ Err e) × (m.new ≡ m.old)) }
-{
-    every_answer_depends_on_the_world_alone();
-    deliver(m, f)
 }
 
 // Returns from the innermost exception, whose record's row alone changes; an exit leaves the machine.
@@ -55,19 +43,21 @@ fn return_to_client(m: &mut Machine) -> Result<(), Exit>
 }
 
 impl Host {
-    // An exception of protected mode is delivered.
+    // An exception is delivered; in protected mode with a line of the trace.
     #[inline(never)]
-    pub(crate) fn deliver_in_protected_mode(&mut self, f: Fault) -> Result<(), Exit>
-        requires mode { self.old.world.machine.mode ≡ protected }
+    pub(crate) fn deliver(&mut self, f: Fault) -> Result<(), Exit>
         requires room { self.old.world.lines + 2 ≤ 2 * self.old.world.steps }
-        ensures host { ComesTo self.old self.new result
-            (after_protected_delivery self.old.world f.number (world_protected_delivery self.old.world.machine f)) }
-        ensures machine { OnOk result (protected_delivery (machine_view self.old) f ≡ Ok (machine_view self.new)) }
+        ensures host { ComesTo self.old self.new result (delivered self.old.world f) }
+        ensures machine { OnOk result (delivery (machine_view self.old) f ≡ Ok (machine_view self.new)) }
     {
+        let mode = self.machine.mode();
         let line = enter_line(&self.machine, What::Exc(f.number));
-        match deliver_to_machine(&mut self.machine, f) {
+        match deliver(&mut self.machine, f) {
             Ok(()) => {
-                self.note(line);
+                match mode {
+                    Mode::Real => {}
+                    Mode::Protected => self.note(line),
+                }
                 Ok(())
             }
             Err(exit) => Err(exit),

@@ -2,28 +2,26 @@
 ghost use Rattle.std.specs.Prelude.{◌≡◌, ◌≢◌, ◌≤◌, ◌<◌, ◌+◌, ◌*◌, IfOk, OnOk, IfErr, IfSome, Ok, Err, Some, None, length, vec_capacity};
 ghost use Rattle.client_world.specs.declared.limits.TheConstants.{CONSOLE_ROOM, MAX_STEPS};
 ghost use Rattle.client_world.specs.Soundness.{IsSound, IsSoundHost};
-ghost use Rattle.fault_service.specs.Worlds.{world_interrupt};
+ghost use Rattle.interrupts.specs.Worlds.{world_interrupt};
 ghost use Rattle.mz_loader.specs.Refusal.{refusal};
-ghost use Rattle.fault_service.specs.Delivery.{software_interrupt};
-ghost use Rattle.protected_faults.specs.ByMode.{delivery};
-ghost use Rattle.host_run.specs.Footprint.{ChangesOnly, after_client_interrupt, client_footprint, client_turn, trap_footprint, turn_footprint, work_footprint};
+ghost use Rattle.interrupts.specs.Delivery.{software_interrupt};
+ghost use Rattle.host_run.specs.Footprint.{ChangesOnly, after_client_event, after_client_interrupt, client_footprint, client_turn, trap_footprint, turn_footprint, work_footprint};
 ghost use Rattle.host_run.specs.Keys.{HasKeys};
 ghost use Rattle.host_run.specs.Run.{run};
 ghost use Rattle.host_run.specs.Start.{blank, IsBlank, started_host};
 ghost use Rattle.host_run.specs.declared.traps.Trap.TheVariants.{NoTrap};
 ghost use Rattle.host_run.specs.Traps.{current_trap};
 ghost use Rattle.host_run.specs.View.{ComesTo, HostView, machine_view};
-ghost use Rattle.host_run.specs.Turn.{delivered, after_interrupt, stepped, trapped, work, turn};
+ghost use Rattle.host_run.specs.Turn.{after_interrupt, after_step, stepped, trapped, work, turn};
 
 use crate::serving::step_machine;
 use crate::traps::{Trap, current_trap};
 use client_world::limits::{MAX_KEYS, MAX_PAGES, MAX_STEPS, MAX_TRACE};
-use client_world::{Event, Exit, Fault, LoadFault, Mode, TraceLine};
+use client_world::{Event, Exit, LoadFault, TraceLine};
 use dos_calls::{Console, Keys};
-use fault_service::{deliver, soft_int};
+use fault_service::{a_machine_changes_only_what_is_written, default_handler_exit, soft_int};
 use guest_space::Machine;
 use insn_decode::Memo;
-use protected_faults::{a_machine_changes_only_what_is_written, default_handler_exit};
 use std::alloc::{AllocError, Global};
 use std::marker::Model;
 
@@ -193,19 +191,6 @@ impl Host {
         }
     }
 
-    // An exception is delivered.
-    #[tactic(auto, unfolding(protected_faults::specs::ByMode::delivery))]
-    pub(crate) fn deliver(&mut self, f: Fault) -> Result<(), Exit>
-        requires room { self.old.world.lines + 2 ≤ 2 * self.old.world.steps }
-        ensures host { ComesTo self.old self.new result (delivered self.old.world f) }
-        ensures machine { OnOk result (delivery (machine_view self.old) f ≡ Ok (machine_view self.new)) }
-    {
-        match self.machine.mode() {
-            Mode::Real => deliver(&mut self.machine, f),
-            Mode::Protected => self.deliver_in_protected_mode(f),
-        }
-    }
-
     // A software interrupt, or the exception that it raises.
     pub(crate) fn raise_interrupt(&mut self, number: u8, len: u8) -> Result<(), Exit>
         requires room { self.old.world.lines + 2 ≤ 2 * self.old.world.steps }
@@ -219,6 +204,20 @@ impl Host {
         }
     }
 
+    // What the event of a client's instruction comes to: its exception is delivered, or its software interrupt is raised. It is out of line, so
+    // that the turn of an instruction without an event has one answer to look at.
+    #[inline(never)]
+    fn handle_event(&mut self, event: Event) -> Result<(), Exit>
+        requires room { self.old.world.lines + 2 ≤ 2 * self.old.world.steps }
+        ensures host { ComesTo self.old self.new result (after_step self.old.world (Err event)) }
+        ensures machine { OnOk result (after_client_event (machine_view self.old) (Err event) ≡ Ok (machine_view self.new)) }
+    {
+        match event {
+            Event::Fault(f) => self.deliver(f),
+            Event::Soft { number, len } => self.raise_interrupt(number, len),
+        }
+    }
+
     // The next instruction.
     #[inline(always)]
     #[tactic(auto, unfolding(crate::specs::Turn::stepped, crate::specs::Footprint::client_turn))]
@@ -229,8 +228,7 @@ impl Host {
     {
         match step_machine(&mut self.machine, &mut self.memo) {
             Ok(()) => Ok(()),
-            Err(Event::Fault(f)) => self.deliver(f),
-            Err(Event::Soft { number, len }) => self.raise_interrupt(number, len),
+            Err(event) => self.handle_event(event),
         }
     }
 

@@ -11,12 +11,12 @@ ghost use Rattle.client_world.specs.Access.{IsHeld, fault_with};
 ghost use Rattle.client_world.specs.Soundness.{IsSound, IsSoundHost};
 ghost use Rattle.client_world.specs.World.{HostWorld, World};
 ghost use Rattle.client_world.specs.Console.{Extends};
-ghost use Rattle.fault_service.specs.Worlds.{world_interrupt, world_step};
+ghost use Rattle.interrupts.specs.Worlds.{world_interrupt, world_step};
 ghost use Rattle.guest_ram.specs.Bytes.{AreBytes};
 ghost use Rattle.host_memory.specs.View.{MachineView};
 ghost use Rattle.mz_loader.specs.Refusal.{refusal};
-ghost use Rattle.protected_faults.specs.Memory.{IsMachineView};
-ghost use Rattle.protected_faults.specs.StepMemory.{interrupt_places, written_places};
+ghost use Rattle.fault_service.specs.Memory.{IsMachineView};
+ghost use Rattle.fault_service.specs.StepMemory.{interrupt_places, written_places};
 ghost use Rattle.host_run.specs.Footprint.{ChangesOnly, client_footprint, client_turn};
 ghost use Rattle.host_run.specs.HandOver.{HandsOver};
 ghost use Rattle.host_run.specs.Keys.{HasKeys};
@@ -31,7 +31,7 @@ ghost use Rattle.host_run.specs.Traps.{current_trap};
 ghost use Rattle.host_run.specs.Turn.{turn};
 
 use cpu_step::every_touched_place_is_held;
-use protected_faults::{
+use fault_service::{
     every_delivery_and_return_changes_only_its_bytes, every_step_changes_only_what_it_writes,
     every_written_place_is_touched_and_held,
 };

@@ -11,16 +11,14 @@ ghost use Rattle.host_run.specs.Run.{bounded};
 ghost use Rattle.host_run.specs.View.{ComesTo};
 
 use crate::host::Host;
-use crate::protected::ax;
 use crate::serving::{can_pop, pop_in_mode};
 use crate::traps::{Trap, current_trap};
 use client_world::memory_map::ROM_START;
 use client_world::selectors::{HOST_CODE, selector_of};
 use client_world::traps::PROTECTED_VECTOR_TRAPS;
 use client_world::{Carry, Exit, Fault, Mode, Regs};
-use fault_service::soft_int;
+use fault_service::{a_machine_changes_only_what_is_written, soft_int};
 use guest_space::Machine;
-use protected_faults::a_machine_changes_only_what_is_written;
 
 // Whether the machine is at the trap byte of INT 31h.
 #[inline(always)]
@@ -51,7 +49,9 @@ impl Host {
     {
         match self.exit {
             Some(_) => None,
-            None if is_at_int31(&self.machine) && can_pop(&self.machine) => Some(ax(&self.machine)),
+            None if is_at_int31(&self.machine) && can_pop(&self.machine) => Some(
+                self.machine.regs().ax(),
+            ),
             None => None,
         }
     }
@@ -67,7 +67,7 @@ impl Host {
         ensures goes_on { self.new.world.exit ≡ None }
         ensures bytes { self.new.bytes ≡ self.old.bytes }
     {
-        let number = ax(&self.machine);
+        let number = self.machine.regs().ax();
         self.steps += 1;
         match pop_in_mode(&mut self.machine) {
             Ok(()) => {
@@ -85,7 +85,7 @@ impl Host {
 
     /// Delivers an exception in protected mode, as a turn of its own. It ends the run with `Deep` at the greatest depth, else with `Fault` where the
     /// handler can't be loaded; the machine then stays as it was.
-    #[tactic(auto, unfolding(crate::specs::OtherTurns::exception_turn))]
+    #[tactic(auto, unfolding(crate::specs::OtherTurns::exception_turn, fault_service::specs::ByMode::delivery))]
     pub fn deliver_turn(&mut self, f: Fault) -> Result<(), Exit>
         requires no_exit { self.old.world.exit ≡ None }
         requires mode { self.old.world.machine.mode ≡ protected }
@@ -99,7 +99,7 @@ impl Host {
     {
         a_machine_changes_only_what_is_written(&self.machine);
         self.steps += 1;
-        match self.deliver_in_protected_mode(f) {
+        match self.deliver(f) {
             Ok(()) => Ok(()),
             Err(exit) => {
                 self.exit = Some(exit);

@@ -1,8 +1,7 @@
 // The entry to protected mode, and the default vectors of protected mode.
 ghost use Rattle.std.specs.Prelude.{◌≡◌, ◌≤◌, ◌+◌, ◌*◌, ◌||◌, true, false, nat_eq};
 ghost use Rattle.client_world.specs.declared.registers.Mode.TheVariants.{Protected as protected, Real as real};
-ghost use Rattle.client_world.specs.Registers.{low_half};
-ghost use Rattle.fault_service.specs.Worlds.{world_popped};
+ghost use Rattle.interrupts.specs.Worlds.{world_popped};
 ghost use Rattle.host_run.specs.View.{ComesTo};
 ghost use Rattle.client_world.specs.Services.{is_set};
 ghost use Rattle.host_run.specs.Turn.{
@@ -29,13 +28,6 @@ use guest_space::Machine;
 use mode_gates::{asked_width, entry, with_carry};
 use mode_stack::depth;
 
-// The low half of EAX.
-pub(crate) fn ax(m: &Machine) -> u16
-    ensures { result ≡ low_half m.now.world.regs.eax }
-{
-    (m.regs().eax % 0x1_0000) as u16
-}
-
 // INT 21h function 4Ch, which ends the client.
 fn is_exit_call(m: &Machine, n: u8) -> bool
     ensures { result ≡ is_exit_call m.now.world n }
@@ -47,7 +39,7 @@ fn is_exit_call(m: &Machine, n: u8) -> bool
 fn is_presence_call(m: &Machine, n: u8) -> bool
     ensures { result ≡ is_presence_call m.now.world n }
 {
-    n == 0x2F && ax(m) == 0x1686
+    n == 0x2F && m.regs().ax() == 0x1686
 }
 
 // The line of the trace of a call of the entry.
@@ -112,7 +104,7 @@ impl Host {
         ensures steps { self.new.world.steps ≡ self.old.world.steps }
     {
         let r = self.machine.regs();
-        let number = ax(&self.machine);
+        let number = self.machine.regs().ax();
         self.note(TraceLine::Int2f(number));
         self.machine.set_regs(Regs {
             eax: put16(r.eax, 0),
@@ -139,7 +131,7 @@ impl Host {
         ensures outcome { after_int31 self.old.world self.old.world.machine ≡ goes_on self.new.world }
         ensures steps { self.new.world.steps ≡ self.old.world.steps }
     {
-        let number = ax(&self.machine);
+        let number = self.machine.regs().ax();
         match asked_call(&self.machine, number) {
             Some(call) => self.begin_call(number, call),
             None => {

@@ -5,17 +5,17 @@ ghost use Rattle.cpu_step.specs.Step.{client_step};
 ghost use Rattle.dos_calls.specs.Answering.{IfEnded};
 ghost use Rattle.dos_calls.specs.Calls.{dos_call};
 ghost use Rattle.dos_calls.specs.Multiplex.{multiplex_call};
-ghost use Rattle.fault_service.specs.Worlds.{world_step, world_popped};
+ghost use Rattle.interrupts.specs.Worlds.{world_step, world_popped};
 
 use client_world::{DosDone, Event, Exit};
 use cpu_step::step_with_memo;
 use dos_calls::{Console, Keys, every_dos_call_keeps_the_rest, int2f, int21};
-use fault_service::{
-    a_real_frame_is_popped_where_it_fits, can_pop_iret, every_answer_depends_on_the_world_alone,
-    pop_iret,
-};
+use fault_service::pop_iret;
 use guest_space::Machine;
 use insn_decode::Memo;
+use interrupts::{
+    a_real_frame_is_popped_where_it_fits, can_pop_iret, every_answer_depends_on_the_world_alone,
+};
 
 /// The client's next instruction, or its event, which leaves the machine.
 #[inline(always)]

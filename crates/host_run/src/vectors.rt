@@ -1,7 +1,7 @@
 // The default vectors of real mode.
 ghost use Rattle.std.specs.Prelude.{◌≡◌, ◌≤◌, ◌+◌, ◌*◌, true, is_ok};
 ghost use Rattle.client_world.specs.declared.registers.Mode.TheVariants.{Real};
-ghost use Rattle.fault_service.specs.Worlds.{world_popped};
+ghost use Rattle.interrupts.specs.Worlds.{world_popped};
 ghost use Rattle.host_run.specs.View.{ComesTo};
 ghost use Rattle.host_run.specs.Turn.{popped, dos_served, multiplex_served, ends_client, vector_served, vector_reached};
 
@@ -43,7 +43,7 @@ impl Host {
         requires room { self.old.world.lines + 2 ≤ 2 * self.old.world.steps }
         ensures { ComesTo self.old self.new result (multiplex_served self.old.world) }
     {
-        let function = (self.machine.regs().eax % 0x1_0000) as u16;
+        let function = self.machine.regs().ax();
         self.note(TraceLine::Int2f(function));
         serve_multiplex(&mut self.machine);
         self.pop_interrupt_frame()

@@ -2,7 +2,7 @@
 use crate::machines::{Differing, compare_all, entered, has_words, same};
 use callbacks::{enter, leave, serve};
 use client_world::limits::GREATEST_DEPTH;
-use client_world::memory_map::PROTECTED_STACKS;
+use client_world::memory_map::{PROTECTED_STACK_SIZE, PROTECTED_STACKS};
 use client_world::{Carry, Exit, FarPtr, Flags, Mode, Record, Regs, Width};
 use guest_space::Machine;
 use mode_stack::{depth, push};
@@ -204,11 +204,14 @@ fn a_callback_gets_its_callers_registers(rt: HostRuntime) -> Result<(), Fail> {
 // The procedure, the structure and the real caller's SS, and the answer; 0107h names the descriptor of that stack.
 type Entered = ((u16, u32), (u16, u32), u16, Result<(), Exit>);
 
+// The last offset of the protected stacks with too few bytes after it for a structure of 32h bytes.
+const NO_ROOM: u32 = GREATEST_DEPTH * PROTECTED_STACK_SIZE - 0x31;
+
 const ENTERED: [Entered; 7] = [
     ((0x107, 0), (0x87, 0), 0x2000, Err(Exit::BadFrame)),
     ((0x87, 0x1_0000), (0x8F, 0), 0x2000, Err(Exit::BadFrame)),
     ((0x87, 0), (0x87, 0), 0x2000, Err(Exit::LostStructure)),
-    ((0x87, 0), (0x8F, 0xFFCF), 0x2000, Err(Exit::LostStructure)),
+    ((0x87, 0), (0x8F, NO_ROOM), 0x2000, Err(Exit::LostStructure)),
     ((0x87, 0), (0x107, 0xFFCF), 0x2000, Err(Exit::LostStructure)),
     ((0x87, 0), (0x107, 0), 0xF000, Err(Exit::LostStructure)),
     ((0x87, 0), (0x107, 0xFFCE), 0x2000, Ok(())),

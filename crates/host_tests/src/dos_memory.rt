@@ -153,22 +153,6 @@ fn registers(call: [u32; 4]) -> Regs {
     r
 }
 
-// Writable data.
-fn data(base: u32, limit: u32) -> Desc {
-    Desc {
-        base,
-        limit,
-        gran: false,
-        size: false,
-        avl: false,
-        present: true,
-        kind: Kind::Data {
-            writable: true,
-            down: false,
-        },
-    }
-}
-
 // The limit of the descriptor at an index.
 fn limit(m: &Machine, index: u16) -> Option<u32> {
     match m.desc(index) {
@@ -251,8 +235,20 @@ fn descriptors_are_64_kb_apart(rt: HostRuntime) -> Result<(), Fail> {
     );
     assert_eq!(rt; compare_all(&mut m, &TWO_DESCRIPTORS, compare_call), Ok(()));
     let origin = Origin::Dos(0x1065);
-    assert!(rt; m.desc(64) == Some((data(0x10650, 0x1000F), origin)));
-    assert!(rt; m.desc(65) == Some((data(0x20650, 0xF), origin)));
+    assert!(rt;
+        m.desc(64)
+            == Some((
+                Desc::plain(Kind::WRITABLE_DATA, 0x10650, 0x1000F, false),
+                origin
+            ))
+    );
+    assert!(rt;
+        m.desc(65)
+            == Some((
+                Desc::plain(Kind::WRITABLE_DATA, 0x20650, 0xF, false),
+                origin
+            ))
+    );
     assert!(rt; m.desc(66).is_none());
     Ok(())
 }

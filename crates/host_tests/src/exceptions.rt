@@ -1,11 +1,11 @@
 // An exception at each width, the return from it, and the exits.
 use crate::machines::{Differing, entered, has_words, same};
 use client_world::limits::GREATEST_DEPTH;
-use client_world::memory_map::PROTECTED_STACKS;
+use client_world::memory_map::{PROTECTED_STACK_SIZE, PROTECTED_STACKS};
 use client_world::{Exit, Fault, Flags, Mode, Record, Regs, Width};
+use fault_service::{back, deliver};
 use guest_space::Machine;
 use mode_stack::{depth, top};
-use protected_faults::{back, deliver};
 use std::test::Fail;
 
 // The client's registers: it runs at 0087h:0010h, with its stack at 008Fh:7800h. Its flags image is 0203h.
@@ -123,7 +123,8 @@ fn compare_depths(m: &mut Machine) -> Result<(), Differing> {
     for _ in 0..GREATEST_DEPTH {
         same(Differing::Call(1), delivers(m, Ok(())))?;
     }
-    same(Differing::Registers, m.regs().esp == 0xFFF0)?;
+    let top = GREATEST_DEPTH * PROTECTED_STACK_SIZE - 16;
+    same(Differing::Registers, m.regs().esp == top)?;
     same(Differing::Call(2), delivers(m, Err(Exit::Deep)))?;
     same(Differing::Depth, u32::from(depth(m)) == GREATEST_DEPTH)
 }

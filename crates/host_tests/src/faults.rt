@@ -1,8 +1,9 @@
 // Worked interrupts, exceptions and returns of real mode. The values come from the manual's rules by hand.
 use crate::machines::{Differing, compare_all, has_bytes, put, same};
 use client_world::{Exit, Fault, Flags, Mode, Regs};
-use fault_service::{can_pop_iret, deliver, pop_iret, soft_int};
+use fault_service::{deliver, pop_iret, soft_int};
 use guest_space::Machine;
+use interrupts::can_pop_iret;
 use std::test::Fail;
 
 // What is asked for.
@@ -228,18 +229,17 @@ fn return_answer(m: &mut Machine) -> Option<Answer> {
     }
 }
 
-// The answer of a call; none of an exception outside real mode.
+// The answer of a call; none of a return that `can_pop_iret` foretells wrongly.
 fn answer_of(m: &mut Machine, call: Call) -> Option<Answer> {
     match call {
         Call::Interrupt(number, len) => match soft_int(m, number, len) {
             Ok(()) => Some(Answer::Done),
             Err(fault) => Some(Answer::Raised(fault)),
         },
-        Call::Exception(fault) if m.mode() == Mode::Real => match deliver(m, fault) {
+        Call::Exception(fault) => match deliver(m, fault) {
             Ok(()) => Some(Answer::Done),
             Err(exit) => Some(Answer::Ended(exit)),
         },
-        Call::Exception(_) => None,
         Call::Return => return_answer(m),
     }
 }

@@ -1,5 +1,8 @@
 // Worked entries and far returns. The values come from the rules by hand.
 use crate::machines::{Differing, same};
+use client_world::limits::GREATEST_DEPTH;
+use client_world::memory_map::{PROTECTED_STACK_SIZE, PROTECTED_STACKS, ROM_START};
+use client_world::selectors::{HOST_CODE, HOST_STACKS};
 use client_world::{Carry, Desc, Exit, Kind, Mode, Origin, Regs, Width};
 use guest_space::Machine;
 use mode_gates::{entry, pop_far};
@@ -35,26 +38,6 @@ fn called(m: &mut Machine, eax: u32) {
     m.set_regs(Regs { eax, ..CALLED });
 }
 
-// A descriptor that is present, with G and AVL 0.
-fn present(base: u32, limit: u32, size: bool, code: bool) -> Desc {
-    Desc {
-        base,
-        limit,
-        gran: false,
-        size,
-        avl: false,
-        present: true,
-        kind: if code {
-            Kind::Code
-        } else {
-            Kind::Data {
-                writable: true,
-                down: false,
-            }
-        },
-    }
-}
-
 // Whether the entry, called in real mode, answers this.
 fn enters(m: &mut Machine, answer: Result<Carry, Exit>) -> bool {
     m.mode() == Mode::Real && entry(m) == answer
@@ -62,16 +45,33 @@ fn enters(m: &mut Machine, answer: Result<Carry, Exit>) -> bool {
 
 // The descriptors after a first entry, with the size bit of stacks and data.
 fn compare_descriptors(m: &Machine, wide: bool) -> Result<(), Differing> {
+    let limit = GREATEST_DEPTH * PROTECTED_STACK_SIZE - 1;
+    let data = Kind::WRITABLE_DATA;
     let rows = [
-        (16, present(0xF_0000, 0xFFFF, false, true), Origin::Host),
-        (17, present(0xE_0000, 0xFFFF, wide, false), Origin::Host),
-        (64, present(0x1_2340, 0xFFFF, false, true), Origin::Entry),
-        (65, present(0x1_0000, 0xFFFF, wide, false), Origin::Entry),
-        (66, present(0x2_0000, 0xFFFF, wide, false), Origin::Entry),
-        (67, present(0x640, 0xFF, false, false), Origin::Psp),
-        (68, present(0x610, 0xFFFF, false, false), Origin::Psp),
+        (
+            HOST_CODE,
+            Kind::Code,
+            ROM_START,
+            0xFFFF,
+            false,
+            Origin::Host,
+        ),
+        (
+            HOST_STACKS,
+            data,
+            PROTECTED_STACKS,
+            limit,
+            wide,
+            Origin::Host,
+        ),
+        (64, Kind::Code, 0x1_2340, 0xFFFF, false, Origin::Entry),
+        (65, data, 0x1_0000, 0xFFFF, wide, Origin::Entry),
+        (66, data, 0x2_0000, 0xFFFF, wide, Origin::Entry),
+        (67, data, 0x640, 0xFF, false, Origin::Psp),
+        (68, data, 0x610, 0xFFFF, false, Origin::Psp),
     ];
-    for (index, d, origin) in rows {
+    for (index, kind, base, limit, size, origin) in rows {
+        let d = Desc::plain(kind, base, limit, size);
         same(
             Differing::Descriptor(index),
             m.desc(index) == Some((d, origin)),

@@ -1,7 +1,7 @@
 // Worked calls, reflections, returns and refusals. The values come from the rules by hand.
 use crate::machines::{Differing, compare_all, entered, has_words, same};
 use client_world::limits::GREATEST_DEPTH;
-use client_world::memory_map::PROTECTED_STACKS;
+use client_world::memory_map::{PROTECTED_STACK_SIZE, PROTECTED_STACKS, REAL_STACK_SEGMENT};
 use client_world::{Begun, Call, Exit, Flags, Mode, Regs, Width};
 use guest_space::Machine;
 use mode_stack::depth;
@@ -110,7 +110,7 @@ const STARTED: [Started; 4] = [
         image: 0x0245,
         stack: (0, 0),
         start: (0xF000, 0x21),
-        top: (0xD800, 0x3F6),
+        top: (REAL_STACK_SEGMENT, 0x3F6),
         words: [0x103, 0xF000, 0x245, 0x1111, 0x2222],
         vif: false,
     },
@@ -248,7 +248,7 @@ const SERVED: Regs = Regs {
     esp: 0x3FA,
     eip: 0x21,
     cs: 0xF000,
-    ss: 0xD800,
+    ss: REAL_STACK_SEGMENT,
     ds: 0,
     es: 0,
     fs: 0,
@@ -308,7 +308,7 @@ const REFUSED: [(Regs, u16, u16, u32); 5] = [
     (Regs { es: 0, ..CLIENT }, 0xD000, 0x200, 0xABCD_8025),
     (
         Regs {
-            esp: 0xFFFD,
+            esp: GREATEST_DEPTH * PROTECTED_STACK_SIZE - 3,
             ..CLIENT
         },
         0xD000,

@@ -19,6 +19,15 @@ source r addr32 width (Mem f) = From f.seg (offset_of r addr32 f) (byte_count wi
 source r addr32 width (Imm v) = Given v
 source r addr32 width (Far pointer) = Given 0
 
+-- what an operand gives that isn't in memory
+abbrev pub given : Regs → Operand → ℕ
+given r Empty = 0
+given r (Reg own number) = register r own number
+given r (Seg seg) = selector r seg
+given r (Mem f) = 0
+given r (Imm v) = v
+given r (Far pointer) = 0
+
 -- one more write
 abbrev pub and_write : SegReg → ℕ → ℕ → ℕ → Pending → Pending
 and_write seg off width v p = record p { writes = p.writes ++ record { seg = seg; off = off; width = width; value = v } ∷ [] }

@@ -7,8 +7,8 @@ ghost use Rattle.insn_plan.specs.Act.{From, IsCount, value_of};
 ghost use Rattle.insn_plan.specs.Operands.{source};
 ghost use Rattle.insn_plan.specs.Stack.{stack_item, has_big_stack};
 
-use crate::operands::source;
-use crate::read::{read_number, read_width};
+use crate::operands::given;
+use crate::read::{number_at, read_number};
 use crate::registers::{cut_address, offset_of};
 use crate::stack::{has_big_stack, pointer_down, with_pointer};
 use arrayvec::ArrayVec;
@@ -137,15 +137,13 @@ impl<'a> Accesses<'a> {
         } }
         ensures room { length self.new.accesses ≤ length self.old.accesses + 1 }
     {
-        if let Operand::Mem(f) = operand {
-            self.note(
-                f.seg,
-                offset_of(&self.regs(), addr32, f),
-                byte_count(width),
-                false,
-            );
+        match operand {
+            Operand::Mem(f) => {
+                let off = offset_of(&self.regs(), addr32, f);
+                self.read_width(f.seg, off, byte_count(width))
+            }
+            _ => Ok(given(&self.regs(), operand)),
         }
-        source(self.machine, addr32, width, operand)
     }
 
     /// The same, as the number of 1, 2 or 4 bytes.
@@ -158,7 +156,7 @@ impl<'a> Accesses<'a> {
         ensures room { length self.new.accesses ≡ length self.old.accesses + 1 }
     {
         self.note(seg, off, count, false);
-        read_width(self.machine, seg, off, count)
+        number_at(self.machine, seg, off, count)
     }
 
     // The offset of the item of a width at a place of the stack, counted from the top.

@@ -17,7 +17,7 @@ pub use conditions::condition;
 pub use loop_counter::{counter, with_address};
 pub use next::{MAX_WRITES, Next};
 pub use operands::{copy_quickly, put_operand, put_register, put_with_flags, source, write_number};
-pub use read::{read_number, read_width};
+pub use read::{number_at, read_number, read_width};
 pub use registers::{cut_address, offset_of, register, set_register};
 pub use stack::{
     eight_items, esp_up, has_big_stack, item_pushed, push_item, settle_pushes, settle_quickly,

@@ -3,36 +3,47 @@ ghost use Rattle.std.specs.Prelude.{◌≡◌, OnOk, IfErr, IfSome, IfNone, Ok};
 ghost use Rattle.guest_space.specs.Pending.{byte_count};
 ghost use Rattle.guest_space.specs.Registers.{with_registers};
 ghost use Rattle.insn_plan.specs.Act.{From, unchanged, value_of, with_flags};
-ghost use Rattle.insn_plan.specs.Operands.{and_write, put_operand, source};
+ghost use Rattle.insn_plan.specs.Operands.{and_write, given, put_operand, source};
 ghost use Rattle.insn_plan.specs.Plan.{Follows, after_commit};
 ghost use Rattle.insn_plan.specs.Registers.{offset_of, with_register};
 ghost use Rattle.insn_plan.specs.Written.{IsRefused, IsWritten};
 
 use crate::read::{read_quickly, read_width};
 use crate::registers::{offset_of, register};
-use client_world::{Event, Flags, SegReg};
+use client_world::{Event, Flags, Regs, SegReg};
 use cpu_values::{put8, put16};
 use guest_space::{Machine, Write, byte_count};
 use insn_forms::{MemForm, Operand};
 
 // Reads an operand in memory.
 #[inline(never)]
-fn memory_source(m: &Machine, addr32: bool, width: u8, f: &MemForm) -> Result<u32, Event>
-    ensures { result ≡ value_of m.now.world (From f.now.seg (offset_of m.now.world.regs addr32 f.now) (byte_count width)) }
+fn memory_source(m: &mut Machine, addr32: bool, width: u8, f: &MemForm) -> Result<u32, Event>
+    ensures value { result ≡ value_of m.old.world (From f.now.seg (offset_of m.old.world.regs addr32 f.now) (byte_count width)) }
+    ensures kept { m.new ≡ m.old }
 {
-    read_width(
-        m,
-        f.seg,
-        offset_of(m.registers(), addr32, f),
-        byte_count(width),
-    )
+    let off = offset_of(m.registers(), addr32, f);
+    read_width(m, f.seg, off, width)
+}
+
+/// What an operand gives that isn't in memory, and 0 for one that is.
+#[inline(always)]
+pub(crate) fn given(r: &Regs, operand: &Operand) -> u32
+    ensures { result ≡ given r.now operand.now }
+{
+    match operand {
+        Operand::Reg { width, number } => register(r, *width, *number),
+        Operand::Imm(v) => *v,
+        Operand::Seg(seg) => u32::from(r.selector(*seg)),
+        Operand::Mem(_) | Operand::Empty | Operand::Far(_) => 0,
+    }
 }
 
 /// Reads an operand, in memory at that width, or gives the fault of the access.
 #[inline(always)]
 #[tactic(auto, unfolding(crate::specs::Operands::source, crate::specs::Act::value_of))]
-pub fn source(m: &Machine, addr32: bool, width: u8, operand: &Operand) -> Result<u32, Event>
-    ensures { result ≡ value_of m.now.world (source m.now.world.regs addr32 width operand.now) }
+pub fn source(m: &mut Machine, addr32: bool, width: u8, operand: &Operand) -> Result<u32, Event>
+    ensures value { result ≡ value_of m.old.world (source m.old.world.regs addr32 width operand.now) }
+    ensures kept { m.new ≡ m.old }
 {
     match operand {
         Operand::Reg { width, number } => Ok(register(m.registers(), *width, *number)),
@@ -62,8 +73,20 @@ pub fn put_register(m: &mut Machine, width: u8, n: u8, v: u32)
     }
 }
 
+// Makes a write, by the tables, after its page was noted.
+#[inline(never)]
+#[tactic(auto, using(crate::proofs::WrittenState::made, crate::proofs::WrittenState::refused))]
+fn note_and_write(m: &mut Machine, write: &Write) -> Result<(), Event>
+    ensures done { OnOk result (IsWritten write.now m.old m.new) }
+    ensures refused { IfErr result (λ e. IsRefused write.now m.old m.new e) }
+{
+    m.warm(write.seg, write.off);
+    m.write_one(write)?;
+    Ok(())
+}
+
 /// Writes a number of a width at an offset of a segment register, or gives the fault of the write, which changes nothing. The registers and
-/// the virtual interrupt flag stay.
+/// the virtual interrupt flag stay. Where a quick look doesn't show that the write has no fault, its page is noted.
 #[inline(always)]
 #[tactic(auto, using(crate::proofs::WrittenState::made, crate::proofs::WrittenState::refused))]
 pub fn write_number(
@@ -76,13 +99,16 @@ pub fn write_number(
     ensures done { OnOk result (IsWritten (record { seg = seg; off = off; width = width; value = value }) m.old m.new) }
     ensures refused { IfErr result (λ e. IsRefused (record { seg = seg; off = off; width = width; value = value }) m.old m.new e) }
 {
-    m.write_one(&Write {
+    let write = Write {
         seg,
         width,
         off,
         value,
-    })?;
-    Ok(())
+    };
+    if m.write_one_quickly(&write) {
+        return Ok(());
+    }
+    note_and_write(m, &write)
 }
 
 /// Copies a number of a width from an offset of a segment register to one of another, where a quick look shows that both may be accessed, and

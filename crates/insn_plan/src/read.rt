@@ -4,7 +4,7 @@ ghost use Rattle.guest_space.specs.Pending.{IsCountOfWidth, byte_count};
 ghost use Rattle.insn_plan.specs.Act.{From, IsCount, value_of, number_of};
 
 use client_world::{Event, SegReg};
-use guest_space::Machine;
+use guest_space::{Machine, byte_count};
 
 // The number of one byte.
 #[tactic(auto, using(crate::proofs::Numbers::number_of_one))]
@@ -50,10 +50,10 @@ fn quadword(bytes: [u8; 8]) -> u64
     u64::from_le_bytes(bytes)
 }
 
-/// The number of 1, 2 or 4 bytes at an offset of a segment register, or the fault of the access.
+/// The number of 1, 2 or 4 bytes at an offset of a segment register, or the fault of the access; the machine is only looked at.
 #[inline(always)]
 #[tactic(auto, unfolding(crate::specs::Act::value_of))]
-pub fn read_width(m: &Machine, seg: SegReg, off: u32, count: u8) -> Result<u32, Event>
+pub fn number_at(m: &Machine, seg: SegReg, off: u32, count: u8) -> Result<u32, Event>
     requires { IsCountOfWidth count }
     ensures { result ≡ value_of m.now.world (From seg off count) }
 {
@@ -74,6 +74,29 @@ pub(crate) fn read_quickly(m: &Machine, seg: SegReg, off: u32, width: u8) -> Opt
         8 => Some(byte(m.read_quickly(seg, off)?)),
         16 => Some(word(m.read_quickly(seg, off)?)),
         _ => Some(doubleword(m.read_quickly(seg, off)?)),
+    }
+}
+
+// The number, by the tables, after its page was noted.
+#[inline(never)]
+fn note_and_read(m: &mut Machine, seg: SegReg, off: u32, width: u8) -> Result<u32, Event>
+    ensures value { result ≡ value_of m.old.world (From seg off (byte_count width)) }
+    ensures kept { m.new ≡ m.old }
+{
+    m.warm(seg, off);
+    number_at(m, seg, off, byte_count(width))
+}
+
+/// Reads a number of a width at an offset of a segment register, or gives the fault of the access. Where a quick look doesn't show it, the
+/// page is noted.
+#[inline(always)]
+pub fn read_width(m: &mut Machine, seg: SegReg, off: u32, width: u8) -> Result<u32, Event>
+    ensures value { result ≡ value_of m.old.world (From seg off (byte_count width)) }
+    ensures kept { m.new ≡ m.old }
+{
+    match read_quickly(m, seg, off, width) {
+        Some(v) => Ok(v),
+        None => note_and_read(m, seg, off, width),
     }
 }
 

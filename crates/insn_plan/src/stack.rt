@@ -18,7 +18,7 @@ ghost use Rattle.insn_plan.specs.declared.next.TheConstants.{MAX_WRITES};
 
 use crate::next::Next;
 use crate::operands::write_number;
-use crate::read::{doubleword, read_width, word};
+use crate::read::{doubleword, number_at, word};
 use crate::registers::cut_address;
 use client_world::general::ESP;
 use client_world::{Event, Regs, SegReg};
@@ -87,7 +87,7 @@ pub fn stack_item(m: &Machine, width: u8, place: u8) -> Result<u32, Event>
     let big = has_big_stack(m);
     let sp = u64::from(cut_address(big, u64::from(m.registers().esp)));
     let off = cut_address(big, sp + u64::from(count) * u64::from(place));
-    read_width(m, SegReg::Ss, off, count)
+    number_at(m, SegReg::Ss, off, count)
 }
 
 /// Pushes a number of a width, or gives the fault of the write, which changes nothing.

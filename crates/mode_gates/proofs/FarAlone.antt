@@ -5,8 +5,8 @@ use Rattle.exec_flow.specs.FarTransfers.{far_frame_popped}
 use Rattle.exec_flow.specs.Interrupts.{frame_bits}
 use Rattle.host_memory.specs.View.{MachineView}
 use Rattle.insn_plan.specs.Plan.{planned}
-use Rattle.fault_service.specs.Worlds.{its_world}
-use Rattle.fault_service.proofs.Alone.{pop_alone}
+use Rattle.interrupts.specs.Worlds.{its_world}
+use Rattle.interrupts.proofs.Alone.{pop_alone}
 use Rattle.mode_gates.specs.FarFrames.{after_far_return, world_after_far_return}
 
 pub far_alone : (v : MachineView) → its_world (after_far_return v) ≡ world_after_far_return v.world

@@ -1,6 +1,10 @@
 -- A far return at a trap changes registers alone, and no byte; what the entry keeps.
-use Rattle.std.proofs.Common.{◌≡◌, ◌∙◌, ℕ, true, refl, ap, subst, Option, None, Some, Result, Ok, Err}
+use Rattle.std.proofs.Common.{◌≡◌, ◌∙◌, ℕ, Bool, true, refl, ap, subst, Option, None, Some, Result, Ok, Err}
+use Rattle.client_world.specs.Loading.{transfer_fault}
 use Rattle.client_world.specs.Registers.{low_half}
+use Rattle.client_world.specs.declared.faults.Event.{Event}
+use Rattle.client_world.specs.declared.faults.Event.TheVariants.{Fault as fault}
+use Rattle.client_world.specs.declared.faults.Fault.{Fault}
 use Rattle.client_world.specs.declared.outcome.Exit.{Exit}
 use Rattle.client_world.specs.declared.registers.Width.{Width}
 use Rattle.client_world.specs.Services.{Served}
@@ -8,14 +12,15 @@ use Rattle.client_world.specs.World.{World}
 use Rattle.exec_flow.specs.FarTransfers.{far_frame_popped, far_transfer}
 use Rattle.exec_flow.specs.Interrupts.{frame_bits}
 use Rattle.exec_flow.specs.Transfers.{released}
+use Rattle.guest_space.specs.Pending.{all_written, first_refusal}
 use Rattle.host_memory.specs.View.{MachineView}
-use Rattle.insn_plan.specs.Act.{Act, Read, unchanged, with_regs}
+use Rattle.insn_plan.specs.Act.{Act, Input, Pending, Read, done, unchanged, unless_fault, value_of, with_regs}
+use Rattle.insn_plan.specs.Plan.{after_commit, carried_out, planned, with_state}
 use Rattle.insn_plan.specs.Stack.{items_popped, stack_item}
-use Rattle.fault_service.specs.Worlds.{HasOtherRegisters, HasOtherState, bare}
-use Rattle.fault_service.proofs.KeptWorlds.{state_of_world}
-use Rattle.fault_service.proofs.ReturnPlans.{IsQuiet, quiet_read, quiet_transfer}
-use Rattle.fault_service.proofs.ReturnStates.{quiet_state}
-use Rattle.fault_service.proofs.SoundAnswers.{holds_of_world, return_was}
+use Rattle.interrupts.specs.Worlds.{bare}
+use Rattle.interrupts.proofs.ReturnPlans.{IsQuiet, quiet_read, quiet_transfer}
+use Rattle.interrupts.proofs.ReturnStates.{quiet_state}
+use Rattle.interrupts.proofs.SoundAnswers.{granted_was, holds_of_answer, holds_of_world, return_was}
 use Rattle.mode_gates.specs.Entry.{after_first_entry, entry, entry_after, entry_answer}
 use Rattle.mode_gates.specs.FarFrames.{after_far_return, world_after_far_return}
 
@@ -35,33 +40,90 @@ quiet_far : (w : World) (bits bytes : ℕ) → IsQuiet w (far_frame_popped w bit
 unfolding far_frame_popped
 quiet_far w bits bytes = quiet_read w (stack_item w bits 0) (with_ip w bits bytes) (quiet_ip w bits bytes)
 
-pub far_state : (v u : MachineView) → after_far_return v ≡ Ok u → HasOtherState v u
-unfolding after_far_return
-far_state v u e = quiet_state v u _ (quiet_far v.world (frame_bits v.world) 0) (return_was _ u e)
+-- ---- the virtual interrupt flag stays
 
-pub kept_far : (w u : World) → world_after_far_return w ≡ Ok u → HasOtherRegisters w u
+-- a plan that keeps it, where there is one
+abbrev KeepsFlag : World → Result Pending Event → Type 0
+KeepsFlag w (Ok p) = p.vif ≡ w.vif
+KeepsFlag w (Err e) = Unit {0}
+
+flag_by_value : (w : World) (r : Result ℕ Event) (rest : ℕ → Act) → ((v : ℕ) → KeepsFlag w (planned w (rest v))) →
+    KeepsFlag w (elim r [ Ok v ↦ planned w (rest v) | Err e ↦ Err e ])
+flag_by_value w (Ok v) rest keeps = keeps v
+flag_by_value w (Err e) rest keeps = tt
+
+flag_read : (w : World) (input : Input) (rest : ℕ → Act) → ((v : ℕ) → KeepsFlag w (planned w (rest v))) →
+    KeepsFlag w (planned w (Read input rest))
+flag_read w input rest keeps = flag_by_value w (value_of w input) rest keeps
+
+flag_unless : (w : World) (o : Option Fault) (p : Pending) → p.vif ≡ w.vif → KeepsFlag w (planned w (unless_fault o (done p)))
+flag_unless w None p same = same
+flag_unless w (Some f) p same = tt
+
+flag_cs : (w : World) (bits bytes ip cs : ℕ) → KeepsFlag w (planned w (with_cs w bits bytes ip cs))
+unfolding far_transfer
+flag_cs w bits bytes ip cs = flag_unless w (transfer_fault w (low_half cs) ip true) _ refl
+
+flag_ip : (w : World) (bits bytes ip : ℕ) → KeepsFlag w (planned w (with_ip w bits bytes ip))
+flag_ip w bits bytes ip = flag_read w (stack_item w bits 1) (with_cs w bits bytes ip) (flag_cs w bits bytes ip)
+
+flag_far : (w : World) (bits bytes : ℕ) → KeepsFlag w (planned w (far_frame_popped w bits bytes))
+unfolding far_frame_popped
+flag_far w bits bytes = flag_read w (stack_item w bits 0) (with_ip w bits bytes) (flag_ip w bits bytes)
+
+settled_flag : (v u : MachineView) (p : Pending) → p.vif ≡ v.world.vif → after_commit v p ≡ Ok u → u.world.vif ≡ v.world.vif
+unfolding after_commit
+settled_flag v u p keeps e =
+    let x = with_state p.regs p.vif (all_written v p.writes) in
+    holds_of_answer (λ (m : MachineView). m.world.vif ≡ v.world.vif) (Ok x) u keeps
+    (granted_was fault (first_refusal v.world p.writes) (Ok x) u e)
+
+carried_flag : (v u : MachineView) (r : Result Pending Event) → KeepsFlag v.world r → carried_out v r ≡ Ok u → u.world.vif ≡ v.world.vif
+unfolding carried_out
+carried_flag v u (Ok p) keeps e = settled_flag v u p keeps e
+carried_flag v u (Err f) keeps e = absurd cc
+
+-- ---- the far return
+
+abbrev pub KeptByFar : MachineView → MachineView → Type 0
+KeptByFar v u = u ≡ record v { world = record v.world { regs = u.world.regs } }
+
+pub far_state : (v u : MachineView) → after_far_return v ≡ Ok u → KeptByFar v u
+unfolding after_far_return
+far_state v u e =
+    let popped = return_was _ u e in
+    quiet_state v u _ (quiet_far v.world (frame_bits v.world) 0) popped
+    ∙ ap (λ (on : Bool). with_state u.world.regs on v) (carried_flag v u _ (flag_far v.world (frame_bits v.world) 0) popped)
+
+abbrev pub HasOnlyOtherRegisters : World → World → Type 0
+HasOnlyOtherRegisters w u = u ≡ record w { regs = u.regs }
+
+of_world : (w : World) (v : MachineView) → KeptByFar (bare w) v → HasOnlyOtherRegisters w v.world
+of_world w v e = ap (λ (m : MachineView). m.world) e
+
+pub kept_far : (w u : World) → world_after_far_return w ≡ Ok u → HasOnlyOtherRegisters w u
 unfolding world_after_far_return
 kept_far w u e =
-    holds_of_world (HasOtherRegisters w) (after_far_return (bare w)) u (λ v popped. state_of_world w v (far_state (bare w) v popped)) e
+    holds_of_world (HasOnlyOtherRegisters w) (after_far_return (bare w)) u (λ v popped. of_world w v (far_state (bare w) v popped)) e
 
 -- ---- the entry
 
 abbrev KeptByEntry : World → World → Type 0
 KeptByEntry w u =
-    u ≡ record w { mode = u.mode; regs = u.regs; vif = u.vif; width = u.width; dos = u.dos; descriptors = u.descriptors }
+    u ≡ record w { mode = u.mode; regs = u.regs; width = u.width; dos = u.dos; descriptors = u.descriptors }
 
 kept_answer : (o : Option Width) (w : World) → KeptByEntry w (entry_answer o w).world
 unfolding after_first_entry
 kept_answer None w = refl
 kept_answer (Some width) w = refl
 
-kept_after : (w : World) (r : Result World Exit) (s : Served) → ((u : World) → r ≡ Ok u → HasOtherRegisters w u) →
+kept_after : (w : World) (r : Result World Exit) (s : Served) → ((u : World) → r ≡ Ok u → HasOnlyOtherRegisters w u) →
     entry_after r ≡ Ok s → KeptByEntry w s.world
 kept_after w (Ok u) s other e =
     let a : World = (entry_answer u.width u).world in
     let same : entry_answer u.width u ≡ s = cc in
     subst (λ (t : Served). KeptByEntry w t.world) same (kept_answer u.width u
-    ∙ ap (λ (x : World). record x { mode = a.mode; regs = a.regs; vif = a.vif; width = a.width; dos = a.dos; descriptors = a.descriptors })
+    ∙ ap (λ (x : World). record x { mode = a.mode; regs = a.regs; width = a.width; dos = a.dos; descriptors = a.descriptors })
     (other u refl))
 kept_after w (Err exit) s other e = absurd cc
 

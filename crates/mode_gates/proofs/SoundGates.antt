@@ -26,8 +26,8 @@ use Rattle.guest_ram.specs.Bytes.{with_word}
 use Rattle.guest_space.proofs.HostRows.{IsSound-width}
 use Rattle.host_memory.specs.View.{MachineView}
 use Rattle.insn_plan.specs.Plan.{planned, carried_out}
-use Rattle.fault_service.specs.Worlds.{bare}
-use Rattle.fault_service.proofs.SoundAnswers.{holds_of_world, return_was}
+use Rattle.interrupts.specs.Worlds.{bare}
+use Rattle.interrupts.proofs.SoundAnswers.{holds_of_world, return_was}
 use Rattle.mode_gates.specs.Entry.{asked_width, code_of_segment, data_of_segment, after_first_entry, entry, entry_after, entry_registers, entry_rows, entry_answer, environment_of, environment_word, host_rows, with_carry}
 use Rattle.mode_gates.specs.FarFrames.{after_far_return, world_after_far_return}
 use Rattle.mode_gates.specs.Rows.{AreFreeFrom}

@@ -1,13 +1,12 @@
 -- The raw switches and their addresses: a sound world leads to a sound one, and nothing changes but the mode and registers.
-use Rattle.std.proofs.Common.{◌≡◌, ◌≢◌, ◌<◌, ◌+◌, ℕ, nat_eq, Bool, true, false, arith, refl, subst, sym, Option, None, Some, Ok, Err}
+use Rattle.std.proofs.Common.{◌≡◌, ◌≢◌, ◌<◌, ℕ, nat_eq, Bool, true, false, arith, refl, subst, sym, Option, None, Some, Ok, Err}
 use Rattle.std.specs.Prelude.{if◌then◌else◌}
 use Rattle.client_world.specs.declared.outcome.Exit.TheVariants.{BadSwitch}
 use Rattle.client_world.specs.declared.registers.Mode.TheVariants.{Real, Protected}
 use Rattle.client_world.specs.declared.registers.Regs.{Regs}
 use Rattle.client_world.specs.declared.registers.Width.{Width}
-use Rattle.client_world.specs.declared.selectors.TheConstants.{CLIENT_PRIVILEGE}
 use Rattle.client_world.specs.Registers.{low_half}
-use Rattle.client_world.specs.Selector.{selector_code}
+use Rattle.client_world.specs.Selector.{client_selector}
 use Rattle.client_world.specs.Services.{by_width}
 use Rattle.client_world.specs.Soundness.{HasSegments, IsSound}
 use Rattle.client_world.specs.World.{World}
@@ -48,7 +47,7 @@ sound_switch : (w : World) (width : Width) → w.width ≡ Some width → IsSoun
 unfolding after_switch
 sound_switch w width is s =
     let u : World = record w { mode = Protected } in
-    let code : ℕ = selector_code (low_half w.regs.esi) + CLIENT_PRIVILEGE in
+    let code : ℕ = client_selector (low_half w.regs.esi) in
     let r = switched_regs w.regs code (by_width (Some width) w.regs.ebx) (by_width (Some width) w.regs.edi) in
     IsSound-regs u r (IsSound-mode w Protected width s is)
     (switched_segments w.regs code (by_width (Some width) w.regs.ebx) (by_width (Some width) w.regs.edi) (omega arith))

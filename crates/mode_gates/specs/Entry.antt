@@ -14,6 +14,7 @@ use Rattle.client_world.specs.declared.registers.Width.{Width}
 use Rattle.client_world.specs.declared.registers.Width.TheVariants.{Sixteen, ThirtyTwo}
 use Rattle.client_world.specs.declared.selectors.TheConstants.{HOST_CODE, HOST_STACKS, ENTRY_CODE, ENTRY_STACK, ENTRY_DATA, ENTRY_PSP, ENTRY_ENVIRONMENT}
 use Rattle.client_world.specs.declared.services.Carry.TheVariants.{Clear, Set}
+use Rattle.client_world.specs.Descriptor.{plain}
 use Rattle.client_world.specs.Selector.{Row, selector_of}
 use Rattle.client_world.specs.Services.{Served}
 use Rattle.client_world.specs.Soundness.{host_code, host_stacks, is_wide}
@@ -34,26 +35,10 @@ environment_of w = word_of w.dos environment_word
 
 -- a descriptor of what starts at a real segment, with a limit in bytes
 abbrev pub code_of_segment : ℕ → Desc
-code_of_segment segment = record {
-  base = segment * PARAGRAPH_SIZE;
-  limit = 0xFFFF;
-  gran = false;
-  size = false;
-  avl = false;
-  present = true;
-  kind = Code;
-}
+code_of_segment segment = plain Code (segment * PARAGRAPH_SIZE) 0xFFFF false
 
 abbrev pub data_of_segment : ℕ → ℕ → Width → Desc
-data_of_segment segment limit width = record {
-  base = segment * PARAGRAPH_SIZE;
-  limit = limit;
-  gran = false;
-  size = is_wide width;
-  avl = false;
-  present = true;
-  kind = Data true false;
-}
+data_of_segment segment limit width = plain (Data true false) (segment * PARAGRAPH_SIZE) limit (is_wide width)
 
 -- the rows with another one at an index
 abbrev pub with_row_at : ℕ → Row → List Row → List Row

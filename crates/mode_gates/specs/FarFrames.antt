@@ -7,8 +7,8 @@ use Rattle.exec_flow.specs.FarTransfers.{far_frame_popped}
 use Rattle.exec_flow.specs.Interrupts.{frame_bits}
 use Rattle.host_memory.specs.View.{MachineView}
 use Rattle.insn_plan.specs.Plan.{planned, carried_out}
-use Rattle.fault_service.specs.Delivery.{popped_or_bad}
-use Rattle.fault_service.specs.Worlds.{on_world}
+use Rattle.interrupts.specs.Delivery.{popped_or_bad}
+use Rattle.interrupts.specs.Worlds.{on_world}
 
 -- the machine after two items at the stack's top are popped as a far return pops them, of 16 bits in real mode and of the client's width in
 -- protected mode; or the exit

@@ -1,6 +1,6 @@
 -- The raw mode switches, and the functions that give their addresses. Source: DPMI 0.9, INT 31h functions 0305h and 0306h; the addresses and
 -- the exits are own.
-use Rattle.std.specs.Prelude.{ℕ, ◌+◌, ◌-◌, Bool, false, ◌&&◌, nat_eq, if◌then◌else◌, [], None, Some, Ok, Err}
+use Rattle.std.specs.Prelude.{ℕ, ◌-◌, Bool, false, ◌&&◌, nat_eq, if◌then◌else◌, [], None, Some, Ok, Err}
 use Rattle.std.specs.declared.option.Option.{Option}
 use Rattle.std.specs.declared.result.Result.{Result}
 use Rattle.client_world.specs.declared.memory_map.TheConstants.{ROM_SEGMENT, ROM_START}
@@ -10,11 +10,11 @@ use Rattle.client_world.specs.declared.registers.Mode.TheVariants.{Real, Protect
 use Rattle.client_world.specs.declared.registers.Regs.{Regs}
 use Rattle.client_world.specs.declared.registers.Width.{Width}
 use Rattle.client_world.specs.declared.segments.SegReg.TheVariants.{Es, Cs, Ss, Ds}
-use Rattle.client_world.specs.declared.selectors.TheConstants.{CLIENT_PRIVILEGE, HOST_CODE}
+use Rattle.client_world.specs.declared.selectors.TheConstants.{HOST_CODE}
 use Rattle.client_world.specs.declared.traps.TheConstants.{PROTECTED_STATE_TRAP, REAL_STATE_TRAP, SWITCH_TO_PROTECTED_TRAP, SWITCH_TO_REAL_TRAP}
 use Rattle.client_world.specs.Loading.{is_loadable}
 use Rattle.client_world.specs.Registers.{low_half, with_low_half}
-use Rattle.client_world.specs.Selector.{selector_code, selector_of}
+use Rattle.client_world.specs.Selector.{client_selector, selector_of}
 use Rattle.client_world.specs.Services.{Served, by_width}
 use Rattle.client_world.specs.World.{World}
 use Rattle.service_rows.specs.Reasons.{Service, family_outcome, unsupported}
@@ -52,7 +52,7 @@ can_switch w width =
 unfoldable pub after_switch : World → Option Width → World
 after_switch w width = record w {
   mode = Protected;
-  regs = switched_regs w.regs (selector_code (low_half w.regs.esi) + CLIENT_PRIVILEGE) (by_width width w.regs.ebx) (by_width width w.regs.edi);
+  regs = switched_regs w.regs (client_selector (low_half w.regs.esi)) (by_width width w.regs.ebx) (by_width width w.regs.edi);
 }
 
 -- before the entry there is no protected mode to switch to

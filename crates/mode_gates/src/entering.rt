@@ -48,33 +48,24 @@ pub fn asked_width(m: &Machine) -> Width
 fn code_of_segment(segment: u16) -> Desc
     ensures { result ≡ code_of_segment segment }
 {
-    Desc {
-        base: u32::from(segment) * PARAGRAPH_SIZE,
-        limit: 0xFFFF,
-        gran: false,
-        size: false,
-        avl: false,
-        present: true,
-        kind: Kind::Code,
-    }
+    Desc::plain(
+        Kind::Code,
+        u32::from(segment) * PARAGRAPH_SIZE,
+        0xFFFF,
+        false,
+    )
 }
 
 // A descriptor of the data that starts at a real segment.
 fn data_of_segment(segment: u16, limit: u32, width: Width) -> Desc
     ensures { result ≡ data_of_segment segment limit width }
 {
-    Desc {
-        base: u32::from(segment) * PARAGRAPH_SIZE,
+    Desc::plain(
+        Kind::WRITABLE_DATA,
+        u32::from(segment) * PARAGRAPH_SIZE,
         limit,
-        gran: false,
-        size: width == Width::ThirtyTwo,
-        avl: false,
-        present: true,
-        kind: Kind::Data {
-            writable: true,
-            down: false,
-        },
-    }
+        width == Width::ThirtyTwo,
+    )
 }
 
 // Puts a descriptor at the first index from which all are free.

@@ -4,7 +4,7 @@ ghost use Rattle.client_world.specs.declared.registers.Mode.TheVariants.{Protect
 ghost use Rattle.client_world.specs.Services.{Served};
 ghost use Rattle.client_world.specs.Soundness.{IsSound};
 ghost use Rattle.client_world.specs.World.{World};
-ghost use Rattle.fault_service.specs.Worlds.{HasOtherState, its_world};
+ghost use Rattle.interrupts.specs.Worlds.{its_world};
 ghost use Rattle.host_memory.specs.View.{MachineView};
 ghost use Rattle.mode_gates.specs.Entry.{entry};
 ghost use Rattle.mode_gates.specs.FarFrames.{after_far_return, world_after_far_return};
@@ -18,15 +18,14 @@ pub fn a_far_return_depends_on_the_world_alone()
 
 /// A far return at a trap changes registers alone, and no byte of the memory.
 pub fn a_far_return_changes_registers_alone()
-    ensures { (v u : MachineView) → after_far_return v ≡ Ok u → HasOtherState v u }
+    ensures { (v u : MachineView) → after_far_return v ≡ Ok u → u ≡ record v { world = record v.world { regs = u.world.regs } } }
 {}
 
-/// The entry changes the mode, the width, registers, the virtual interrupt flag, the megabyte and descriptors alone.
+/// The entry changes the mode, the width, registers, the megabyte and descriptors alone.
 pub fn the_entry_keeps_the_rest()
     ensures { (w : World) (s : Served) → entry w ≡ Ok s → s.world ≡ record w {
       mode = s.world.mode;
       regs = s.world.regs;
-      vif = s.world.vif;
       width = s.world.width;
       dos = s.world.dos;
       descriptors = s.world.descriptors;

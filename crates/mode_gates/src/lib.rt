@@ -1,6 +1,6 @@
 //! The gates between the modes: the entry to protected mode, the raw switches, and the frame of a far call at a trap.
 //! It promises that each leaves the machine that its definition names, or gives its exit and changes nothing; and that a sound world leads to
-//! a sound one. It is built on the plans of instructions and on `fault_service`.
+//! a sound one. It is built on the plans of instructions and on `interrupts`.
 #![tactic(auto)]
 
 mod entering;

@@ -21,13 +21,13 @@ ghost use Rattle.mode_gates.specs.Switches.{
 use crate::far_frames::pop_far;
 use crate::laws::a_far_return_changes_registers_alone;
 use client_world::memory_map::{ROM_SEGMENT, ROM_START};
-use client_world::selectors::{CLIENT_PRIVILEGE, HOST_CODE, privilege_of, selector_of};
+use client_world::selectors::{HOST_CODE, client_selector, selector_of};
 use client_world::traps::{
     PROTECTED_STATE_TRAP, REAL_STATE_TRAP, SWITCH_TO_PROTECTED_TRAP, SWITCH_TO_REAL_TRAP,
 };
-use client_world::{Carry, Exit, Mode, Regs, SegReg, Width};
+use client_world::{Carry, Exit, Mode, Regs, SegReg, Width, by_width, low_half, with_low_half};
 use guest_space::Machine;
-use service_rows::{Refusal, by_width, low_half, with_by_width, with_low_half};
+use service_rows::{Refusal, with_by_width};
 
 // The registers after a switch.
 fn switched_regs(r: &Regs, code: u16, stack_pointer: u32, instruction_pointer: u32) -> Regs
@@ -106,7 +106,7 @@ pub fn to_protected(m: &mut Machine) -> Result<(), Exit>
     let code = low_half(r.esi);
     m.set_regs(switched_regs(
         &r,
-        code - privilege_of(code) + CLIENT_PRIVILEGE,
+        client_selector(code),
         by_width(Some(width), r.ebx),
         by_width(Some(width), r.edi),
     ));

@@ -1,3 +1,2 @@
 pub mod PutRuns
 pub mod Trips
-pub mod RowNumbers

@@ -9,7 +9,8 @@ use Rattle.client_world.specs.declared.calls.Record.{Record}
 use Rattle.client_world.specs.declared.calls.Record.TheVariants.{Sim, Back, Exc}
 use Rattle.client_world.specs.declared.registers.Regs.{Regs}
 use Rattle.client_world.specs.declared.segments.FarPtr.{FarPtr}
-use Rattle.host_memory.specs.Records.{call_kind, call_number, no_pointer, record_bytes, record_head, regs_bytes}
+use Rattle.client_world.specs.Segments.{null_pointer}
+use Rattle.host_memory.specs.Records.{call_kind, call_number, record_bytes, record_head, regs_bytes}
 use Rattle.guest_ram.specs.Bytes.{put}
 use Rattle.guest_ram.specs.Listed.{zeros}
 use Rattle.guest_ram.proofs.ListedLaws.{length-zeros, at_zeros}
@@ -85,6 +86,6 @@ pub back_packed : (r : Record) (slot : ℕ) (at : FarPtr) (a h : List ℕ) → r
 unfolding record_bytes
 back_packed r slot at a h is head one = one ∙ head_put 5 slot false 0 at h head ∙ ap record_bytes (sym is)
 
-pub exc_packed : (r : Record) (number code : ℕ) (a h : List ℕ) → r ≡ Exc number code → h ≡ record_head 6 number false code no_pointer → a ≡ put blank_row 0 h → a ≡ record_bytes r
+pub exc_packed : (r : Record) (number code : ℕ) (a h : List ℕ) → r ≡ Exc number code → h ≡ record_head 6 number false code null_pointer → a ≡ put blank_row 0 h → a ≡ record_bytes r
 unfolding record_bytes
-exc_packed r number code a h is head one = one ∙ head_put 6 number false code no_pointer h head ∙ ap record_bytes (sym is)
+exc_packed r number code a h is head one = one ∙ head_put 6 number false code null_pointer h head ∙ ap record_bytes (sym is)

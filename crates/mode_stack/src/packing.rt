@@ -1,12 +1,13 @@
 // The bytes of a record.
 ghost use Rattle.std.specs.Prelude.{◌≡◌, ◌≤◌, ◌+◌, length};
-ghost use Rattle.guest_ram.specs.Bytes.{put, dword, dword_bytes, word_of};
-ghost use Rattle.host_memory.specs.Records.{call_kind, call_number, call_of, no_pointer, record_at, record_bytes, record_head, record_size, regs_at, regs_bytes};
-ghost use Rattle.host_memory.specs.Vectors.{pointer_at, word_bytes};
+ghost use Rattle.guest_ram.specs.Bytes.{put};
+ghost use Rattle.host_memory.specs.Records.{call_kind, call_number, call_of, record_at, record_bytes, record_head, record_size, regs_at, regs_bytes};
+ghost use Rattle.host_memory.specs.Vectors.{pointer_at};
 
-use byteorder::{ByteOrder, LittleEndian};
 use client_world::host_frames::RECORD_SIZE;
 use client_world::{Call, FarPtr, Flags, Record, Regs};
+use guest_ram::{doubleword, word};
+use guest_space::{dword_bytes, word_bytes};
 
 // The bytes of a record.
 const ROW_SIZE: usize = RECORD_SIZE as usize;
@@ -17,19 +18,6 @@ pub fn put_at(into: &mut [u8], at: usize, bytes: &[u8])
     ensures { into.new ≡ put into.old at bytes.now }
 {
     into[at..at + bytes.len()].copy_from_slice(bytes);
-}
-
-// The bytes of a doubleword and of a word, least byte first.
-fn dword_bytes(v: u32) -> [u8; 4]
-    ensures { result ≡ dword_bytes v }
-{
-    v.to_le_bytes()
-}
-
-fn word_bytes(v: u16) -> [u8; 2]
-    ensures { result ≡ word_bytes v }
-{
-    v.to_le_bytes()
 }
 
 // The number of a call's kind, and the number that the call has, 0 where it has none.
@@ -92,8 +80,6 @@ fn regs_bytes(r: &Regs) -> [u8; 50]
     bytes
 }
 
-const NO_POINTER: FarPtr = FarPtr { sel: 0, off: 0 };
-
 /// The bytes of a record.
 #[tactic(auto, unfolding(host_memory::specs::Records::record_bytes))]
 pub(crate) fn pack(r: &Record) -> [u8; ROW_SIZE]
@@ -116,36 +102,20 @@ pub(crate) fn pack(r: &Record) -> [u8; ROW_SIZE]
         }
         Record::Back { slot, at } => put_at(&mut bytes, 0, &head(5, *slot, false, 0, *at)),
         Record::Exc { number, code } => {
-            put_at(&mut bytes, 0, &head(6, *number, false, *code, NO_POINTER));
+            put_at(&mut bytes, 0, &head(6, *number, false, *code, FarPtr::NULL));
         }
     }
     bytes
 }
 
-// The word, the doubleword and the far pointer at an offset of a row.
-#[tactic(auto, using(crate::proofs::RowNumbers::little_word))]
-fn word_at(bytes: &[u8; ROW_SIZE], at: usize) -> u16
-    requires { at + 2 ≤ record_size }
-    ensures { result ≡ word_of bytes.now at }
-{
-    LittleEndian::read_u16(&bytes[at..])
-}
-
-#[tactic(auto, using(crate::proofs::RowNumbers::little_dword), unfolding(guest_ram::specs::Bytes::dword))]
-fn dword_at(bytes: &[u8; ROW_SIZE], at: usize) -> u32
-    requires { at + 4 ≤ record_size }
-    ensures { result ≡ dword bytes.now at }
-{
-    LittleEndian::read_u32(&bytes[at..])
-}
-
+// The far pointer at an offset of a row.
 fn pointer_at(bytes: &[u8; ROW_SIZE], at: usize) -> FarPtr
     requires { at + 6 ≤ record_size }
     ensures { result ≡ pointer_at bytes.now at }
 {
     FarPtr {
-        sel: word_at(bytes, at + 4),
-        off: dword_at(bytes, at),
+        sel: word(bytes, at + 4),
+        off: doubleword(bytes, at),
     }
 }
 
@@ -155,22 +125,22 @@ fn regs_at(bytes: &[u8; ROW_SIZE]) -> Regs
     ensures { result ≡ regs_at bytes.now 16 }
 {
     Regs {
-        eax: dword_at(bytes, 16),
-        ecx: dword_at(bytes, 20),
-        edx: dword_at(bytes, 24),
-        ebx: dword_at(bytes, 28),
-        esp: dword_at(bytes, 32),
-        ebp: dword_at(bytes, 36),
-        esi: dword_at(bytes, 40),
-        edi: dword_at(bytes, 44),
-        eip: dword_at(bytes, 48),
-        flags: Flags::from_image(word_at(bytes, 52)),
-        es: word_at(bytes, 54),
-        cs: word_at(bytes, 56),
-        ss: word_at(bytes, 58),
-        ds: word_at(bytes, 60),
-        fs: word_at(bytes, 62),
-        gs: word_at(bytes, 64),
+        eax: doubleword(bytes, 16),
+        ecx: doubleword(bytes, 20),
+        edx: doubleword(bytes, 24),
+        ebx: doubleword(bytes, 28),
+        esp: doubleword(bytes, 32),
+        ebp: doubleword(bytes, 36),
+        esi: doubleword(bytes, 40),
+        edi: doubleword(bytes, 44),
+        eip: doubleword(bytes, 48),
+        flags: Flags::from_image(word(bytes, 52)),
+        es: word(bytes, 54),
+        cs: word(bytes, 56),
+        ss: word(bytes, 58),
+        ds: word(bytes, 60),
+        fs: word(bytes, 62),
+        gs: word(bytes, 64),
     }
 }
 
@@ -199,7 +169,7 @@ pub(crate) fn unpack(bytes: &[u8; ROW_SIZE]) -> Record
         },
         6 => Record::Exc {
             number,
-            code: dword_at(bytes, 4),
+            code: doubleword(bytes, 4),
         },
         kind => Record::Sim {
             call: call_of(kind, number),

@@ -6,7 +6,7 @@ use Rattle.client_world.specs.declared.descriptors.Kind.TheVariants.{Data}
 use Rattle.client_world.specs.declared.registers.Width.{Width}
 use Rattle.client_world.specs.declared.registers.Width.TheVariants.{Sixteen, ThirtyTwo}
 use Rattle.client_world.specs.declared.selectors.TheConstants.{CLIENT_PRIVILEGE}
-use Rattle.client_world.specs.Descriptor.{is_code}
+use Rattle.client_world.specs.Descriptor.{is_code, plain}
 use Rattle.client_world.specs.Registers.{low_half, with_low_half}
 use Rattle.client_world.specs.Selector.{Row, privilege_of}
 use Rattle.client_world.specs.Services.{desc_of}
@@ -24,15 +24,7 @@ with_by_width (Some ThirtyTwo) register v = v
 
 -- present, writable data at an address, with a limit in bytes below 100000h
 abbrev pub data_at : ℕ → ℕ → Desc
-data_at base limit = record {
-  base = base;
-  limit = limit;
-  gran = false;
-  size = false;
-  avl = false;
-  present = true;
-  kind = Data true false;
-}
+data_at base limit = plain (Data true false) base limit false
 
 -- a descriptor row holds present code
 abbrev pub is_present_code : Row → Bool

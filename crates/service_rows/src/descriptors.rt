@@ -10,18 +10,7 @@ use guest_space::Machine;
 pub fn data_at(base: u32, limit: u32) -> Desc
     ensures { result ≡ data_at base limit }
 {
-    Desc {
-        base,
-        limit,
-        gran: false,
-        size: false,
-        avl: false,
-        present: true,
-        kind: Kind::Data {
-            writable: true,
-            down: false,
-        },
-    }
+    Desc::plain(Kind::WRITABLE_DATA, base, limit, false)
 }
 
 // Whether a descriptor row holds present code.

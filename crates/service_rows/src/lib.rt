@@ -1,5 +1,5 @@
-//! What the services of INT 31h share: a service with its reasons of refusal and their numbers, the parts of registers that hold its inputs and
-//! outputs, and what it asks of selectors.
+//! What the services of INT 31h share: a service with its reasons of refusal and their numbers, the registers that a client's width names, and
+//! what it asks of selectors.
 //! It promises the values that its definitions name. The services themselves are in the crates above it.
 #![tactic(auto)]
 
@@ -11,7 +11,4 @@ mod registers;
 pub use descriptors::{data_at, is_code_selector};
 pub use laws::every_refusal_changes_ax_alone;
 pub use refusal::{Refusal, refuse};
-pub use registers::{
-    by_width, es_di, high_byte, high_half, low_byte, low_half, set_ax, two_words, with_by_width,
-    with_low_byte, with_low_half,
-};
+pub use registers::{es_di, set_ax, with_by_width};

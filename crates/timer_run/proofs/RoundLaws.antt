@@ -1,8 +1,9 @@
 -- What rounds keep, count and write. Each is the timer's interrupt, or a turn with watchpoints.
-use Rattle.std.proofs.Common.{◌≡◌, ◌∙◌, ◌+◌, ℕ, zero, suc, Bool, true, false, List, [], Option, None, Some, refl, sym, subst}
+use Rattle.std.proofs.Common.{arith, ◌≡◌, ◌∙◌, ◌+◌, ℕ, zero, suc, Bool, true, false, List, [], ◌∷◌, ◌++◌, length, Option, None, Some, refl, sym, ap, subst}
 use Rattle.std.specs.Prelude.{All, if◌then◌else◌}
-use Rattle.std.proofs.lemmas.List.{append-nil}
+use Rattle.std.proofs.lemmas.List.{append-nil, length_push, same_from_push}
 use Rattle.std.proofs.lemmas.List.Elements.{All-nil}
+use Rattle.client_world.specs.declared.calls.Record.{Record}
 use Rattle.client_world.specs.declared.outcome.Exit.{Exit}
 use Rattle.client_world.specs.Access.{IsHeld}
 use Rattle.client_world.specs.Console.{Extends}
@@ -10,15 +11,15 @@ use Rattle.client_world.specs.Soundness.{IsSound, IsSoundHost}
 use Rattle.client_world.specs.WatchWorld.{WatchWorld, unwatched}
 use Rattle.client_world.specs.World.{HostWorld}
 use Rattle.host_run.specs.Keys.{HasKeys}
-use Rattle.host_run.specs.Nested.{Stacked, kept}
+use Rattle.host_run.specs.Nested.{IsHandedOver, PushesRecord, Stacked, kept, popped, pushed}
 use Rattle.host_run.specs.OtherTurns.{interrupt_turn}
-use Rattle.host_run.specs.RealCalls.{from_anywhere}
+use Rattle.host_run.specs.RealCalls.{from_anywhere, from_client}
 use Rattle.host_run.proofs.Nested.{anywhere}
 use Rattle.host_run.proofs.OtherTurns.{bounded_sound, host_sound, interrupt_keeps, interrupt_quiet, reached}
 use Rattle.host_run.proofs.TurnLaws.{IsReached}
 use Rattle.timer_run.specs.declared.timer.TheConstants.{TIMER_INTERRUPT}
-use Rattle.timer_run.specs.Rounds.{TimedWorld, after_part, round_with_timer, rounds, timed_run, timed_turns, timer_of, touched_by_round, with_new_timer}
-use Rattle.timer_run.specs.Timer.{TimerState, timer_part}
+use Rattle.timer_run.specs.Rounds.{TimedWorld, after_part, is_interrupt, round_with_timer, rounds, timed_rounds, timed_run, timed_turns, timer_of, touched_by_round, with_new_timer}
+use Rattle.timer_run.specs.Timer.{TimerPart, TimerState, timer_part}
 use Rattle.timer_run.proofs.Parts.{part_has}
 use Rattle.timer_run.proofs.RoundParts.{round_on, round_over}
 use Rattle.timer_run.proofs.Runs.{one_more}
@@ -94,6 +95,39 @@ round_keeps every w s =
     let h = w.watched.host in
     round_has (KeepsRound h) every w (λ _ _. same_keeps h s) (interrupt_round h s) (turn_round w.watched s)
 
+pub round_sound : (every : ℕ) (w : TimedWorld) → IsSoundHost w.watched.host → HasKeys w.watched.host →
+    IsSoundHost (round_with_timer every w).watched.host
+round_sound every w s keys = (round_keeps every w (reached w.watched.host s keys)).sound s
+
+pub round_keys : (every : ℕ) (w : TimedWorld) → IsSound w.watched.host.machine → HasKeys w.watched.host →
+    HasKeys (round_with_timer every w).watched.host
+round_keys every w sound keys = (round_keeps every w (record { machine = sound; keys = keys })).reached.keys
+
+-- ---- a round that isn't the interrupt
+
+abbrev IsClients : TimedWorld → TimedWorld → Type 0
+IsClients w after = Stacked from_client w.watched.host after.watched.host
+
+turn_made : (w : TimedWorld) (p : TimerPart) (taken : Bool) → p.taken ≡ taken → taken ≡ false →
+    Stacked from_client w.watched.host (turn_with_watchpoints w.watched).host → IsClients w (after_part w p)
+turn_made w p true is off turn = absurd cc
+turn_made w p false is off turn = rw is turn
+
+clients_by : (every : ℕ) (w : TimedWorld) (o : Option Exit) → w.watched.host.exit ≡ o → is_interrupt every w ≡ false →
+    Stacked from_client w.watched.host (turn_with_watchpoints w.watched).host → IsClients w (round_with_timer every w)
+clients_by every w (Some exit) is off turn = subst (IsClients w) (sym (round_over every w exit is)) (kept refl)
+clients_by every w None is off turn =
+    subst (IsClients w) (sym (round_on every w is)) (turn_made w (timer_part (timer_of every w) w.watched.host) (is_interrupt every w) refl off turn)
+
+pub round_clients : (every : ℕ) (w : TimedWorld) → IsReached w.watched.host → is_interrupt every w ≡ false → IsClients w (round_with_timer every w)
+round_clients every w s off = clients_by every w w.watched.host.exit refl off (turn_keeps_all w.watched s).calls
+
+pub round_turn : (every : ℕ) (w : TimedWorld) → IsSound w.watched.host.machine → HasKeys w.watched.host → is_interrupt every w ≡ false →
+    Stacked from_client w.watched.host (round_with_timer every w).watched.host
+round_turn every w sound keys off = round_clients every w (record { machine = sound; keys = keys }) off
+
+-- ---- runs
+
 rounds_reached : (every : ℕ) (w : TimedWorld) (n : ℕ) → IsReached w.watched.host → IsReached (rounds every w n).watched.host
 unfolding rounds
 rounds_reached every w zero s = s
@@ -127,6 +161,34 @@ timed_calls every h n sound keys =
     let w = rounds every (with_new_timer (unwatched h)) n in
     subst (λ (v : TimedWorld). Stacked from_anywhere w.watched.host v.watched.host) (sym (one_more every (with_new_timer (unwatched h)) n))
     (round_keeps every w (timed_reached every h n sound keys)).calls
+
+pub timed_turn_calls : (every : ℕ) (h : HostWorld) (n : ℕ) → IsSound h.machine → HasKeys h → is_interrupt every (timed_rounds every h n) ≡ false →
+    Stacked from_client (timed_turns every h n) (timed_turns every h (n + 1))
+timed_turn_calls every h n sound keys off =
+    let w = timed_rounds every h n in
+    subst (λ (v : TimedWorld). Stacked from_client w.watched.host v.watched.host) (sym (one_more every (with_new_timer (unwatched h)) n))
+    (round_clients every w (timed_reached every h n sound keys) off)
+
+-- the record that such a round adds is one of the client's
+pub pushed_by : (w v : HostWorld) (r : Record) → v.machine.calls ≡ w.machine.calls ++ r ∷ [] → Stacked from_client w v → PushesRecord from_client w r v
+pushed_by w v r is (kept same) = absurd (let e = ap length (sym same ∙ is) in let more = length_push w.machine.calls r in omega arith)
+pushed_by w v r is (pushed s e pushes) =
+    let same = (same_from_push w.machine.calls w.machine.calls s r (sym e ∙ is)).1 in
+    subst (λ (x : Record). PushesRecord from_client w x v) same pushes
+pushed_by w v r is (popped s e pops) =
+    absurd (let less = ap length e in let one = length_push v.machine.calls s in let more = length_push w.machine.calls r in let all = ap length is in omega arith)
+
+abbrev pub clients_match : (every : ℕ) (h : HostWorld) (i j : ℕ) → IsSound h.machine → HasKeys h → is_interrupt every (timed_rounds every h i) ≡ false →
+    (m : IsHandedOver from_anywhere (timed_turns every h) i j) → IsHandedOver from_client (timed_turns every h) i j
+clients_match every h i j sound keys off m = record {
+  innermost = m.innermost;
+  push = m.push;
+  pushes = pushed_by (timed_turns every h i) (timed_turns every h (i + 1)) m.innermost m.push (timed_turn_calls every h i sound keys off);
+  stays = m.stays;
+  pop = m.pop;
+  pops = m.pops;
+  rest = m.rest;
+}
 
 -- ---- what is touched
 

@@ -1,13 +1,14 @@
 -- The round that is made, by what `Timer::before` returns.
-use Rattle.std.proofs.Common.{◌≡◌, ◌∙◌, ℕ, Bool, true, false, Option, None, Some, Ok, Err, refl, ap, sym}
+use Rattle.std.proofs.Common.{◌≡◌, ◌∙◌, ℕ, Bool, true, false, List, Option, None, Some, Ok, Err, refl, ap, subst, sym}
 use Rattle.std.specs.Prelude.{if◌then◌else◌}
 use Rattle.client_world.specs.declared.outcome.Exit.{Exit}
 use Rattle.client_world.specs.WatchWorld.{WatchWorld}
 use Rattle.client_world.specs.World.{HostWorld}
-use Rattle.timer_run.specs.Rounds.{TimedWorld, after_part, round_with_timer, timer_of}
+use Rattle.host_run.specs.Footprint.{ChangesOnly, Footprint, unsaid}
+use Rattle.timer_run.specs.Rounds.{TimedWorld, after_part, round_footprint, round_with_timer, timer_of}
 use Rattle.timer_run.specs.Timer.{TimerPart, TimerState, timer_answer, timer_part}
 use Rattle.timer_run.proofs.Parts.{answered_exit, answered_on, part_ended, part_over, part_passed, part_was_on}
-use Rattle.watch_run.specs.Turn.{turn_with_watchpoints}
+use Rattle.watch_run.specs.Turn.{turn_with_watchpoints, watch_footprint}
 
 -- a timer with a host and its watchpoints
 abbrev pub timed : TimerState → WatchWorld → TimedWorld
@@ -81,3 +82,17 @@ turn_made t next w h after timer host answer made =
     ∙ ap (λ (g : HostWorld). timed next (turn_with_watchpoints (record w { host = g }))) (turn_from t w.host h host answer)
     ∙ ap (λ (u : TimerState). timed u (turn_with_watchpoints w)) timer
     ∙ sym (answered_round t w false answer)
+
+-- the bytes that it changes
+turn_footprint_is : (t : TimerState) (w : WatchWorld) → Ok false ≡ timer_answer (timer_part t w.host) →
+    round_footprint t.every (timed t w) ≡ watch_footprint w
+turn_footprint_is t w answer =
+    ap (λ (taken : Bool). if taken then unsaid else watch_footprint w) (answered_on (timer_part t w.host) false answer).1
+
+pub turn_changes : (t : TimerState) (w : WatchWorld) (h : HostWorld) (old before new : List ℕ) → h ≡ (timer_part t w.host).host →
+    Ok false ≡ timer_answer (timer_part t w.host) → before ≡ old → ChangesOnly (watch_footprint (record w { host = h })) before new →
+    ChangesOnly (round_footprint t.every (timed t w)) old new
+turn_changes t w h old before new host answer same changes =
+    subst (λ (f : Footprint). ChangesOnly f old new)
+    (ap (λ (g : HostWorld). watch_footprint (record w { host = g })) (turn_from t w.host h host answer) ∙ sym (turn_footprint_is t w answer))
+    (subst (λ (b : List ℕ). ChangesOnly (watch_footprint (record w { host = h })) b new) same changes)

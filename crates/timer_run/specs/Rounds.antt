@@ -3,9 +3,10 @@ use Rattle.std.specs.Prelude.{ℕ, zero, suc, Bool, false, List, [], if◌then�
 use Rattle.client_world.specs.declared.place.Place.{Place}
 use Rattle.client_world.specs.WatchWorld.{WatchWorld, unwatched}
 use Rattle.client_world.specs.World.{HostWorld}
+use Rattle.host_run.specs.Footprint.{Footprint, unsaid}
 use Rattle.host_run.specs.Run.{bounded}
 use Rattle.timer_run.specs.Timer.{TimerPart, TimerState, timer_part}
-use Rattle.watch_run.specs.Turn.{touched_by_watch_turn, turn_with_watchpoints}
+use Rattle.watch_run.specs.Turn.{touched_by_watch_turn, turn_with_watchpoints, watch_footprint}
 
 -- a host with watchpoints, how many rounds the timer has counted, and whether its interrupt waits
 pub record TimedWorld : Type 0 where
@@ -43,10 +44,17 @@ unfoldable pub rounds : ℕ → TimedWorld → ℕ → TimedWorld
 rounds every w zero = w
 rounds every w (suc n) = round_with_timer every (rounds every w n)
 
+-- whether a round is the interrupt
+abbrev pub is_interrupt : ℕ → TimedWorld → Bool
+is_interrupt every w = (timer_part (timer_of every w) w.watched.host).taken
+
 -- the places that the client instruction of a round touches: none where the round is the interrupt
 abbrev pub touched_by_round : ℕ → TimedWorld → List Place
-touched_by_round every w =
-    if (timer_part (timer_of every w) w.watched.host).taken then [] else touched_by_watch_turn w.watched
+touched_by_round every w = if is_interrupt every w then [] else touched_by_watch_turn w.watched
+
+-- the bytes of the memory that a round may change: where it is the interrupt nothing is said; otherwise those of the turn
+abbrev pub round_footprint : ℕ → TimedWorld → Footprint
+round_footprint every w = if is_interrupt every w then unsaid else watch_footprint w.watched
 
 -- ---- from a host whose client has set no watchpoint
 

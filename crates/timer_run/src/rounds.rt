@@ -1,7 +1,8 @@
 // Rounds of a run with a timer, and runs.
 ghost use Rattle.std.specs.Prelude.{◌≡◌, ◌≤◌, ◌<◌, ◌+◌, IfErr, OnOk, None, Some, Err};
 ghost use Rattle.client_world.specs.declared.limits.TheConstants.{GREATEST_TIMER, MAX_STEPS};
-ghost use Rattle.timer_run.specs.Rounds.{round_with_timer, timed_run};
+ghost use Rattle.host_run.specs.Footprint.{ChangesOnly};
+ghost use Rattle.timer_run.specs.Rounds.{round_footprint, round_with_timer, timed_run};
 
 use crate::timer::Timer;
 use client_world::Exit;
@@ -23,6 +24,10 @@ pub fn round_with_timer(
     } ≡ round_with_timer timer.old.every
         (record { watched = record { host = host.old.world; watching = watches.old }; count = timer.old.count; waits = timer.old.waits }) }
     ensures every { timer.new.every ≡ timer.old.every }
+    ensures bytes { ChangesOnly (round_footprint timer.old.every
+        (record { watched = record { host = host.old.world; watching = watches.old }; count = timer.old.count; waits = timer.old.waits }))
+        host.old.bytes host.new.bytes }
+    ensures kept { IfErr result (λ _. host.new.bytes ≡ host.old.bytes) }
     ensures goes_on { OnOk result (host.new.world.exit ≡ None) }
     ensures ends { IfErr result (λ exit. host.new.world.exit ≡ Some exit) }
     ensures steps { host.new.world.steps ≤ host.old.world.steps + 1 }

@@ -8,10 +8,11 @@ use Rattle.client_world.specs.declared.registers.Regs.{Regs}
 use Rattle.client_world.specs.declared.registers.Width.{Width}
 use Rattle.client_world.specs.declared.services.Carry.{Carry}
 use Rattle.client_world.specs.declared.services.Carry.TheVariants.{Clear, Set}
+use Rattle.client_world.specs.Segments.{null_pointer}
 use Rattle.client_world.specs.Services.{es_di}
 use Rattle.client_world.specs.Soundness.{IsSound, HasSegments, SoundWidth}
 use Rattle.client_world.specs.World.{World, depth}
-use Rattle.translation.specs.SimulatedCall.{after_reflection, begin_call, call_regs, call_words, callee_interrupts, callee_stack, callee_start, no_structure, reflect, reflection_regs, reflection_words}
+use Rattle.translation.specs.SimulatedCall.{after_reflection, begin_call, call_regs, call_words, callee_interrupts, callee_stack, callee_start, reflect, reflection_regs, reflection_words}
 use Rattle.translation.specs.RealStack.{host_real_stack}
 use Rattle.translation.specs.Structure.{structure_bytes, structure_flags, structure_regs}
 use Rattle.service_rows.proofs.AnswerLaws.{sound_ax}
@@ -56,7 +57,7 @@ reflected_segments w n s =
 sound_made : (w : World) (n : ℕ) → IsSound w → w.mode ≡ Protected → depth w < GREATEST_DEPTH → IsSound (after_reflection w n)
 unfolding after_reflection
 sound_made w n s mode room =
-    sound_callee w (Reflect n) no_structure (reflection_regs w n) false (reflection_words w n) s (protected_by w.width w mode s.width) room
+    sound_callee w (Reflect n) null_pointer (reflection_regs w n) false (reflection_words w n) s (protected_by w.width w mode s.width) room
     (reflected_segments w n s)
 
 pub sound_reflect : (w u : World) (n : ℕ) → IsSound w → w.mode ≡ Protected → reflect w n ≡ Ok u → IsSound u

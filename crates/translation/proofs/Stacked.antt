@@ -7,10 +7,11 @@ use Rattle.client_world.specs.declared.calls.Record.TheVariants.{Sim}
 use Rattle.client_world.specs.declared.registers.Regs.{Regs}
 use Rattle.client_world.specs.declared.segments.FarPtr.{FarPtr}
 use Rattle.client_world.specs.declared.services.Carry.TheVariants.{Clear}
+use Rattle.client_world.specs.Segments.{null_pointer}
 use Rattle.client_world.specs.Services.{es_di}
 use Rattle.client_world.specs.World.{World}
 use Rattle.translation.specs.HandOver.{IsPopped}
-use Rattle.translation.specs.SimulatedCall.{after_reflection, after_return, begin_call, callee_world, end_call, no_structure, reflect}
+use Rattle.translation.specs.SimulatedCall.{after_reflection, after_return, begin_call, callee_world, end_call, reflect}
 use Rattle.translation.proofs.Begun.{begun_world, is_made}
 use Rattle.translation.proofs.Ended.{but_last, is_return}
 
@@ -23,11 +24,11 @@ pub begin_pushes : (w : World) (call : Call) → (begin_call w call).carry ≡ C
     (begin_call w call).world.calls ≡ w.calls ++ Sim call w.regs w.vif (es_di w) ∷ []
 begin_pushes w call e = ap (λ (u : World). u.calls) (begun_world w call e) ∙ callee_calls w call (es_di w) _ _ _
 
-reflection_calls : (w : World) (n : ℕ) → (after_reflection w n).calls ≡ w.calls ++ Sim (Reflect n) w.regs w.vif no_structure ∷ []
+reflection_calls : (w : World) (n : ℕ) → (after_reflection w n).calls ≡ w.calls ++ Sim (Reflect n) w.regs w.vif null_pointer ∷ []
 unfolding after_reflection
-reflection_calls w n = callee_calls w (Reflect n) no_structure _ _ _
+reflection_calls w n = callee_calls w (Reflect n) null_pointer _ _ _
 
-pub reflect_pushes : (w u : World) (n : ℕ) → reflect w n ≡ Ok u → u.calls ≡ w.calls ++ Sim (Reflect n) w.regs w.vif no_structure ∷ []
+pub reflect_pushes : (w u : World) (n : ℕ) → reflect w n ≡ Ok u → u.calls ≡ w.calls ++ Sim (Reflect n) w.regs w.vif null_pointer ∷ []
 reflect_pushes w u n e = ap (λ (v : World). v.calls) (is_made w u n e).is ∙ reflection_calls w n
 
 return_calls : (w : World) (call : Call) (saved : Regs) (on : Bool) (at : FarPtr) → (after_return w call saved on at).calls ≡ but_last w.calls

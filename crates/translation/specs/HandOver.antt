@@ -7,11 +7,12 @@ use Rattle.client_world.specs.declared.registers.Mode.TheVariants.{Real, Protect
 use Rattle.client_world.specs.declared.registers.Regs.{Regs}
 use Rattle.client_world.specs.declared.segments.FarPtr.{FarPtr}
 use Rattle.client_world.specs.Registers.{flags_image}
+use Rattle.client_world.specs.Segments.{null_pointer}
 use Rattle.client_world.specs.Services.{cx, es_di}
 use Rattle.client_world.specs.World.{World}
 use Rattle.guest_ram.specs.Bytes.{put}
 use Rattle.translation.specs.RealStack.{host_real_stack, stack_words}
-use Rattle.translation.specs.SimulatedCall.{after_return, callee_interrupts, callee_regs, callee_stack, callee_start, client_regs, client_words, is_reflection, no_structure, return_frame}
+use Rattle.translation.specs.SimulatedCall.{after_return, callee_interrupts, callee_regs, callee_stack, callee_start, client_regs, client_words, is_reflection, return_frame}
 use Rattle.translation.specs.Structure.{index_results, other_results, structure_bytes, structure_flags, structure_regs}
 
 -- the words on a callee's stack, from its stack pointer up
@@ -34,7 +35,7 @@ pub record HasBegun (w v : World) (call : Call) (s : List ℕ) : Type 0 where
 -- from w a reflection led to v: one record is pushed; the handler has the client's flags and general registers, and no data segments; the frame
 -- of an interrupt lies on its stack
 pub record HasReflected (w v : World) (n : ℕ) : Type 0 where
-  pub pushed : v.calls ≡ w.calls ++ Sim (Reflect n) w.regs w.vif no_structure ∷ []
+  pub pushed : v.calls ≡ w.calls ++ Sim (Reflect n) w.regs w.vif null_pointer ∷ []
   pub mode : v.mode ≡ Real
   pub regs : v.regs ≡ callee_regs (record w.regs { ds = 0; es = 0; fs = 0; gs = 0 }) (callee_start w (Reflect n) w.regs) (host_real_stack w) 3
   pub vif : v.vif ≡ false

@@ -25,9 +25,11 @@ use Rattle.client_world.specs.declared.services.Carry.TheVariants.{Clear, Set}
 use Rattle.client_world.specs.declared.traps.TheConstants.{CALL_RETURN_TRAP}
 use Rattle.client_world.specs.Loading.{is_loadable}
 use Rattle.client_world.specs.Registers.{flags_image, has_bit}
+use Rattle.client_world.specs.Segments.{null_pointer}
 use Rattle.client_world.specs.Services.{Served, cx, es_di}
 use Rattle.client_world.specs.World.{World, depth}
 use Rattle.guest_ram.specs.Bytes.{word_of}
+use Rattle.guest_space.specs.Dos.{real_vector}
 use Rattle.guest_space.specs.Transfer.{read_result}
 use Rattle.insn_plan.specs.Stack.{stack_pointer_up}
 use Rattle.mode_stack.specs.Stack.{top}
@@ -64,10 +66,6 @@ client_words w k zero = []
 client_words w k (suc n) = word_read (client_word w k) ∷ client_words w (k + 1) n
 
 -- ---- the start of a callee
-
--- the vector of real mode: an offset and a segment, words at 4 · n
-abbrev pub real_vector : World → ℕ → FarPtr
-real_vector w n = record { sel = word_of w.dos (4 * n + 2); off = word_of w.dos (4 * n) }
 
 -- where it starts, by the registers of the structure: the procedure at CS:IP, or the handler of an interrupt, read before anything is written
 abbrev pub callee_start : World → Call → Regs → FarPtr
@@ -159,10 +157,6 @@ begin_call w call =
 
 -- ---- an interrupt that is reflected
 
--- a reflection has no structure
-abbrev pub no_structure : FarPtr
-no_structure = record { sel = 0; off = 0 }
-
 -- the flags of the client, with the virtual interrupt flag, on the handler's stack
 unfoldable pub reflection_words : World → ℕ → List ℕ
 reflection_words w n = return_frame (Reflect n) (flags_image w.regs.flags w.vif)
@@ -176,7 +170,7 @@ reflection_regs w n =
 -- the world in which the handler of real mode starts
 unfoldable pub after_reflection : World → ℕ → World
 after_reflection w n =
-    callee_world w (Reflect n) no_structure (reflection_regs w n) (callee_interrupts (Reflect n) 0) (reflection_words w n)
+    callee_world w (Reflect n) null_pointer (reflection_regs w n) (callee_interrupts (Reflect n) 0) (reflection_words w n)
 
 -- an interrupt of protected mode that no handler of the client takes, over the present registers: the world in which the handler of real mode
 -- starts, or the exit where calls are nested too deeply

@@ -26,7 +26,6 @@ ghost use Rattle.translation.specs.SimulatedCall.{
   carry_of,
   has_stack,
   is_reflection,
-  real_vector,
   return_frame,
 };
 ghost use Rattle.translation.specs.Structure.{structure_bytes, structure_flags, structure_regs};
@@ -38,10 +37,10 @@ use arrayvec::ArrayVec;
 use client_world::limits::{GREATEST_DEPTH, MAX_CALL_WORDS};
 use client_world::memory_map::{ROM_SEGMENT, ROM_START};
 use client_world::traps::CALL_RETURN_TRAP;
-use client_world::{Begun, Call, Deep, FarPtr, Mode, Record, Regs, is_interrupt_set};
+use client_world::{Begun, Call, Deep, FarPtr, Mode, Record, Regs, is_interrupt_set, low_half};
 use guest_space::Machine;
 use mode_stack::{depth, push};
-use service_rows::{Refusal, es_di, low_half, refuse};
+use service_rows::{Refusal, es_di, refuse};
 
 // The greatest depth.
 pub(crate) const DEEPEST: u8 = GREATEST_DEPTH as u8;
@@ -64,23 +63,12 @@ pub(crate) fn return_frame(call: Call, image: u16) -> StackWords
     words
 }
 
-// The vector of real mode.
-fn real_vector(m: &Machine, n: u8) -> FarPtr
-    ensures { result ≡ real_vector m.now.world n }
-{
-    let at = 4 * u32::from(n);
-    FarPtr {
-        sel: m.dos16(at + 2),
-        off: u32::from(m.dos16(at)),
-    }
-}
-
 // Where the callee starts, by the registers of a structure.
 pub(crate) fn callee_start(m: &Machine, call: Call, r: &Regs) -> FarPtr
     ensures { result ≡ callee_start m.now.world call r.now }
 {
     match call {
-        Call::Int(n) | Call::Reflect(n) => real_vector(m, n),
+        Call::Int(n) | Call::Reflect(n) => m.real_vector(n),
         Call::Far | Call::Iret => FarPtr {
             sel: r.cs,
             off: r.eip,

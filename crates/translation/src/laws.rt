@@ -7,6 +7,7 @@ ghost use Rattle.client_world.specs.declared.memory_map.TheConstants.{SEGMENT_SI
 ghost use Rattle.client_world.specs.declared.registers.Mode.TheVariants.{Protected as protected, Real as real};
 ghost use Rattle.client_world.specs.declared.segments.SegReg.TheVariants.{Ss};
 ghost use Rattle.client_world.specs.declared.services.Carry.TheVariants.{Clear as clear, Set as set};
+ghost use Rattle.client_world.specs.Segments.{null_pointer};
 ghost use Rattle.client_world.specs.Services.{es_di};
 ghost use Rattle.client_world.specs.Soundness.{IsSound};
 ghost use Rattle.client_world.specs.World.{World};
@@ -14,7 +15,7 @@ ghost use Rattle.guest_space.specs.Transfer.{access_fault};
 ghost use Rattle.service_rows.specs.Reasons.{HasOtherAx};
 ghost use Rattle.translation.specs.HandOver.{HasBegun, HasEnded, HasReflected, IsPopped, LeftForCallee, LeftForClient};
 ghost use Rattle.translation.specs.RealStack.{is_writable_word, real_address};
-ghost use Rattle.translation.specs.SimulatedCall.{begin_call, end_call, no_structure, reflect};
+ghost use Rattle.translation.specs.SimulatedCall.{begin_call, end_call, reflect};
 ghost use Rattle.translation.specs.Structure.{structure_bytes};
 
 /// A call, a reflection and a return lead from a sound world to a sound one.
@@ -37,7 +38,7 @@ pub fn every_call_keeps_the_rest()
 pub fn every_call_is_stacked()
     ensures begin { (w : World) (call : Call) → (begin_call w call).carry ≡ clear →
         (begin_call w call).world.calls ≡ w.calls ++ Sim call w.regs w.vif (es_di w) ∷ [] }
-    ensures reflect { (w u : World) (n : ℕ) → reflect w n ≡ Ok u → u.calls ≡ w.calls ++ Sim (Reflect n) w.regs w.vif no_structure ∷ [] }
+    ensures reflect { (w u : World) (n : ℕ) → reflect w n ≡ Ok u → u.calls ≡ w.calls ++ Sim (Reflect n) w.regs w.vif null_pointer ∷ [] }
     ensures end { (w u : World) → end_call w ≡ Ok u → IsPopped w u }
 {}
 

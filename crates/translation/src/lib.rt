@@ -21,7 +21,4 @@ pub use laws::{
 };
 pub use reflecting::reflect;
 pub use returning::end;
-pub use structure::{
-    CallStructure, STRUCTURE_SIZE, dword_bytes, index_results, other_results, read_structure,
-    word_bytes,
-};
+pub use structure::{CallStructure, STRUCTURE_SIZE, index_results, other_results, read_structure};

@@ -12,9 +12,6 @@ use client_world::{Call, Exit, FarPtr, Regs};
 use guest_space::Machine;
 use mode_stack::depth;
 
-// A reflection has no structure.
-const NO_STRUCTURE: FarPtr = FarPtr { sel: 0, off: 0 };
-
 // What lies on the handler's stack.
 #[tactic(auto, unfolding(crate::specs::SimulatedCall::reflection_words))]
 fn reflection_words(m: &Machine, n: u8) -> StackWords
@@ -43,7 +40,8 @@ fn enter_handler(m: &mut Machine, n: u8)
     let words = reflection_words(m, n);
     let start = callee_start(m, call, &client);
     let r = callee_regs(&passed, start, host_real_stack(m), words.len());
-    enter(m, call, NO_STRUCTURE, r, false, &words);
+    // A reflection has no structure.
+    enter(m, call, FarPtr::NULL, r, false, &words);
 }
 
 /// Reflects an interrupt of protected mode to the handler of real mode, over the present registers: the flags and the general registers but ESP

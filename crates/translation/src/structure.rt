@@ -1,17 +1,15 @@
 // The call structure.
 ghost use Rattle.std.specs.Prelude.{◌≡◌, ◌+◌, ◌≤◌, IsTrue, false, length};
 ghost use Rattle.client_world.specs.Access.{is_reachable};
-ghost use Rattle.guest_ram.specs.Bytes.{dword, word_of};
-ghost use Rattle.guest_space.specs.Pending.{number_bytes};
 ghost use Rattle.guest_space.specs.Transfer.{HasOtherMemory};
 ghost use Rattle.translation.specs.declared.structure.TheConstants.{STRUCTURE_SIZE};
 ghost use Rattle.translation.specs.Structure.{has_structure, index_results, other_results, structure_bytes, structure_flags, structure_regs, with_results};
 
-use byteorder::{ByteOrder, LittleEndian};
 use client_world::{FarPtr, Flags, Regs};
+use guest_ram::{doubleword, word};
 use guest_space::{
-    Machine, a_reachable_run_is_reachable_in_parts, a_write_changes_no_access,
-    every_write_changes_the_memory_alone,
+    Machine, a_reachable_run_is_reachable_in_parts, a_write_changes_no_access, dword_bytes,
+    every_write_changes_the_memory_alone, word_bytes,
 };
 use mode_stack::put_at;
 
@@ -32,45 +30,28 @@ pub(crate) fn has_structure(m: &Machine, at: FarPtr) -> bool
     m.far_ok(at, STRUCTURE_SIZE, false) && m.far_ok(at, STRUCTURE_SIZE, true)
 }
 
-// The word and the doubleword at an offset of a structure.
-#[tactic(auto, using(mode_stack::proofs::RowNumbers::little_word))]
-fn word_at(bytes: &[u8; 0x32], at: usize) -> u16
-    requires { at + 2 ≤ 0x32 }
-    ensures { result ≡ word_of bytes.now at }
-{
-    LittleEndian::read_u16(&bytes[at..])
-}
-
-#[tactic(auto, using(mode_stack::proofs::RowNumbers::little_dword), unfolding(guest_ram::specs::Bytes::dword))]
-fn dword_at(bytes: &[u8; 0x32], at: usize) -> u32
-    requires { at + 4 ≤ 0x32 }
-    ensures { result ≡ dword bytes.now at }
-{
-    LittleEndian::read_u32(&bytes[at..])
-}
-
 // The registers in the bytes of a structure.
 #[tactic(auto, unfolding(crate::specs::Structure::structure_regs))]
 fn regs_of(bytes: &[u8; 0x32]) -> Regs
     ensures { result ≡ structure_regs bytes.now }
 {
     Regs {
-        eax: dword_at(bytes, 0x1C),
-        ecx: dword_at(bytes, 0x18),
-        edx: dword_at(bytes, 0x14),
-        ebx: dword_at(bytes, 0x10),
-        esp: u32::from(word_at(bytes, 0x2E)),
-        ebp: dword_at(bytes, 0x08),
-        esi: dword_at(bytes, 0x04),
-        edi: dword_at(bytes, 0x00),
-        eip: u32::from(word_at(bytes, 0x2A)),
-        flags: Flags::from_image(word_at(bytes, 0x20)),
-        es: word_at(bytes, 0x22),
-        cs: word_at(bytes, 0x2C),
-        ss: word_at(bytes, 0x30),
-        ds: word_at(bytes, 0x24),
-        fs: word_at(bytes, 0x26),
-        gs: word_at(bytes, 0x28),
+        eax: doubleword(bytes, 0x1C),
+        ecx: doubleword(bytes, 0x18),
+        edx: doubleword(bytes, 0x14),
+        ebx: doubleword(bytes, 0x10),
+        esp: u32::from(word(bytes, 0x2E)),
+        ebp: doubleword(bytes, 0x08),
+        esi: doubleword(bytes, 0x04),
+        edi: doubleword(bytes, 0x00),
+        eip: u32::from(word(bytes, 0x2A)),
+        flags: Flags::from_image(word(bytes, 0x20)),
+        es: word(bytes, 0x22),
+        cs: word(bytes, 0x2C),
+        ss: word(bytes, 0x30),
+        ds: word(bytes, 0x24),
+        fs: word(bytes, 0x26),
+        gs: word(bytes, 0x28),
     }
 }
 
@@ -84,22 +65,8 @@ pub fn read_structure(m: &Machine, at: FarPtr) -> CallStructure
     m.read_bytes(at, &mut bytes);
     CallStructure {
         regs: regs_of(&bytes),
-        image: word_at(&bytes, 0x20),
+        image: word(&bytes, 0x20),
     }
-}
-
-/// The bytes of a word, least byte first.
-pub fn word_bytes(v: u16) -> [u8; 2]
-    ensures { result ≡ number_bytes 16 v }
-{
-    v.to_le_bytes()
-}
-
-/// The bytes of a doubleword, least byte first.
-pub fn dword_bytes(v: u32) -> [u8; 4]
-    ensures { result ≡ number_bytes 32 v }
-{
-    v.to_le_bytes()
 }
 
 /// EDI, ESI and EBP, as a structure begins with them.

@@ -65,12 +65,12 @@ fn compare_page(ram: &mut Ram) -> Result<(), &'static str>
 {
     let end = walk(ram, PAGE_DIRECTORY, PAGE, false);
     same("before it is mapped", end == ABSENT)?;
-    map(ram, PAGE, 0x1DB, false);
+    map(ram, PAGE, BUDGET_FRAMES, false);
     compare_mapped(ram)?;
-    same("its frame", unmap(ram, PAGE) == 0x1DB)?;
+    same("its frame", unmap(ram, PAGE) == BUDGET_FRAMES)?;
     let end = walk(ram, PAGE_DIRECTORY, PAGE, false);
     same("after it is unmapped", end == ABSENT)?;
-    map(ram, PAGE, 0x1DC, true);
+    map(ram, PAGE, BUDGET_FRAMES + 1, true);
     compare_writable(ram)
 }
 

@@ -3,8 +3,9 @@ ghost use Rattle.std.specs.Prelude.{◌≡◌};
 ghost use Rattle.service_rows.specs.Reasons.{Does};
 ghost use Rattle.vector_services.specs.Rows.{disable_interrupts, enable_interrupts, interrupt_state, dpmi_version, with_vif};
 
+use client_world::{with_low_byte, with_low_half};
 use guest_space::Machine;
-use service_rows::{Refusal, with_low_byte, with_low_half};
+use service_rows::Refusal;
 
 // Version 0.90 of the specification: 0 in the high byte, 90 in the low one.
 const VERSION: u16 = 0x005A;

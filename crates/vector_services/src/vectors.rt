@@ -6,11 +6,9 @@ ghost use Rattle.guest_ram.specs.Bytes.{with_word};
 ghost use Rattle.service_rows.specs.Reasons.{Does};
 ghost use Rattle.vector_services.specs.Rows.{bl, cx_dx, get_exception_vector, get_protected_vector, get_real_vector, set_exception_vector, set_protected_vector, set_real_vector, with_cx_dx};
 
-use client_world::FarPtr;
+use client_world::{FarPtr, by_width, low_byte, low_half, with_low_half};
 use guest_space::Machine;
-use service_rows::{
-    Refusal, by_width, is_code_selector, low_byte, low_half, with_by_width, with_low_half,
-};
+use service_rows::{Refusal, is_code_selector, with_by_width};
 
 // The greatest number of an exception.
 const LAST_EXCEPTION: u8 = 0x1F;

@@ -9,7 +9,7 @@ use Rattle.client_world.specs.declared.watchpoints.Watch.{Watch}
 use Rattle.client_world.specs.Registers.{low_half}
 use Rattle.client_world.specs.WatchWorld.{WatchWorld, Watching, no_watches}
 use Rattle.client_world.specs.World.{HostWorld, World}
-use Rattle.fault_service.specs.Worlds.{world_popped}
+use Rattle.interrupts.specs.Worlds.{world_popped}
 use Rattle.host_run.specs.OtherTurns.{exception_turn, int31_at, int31_call, int31_turn, is_int31}
 use Rattle.host_run.specs.Traps.{current_trap, is_trap}
 use Rattle.host_run.proofs.OtherTurns.{exception_quiet, int31_quiet}

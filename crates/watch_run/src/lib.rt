@@ -1,6 +1,6 @@
 //! Watchpoints: INT 31h functions 0B00h to 0B03h, and what a turn is with them.
-//! It promises that each function is its row, that the watchpoints which an instruction hits are those whose bytes it executes, writes,
-//! or reads or writes, that a turn and a run with watchpoints are the model's, and that such a turn keeps what the host's own turn keeps.
+//! It promises that each function is its row, that the watchpoints which an instruction hits are those that cover its address, or bytes that it
+//! writes, or reads or writes, that a turn and a run with watchpoints are the model's, and that such a turn keeps what the host's own keeps.
 //! It is built on `host_run`, whose calls make its turns, and on the touches of the executing crates.
 #![tactic(auto)]
 

@@ -21,9 +21,11 @@ ghost use Rattle.watch_run.specs.Watches.{lowest_free};
 
 use crate::watch::Watches;
 use client_world::limits::WATCHES;
-use client_world::{Carry, Regs, Watch, WatchKind};
+use client_world::{
+    Carry, Regs, Watch, WatchKind, high_byte, low_byte, low_half, two_words, with_low_half,
+};
 use guest_space::Machine;
-use service_rows::{Refusal, high_byte, low_byte, low_half, two_words, with_low_half};
+use service_rows::Refusal;
 
 // Whether a watchpoint may have that many bytes.
 fn is_watch_size(n: u8) -> bool

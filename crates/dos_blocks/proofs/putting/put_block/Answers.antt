@@ -6,7 +6,7 @@ pub arena_put_dpmi-requires : goal.arena_put_dpmi-requires
 arena_put_dpmi-requires c = put_made c.args.for_dpmi _ _ _ _ _ c.requires c.if-for_dpmi.true
 
 pub returns-then-for_dpmi : goal.returns-then-for_dpmi
-returns-then-for_dpmi c = c.arena_put_dpmi.ensures ∙ made_is c.args.for_dpmi _ _ _ _ _ c.if-for_dpmi.true
+returns-then-for_dpmi c = c.arena_put_dpmi.ensures.world ∙ made_is c.args.for_dpmi _ _ _ _ _ c.if-for_dpmi.true
 
 pub arena_put-requires : goal.arena_put-requires
 arena_put-requires c =

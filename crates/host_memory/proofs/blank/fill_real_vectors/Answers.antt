@@ -13,5 +13,5 @@ pub loop-n-preserved : goal.loop-n-preserved
 loop-n-preserved c =
     let size = c.loop-n.invariant.size in
     rw c.set32.ensures.bytes
-    (one_written real_vector_at 0 c.loop-n.n c.real_vector.result _ c.args.ram.now c.loop-n.ram
-    c.loop-n.invariant (omega arith) (omega arith) c.real_vector.ensures)
+    (one_written real_vector_at 0 c.loop-n.n c.blank_vector.result _ c.args.ram.now c.loop-n.ram
+    c.loop-n.invariant (omega arith) (omega arith) c.blank_vector.ensures)

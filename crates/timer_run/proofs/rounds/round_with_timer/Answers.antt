@@ -3,7 +3,7 @@ use Rattle.client_world.specs.declared.limits.TheConstants.{MAX_STEPS}
 use Rattle.client_world.specs.World.{HostWorld}
 use Rattle.timer_run.specs.Timer.{TimerState}
 use Rattle.timer_run.proofs.Parts.{part_every, part_steps, part_was_on}
-use Rattle.timer_run.proofs.RoundParts.{exit_made, interrupt_made, turn_from, turn_made}
+use Rattle.timer_run.proofs.RoundParts.{exit_made, interrupt_made, turn_changes, turn_from, turn_made}
 use Rattle.timer_run.proofs.rounds.round_with_timer.Goals as goal
 
 -- ---- the round is the interrupt
@@ -43,6 +43,13 @@ returns-in-Ok-false-clause-world c =
 pub returns-in-Ok-false-clause-every : goal.returns-in-Ok-false-clause-every
 returns-in-Ok-false-clause-every c =
     ap (λ (t : TimerState). t.every) c.before-2.ensures.timer ∙ part_every c.args.timer.now c.args.host.now.world
+
+pub returns-in-Ok-false-clause-bytes : goal.returns-in-Ok-false-clause-bytes
+returns-in-Ok-false-clause-bytes c =
+    turn_changes c.args.timer.now (record { host = c.args.host.now.world; watching = c.args.watches.now }) c.before-2.new.host.world
+    c.args.host.now.bytes c.before-2.new.host.bytes c.watch_turn.new.h.bytes c.before-2.ensures.host
+    (cc (c.in-Ok-false.field-0-test, c.in-Ok-false.ensures.answer))
+    (c.in-Ok-false.ensures.kept (λ e. cc (c.in-Ok-false.field-0-test, e))) c.watch_turn.ensures.bytes
 
 pub returns-in-Ok-false-clause-steps : goal.returns-in-Ok-false-clause-steps
 returns-in-Ok-false-clause-steps c =

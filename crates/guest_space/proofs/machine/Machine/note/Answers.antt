@@ -1,5 +1,7 @@
+use Rattle.std.proofs.Common.{ℕ, ◌%◌, ap, ◌∙◌, sym}
 use Rattle.host_memory.proofs.HostTables.{tables_inside}
 use Rattle.guest_space.proofs.CacheLaws.{set_warm}
+use Rattle.guest_space.specs.declared.cache.TheConstants.{CACHE_SIZE}
 use Rattle.guest_space.proofs.machine.Machine.note.Goals as goal
 
 pub walk-requires-clause-tables : goal.walk-requires-clause-tables
@@ -14,5 +16,6 @@ invariant_of-self c =
       c.self.invariant.0,
       c.self.invariant.1,
       c.self.invariant.2,
-      set_warm m.ram m.cache c.cache_place.result c.entry_of.result c.cache_place.ensures.inside c.self.invariant.3 c.entry_of.ensures,
+      set_warm m.ram m.cache c.cache_place.result c.entry_of.result c.cache_place.ensures.inside c.self.invariant.3 c.entry_of.ensures.hit
+          (ap (λ (page : ℕ). page % CACHE_SIZE) c.entry_of.ensures.page ∙ sym c.cache_place.ensures.place),
     )

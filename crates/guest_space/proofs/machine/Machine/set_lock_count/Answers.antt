@@ -2,7 +2,7 @@ use Rattle.std.proofs.Common.{◌≡◌, ◌∙◌, ◌+◌, ◌*◌, ℕ, ap, s
 use Rattle.client_world.specs.declared.place.Place.{Place}
 use Rattle.host_memory.specs.Layout.{address_of}
 use Rattle.host_memory.specs.View.{MachineView}
-use Rattle.guest_space.specs.Machines.{Processor}
+use Rattle.guest_space.specs.Machines.{Processor, held_world}
 use Rattle.guest_space.proofs.BlockLocks.{locked_machine}
 use Rattle.client_world.specs.declared.host_frames.TheConstants.{PAGE_SIZE, LOCK_COUNTS, LOCK_COUNT_SIZE}
 use Rattle.guest_ram.specs.Bytes.{put}
@@ -10,6 +10,9 @@ use Rattle.host_memory.specs.Vectors.{word_bytes}
 use Rattle.block_memory.proofs.LockWrites.{in_region_of}
 use Rattle.client_world.specs.World.{World}
 use Rattle.guest_space.proofs.HiddenLaws.{kept}
+use Rattle.client_world.specs.Access.{place_in, place_of}
+use Rattle.guest_space.proofs.CacheLaws.{kept_warm}
+use Rattle.guest_space.proofs.KeptPlaces.{locks_keep_places}
 use Rattle.guest_space.proofs.machine.Machine.set_lock_count.Goals as goal
 
 pub invariant_of-self : goal.invariant_of-self
@@ -22,7 +25,9 @@ invariant_of-self c =
       after.holds,
       after.sound,
       kept k m.ram c.set16.new.self m.hidden _ refl (ap (λ (w : World). w.descriptors) after.world) c.self.invariant.2,
-      c.empty_cache-self-inside.ensures c.set16.new.self,
+      kept_warm k m.ram c.set16.new.self m.cache c.self.invariant.0 c.self.invariant.1 after.holds after.sound
+          (λ lin. ap (λ (w : World). place_in w.blocks lin) after.world
+          ∙ locks_keep_places (held_world k m.ram).blocks (place_of (held_world k m.ram) c.args.lin) c.args.n lin) after.addresses c.self.invariant.3,
     )
 
 pub returns-clause-world : goal.returns-clause-world

@@ -2,13 +2,16 @@ use Rattle.std.proofs.Common.{◌≡◌, ◌∙◌, ◌+◌, ◌*◌, ℕ, ap, s
 use Rattle.client_world.specs.declared.place.Place.{Place}
 use Rattle.host_memory.specs.Layout.{address_of}
 use Rattle.host_memory.specs.View.{MachineView}
-use Rattle.guest_space.specs.Machines.{Processor}
+use Rattle.guest_space.specs.Machines.{Processor, held_world}
 use Rattle.guest_space.proofs.BlockPageCalls.{frame_inside, cleared_machine}
 use Rattle.client_world.specs.declared.host_frames.TheConstants.{PAGE_SIZE, BLOCK_TABLES, PAGE_ENTRY_SIZE}
 use Rattle.guest_ram.specs.Bytes.{dword}
 use Rattle.block_memory.proofs.LockWrites.{in_region_of}
 use Rattle.client_world.specs.World.{World}
 use Rattle.guest_space.proofs.HiddenLaws.{kept}
+use Rattle.client_world.specs.Access.{place_in, place_of}
+use Rattle.guest_space.proofs.CacheLaws.{kept_warm}
+use Rattle.guest_space.proofs.KeptPlaces.{cleared_pages_keep_places}
 use Rattle.guest_space.proofs.machine.Machine.zero_page.Goals as goal
 
 pub fill-requires : goal.fill-requires
@@ -26,7 +29,9 @@ invariant_of-self c =
       after.holds,
       after.sound,
       kept k m.ram c.fill.new.self m.hidden _ refl (ap (λ (w : World). w.descriptors) after.world) c.self.invariant.2,
-      c.empty_cache-self-inside.ensures c.fill.new.self,
+      kept_warm k m.ram c.fill.new.self m.cache c.self.invariant.0 c.self.invariant.1 after.holds after.sound
+          (λ lin. ap (λ (w : World). place_in w.blocks lin) after.world
+          ∙ cleared_pages_keep_places (held_world k m.ram).blocks (place_of (held_world k m.ram) c.args.lin) lin) after.addresses c.self.invariant.3,
     )
 
 pub returns-clause-world : goal.returns-clause-world

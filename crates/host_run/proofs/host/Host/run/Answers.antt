@@ -1,4 +1,4 @@
-use Rattle.std.proofs.Common.{arith, refl, sym, ◌∙◌, ap}
+use Rattle.std.proofs.Common.{arith, refl, sym, ◌∙◌, ap, rules}
 use Rattle.host_run.specs.Run.{turns}
 use Rattle.host_run.specs.Turn.{turn}
 use Rattle.host_run.proofs.Runs.{kept_first, kept_next, kept_none, run_ended, turns_more}
@@ -32,3 +32,6 @@ returns-in-Err-clause-kept c =
 
 pub returns-in-Some-clause-kept : goal.returns-in-Some-clause-kept
 returns-in-Some-clause-kept c = c.loop-count.invariant.3
+
+pub returns-in-Some-clause-answer : goal.returns-in-Some-clause-answer
+returns-in-Some-clause-answer c = search rules

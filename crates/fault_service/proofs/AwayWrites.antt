@@ -1,0 +1,156 @@
+-- Writes to places of the client change the bytes of these places, and leave the host's frames, in which none of the places lies.
+use Rattle.std.proofs.Common.{◌≡◌, ◌≢◌, ◌⊎◌, ℕ, suc, ◌+◌, ◌*◌, ◌<◌, ◌≤◌, true, List, [], ◌∷◌, length, slice_index, slice_index_or, slice_set, refl, sym, subst, arith, length-set, get_or-set_other, Result, Ok, Err}
+use Rattle.client_world.specs.declared.faults.Fault.{Fault}
+use Rattle.client_world.specs.declared.host_frames.TheConstants.{PAGE_SIZE, BUDGET_FRAMES, BLOCK_ROWS, BLOCK_ROW_FRAMES, BLOCK_TABLES, BLOCK_TABLE_FRAMES}
+use Rattle.client_world.specs.declared.memory_map.TheConstants.{DOS_SIZE}
+use Rattle.client_world.specs.declared.place.Place.{Place}
+use Rattle.client_world.specs.declared.place.Place.TheVariants.{Nothing}
+use Rattle.client_world.specs.declared.segments.FarPtr.{FarPtr}
+use Rattle.client_world.specs.declared.segments.SegReg.TheVariants.{Es}
+use Rattle.client_world.specs.Access.{access, far_access, may_touch, place_of, protected_base}
+use Rattle.client_world.specs.World.{World}
+use Rattle.client_world.proofs.PlaceLaws.{place_in-with_byte_of}
+use Rattle.guest_ram.proofs.PutLaws.{same_region}
+use Rattle.guest_space.specs.declared.pending.Write.{Write}
+use Rattle.guest_space.specs.Far.{far_written}
+use Rattle.guest_space.specs.Pending.{all_written, byte_count, number_bytes, places_of_writes, written}
+use Rattle.guest_space.specs.Transfer.{places_of_access, stored, with_places}
+use Rattle.guest_space.proofs.KeptAccess.{near_kept}
+use Rattle.guest_space.proofs.Machines.{CanWrite, CanWriteAll, can_write_after, with_place, with_places_first, with_places_none, with_places_short}
+use Rattle.guest_space.proofs.OnlyWritten.{can_write_at, write_places}
+use Rattle.guest_space.proofs.Writes.{all_none, all_first}
+use Rattle.cpu_step.specs.Step.{behind}
+use Rattle.host_memory.specs.Layout.{address_of, frames_at}
+use Rattle.host_memory.specs.View.{MachineView, OnlyAt}
+use Rattle.host_memory.proofs.OnlyAtLaws.{only_start, only_step, only_then}
+use Rattle.host_memory.proofs.Parts.{addresses_by}
+use Rattle.fault_service.specs.Memory.{IsMachineView}
+
+-- an address lies in none of the host's frames
+abbrev IsOutside : ℕ → Type 0
+IsOutside at = (at < DOS_SIZE) ⊎ (PAGE_SIZE * BUDGET_FRAMES ≤ at)
+
+-- nor do those of the places that the client may write
+pub record LiesAway (v : MachineView) : Type 0 where
+  pub size : PAGE_SIZE * BUDGET_FRAMES ≤ length v.bytes
+  pub away : (p : Place) → CanWrite v.world p → IsOutside (address_of v.bytes p)
+
+-- so it is in every machine
+pub machine_away : (v : MachineView) → IsMachineView v → LiesAway v
+machine_away v m = record {
+  size = omega (arith, m.holds.size);
+  away = λ p can.
+      (let here : may_touch (place_of v.world can.at) true ≡ true = rw can.is at can.may in
+      subst (λ (q : Place). IsOutside (address_of v.bytes q)) (sym can.is) (m.places can.at true here).away);
+}
+
+-- and with the instruction pointer moved
+pub behind_away : (v : MachineView) (len : ℕ) → LiesAway v → LiesAway (behind len v)
+behind_away v len h =
+    record { size = h.size; away = λ p can. h.away p (record { at = can.at; is = can.is; may = can.may }) }
+
+-- ---- one byte
+
+other_address : (at k : ℕ) → IsOutside at → DOS_SIZE ≤ k → k < PAGE_SIZE * BUDGET_FRAMES → k ≢ at
+other_address at k out from to same = omega (arith, out)
+
+host_kept : (b : List ℕ) (at x k : ℕ) → IsOutside at → DOS_SIZE ≤ k → k < PAGE_SIZE * BUDGET_FRAMES →
+    slice_index (slice_set b at x) k ≡ slice_index b k
+host_kept b at x k out from to = get_or-set_other b at k x 0 (other_address at k out from to)
+
+frames_kept : (b : List ℕ) (at x first n : ℕ) → IsOutside at → PAGE_SIZE * BUDGET_FRAMES ≤ length b → DOS_SIZE ≤ PAGE_SIZE * first →
+    first + n ≤ BUDGET_FRAMES → frames_at (slice_set b at x) first n ≡ frames_at b first n
+frames_kept b at x first n out size from to =
+    same_region (slice_set b at x) b (PAGE_SIZE * first) (PAGE_SIZE * n) (length-set b at x) (omega (arith, length-set b at x))
+    (λ k above below. host_kept b at x k out (omega arith) (omega arith))
+
+addresses_kept : (b : List ℕ) (at x : ℕ) → IsOutside at → PAGE_SIZE * BUDGET_FRAMES ≤ length b → (q : Place) →
+    address_of (slice_set b at x) q ≡ address_of b q
+addresses_kept b at x out size =
+    addresses_by b (slice_set b at x) (frames_kept b at x BLOCK_ROWS BLOCK_ROW_FRAMES out size (omega arith) (omega arith))
+    (frames_kept b at x BLOCK_TABLES BLOCK_TABLE_FRAMES out size (omega arith) (omega arith))
+
+byte_away : (v : MachineView) (p : Place) (x : ℕ) → LiesAway v → CanWrite v.world p → LiesAway (with_place v p x)
+byte_away v p x h can = record {
+  size = omega (arith, h.size, length-set v.bytes (address_of v.bytes p) x);
+  away = λ q here.
+      (let there : CanWrite v.world q = record { at = here.at; is = rw (place_in-with_byte_of v.world p x here.at) at here.is; may = here.may } in
+      subst IsOutside (sym (addresses_kept v.bytes (address_of v.bytes p) x (h.away p can) h.size q)) (h.away q there));
+}
+
+byte_only : (v : MachineView) (p : Place) (x : ℕ) → LiesAway v → CanWrite v.world p → OnlyAt (p ∷ []) v.bytes (with_place v p x).bytes
+byte_only v p x h can =
+    let out = h.away p can in
+    only_step (p ∷ []) v.bytes v.bytes (with_place v p x).bytes p 0 x (only_start (p ∷ []) v.bytes) refl (omega arith) refl
+    (addresses_kept v.bytes (address_of v.bytes p) x out h.size) (λ k from to. host_kept v.bytes (address_of v.bytes p) x k out from to)
+
+-- ---- bytes at several places
+
+pub record Writes (v u : MachineView) (places : List Place) : Type 0 where
+  pub only : OnlyAt places v.bytes u.bytes
+  pub away : LiesAway u
+
+none_written : (v : MachineView) (places : List Place) → LiesAway v → Writes v v places
+none_written v places h = record { only = only_start places v.bytes; away = h }
+
+places_written : (v : MachineView) (places : List Place) (bytes : List ℕ) → LiesAway v → CanWriteAll v.world places →
+    Writes v (with_places v places bytes) places
+places_written v [] bytes h can = subst (λ (u : MachineView). Writes v u []) (sym (with_places_none v bytes)) (none_written v [] h)
+places_written v (p ∷ places) [] h can =
+    subst (λ (u : MachineView). Writes v u (p ∷ places)) (sym (with_places_short v (p ∷ places))) (none_written v (p ∷ places) h)
+places_written v (p ∷ places) (x ∷ bytes) h can =
+    let first : CanWrite v.world p = can 0 (omega arith) in
+    let rest = places_written (with_place v p x) places bytes (byte_away v p x h first)
+    (λ i within. can_write_after v.world p (slice_index_or places i Nothing) x (can (suc i) (omega arith))) in
+    subst (λ (u : MachineView). Writes v u (p ∷ places)) (sym (with_places_first v p places x bytes)) (record {
+      only = only_then (p ∷ []) places v.bytes (with_place v p x).bytes (with_places (with_place v p x) places bytes).bytes
+          (byte_only v p x h first) rest.only;
+      away = rest.away;
+    })
+
+access_written : (v : MachineView) (r : Result (List Place) Fault) (bytes : List ℕ) → LiesAway v →
+    ((places : List Place) → r ≡ Ok places → CanWriteAll v.world places) → Writes v (with_places v (places_of_access r) bytes) (places_of_access r)
+access_written v (Ok places) bytes h can = places_written v places bytes h (can places refl)
+access_written v (Err f) bytes h can = places_written v [] bytes h (λ i within. absurd (omega arith))
+
+-- ---- writes through segment registers
+
+abbrev places_of_write : World → Write → List Place
+places_of_write w x = places_of_access (access w x.seg x.off (byte_count x.width) true)
+
+one_written : (v : MachineView) (x : Write) → LiesAway v → Writes v (written v x) (places_of_write v.world x)
+unfolding written stored
+one_written v x h =
+    access_written v (access v.world x.seg x.off (byte_count x.width) true) (number_bytes x.width x.value) h
+    (write_places v.world x.seg x.off (byte_count x.width))
+
+-- the others' places are the same after it
+access_kept : (v : MachineView) (x y : Write) →
+    access (written v x).world y.seg y.off (byte_count y.width) true ≡ access v.world y.seg y.off (byte_count y.width) true
+unfolding written stored
+access_kept v x y =
+    near_kept v (places_of_write v.world x) (number_bytes x.width x.value) y.seg y.off (byte_count y.width) true
+
+places_kept : (v : MachineView) (x : Write) (ys : List Write) → places_of_writes (written v x).world ys ≡ places_of_writes v.world ys
+places_kept v x [] = refl
+places_kept v x (y ∷ ys) = rw (access_kept v x y, places_kept v x ys) refl
+
+pub writes_only : (v : MachineView) (xs : List Write) → LiesAway v → OnlyAt (places_of_writes v.world xs) v.bytes (all_written v xs).bytes
+writes_only v [] h = subst (λ (u : MachineView). OnlyAt [] v.bytes u.bytes) (sym (all_none v)) (only_start [] v.bytes)
+writes_only v (x ∷ xs) h =
+    let one = one_written v x h in
+    subst (λ (u : MachineView). OnlyAt (places_of_writes v.world (x ∷ xs)) v.bytes u.bytes) (sym (all_first v x xs))
+    (only_then (places_of_write v.world x) (places_of_writes v.world xs) v.bytes (written v x).bytes (all_written (written v x) xs).bytes one.only
+    (subst (λ (places : List Place). OnlyAt places (written v x).bytes (all_written (written v x) xs).bytes) (places_kept v x xs)
+    (writes_only (written v x) xs one.away)))
+
+-- ---- a write at a far pointer
+
+far_can_write : (w : World) (p : FarPtr) (n : ℕ) (places : List Place) → far_access w p n true ≡ Ok places → CanWriteAll w places
+unfolding far_access
+far_can_write w p n places e = can_write_at w (protected_base w.descriptors Es p.sel p.off n true) p.off n places e
+
+pub far_only : (v : MachineView) (p : FarPtr) (n : ℕ) (bytes : List ℕ) → LiesAway v →
+    OnlyAt (places_of_access (far_access v.world p n true)) v.bytes (far_written v p n bytes).bytes
+unfolding far_written
+far_only v p n bytes h = (access_written v (far_access v.world p n true) bytes h (far_can_write v.world p n)).only

@@ -1,0 +1,169 @@
+-- The items of a frame on the host's stack, as a return reads them.
+use Rattle.std.proofs.Common.{◌≡◌, ◌≢◌, ℕ, ◌+◌, ◌*◌, ◌<◌, ◌≤◌, ◌⊎◌, inl, inr, zero, suc, Bool, true, false, List, [], ◌∷◌, length, get_or, refl, ap, ◌∙◌, arith, Option, None, Result, Ok, Err}
+use Rattle.std.proofs.Math.Seq.{drop-append-add}
+use Rattle.client_world.specs.declared.faults.Event.{Event}
+use Rattle.client_world.specs.declared.faults.Fault.{Fault}
+use Rattle.client_world.specs.declared.limits.TheConstants.{GREATEST_DEPTH}
+use Rattle.client_world.specs.declared.memory_map.TheConstants.{PROTECTED_STACK_SIZE}
+use Rattle.client_world.specs.declared.registers.Mode.TheVariants.{Protected}
+use Rattle.client_world.specs.declared.registers.TheConstants.{INTERRUPT_BIT}
+use Rattle.client_world.specs.declared.segments.SegReg.TheVariants.{Cs, Ss}
+use Rattle.client_world.specs.declared.selectors.TheConstants.{HOST_STACKS}
+use Rattle.client_world.specs.Loading.{load_fault}
+use Rattle.client_world.specs.Registers.{has_bit, low_half}
+use Rattle.client_world.specs.Selector.{selector_of}
+use Rattle.client_world.specs.Soundness.{IsSound}
+use Rattle.client_world.specs.World.{World}
+use Rattle.guest_ram.specs.Bytes.{region}
+use Rattle.guest_space.specs.Far.{far_bytes}
+use Rattle.guest_space.specs.Pending.{byte_count, number_bytes}
+use Rattle.guest_space.specs.Transfer.{read_result}
+use Rattle.guest_space.proofs.FarLaws.{part_is_read}
+use Rattle.guest_space.proofs.HostStacks.{stacks_at, stacks_loaded, stacks_reachable}
+use Rattle.guest_space.proofs.WriteRuns.{count_some}
+use Rattle.host_memory.specs.View.{MachineView}
+use Rattle.insn_plan.specs.Act.{Act, Input, Pending, Read, done, number_of, number_read, unless_fault, value_of}
+use Rattle.insn_plan.proofs.Settled.{carried_by}
+use Rattle.insn_plan.specs.Plan.{carried_out, planned, with_state}
+use Rattle.insn_plan.specs.Registers.{cut_address}
+use Rattle.insn_plan.specs.Stack.{has_big_stack, stack_item, stack_pointer_up}
+use Rattle.fault_service.specs.Delivery.{items_bytes}
+use Rattle.fault_service.specs.Return.{exception_left, exception_popped, frame_regs}
+use Rattle.fault_service.specs.Trip.{cut_item}
+use Rattle.fault_service.proofs.Plans.{settled_is}
+
+-- a world whose stack pointer is above the return address of a frame at that offset of the host's stacks
+pub record AtFrame (w : World) (bits offset : ℕ) (frame : List ℕ) : Type 0 where
+  pub sound : IsSound w
+  pub mode : w.mode ≡ Protected
+  pub width : w.width ≢ None
+  pub ss : w.regs.ss ≡ selector_of HOST_STACKS
+  pub esp : w.regs.esp ≡ offset + 2 * byte_count bits
+  pub room : offset + 8 * byte_count bits ≤ GREATEST_DEPTH * PROTECTED_STACK_SIZE
+  pub bytes : far_bytes w (stacks_at offset) (8 * byte_count bits) ≡ frame
+
+cut_small : (big : Bool) (a : ℕ) → a < 0x10000 → cut_address big a ≡ a
+cut_small true a small = omega arith
+cut_small false a small = omega arith
+
+pointer_is : (w : World) (n esp : ℕ) → w.regs.esp ≡ esp → esp + n < 0x10000 → stack_pointer_up w n w.regs ≡ esp + n
+pointer_is w n esp e small =
+    ap (λ (a : ℕ). cut_address (has_big_stack w) (cut_address (has_big_stack w) a + n)) e
+    ∙ ap (λ (a : ℕ). cut_address (has_big_stack w) (a + n)) (cut_small (has_big_stack w) esp (omega arith))
+    ∙ cut_small (has_big_stack w) (esp + n) small
+
+value_is : (w : World) (bits place off : ℕ) (bytes : List ℕ) → stack_pointer_up w (byte_count bits * place) w.regs ≡ off →
+    read_result w Ss off (byte_count bits) ≡ Ok bytes → value_of w (stack_item w bits place) ≡ Ok (number_of bytes)
+unfolding value_of stack_item
+value_is w bits place off bytes pointer e =
+    ap (λ (a : ℕ). number_read (read_result w Ss a (byte_count bits))) pointer ∙ ap number_read e
+
+item_is : (w : World) (bits offset : ℕ) (frame : List ℕ) (place at : ℕ) → AtFrame w bits offset frame →
+    offset + 2 * byte_count bits + byte_count bits * place ≡ offset + at → at + byte_count bits ≤ 8 * byte_count bits →
+    value_of w (stack_item w bits place) ≡ Ok (number_of (region frame at (byte_count bits)))
+item_is w bits offset frame place at h e within =
+    let c = byte_count bits in
+    let room = h.room in
+    let some = count_some bits in
+    value_is w bits place (offset + at) (far_bytes w (stacks_at (offset + at)) c)
+    (pointer_is w (c * place) (offset + 2 * c) h.esp (omega arith) ∙ e)
+    (stacks_loaded w (offset + at) c h.sound h.mode h.ss h.width (omega arith))
+    ∙ ap (λ (xs : List ℕ). Ok (number_of xs))
+    (part_is_read w (stacks_at offset) (8 * c) at c (stacks_reachable w offset (8 * c) false h.sound h.width room) within
+    ∙ ap (λ (xs : List ℕ). region xs at c) h.bytes)
+
+-- the values of the items above the return address
+pub record ItemValues (w : World) (bits ip cs image sp ss : ℕ) : Type 0 where
+  pub code : ℕ
+  pub first : value_of w (stack_item w bits 0) ≡ Ok code
+  pub second : value_of w (stack_item w bits 1) ≡ Ok ip
+  pub third : value_of w (stack_item w bits 2) ≡ Ok cs
+  pub fourth : value_of w (stack_item w bits 3) ≡ Ok image
+  pub fifth : value_of w (stack_item w bits 4) ≡ Ok sp
+  pub sixth : value_of w (stack_item w bits 5) ≡ Ok ss
+
+step : (w : World) (input : Input) (rest : ℕ → Act) (v : ℕ) → value_of w input ≡ Ok v → planned w (Read input rest) ≡ planned w (rest v)
+step w input rest v e = ap (λ (r : Result ℕ Event). elim r as (λ _. Result Pending Event) [ Ok x ↦ planned w (rest x) | Err f ↦ Err f ]) e
+
+pass : (w : World) (o : Option Fault) (act : Act) → o ≡ None → planned w (unless_fault o act) ≡ planned w act
+pass w o act e = ap (λ (x : Option Fault). planned w (unless_fault x act)) e
+
+-- what is left to do after each item
+abbrev leaves : World → ℕ → ℕ → ℕ → ℕ → ℕ → Act
+leaves w ip cs image sp ss = done (exception_left w ip (low_half cs) (low_half image) sp (low_half ss))
+
+abbrev asks_stack : World → ℕ → ℕ → ℕ → ℕ → ℕ → Act
+asks_stack w ip cs image sp ss = unless_fault (load_fault w.descriptors Ss (low_half ss) 0 false) (leaves w ip cs image sp ss)
+
+abbrev asks : World → ℕ → ℕ → ℕ → ℕ → ℕ → Act
+asks w ip cs image sp ss = unless_fault (load_fault w.descriptors Cs (low_half cs) ip true) (asks_stack w ip cs image sp ss)
+
+abbrev after_image : World → ℕ → ℕ → ℕ → ℕ → ℕ → Act
+after_image w bits ip cs image sp = Read (stack_item w bits 5) (asks w ip cs image sp)
+
+abbrev after_cs : World → ℕ → ℕ → ℕ → ℕ → Act
+after_cs w bits ip cs image = Read (stack_item w bits 4) (after_image w bits ip cs image)
+
+abbrev after_ip : World → ℕ → ℕ → ℕ → Act
+after_ip w bits ip cs = Read (stack_item w bits 3) (after_cs w bits ip cs)
+
+abbrev after_code : World → ℕ → ℕ → Act
+after_code w bits ip = Read (stack_item w bits 2) (after_ip w bits ip)
+
+abbrev after_first : World → ℕ → ℕ → Act
+after_first w bits code = Read (stack_item w bits 1) (after_code w bits)
+
+-- the plan that they give
+plan_is : (w : World) (bits ip cs image sp ss : ℕ) → ItemValues w bits ip cs image sp ss →
+    load_fault w.descriptors Cs (low_half cs) ip true ≡ None → load_fault w.descriptors Ss (low_half ss) 0 false ≡ None →
+    planned w (exception_popped w bits) ≡ Ok (exception_left w ip (low_half cs) (low_half image) sp (low_half ss))
+unfolding exception_popped
+plan_is w bits ip cs image sp ss h code stack =
+    step w (stack_item w bits 0) (after_first w bits) h.code h.first
+    ∙ step w (stack_item w bits 1) (after_code w bits) ip h.second
+    ∙ step w (stack_item w bits 2) (after_ip w bits ip) cs h.third
+    ∙ step w (stack_item w bits 3) (after_cs w bits ip cs) image h.fourth
+    ∙ step w (stack_item w bits 4) (after_image w bits ip cs image) sp h.fifth
+    ∙ step w (stack_item w bits 5) (asks w ip cs image sp) ss h.sixth
+    ∙ pass w (load_fault w.descriptors Cs (low_half cs) ip true) (asks_stack w ip cs image sp ss) code
+    ∙ pass w (load_fault w.descriptors Ss (low_half ss) 0 false) (leaves w ip cs image sp ss) stack
+
+carried_left : (y : MachineView) (plan : Result Pending Event) (p : Pending) → plan ≡ Ok p → p.writes ≡ [] →
+    carried_out y plan ≡ Ok (with_state p.regs p.vif y)
+carried_left y plan p e none = carried_by y plan p e ∙ settled_is y p none
+
+pub popped_is : (y : MachineView) (bits ip cs image sp ss : ℕ) → ItemValues y.world bits ip cs image sp ss →
+    load_fault y.world.descriptors Cs (low_half cs) ip true ≡ None → load_fault y.world.descriptors Ss (low_half ss) 0 false ≡ None →
+    carried_out y (planned y.world (exception_popped y.world bits))
+    ≡ Ok (with_state (frame_regs y.world.regs ip (low_half cs) (low_half image) sp (low_half ss)) (has_bit (low_half image) INTERRUPT_BIT) y)
+popped_is y bits ip cs image sp ss h code stack =
+    carried_left y (planned y.world (exception_popped y.world bits)) (exception_left y.world ip (low_half cs) (low_half image) sp (low_half ss))
+    (plan_is y.world bits ip cs image sp ss h code stack) refl
+
+-- the number of an item, of either width
+item_value : (bits : ℕ) → (bits ≡ 16) ⊎ (bits ≡ 32) → (items : List ℕ) (k : ℕ) → k < length items →
+    number_of (region (items_bytes bits items) (byte_count bits * k) (byte_count bits)) ≡ cut_item bits (get_or items k 0)
+unfolding region
+item_value bits width [] k less = absurd (omega arith)
+item_value bits width (x ∷ xs) zero less = elim width [ inl short ↦ rw short (omega arith) | inr long ↦ rw long (omega arith) ]
+item_value bits width (x ∷ xs) (suc k) less =
+    let next : byte_count bits * suc k ≡ length (number_bytes bits x) + byte_count bits * k =
+    elim width [ inl short ↦ rw short (omega arith) | inr long ↦ rw long (omega arith) ] in
+    rw (next, drop-append-add (number_bytes bits x) (items_bytes bits xs) (byte_count bits * k)) (item_value bits width xs k (omega arith))
+
+pub item_values : (w : World) (bits offset a b code ip cs image sp ss : ℕ) → (bits ≡ 16) ⊎ (bits ≡ 32) →
+    AtFrame w bits offset (items_bytes bits (a ∷ b ∷ code ∷ ip ∷ cs ∷ image ∷ sp ∷ ss ∷ [])) →
+    ItemValues w bits (cut_item bits ip) (cut_item bits cs) (cut_item bits image) (cut_item bits sp) (cut_item bits ss)
+item_values w bits offset a b code ip cs image sp ss width h =
+    let items = a ∷ b ∷ code ∷ ip ∷ cs ∷ image ∷ sp ∷ ss ∷ [] in
+    let frame = items_bytes bits items in
+    let c = byte_count bits in
+    record {
+      code = cut_item bits code;
+      first = item_is w bits offset frame 0 (c * 2) h (omega arith) (omega arith) ∙ ap Ok (item_value bits width items 2 (omega arith));
+      second = item_is w bits offset frame 1 (c * 3) h (omega arith) (omega arith) ∙ ap Ok (item_value bits width items 3 (omega arith));
+      third = item_is w bits offset frame 2 (c * 4) h (omega arith) (omega arith) ∙ ap Ok (item_value bits width items 4 (omega arith));
+      fourth = item_is w bits offset frame 3 (c * 5) h (omega arith) (omega arith) ∙ ap Ok (item_value bits width items 5 (omega arith));
+      fifth = item_is w bits offset frame 4 (c * 6) h (omega arith) (omega arith) ∙ ap Ok (item_value bits width items 6 (omega arith));
+      sixth = item_is w bits offset frame 5 (c * 7) h (omega arith) (omega arith) ∙ ap Ok (item_value bits width items 7 (omega arith));
+    }

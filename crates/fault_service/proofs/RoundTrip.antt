@@ -1,0 +1,268 @@
+-- At the handler the frame is read as it was written, and a return restores what a delivery saved.
+use Rattle.std.proofs.Common.{◌≡◌, ◌≢◌, ℕ, ◌+◌, ◌-◌, ◌*◌, ◌%◌, ◌<◌, ◌≤◌, ◌⊎◌, inl, inr, Bool, true, false, cond, nat_eq, List, [], ◌∷◌, ◌++◌, length, take, refl, ap, ◌∙◌, sym, subst, arith, if◌then◌else◌, Option, None, Some, Result, Ok, Err}
+use Rattle.std.specs.List.{slice_get}
+use Rattle.std.proofs.lemmas.List.{length-append, get_or_at}
+use Rattle.std.proofs.Math.Seq.{take-append_seam}
+use Rattle.std.proofs.lemmas.Option.{slice_get-get_or}
+use Rattle.client_world.specs.declared.calls.Record.{Record}
+use Rattle.client_world.specs.declared.calls.Record.TheVariants.{Exc}
+use Rattle.client_world.specs.declared.faults.Event.{Event}
+use Rattle.client_world.specs.declared.faults.Fault.{Fault}
+use Rattle.client_world.specs.declared.limits.TheConstants.{GREATEST_DEPTH}
+use Rattle.client_world.specs.declared.outcome.Exit.TheVariants as exits
+use Rattle.client_world.specs.declared.registers.Flags.{Flags}
+use Rattle.client_world.specs.declared.registers.Mode.{Mode}
+use Rattle.client_world.specs.declared.registers.Mode.TheVariants.{Real, Protected}
+use Rattle.client_world.specs.declared.registers.Regs.{Regs}
+use Rattle.client_world.specs.declared.registers.TheConstants.{INTERRUPT_BIT}
+use Rattle.client_world.specs.declared.registers.Width.{Width}
+use Rattle.client_world.specs.declared.registers.Width.TheVariants.{Sixteen, ThirtyTwo}
+use Rattle.client_world.specs.declared.segments.FarPtr.{FarPtr}
+use Rattle.client_world.specs.declared.segments.SegReg.TheVariants.{Cs, Ss}
+use Rattle.client_world.specs.declared.selectors.TheConstants.{HOST_STACKS}
+use Rattle.client_world.specs.Loading.{load_fault}
+use Rattle.client_world.specs.Registers.{flags_image, has_bit, low_half}
+use Rattle.client_world.specs.Selector.{selector_of}
+use Rattle.client_world.specs.Soundness.{IsSound, HasSegments}
+use Rattle.client_world.specs.World.{World, depth}
+use Rattle.client_world.proofs.SoundWrites.{IsSound-regs, IsSound-vif}
+use Rattle.exec_flow.specs.Interrupts.{frame_bits, item_bits}
+use Rattle.guest_space.specs.Far.{far_bytes}
+use Rattle.guest_space.specs.Pending.{byte_count}
+use Rattle.guest_space.proofs.FarLaws.{written_is_read}
+use Rattle.guest_space.proofs.HostStacks.{far_same, stacks_at, stacks_loaded, stacks_reachable}
+use Rattle.guest_space.specs.Transfer.{read_result}
+use Rattle.guest_space.proofs.MemoryAlone.{other_far}
+use Rattle.guest_space.specs.VectorLists.{vector_at}
+use Rattle.host_memory.specs.View.{MachineView}
+use Rattle.insn_plan.specs.Plan.{carried_out, planned, with_state}
+use Rattle.mode_stack.specs.Stack.{after_pop, top}
+use Rattle.mode_stack.proofs.Trips.{FlagsTrip}
+use Rattle.fault_service.specs.Delivery.{after_delivery, exception_frame, exception_items, frame_offset, frame_address, frame_size, handler_regs, protected_delivery}
+use Rattle.fault_service.specs.Return.{exception_popped, exception_return, is_exception, returned_or_bad}
+use Rattle.fault_service.specs.Trip.{FrameLaw, TripLaw, cut_item, regs_after_return}
+use Rattle.fault_service.proofs.FrameItems.{AtFrame, popped_is, item_values}
+use Rattle.fault_service.proofs.MemoryLaws.{is_delivered, frame_written}
+use Rattle.fault_service.proofs.SoundAnswers.{sound_delivered, protected_by}
+use Rattle.interrupts.proofs.SoundAnswers.{code_is_named_by_a_word}
+
+abbrev pub InterruptTrip : Type 0
+InterruptTrip = (f : Flags) (interrupt : Bool) → has_bit (flags_image f interrupt) INTERRUPT_BIT ≡ interrupt
+
+-- ---- small facts
+
+last_is : (xs : List Record) (r : Record) → slice_get (xs ++ r ∷ []) (length (xs ++ r ∷ []) - 1) ≡ Some r
+last_is xs r =
+    let total : length (xs ++ r ∷ []) ≡ length xs + 1 = length-append xs (r ∷ []) in
+    slice_get-get_or (xs ++ r ∷ []) (length (xs ++ r ∷ []) - 1) r (omega arith)
+    ∙ ap (λ (x : Record). Some x) (get_or_at xs r [] r (length (xs ++ r ∷ []) - 1) (omega arith))
+
+weight : (b : Bool) (n : ℕ) → cond b n 0 ≤ n
+weight true n = omega arith
+weight false n = omega arith
+
+image_small : (f : Flags) (i : Bool) → flags_image f i < 0x10000
+image_small f i =
+    omega (arith, weight f.cf 1, weight f.pf 4, weight f.af 16, weight f.zf 64, weight f.sf 128, weight i 512, weight f.df 1024, weight f.of 2048)
+
+bits_by : (mode : Mode) (width : Option Width) →
+    let bits = elim mode as (λ _. ℕ) [ Real ↦ 16 | Protected ↦ item_bits width ] in (bits ≡ 16) ⊎ (bits ≡ 32)
+bits_by Real width = inl refl
+bits_by Protected None = inl refl
+bits_by Protected (Some Sixteen) = inl refl
+bits_by Protected (Some ThirtyTwo) = inr refl
+
+bits_are : (w : World) → (frame_bits w ≡ 16) ⊎ (frame_bits w ≡ 32)
+bits_are w = bits_by w.mode w.width
+
+-- ---- the world in which the handler returns
+
+-- the parts of the world that the frame's write keeps
+pub record Kept (v : MachineView) (f : Fault) : Type 0 where
+  pub mode : (frame_written v f).world.mode ≡ v.world.mode
+  pub width : (frame_written v f).world.width ≡ v.world.width
+  pub descriptors : (frame_written v f).world.descriptors ≡ v.world.descriptors
+  pub bits : frame_bits (frame_written v f).world ≡ frame_bits v.world
+
+kept : (v : MachineView) (f : Fault) → Kept v f
+unfolding frame_written
+kept v f =
+    let same = other_far v (frame_address v.world) (frame_size v.world) (exception_frame v.world f) in
+    record {
+      mode = ap (λ (w : World). w.mode) same;
+      width = ap (λ (w : World). w.width) same;
+      descriptors = ap (λ (w : World). w.descriptors) same;
+      bits = ap (λ (w : World). frame_bits w) same;
+    }
+
+-- the machine then, whatever the handler left in the registers
+abbrev calls_then : MachineView → Fault → List Record
+calls_then v f = (frame_written v f).world.calls ++ Exc f.number f.code ∷ []
+
+abbrev world_then : MachineView → Fault → Regs → Bool → World
+world_then v f r on = record (frame_written v f).world { calls = calls_then v f; regs = r; vif = on }
+
+then_is : (v : MachineView) (f : Fault) (p : FarPtr) (r : Regs) (on : Bool) → (with_state r on (after_delivery v f p)).world ≡ world_then v f r on
+unfolding after_delivery frame_written
+then_is v f p r on = refl
+
+length-frame : (w : World) (f : Fault) → length (exception_frame w f) ≡ 8 * byte_count (frame_bits w)
+unfolding exception_frame exception_items
+length-frame w f = elim (bits_are w) [
+  | inl short ↦ rw short refl
+  | inr long ↦ rw long refl
+]
+
+size_small : (w : World) → 8 * byte_count (frame_bits w) ≤ 32
+size_small w = elim (bits_are w) [
+  | inl short ↦ rw short (omega arith)
+  | inr long ↦ rw long (omega arith)
+]
+
+frame_there : (v : MachineView) (f : Fault) (r : Regs) (on : Bool) → IsSound v.world → v.world.width ≢ None → depth v.world < GREATEST_DEPTH →
+    far_bytes (world_then v f r on) (stacks_at (frame_offset v.world)) (8 * byte_count (frame_bits v.world)) ≡ exception_frame v.world f
+unfolding frame_written
+frame_there v f r on s some room =
+    let small = size_small v.world in
+    far_same (frame_written v f).world (calls_then v f) r on (stacks_at (frame_offset v.world)) (8 * byte_count (frame_bits v.world))
+    ∙ written_is_read v (frame_address v.world) (frame_size v.world) (exception_frame v.world f) s (omega arith) (length-frame v.world f)
+    (stacks_reachable v.world (frame_offset v.world) (frame_size v.world) true s some (omega arith))
+
+at_frame : (v : MachineView) (f : Fault) (p : FarPtr) (r : Regs) (on : Bool) → IsSound v.world → v.world.mode ≡ Protected → v.world.width ≢ None →
+    depth v.world < GREATEST_DEPTH → p.sel < 0x10000 → HasSegments r → r.ss ≡ selector_of HOST_STACKS →
+    r.esp ≡ frame_offset v.world + 2 * byte_count (frame_bits v.world) →
+    AtFrame (world_then v f r on) (frame_bits v.world) (frame_offset v.world) (exception_frame v.world f)
+at_frame v f p r on s mode some room word segments ss esp =
+    let k = kept v f in
+    let small = size_small v.world in
+    record {
+      sound = subst IsSound (then_is v f p r on)
+          (IsSound-vif (record (after_delivery v f p).world { regs = r }) on
+          (IsSound-regs (after_delivery v f p).world r (sound_delivered v f p s some room word) segments));
+      mode = k.mode ∙ mode;
+      width = λ e. some (sym k.width ∙ e);
+      ss = ss;
+      esp = esp;
+      room = omega arith;
+      bytes = frame_there v f r on s some room;
+    }
+
+-- ---- what the return reads
+
+half_of_item : (bits n : ℕ) → n < 0x10000 → low_half (cut_item bits n) ≡ n
+half_of_item bits n small = half (nat_eq bits 16)
+  where
+    half : (is_word : Bool) → low_half (if is_word then n % 0x10000 else n % 0x100000000) ≡ n
+    half true = omega arith
+    half false = omega arith
+
+-- the return in that machine
+abbrev carried : MachineView → ℕ → Result MachineView Event
+carried y bits = carried_out y (planned y.world (exception_popped y.world bits))
+
+carried_is : (v y : MachineView) (f : Fault) (r : Regs) → FlagsTrip → InterruptTrip → IsSound v.world → y.world.regs ≡ r → y.world.descriptors ≡ v.world.descriptors →
+    AtFrame y.world (frame_bits v.world) (frame_offset v.world) (exception_frame v.world f) →
+    load_fault v.world.descriptors Cs v.world.regs.cs (cut_item (frame_bits v.world) v.world.regs.eip) true ≡ None →
+    load_fault v.world.descriptors Ss v.world.regs.ss 0 false ≡ None → carried y (frame_bits v.world) ≡ Ok (with_state (regs_after_return v.world r) v.world.vif y)
+unfolding exception_frame exception_items
+carried_is v y f r trip interrupt s regs descriptors h code stack =
+    let w = v.world in
+    let bits = frame_bits w in
+    let image = flags_image w.regs.flags w.vif in
+    let segments = s.segments in
+    let cs : low_half (cut_item bits w.regs.cs) ≡ w.regs.cs = half_of_item bits w.regs.cs segments.cs in
+    let ss : low_half (cut_item bits w.regs.ss) ≡ w.regs.ss = half_of_item bits w.regs.ss segments.ss in
+    let flags : low_half (cut_item bits image) ≡ image = half_of_item bits image (image_small w.regs.flags w.vif) in
+    popped_is y bits (cut_item bits w.regs.eip) (cut_item bits w.regs.cs) (cut_item bits image) (cut_item bits w.regs.esp) (cut_item bits w.regs.ss)
+    (item_values y.world bits (frame_offset w) 0x322 0x87 f.code w.regs.eip w.regs.cs image w.regs.esp w.regs.ss (bits_are w) h)
+    (rw (descriptors, cs) code) (rw (descriptors, ss) stack)
+    ∙ rw (regs, cs, ss, flags, trip w.regs.flags w.vif, interrupt w.regs.flags w.vif) refl
+
+-- ---- the law
+
+returned_where : (y t : MachineView) (bits : ℕ) → frame_bits y.world ≡ bits → is_exception (top y.world) ≡ true → carried y bits ≡ Ok t →
+    exception_return y ≡ Ok (after_pop t)
+unfolding exception_return
+returned_where y t bits same is e =
+    ap (λ (b : Bool). if b then returned_or_bad (carried y (frame_bits y.world)) else Err exits.Stray) is
+    ∙ ap (λ (n : ℕ). returned_or_bad (carried y n)) same
+    ∙ ap returned_or_bad e
+
+trip_delivered : FlagsTrip → InterruptTrip → (v : MachineView) (f : Fault) (p : FarPtr) (r : Regs) (on : Bool) → IsSound v.world → v.world.mode ≡ Protected →
+    v.world.width ≢ None → depth v.world < GREATEST_DEPTH → p.sel < 0x10000 → HasSegments r → r.ss ≡ selector_of HOST_STACKS →
+    r.esp ≡ frame_offset v.world + 2 * byte_count (frame_bits v.world) →
+    load_fault v.world.descriptors Cs v.world.regs.cs (cut_item (frame_bits v.world) v.world.regs.eip) true ≡ None →
+    load_fault v.world.descriptors Ss v.world.regs.ss 0 false ≡ None →
+    exception_return (with_state r on (after_delivery v f p)) ≡ Ok (with_state (regs_after_return v.world r) v.world.vif (after_pop (after_delivery v f p)))
+trip_delivered trip interrupt v f p r on s mode some room word segments ss esp code stack =
+    let y = with_state r on (after_delivery v f p) in
+    let k = kept v f in
+    let is = then_is v f p r on in
+    let there = subst (λ (w : World). AtFrame w (frame_bits v.world) (frame_offset v.world) (exception_frame v.world f)) (sym is)
+    (at_frame v f p r on s mode some room word segments ss esp) in
+    returned_where y (with_state (regs_after_return v.world r) v.world.vif y) (frame_bits v.world)
+    (ap (λ (w : World). frame_bits w) is ∙ k.bits)
+    (ap (λ (w : World). is_exception (top w)) is ∙ ap is_exception (last_is (frame_written v f).world.calls (Exc f.number f.code)))
+    (carried_is v y f r trip interrupt s refl (ap (λ (w : World). w.descriptors) is ∙ k.descriptors) there code stack)
+
+pub trip_law : FlagsTrip → InterruptTrip → TripLaw
+trip_law trip interrupt v u f r on s mode e segments ss esp code stack =
+    let done = is_delivered v u f e in
+    let p = vector_at v.world.exception_vectors f.number in
+    subst (λ (x : MachineView). exception_return (with_state r on x) ≡ Ok (with_state (regs_after_return v.world r) v.world.vif (after_pop x))) (sym done.is)
+    (trip_delivered trip interrupt v f p r on s mode (protected_by v.world.width v.world mode s.width) done.room
+    (code_is_named_by_a_word v.world.descriptors p.sel p.off false s.descriptors.indices done.loads) segments ss esp code stack)
+
+-- at the handler the frame is read at SS:ESP
+handler_world : (v : MachineView) (f : Fault) (p : FarPtr) → (after_delivery v f p).world ≡ world_then v f (handler_regs v.world p) false
+unfolding after_delivery frame_written
+handler_world v f p = refl
+
+handler_esp : (v : MachineView) (f : Fault) (p : FarPtr) → (after_delivery v f p).world.regs.esp ≡ frame_offset v.world
+unfolding after_delivery
+handler_esp v f p = refl
+
+frame_read : (v : MachineView) (f : Fault) (p : FarPtr) → IsSound v.world → v.world.mode ≡ Protected → v.world.width ≢ None →
+    depth v.world < GREATEST_DEPTH → p.sel < 0x10000 →
+    read_result (after_delivery v f p).world Ss (after_delivery v f p).world.regs.esp (frame_size v.world) ≡ Ok (exception_frame v.world f)
+frame_read v f p s mode some room word =
+    let r = handler_regs v.world p in
+    let w = world_then v f r false in
+    let k = kept v f in
+    let is = handler_world v f p in
+    let small = size_small v.world in
+    ap (λ (a : ℕ). read_result (after_delivery v f p).world Ss a (frame_size v.world)) (handler_esp v f p)
+    ∙ ap (λ (x : World). read_result x Ss (frame_offset v.world) (frame_size v.world)) is
+    ∙ stacks_loaded w (frame_offset v.world) (frame_size v.world) (subst IsSound is (sound_delivered v f p s some room word)) (k.mode ∙ mode) refl
+    (λ e. some (sym k.width ∙ e)) (omega arith)
+    ∙ ap Ok (frame_there v f r false s some room)
+
+pub frame_law : FrameLaw
+frame_law v u f s mode e =
+    let done = is_delivered v u f e in
+    let p = vector_at v.world.exception_vectors f.number in
+    subst (λ (x : MachineView). read_result x.world Ss x.world.regs.esp (frame_size v.world) ≡ Ok (exception_frame v.world f)) (sym done.is)
+    (frame_read v f p s mode (protected_by v.world.width v.world mode s.width) done.room
+    (code_is_named_by_a_word v.world.descriptors p.sel p.off false s.descriptors.indices done.loads))
+
+-- and the records are those before
+front_is : (xs : List Record) (r : Record) → take (length (xs ++ r ∷ []) - 1) (xs ++ r ∷ []) ≡ xs
+front_is xs r =
+    let total : length (xs ++ r ∷ []) ≡ length xs + 1 = length-append xs (r ∷ []) in
+    let less : length (xs ++ r ∷ []) - 1 ≡ length xs = omega arith in
+    ap (λ (n : ℕ). take n (xs ++ r ∷ [])) less ∙ take-append_seam xs (r ∷ [])
+
+pub calls_kept : (v : MachineView) (f : Fault) → (frame_written v f).world.calls ≡ v.world.calls
+unfolding frame_written
+calls_kept v f = ap (λ (w : World). w.calls) (other_far v (frame_address v.world) (frame_size v.world) (exception_frame v.world f))
+
+pub delivered_calls : (v : MachineView) (f : Fault) (p : FarPtr) → (after_delivery v f p).world.calls ≡ (frame_written v f).world.calls ++ Exc f.number f.code ∷ []
+unfolding after_delivery frame_written
+delivered_calls v f p = refl
+
+pub records_back : (v u : MachineView) (f : Fault) → protected_delivery v f ≡ Ok u → (after_pop u).world.calls ≡ v.world.calls
+records_back v u f e =
+    let done = is_delivered v u f e in
+    ap (λ (calls : List Record). take (length calls - 1) calls)
+    (ap (λ (x : MachineView). x.world.calls) done.is ∙ delivered_calls v f (vector_at v.world.exception_vectors f.number))
+    ∙ front_is (frame_written v f).world.calls (Exc f.number f.code) ∙ calls_kept v f

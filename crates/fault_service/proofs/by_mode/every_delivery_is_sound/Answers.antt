@@ -1,0 +1,5 @@
+use Rattle.fault_service.proofs.ByMode.{sound_by_mode}
+use Rattle.fault_service.proofs.by_mode.every_delivery_is_sound.Goals as goal
+
+pub returns : goal.returns
+returns c = sound_by_mode

@@ -1,6 +1,0 @@
-use Rattle.std.proofs.Common.{rules}
-use Rattle.fault_service.proofs.Handlers.{refused_by_vector}
-use Rattle.fault_service.proofs.interrupts.check_handler.Goals as goal
-
-pub returns-in-Err-clause-refused : goal.returns-in-Err-clause-refused
-returns-in-Err-clause-refused c = refused_by_vector c.args.m.now c.args.n c.in-Err.f (search rules) (search rules)

@@ -1,5 +1,0 @@
-use Rattle.fault_service.proofs.RealFrameLaws.{popped_where_it_fits}
-use Rattle.fault_service.proofs.laws.a_real_frame_is_popped_where_it_fits.Goals as goal
-
-pub returns : goal.returns
-returns c = popped_where_it_fits

@@ -1,0 +1,43 @@
+-- Which bytes of the memory a delivery and a return change. Source: own.
+use Rattle.std.specs.Prelude.{◌≡◌, ℕ, ◌+◌, ◌-◌, ◌*◌, ◌<◌, ◌≤◌, Bool, true, List, [], length, slice_index_or, Ok}
+use Rattle.client_world.specs.declared.faults.Fault.{Fault}
+use Rattle.client_world.specs.declared.memory_map.TheConstants.{PROTECTED_STACKS, PROTECTED_STACK_SIZE}
+use Rattle.client_world.specs.declared.place.Place.{Place}
+use Rattle.client_world.specs.declared.place.Place.TheVariants.{Dos, Nothing}
+use Rattle.client_world.specs.Access.{far_access, may_touch, place_of}
+use Rattle.client_world.specs.Soundness.{IsSound}
+use Rattle.client_world.specs.World.{World, depth}
+use Rattle.guest_space.specs.Records.{OnlyAtAndRow}
+use Rattle.guest_space.specs.Transfer.{places_of_access}
+use Rattle.host_memory.specs.HoldsWorld.{HoldsWorld}
+use Rattle.host_memory.specs.Law.{StandsAt}
+use Rattle.host_memory.specs.View.{MachineView}
+use Rattle.fault_service.specs.Delivery.{frame_address, frame_offset, frame_size, protected_delivery}
+use Rattle.fault_service.specs.Return.{exception_return}
+
+-- what every machine promises of its view (`Machine::ram`): its world is sound, its bytes hold that world, and the byte of each place that
+-- the client may touch is at the place's address, which lies in none of the host's frames
+pub record IsMachineView (v : MachineView) : Type 0 where
+  pub sound : IsSound v.world
+  pub holds : HoldsWorld v.bytes v.world
+  pub places : (lin : ℕ) (write : Bool) → may_touch (place_of v.world lin) write ≡ true → StandsAt v.bytes v.world (place_of v.world lin)
+
+-- the places of the frame of an exception
+abbrev pub frame_places : World → List Place
+frame_places w = places_of_access (far_access w (frame_address w) (frame_size w) true)
+
+-- each byte of the frame lies in the megabyte, in the host's stack of the depth
+pub record LiesInStack (w : World) : Type 0 where
+  pub size : length (frame_places w) ≡ frame_size w
+  pub each : (i : ℕ) → i < frame_size w → slice_index_or (frame_places w) i Nothing ≡ Dos (PROTECTED_STACKS + frame_offset w + i)
+  pub from : PROTECTED_STACK_SIZE * depth w ≤ frame_offset w
+  pub to : frame_offset w + frame_size w ≡ PROTECTED_STACK_SIZE * (depth w + 1)
+
+-- a delivery changes at most the bytes of its frame and those of its record's row
+abbrev pub DeliveryLaw : MachineView → Type 0
+DeliveryLaw v = (f : Fault) (u : MachineView) → protected_delivery v f ≡ Ok u →
+    OnlyAtAndRow (frame_places v.world) (depth v.world) v.bytes u.bytes
+
+-- a return changes at most the bytes of the row of the record that it pops
+abbrev pub ReturnLaw : MachineView → Type 0
+ReturnLaw v = (u : MachineView) → exception_return v ≡ Ok u → OnlyAtAndRow [] (depth v.world - 1) v.bytes u.bytes

@@ -1,6 +1,0 @@
-use Rattle.std.proofs.Common.{◌∙◌}
-use Rattle.guest_space.proofs.Writes.{word_is}
-use Rattle.guest_space.proofs.pending.word_bytes.Goals as goal
-
-pub returns : goal.returns
-returns c = c.to_le_bytes.ensures ∙ word_is c.args.v

@@ -1,0 +1,12 @@
+use Rattle.std.proofs.Common.{◌∙◌, ap, refl, arith, sym}
+use Rattle.client_world.specs.declared.registers.Regs.{Regs}
+use Rattle.insn_plan.specs.Act.{value_of}
+use Rattle.insn_plan.specs.Operands.{given, source}
+use Rattle.insn_plan.proofs.GivenOperands.{source_given}
+use Rattle.insn_plan.proofs.accesses.Accesses.operand.Goals as goal
+
+pub returns-in_default : goal.returns-in_default
+unfolding value_of
+returns-in_default c =
+    rw (source_given c.args.self.now.world.regs c.args.addr32 c.args.width c.args.operand.now c.in_default.not-Mem)
+    (rw (c.given.ensures, c.regs-in_default.ensures) (record { value = refl; noted = refl; room = omega arith }))

@@ -1,0 +1,10 @@
+use Rattle.std.proofs.Common.{subst}
+use Rattle.host_memory.specs.View.{MachineView}
+use Rattle.insn_plan.specs.Written.{IsWritten}
+use Rattle.insn_plan.proofs.WrittenState.{made}
+use Rattle.insn_plan.proofs.operands.note_and_write.Goals as goal
+
+pub returns-clause-done : goal.returns-clause-done
+returns-clause-done c =
+    subst (λ (v : MachineView). IsWritten c.args.write.now v c.write_one.new.self) c.warm.ensures
+    (made c.warm.new.self c.write_one.new.self _ c.in_ok-write_one.ensures.made.0 c.in_ok-write_one.ensures.made.1)

@@ -1,7 +1,0 @@
-use Rattle.std.proofs.Common.{rules}
-use Rattle.insn_plan.specs.Act.{value_of}
-use Rattle.insn_plan.proofs.read.read_width.Goals as goal
-
-pub returns-in_ok-read-in-1 : goal.returns-in_ok-read-in-1
-unfolding value_of
-returns-in_ok-read-in-1 c = search rules

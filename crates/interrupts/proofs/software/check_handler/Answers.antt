@@ -1,0 +1,6 @@
+use Rattle.std.proofs.Common.{rules}
+use Rattle.interrupts.proofs.Handlers.{refused_by_vector}
+use Rattle.interrupts.proofs.software.check_handler.Goals as goal
+
+pub returns-in-Err-clause-refused : goal.returns-in-Err-clause-refused
+returns-in-Err-clause-refused c = refused_by_vector c.args.m.now c.args.n c.in-Err.f (search rules) (search rules)

@@ -1,0 +1,53 @@
+-- The same of worlds alone: what a step, an interrupt, an exception and a return make of a world. Which bytes hold it doesn't matter.
+-- Source: own.
+use Rattle.std.specs.Prelude.{◌≡◌, ℕ, [], Ok, Err}
+use Rattle.std.specs.declared.result.Result.{Result}
+use Rattle.client_world.specs.declared.faults.Event.{Event}
+use Rattle.client_world.specs.declared.faults.Fault.{Fault}
+use Rattle.client_world.specs.declared.outcome.Exit.{Exit}
+use Rattle.client_world.specs.World.{World}
+use Rattle.cpu_step.specs.Step.{client_step}
+use Rattle.host_memory.specs.View.{MachineView}
+use Rattle.insn_plan.specs.Plan.{with_state}
+use Rattle.interrupts.specs.Delivery.{iret_popped, real_delivery, software_interrupt}
+
+-- the world of an answer
+abbrev pub its_world : {E : Type 0} → Result MachineView E → Result World E
+its_world (Ok v) = Ok v.world
+its_world (Err e) = Err e
+
+-- a world with no bytes
+abbrev pub bare : World → MachineView
+bare w = record { world = w; bytes = [] }
+
+-- what a function makes of a world
+abbrev pub on_world : {E : Type 0} → (MachineView → Result MachineView E) → World → Result World E
+on_world f w = its_world (f (bare w))
+
+-- the world after the client's next instruction, or its event
+unfoldable pub world_step : World → Result World Event
+world_step w = on_world client_step w
+
+-- the world after a software interrupt, or its fault
+unfoldable pub world_interrupt : World → ℕ → ℕ → Result World Fault
+world_interrupt w n len = on_world (λ v. software_interrupt v n len) w
+
+-- the world after an exception of real mode, or the exit
+unfoldable pub world_delivery : World → Fault → Result World Exit
+world_delivery w f = on_world (λ v. real_delivery v f) w
+
+-- the world after the frame at the stack's top is popped, or the exit
+unfoldable pub world_popped : World → Result World Exit
+world_popped w = on_world iret_popped w
+
+-- the machine differs at most in its registers and its virtual interrupt flag: its memory is the same, and so are its bytes
+abbrev pub HasOtherState : MachineView → MachineView → Type 0
+HasOtherState v u = u ≡ with_state u.world.regs u.world.vif v
+
+-- the world differs at most in its registers and its virtual interrupt flag
+abbrev pub HasOtherRegisters : World → World → Type 0
+HasOtherRegisters w u = u ≡ record w { regs = u.regs; vif = u.vif }
+
+-- or in its memory besides: the megabyte and the memory blocks
+abbrev pub HasOtherRegistersAndMemory : World → World → Type 0
+HasOtherRegistersAndMemory w u = u ≡ record w { regs = u.regs; vif = u.vif; dos = u.dos; blocks = u.blocks }

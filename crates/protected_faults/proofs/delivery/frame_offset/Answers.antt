@@ -1,5 +1,0 @@
-use Rattle.std.proofs.Common.{rules}
-use Rattle.protected_faults.proofs.delivery.frame_offset.Goals as goal
-
-pub returns : goal.returns
-returns c = search rules

@@ -1,5 +1,0 @@
-use Rattle.std.proofs.Common.{rules}
-use Rattle.protected_faults.proofs.delivery.handler.Goals as goal
-
-pub returns-then-from-lt-EXCEPTION_VECTORS : goal.returns-then-from-lt-EXCEPTION_VECTORS
-returns-then-from-lt-EXCEPTION_VECTORS c = search rules

@@ -1,6 +1,0 @@
-use Rattle.std.proofs.Common.{arith}
-use Rattle.protected_faults.proofs.FrameBytes.{all_words}
-use Rattle.protected_faults.proofs.frame.word_frame.Goals as goal
-
-pub returns : goal.returns
-returns c = all_words c.args.items.now c.put_words.new.into (omega arith) c.put_words.ensures

@@ -1,8 +1,0 @@
-use Rattle.protected_faults.proofs.SoundAnswers.{delivery_alone, return_alone}
-use Rattle.protected_faults.proofs.laws.every_answer_depends_on_the_world_alone.Goals as goal
-
-pub returns-clause-delivery : goal.returns-clause-delivery
-returns-clause-delivery c = delivery_alone
-
-pub returns-clause-back : goal.returns-clause-back
-returns-clause-back c = return_alone
