@@ -21,7 +21,7 @@ use Rattle.translation.specs.Structure.{structure_bytes, structure_flags, struct
 use Rattle.translation.proofs.Ended.{but_last}
 use Rattle.translation.proofs.PutPart.{reachable_after}
 use Rattle.translation.proofs.ResultsBack.{same_far}
-use Rattle.callbacks.specs.Callbacks.{after_entering, after_leaving, caller_structure, enter_callback, frame_address, frame_size, leave_callback, procedure_regs, return_frame, stack_index, stack_row, with_frame_and_structure, with_stack_row}
+use Rattle.callbacks.specs.Callbacks.{after_entering, after_leaving, caller_structure, enter_callback, frame_start, frame_size, leave_callback, procedure_regs, return_frame, stack_index, stack_row, with_frame_and_structure, with_stack_row}
 use Rattle.callbacks.specs.HandOver.{HasEntered, HasLeft}
 use Rattle.callbacks.proofs.FrameBytes.{caller_size}
 use Rattle.callbacks.proofs.KeptWorld.{entering_calls, leaving_calls, memory_alone}
@@ -43,8 +43,8 @@ memory_back : (w : World) (slot : ℕ) (at : FarPtr) → IsSound w → is_reacha
     structure_bytes (with_frame_and_structure w slot at) at ≡ caller_structure w slot
 unfolding with_frame_and_structure
 memory_back w slot at s there =
-    put_back (far_put w (frame_address w) (frame_size w) (return_frame w)) at STRUCTURE_SIZE (caller_structure w slot) (sound_frame w s) (omega arith)
-    (caller_size w slot) (reachable_after w (frame_address w) (frame_size w) (return_frame w) at STRUCTURE_SIZE true ∙ there)
+    put_back (far_put w (frame_start w) (frame_size w) (return_frame w)) at STRUCTURE_SIZE (caller_structure w slot) (sound_frame w s) (omega arith)
+    (caller_size w slot) (reachable_after w (frame_start w) (frame_size w) (return_frame w) at STRUCTURE_SIZE true ∙ there)
 
 -- the mode, the registers and the records have no part in it
 read_on : (w : World) (slot : ℕ) (procedure at p : FarPtr) (n : ℕ) →

@@ -12,7 +12,7 @@ use Rattle.guest_space.proofs.FarPuts.{other_far_put}
 use Rattle.guest_space.proofs.MemoryAlone.{other_then}
 use Rattle.translation.specs.declared.structure.TheConstants.{STRUCTURE_SIZE}
 use Rattle.translation.proofs.Ended.{but_last}
-use Rattle.callbacks.specs.Callbacks.{after_entering, after_leaving, caller_structure, enter_callback, frame_address, frame_size, leave_callback, procedure_regs, return_frame, with_frame_and_structure, with_stack_row}
+use Rattle.callbacks.specs.Callbacks.{after_entering, after_leaving, caller_structure, enter_callback, frame_start, frame_size, leave_callback, procedure_regs, return_frame, with_frame_and_structure, with_stack_row}
 use Rattle.callbacks.specs.HandOver.{IsCallbackPopped, IsCallbackPushed, LeftForProcedure, LeftForReal}
 use Rattle.callbacks.proofs.Started.{is_back, is_start}
 
@@ -20,8 +20,8 @@ use Rattle.callbacks.proofs.Started.{is_back, is_start}
 pub memory_alone : (w : World) (slot : ℕ) (at : FarPtr) → HasOtherMemory w (with_frame_and_structure w slot at)
 unfolding with_frame_and_structure
 memory_alone w slot at =
-    let first = far_put w (frame_address w) (frame_size w) (return_frame w) in
-    other_then w first (far_put first at STRUCTURE_SIZE (caller_structure w slot)) (other_far_put w (frame_address w) (frame_size w) (return_frame w))
+    let first = far_put w (frame_start w) (frame_size w) (return_frame w) in
+    other_then w first (far_put first at STRUCTURE_SIZE (caller_structure w slot)) (other_far_put w (frame_start w) (frame_size w) (return_frame w))
     (other_far_put first at STRUCTURE_SIZE (caller_structure w slot))
 
 entering_left : (w : World) (slot : ℕ) (procedure at : FarPtr) → LeftForProcedure w (after_entering (with_stack_row w) slot procedure at)

@@ -8,7 +8,7 @@ use Rattle.client_world.specs.declared.calls.Record.{Record}
 use Rattle.client_world.specs.declared.calls.Record.TheVariants.{Sim, Back, Exc}
 use Rattle.client_world.specs.declared.descriptors.Origin.TheVariants.{Host}
 use Rattle.client_world.specs.declared.limits.TheConstants.{GREATEST_DEPTH}
-use Rattle.client_world.specs.declared.memory_map.TheConstants.{PARAGRAPH_SIZE, PROTECTED_STACK_SIZE, ROM_SEGMENT, ROM_START}
+use Rattle.client_world.specs.declared.memory_map.TheConstants.{PARAGRAPH_SIZE, ROM_SEGMENT, ROM_START}
 use Rattle.client_world.specs.declared.outcome.Exit.{Exit}
 use Rattle.client_world.specs.declared.outcome.Exit.TheVariants as exits
 use Rattle.client_world.specs.declared.registers.Mode.TheVariants.{Real, Protected}
@@ -28,6 +28,7 @@ use Rattle.exec_flow.specs.Interrupts.{item_bits}
 use Rattle.guest_space.specs.Far.{far_put}
 use Rattle.guest_space.specs.Pending.{byte_count, number_bytes}
 use Rattle.guest_space.specs.VectorLists.{callback_of_slot}
+use Rattle.mode_stack.specs.Frames.{frame_address}
 use Rattle.mode_stack.specs.Stack.{top}
 use Rattle.service_rows.specs.Rows.{data_at, with_by_width}
 use Rattle.translation.specs.declared.structure.TheConstants.{STRUCTURE_SIZE}
@@ -59,12 +60,9 @@ return_frame w =
 abbrev pub frame_size : World → ℕ
 frame_size w = 3 * byte_count (item_bits w.width)
 
--- where it lies: at the end of the host's protected-mode stack of the depth
-abbrev pub frame_offset : World → ℕ
-frame_offset w = (depth w + 1) * PROTECTED_STACK_SIZE - frame_size w
-
-abbrev pub frame_address : World → FarPtr
-frame_address w = record { sel = selector_of HOST_STACKS; off = frame_offset w }
+-- where it lies
+abbrev pub frame_start : World → FarPtr
+frame_start w = frame_address w (frame_size w)
 
 -- the call structure: the real caller's registers, with 0 at 0Ch, and with the callback's own address as CS:IP
 unfoldable pub caller_structure : World → ℕ → List ℕ
@@ -78,7 +76,7 @@ procedure_regs w procedure at = record w.regs {
   cs = client_selector procedure.sel;
   eip = procedure.off;
   ss = selector_of HOST_STACKS;
-  esp = frame_offset w;
+  esp = (frame_start w).off;
   ds = selector_of (stack_index w);
   esi = with_by_width w.width w.regs.esi (low_half w.regs.esp);
   es = at.sel;
@@ -90,7 +88,7 @@ procedure_regs w procedure at = record w.regs {
 -- the world with the frame, and then the structure
 unfoldable pub with_frame_and_structure : World → ℕ → FarPtr → World
 with_frame_and_structure w slot at =
-    far_put (far_put w (frame_address w) (frame_size w) (return_frame w)) at STRUCTURE_SIZE (caller_structure w slot)
+    far_put (far_put w (frame_start w) (frame_size w) (return_frame w)) at STRUCTURE_SIZE (caller_structure w slot)
 
 -- the world in which the procedure starts, with virtual interrupts off; w has the descriptor of the real caller's stack
 unfoldable pub after_entering : World → ℕ → FarPtr → FarPtr → World

@@ -14,8 +14,7 @@ ghost use Rattle.callbacks.specs.Callbacks.{
   after_entering,
   caller_structure,
   enter_callback,
-  frame_address,
-  frame_offset,
+  frame_start,
   frame_size,
   procedure_regs,
   return_frame,
@@ -26,7 +25,7 @@ ghost use Rattle.callbacks.specs.Callbacks.{
 use crate::real_stack::{is_loadable, is_writable, set_stack_row, stack_index};
 use crate::services::callback_offset;
 use client_world::limits::{CALLBACKS, GREATEST_DEPTH};
-use client_world::memory_map::{PROTECTED_STACK_SIZE, ROM_SEGMENT, ROM_START};
+use client_world::memory_map::{ROM_SEGMENT, ROM_START};
 use client_world::selectors::{HOST_CODE, HOST_STACKS, client_selector, selector_of};
 use client_world::traps::CALLBACK_RETURN_TRAP;
 use client_world::{Deep, Exit, FarPtr, Mode, Record, Regs, Width, low_half};
@@ -34,7 +33,7 @@ use guest_space::{
     Machine, a_write_changes_no_access, dword_bytes, every_write_changes_the_memory_alone,
     the_protected_stacks_are_reachable, word_bytes,
 };
-use mode_stack::{depth, push, put_at};
+use mode_stack::{depth, frame_address, push, put_at};
 use service_rows::with_by_width;
 use translation::{index_results, other_results};
 
@@ -87,26 +86,23 @@ fn is_wide(m: &Machine) -> bool
 }
 
 // Where the frame lies.
-fn frame_offset(m: &Machine) -> u32
+fn frame_start(m: &Machine) -> FarPtr
     requires { depth m.now.world < GREATEST_DEPTH }
-    ensures { result ≡ frame_offset m.now.world }
+    ensures { result ≡ frame_start m.now.world }
 {
     let size = if is_wide(m) { 12 } else { 6 };
-    (u32::from(depth(m)) + 1) * PROTECTED_STACK_SIZE - size
+    frame_address(m, size)
 }
 
 // Writes the frame.
 fn write_frame(m: &mut Machine)
     requires width { m.old.world.width ≢ None }
     requires depth { depth m.old.world < GREATEST_DEPTH }
-    ensures { m.new ≡ far_written m.old (frame_address m.old.world) (frame_size m.old.world) (return_frame m.old.world) }
+    ensures { m.new ≡ far_written m.old (frame_start m.old.world) (frame_size m.old.world) (return_frame m.old.world) }
 {
     the_protected_stacks_are_reachable();
     m.soundness();
-    let at = FarPtr {
-        sel: selector_of(HOST_STACKS),
-        off: frame_offset(m),
-    };
+    let at = frame_start(m);
     if is_wide(m) {
         m.write_bytes(at, &dword_frame(m));
     } else {
@@ -141,7 +137,7 @@ fn procedure_regs(m: &Machine, procedure: FarPtr, at: FarPtr) -> Regs
         cs: client_selector(procedure.sel),
         eip: procedure.off,
         ss: selector_of(HOST_STACKS),
-        esp: frame_offset(m),
+        esp: frame_start(m).off,
         ds: selector_of(stack_index(m)),
         esi: with_by_width(m.width(), r.esi, u32::from(low_half(r.esp))),
         es: at.sel,

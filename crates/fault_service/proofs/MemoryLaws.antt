@@ -37,7 +37,7 @@ use Rattle.host_memory.proofs.OnlyAtLaws.{only_start}
 use Rattle.insn_plan.specs.Plan.{carried_out, planned}
 use Rattle.mode_stack.specs.Stack.{top}
 use Rattle.mode_stack.proofs.Trips.{length-record_bytes}
-use Rattle.fault_service.specs.Delivery.{after_delivery, delivery_to, exception_frame, frame_address, frame_size, protected_delivery, frame_offset}
+use Rattle.fault_service.specs.Delivery.{after_delivery, delivery_to, exception_frame, frame_start, frame_size, protected_delivery}
 use Rattle.interrupts.specs.Delivery.{unserved}
 use Rattle.guest_space.specs.VectorLists.{vector_at}
 use Rattle.fault_service.specs.Memory.{frame_places, DeliveryLaw, IsMachineView, ReturnLaw, LiesInStack}
@@ -68,11 +68,11 @@ is_delivered v u f e = where_room (nat_le GREATEST_DEPTH (depth v.world)) v u f 
 
 -- its bytes
 unfoldable pub frame_written : MachineView → Fault → MachineView
-frame_written v f = far_written v (frame_address v.world) (frame_size v.world) (exception_frame v.world f)
+frame_written v f = far_written v (frame_start v.world) (frame_size v.world) (exception_frame v.world f)
 
 pub depth_kept : (v : MachineView) (f : Fault) → depth (frame_written v f).world ≡ depth v.world
 unfolding frame_written
-depth_kept v f = ap (λ (w : World). depth w) (other_far v (frame_address v.world) (frame_size v.world) (exception_frame v.world f))
+depth_kept v f = ap (λ (w : World). depth w) (other_far v (frame_start v.world) (frame_size v.world) (exception_frame v.world f))
 
 delivered_bytes : (v : MachineView) (f : Fault) (p : FarPtr) →
     (after_delivery v f p).bytes ≡ put (frame_written v f).bytes (record_place (depth v.world)) (record_bytes (Exc f.number f.code))
@@ -87,7 +87,7 @@ delivery_law v m f u e =
     subst (λ (c : List ℕ). OnlyAtAndRow (frame_places w) (depth w) v.bytes c)
     (sym (ap (λ (x : MachineView). x.bytes) done.is ∙ delivered_bytes v f (vector_at w.exception_vectors f.number)))
     (only_row (frame_places w) v.bytes (frame_written v f).bytes w.budget (depth w) (record_bytes (Exc f.number f.code))
-    (far_only v (frame_address w) (frame_size w) (exception_frame w f) (machine_away v m)) m.holds.size done.room
+    (far_only v (frame_start w) (frame_size w) (exception_frame w f) (machine_away v m)) m.holds.size done.room
     (length-record_bytes (Exc f.number f.code)))
 
 -- a return
@@ -139,10 +139,10 @@ size_of_width Protected (Some ThirtyTwo) = omega arith
 pub frame_lies : (w : World) → IsSound w → w.width ≢ None → depth w < GREATEST_DEPTH → LiesInStack w
 frame_lies w s some room =
     let small : frame_size w ≤ 32 = size_of_width w.mode w.width in
-    let places = stacks_places w (frame_offset w) (frame_size w) s some (omega arith) in
+    let places = stacks_places w (frame_start w).off (frame_size w) s some (omega arith) in
     record {
-      size = ap (λ (ps : List Place). length ps) places ∙ length-places_from w.blocks (PROTECTED_STACKS + frame_offset w) (frame_size w);
-      each = λ i less. ap (λ (ps : List Place). slice_index_or ps i Nothing) places ∙ stacks_place w (frame_offset w) (frame_size w) i less (omega arith);
+      size = ap (λ (ps : List Place). length ps) places ∙ length-places_from w.blocks (PROTECTED_STACKS + (frame_start w).off) (frame_size w);
+      each = λ i less. ap (λ (ps : List Place). slice_index_or ps i Nothing) places ∙ stacks_place w (frame_start w).off (frame_size w) i less (omega arith);
       from = omega arith;
       to = omega arith;
     }

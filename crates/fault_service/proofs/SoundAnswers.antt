@@ -34,7 +34,7 @@ use Rattle.guest_space.proofs.SoundLists.{IsSound-calls}
 use Rattle.host_memory.specs.View.{MachineView}
 use Rattle.insn_plan.specs.Plan.{carried_out, planned}
 use Rattle.mode_stack.specs.Stack.{top}
-use Rattle.fault_service.specs.Delivery.{after_delivery, delivery_to, exception_frame, exception_items, frame_address, frame_size, handler_regs, items_bytes, protected_delivery}
+use Rattle.fault_service.specs.Delivery.{after_delivery, delivery_to, exception_frame, exception_items, frame_start, frame_size, handler_regs, items_bytes, protected_delivery}
 use Rattle.fault_service.specs.Return.{exception_popped, exception_return, is_exception, returned_or_bad}
 use Rattle.fault_service.specs.Worlds.{world_exception_return, world_protected_delivery}
 use Rattle.fault_service.proofs.KeptRecords.{exception_there}
@@ -86,11 +86,11 @@ protected_by (Some width) w is s = λ e. cc
 
 width_kept : (v : MachineView) (f : Fault) → (frame_written v f).world.width ≡ v.world.width
 unfolding frame_written
-width_kept v f = ap (λ (w : World). w.width) (other_far v (frame_address v.world) (frame_size v.world) (exception_frame v.world f))
+width_kept v f = ap (λ (w : World). w.width) (other_far v (frame_start v.world) (frame_size v.world) (exception_frame v.world f))
 
 sound_frame : (v : MachineView) (f : Fault) → IsSound v.world → IsSound (frame_written v f).world
 unfolding frame_written
-sound_frame v f s = sound_far v (frame_address v.world) (frame_size v.world) (exception_frame v.world f) s (frame_is_bytes v.world f)
+sound_frame v f s = sound_far v (frame_start v.world) (frame_size v.world) (exception_frame v.world f) s (frame_is_bytes v.world f)
 
 pub sound_delivered : (v : MachineView) (f : Fault) (p : FarPtr) → IsSound v.world → v.world.width ≢ None → depth v.world < GREATEST_DEPTH → p.sel < 0x10000 →
     IsSound (after_delivery v f p).world
@@ -147,7 +147,7 @@ delivered_alone : (v : MachineView) (f : Fault) (p : FarPtr) → (after_delivery
 unfolding after_delivery
 delivered_alone v f p =
     ap (λ (x : World). record x { calls = x.calls ++ Exc f.number f.code ∷ []; regs = handler_regs v.world p; vif = false })
-    (far_alone v (bare v.world) (frame_address v.world) (frame_size v.world) (exception_frame v.world f) refl)
+    (far_alone v (bare v.world) (frame_start v.world) (frame_size v.world) (exception_frame v.world f) refl)
 
 by_fault : (o : Option Fault) (x y : MachineView) (g : Exit) → x.world ≡ y.world →
     its_world (elim o as (λ _. Result MachineView Exit) [ Some h ↦ Err g | None ↦ Ok x ]) ≡ its_world (elim o as (λ _. Result MachineView Exit) [ Some h ↦ Err g | None ↦ Ok y ])

@@ -5,7 +5,7 @@ use Rattle.std.specs.declared.result.Result.{Result}
 use Rattle.client_world.specs.declared.calls.Record.TheVariants.{Exc}
 use Rattle.client_world.specs.declared.faults.Fault.{Fault}
 use Rattle.client_world.specs.declared.limits.TheConstants.{GREATEST_DEPTH}
-use Rattle.client_world.specs.declared.memory_map.TheConstants.{PROTECTED_STACK_SIZE, ROM_START}
+use Rattle.client_world.specs.declared.memory_map.TheConstants.{ROM_START}
 use Rattle.client_world.specs.declared.outcome.Exit.{Exit}
 use Rattle.client_world.specs.declared.outcome.Exit.TheVariants as exits
 use Rattle.client_world.specs.declared.registers.Regs.{Regs}
@@ -25,6 +25,7 @@ use Rattle.guest_space.specs.Pending.{byte_count, number_bytes}
 use Rattle.guest_space.specs.VectorLists.{vector_at}
 use Rattle.host_memory.specs.View.{MachineView}
 use Rattle.insn_plan.specs.Plan.{with_state}
+use Rattle.mode_stack.specs.Frames.{frame_address}
 use Rattle.mode_stack.specs.Stack.{after_push}
 
 -- the items of the frame, from the stack pointer up: the return address of the handler, the error code, and the client's EIP, CS, flags
@@ -46,21 +47,18 @@ exception_frame w f = items_bytes (frame_bits w) (exception_items w f)
 abbrev pub frame_size : World → ℕ
 frame_size w = 8 * byte_count (frame_bits w)
 
--- where it lies: at the end of the host's stack of the depth
-abbrev pub frame_offset : World → ℕ
-frame_offset w = (depth w + 1) * PROTECTED_STACK_SIZE - frame_size w
-
-abbrev pub frame_address : World → FarPtr
-frame_address w = record { sel = selector_of HOST_STACKS; off = frame_offset w }
+-- where it lies
+abbrev pub frame_start : World → FarPtr
+frame_start w = frame_address w (frame_size w)
 
 -- the registers at the handler: it runs on the host's stack, with the frame at the stack's top
 abbrev pub handler_regs : World → FarPtr → Regs
-handler_regs w p = record w.regs { cs = code_selector w p.sel; eip = p.off; ss = selector_of HOST_STACKS; esp = frame_offset w }
+handler_regs w p = record w.regs { cs = code_selector w p.sel; eip = p.off; ss = selector_of HOST_STACKS; esp = (frame_start w).off }
 
 -- the machine at the handler: the frame is written, the exception is the innermost record, and virtual interrupts are off
 unfoldable pub after_delivery : MachineView → Fault → FarPtr → MachineView
 after_delivery v f p = with_state (handler_regs v.world p) false
-    (after_push (far_written v (frame_address v.world) (frame_size v.world) (exception_frame v.world f)) (Exc f.number f.code))
+    (after_push (far_written v (frame_start v.world) (frame_size v.world) (exception_frame v.world f)) (Exc f.number f.code))
 
 -- the delivery to a handler: where its address can't be loaded into CS, the exception ends the client
 abbrev pub delivery_to : MachineView → Fault → FarPtr → Result MachineView Exit

@@ -6,29 +6,28 @@ ghost use Rattle.client_world.specs.World.{depth};
 ghost use Rattle.guest_space.specs.VectorLists.{vector_at};
 ghost use Rattle.guest_space.specs.Far.{far_written};
 ghost use Rattle.guest_space.specs.Pending.{byte_count};
-ghost use Rattle.fault_service.specs.Delivery.{after_delivery, exception_frame, frame_address, frame_offset, frame_size, protected_delivery};
+ghost use Rattle.fault_service.specs.Delivery.{after_delivery, exception_frame, frame_start, frame_size, protected_delivery};
 
 use crate::frame::{dword_frame, exception_items, word_frame};
 use client_world::limits::{EXCEPTION_VECTORS, GREATEST_DEPTH};
-use client_world::memory_map::PROTECTED_STACK_SIZE;
 use client_world::selectors::{HOST_STACKS, selector_of};
 use client_world::{Deep, Exit, FarPtr, Fault, Record, Regs, SegReg};
 use exec_flow::{code_selector, frame_bits};
 use guest_space::{
     Machine, every_write_changes_the_memory_alone, the_protected_stacks_are_reachable,
 };
-use mode_stack::{depth, push};
+use mode_stack::{depth, frame_address, push};
 
 // The greatest depth.
 const DEEPEST: u8 = GREATEST_DEPTH as u8;
 
 // Where the frame lies.
-fn frame_offset(m: &Machine) -> u32
+fn frame_start(m: &Machine) -> FarPtr
     requires { depth m.now.world < GREATEST_DEPTH }
-    ensures { result ≡ frame_offset m.now.world }
+    ensures { result ≡ frame_start m.now.world }
 {
     let size = if frame_bits(m) == 16 { 16 } else { 32 };
-    (u32::from(depth(m)) + 1) * PROTECTED_STACK_SIZE - size
+    frame_address(m, size)
 }
 
 // Writes the frame.
@@ -36,15 +35,12 @@ fn frame_offset(m: &Machine) -> u32
 fn write_frame(m: &mut Machine, f: Fault)
     requires width { m.old.world.width ≢ None }
     requires depth { depth m.old.world < GREATEST_DEPTH }
-    ensures { m.new ≡ far_written m.old (frame_address m.old.world) (frame_size m.old.world) (exception_frame m.old.world f) }
+    ensures { m.new ≡ far_written m.old (frame_start m.old.world) (frame_size m.old.world) (exception_frame m.old.world f) }
 {
     the_protected_stacks_are_reachable();
     m.soundness();
     let items = exception_items(m, f);
-    let at = FarPtr {
-        sel: selector_of(HOST_STACKS),
-        off: frame_offset(m),
-    };
+    let at = frame_start(m);
     if frame_bits(m) == 16 {
         m.write_bytes(at, &word_frame(&items));
     } else {
@@ -65,7 +61,7 @@ fn enter(m: &mut Machine, f: Fault, p: FarPtr)
         cs: code_selector(m, p.sel),
         eip: p.off,
         ss: selector_of(HOST_STACKS),
-        esp: frame_offset(m),
+        esp: frame_start(m).off,
         ..m.regs()
     };
     write_frame(m, f);

@@ -1,5 +1,5 @@
 -- The pushes of an interrupt don't change whether its handler can be entered.
-use Rattle.std.proofs.Common.{◌≡◌, ℕ, ◌*◌, ◌+◌, ◌<◌, refl, ap, sym, ◌∙◌, subst, arith, Option, None, Some, Result, Ok, Err, List, false, slice_index_or}
+use Rattle.std.proofs.Common.{◌≡◌, ℕ, ◌*◌, ◌+◌, ◌<◌, refl, ap, sym, ◌∙◌, subst, arith, Option, None, Some, Result, Ok, Err, List, false}
 use Rattle.std.proofs.lemmas.Bool.{lt-ltb}
 use Rattle.client_world.specs.declared.faults.Fault.{Fault}
 use Rattle.client_world.specs.declared.memory_map.TheConstants.{SEGMENT_SIZE}

@@ -1,10 +1,12 @@
-//! The records of the calls that haven't returned, as a stack of typed records.
+//! The records of the calls that haven't returned, as a stack of typed records, and where frames lie on the host's stacks at each depth.
 //! It promises that a record is pushed where there is room and is then read as it was pushed, and that at the greatest depth nothing changes.
 //! It is built on the machine of guest_space.
 #![tactic(auto)]
 
+mod frames;
 mod packing;
 mod stack;
 
+pub use frames::frame_address;
 pub use packing::put_at;
 pub use stack::{depth, every_record_is_read_from_its_bytes, pop, push, top};
