@@ -11,6 +11,8 @@ use Rattle.client_world.specs.WatchWorld.{WatchWorld, Watching, no_watches}
 use Rattle.client_world.specs.World.{HostWorld, World}
 use Rattle.interrupts.specs.Worlds.{world_popped}
 use Rattle.host_run.specs.OtherTurns.{exception_turn, int31_at, int31_call, int31_turn, is_int31}
+use Rattle.host_run.specs.declared.traps.Trap.{Trap}
+use Rattle.host_run.specs.declared.traps.Trap.TheVariants.{NoTrap, ProtectedVector}
 use Rattle.host_run.specs.Traps.{current_trap, is_trap}
 use Rattle.host_run.proofs.OtherTurns.{exception_quiet, int31_quiet}
 use Rattle.watch_run.specs.Hits.{has_first_hit, instruction_address, next_touches, with_hits}
@@ -32,6 +34,23 @@ call_by None w call = at_by (is_int31 (current_trap w) && is_ok (world_popped w)
 pub asked_function : (h : HostWorld) → IsTrue (is_watch_call (int31_call h)) → IsTrue (is_watch_function (low_half h.machine.regs.eax))
 unfolding int31_call
 asked_function h call = call_by h.exit h.machine call
+
+-- ---- where no trap is, no function is asked for
+
+no_int31 : (t : Trap) → is_trap t ≡ false → is_int31 t ≡ false
+no_int31 NoTrap free = refl
+no_int31 (ProtectedVector n) free = cc
+no_int31 _ free = refl
+
+no_call : (o : Option Exit) (w : World) → is_trap (current_trap w) ≡ false →
+    is_watch_call (elim o as (λ _. Option ℕ) [ Some _ ↦ None | None ↦ int31_at w ]) ≡ false
+no_call (Some exit) w free = refl
+no_call None w free =
+    ap (λ (b : Bool). is_watch_call (if b && is_ok (world_popped w) then Some (low_half w.regs.eax) else None)) (no_int31 (current_trap w) free)
+
+pub not_called : (h : HostWorld) → is_trap (current_trap h.machine) ≡ false → is_watch_call (int31_call h) ≡ false
+unfolding int31_call
+not_called h free = no_call h.exit h.machine free
 
 -- ---- where nothing is watched, and where no instruction runs
 

@@ -1,5 +1,5 @@
 // Turns of a host with its client's watchpoints, and runs.
-ghost use Rattle.std.specs.Prelude.{◌≡◌, ◌≤◌, ◌<◌, ◌+◌, IfErr, IsTrue, OnOk, None, Some, Err};
+ghost use Rattle.std.specs.Prelude.{◌≡◌, ◌≤◌, ◌<◌, ◌+◌, IfErr, IsSome, IsTrue, OnOk, None, Some, Err};
 ghost use Rattle.client_world.specs.declared.limits.TheConstants.{MAX_STEPS};
 ghost use Rattle.client_world.specs.Registers.{low_half};
 ghost use Rattle.client_world.specs.WatchWorld.{WatchWorld};
@@ -73,13 +73,12 @@ fn note_turn(m: &Machine, w: &mut Watches)
     }
 }
 
-/// One turn of a host with its client's watchpoints. In protected mode a hit that is due is delivered as exception 1, in a turn of its own; INT 31h
-/// functions 0B00h to 0B03h are served here; any other turn is the host's, and what its instruction hits is noted. After an exit it returns
-/// that exit again and changes nothing. Source: own.
-#[inline(always)]
+// One turn of a host without an exit, whatever is watched.
+#[inline(never)]
 #[tactic(auto, unfolding(crate::specs::Turn::turn_with_watchpoints), using(crate::proofs::TurnParts::told_steps))]
-pub fn watch_turn(h: &mut Host, w: &mut Watches) -> Result<(), Exit>
-    requires { h.old.world.exit ≡ None → h.old.world.steps < MAX_STEPS }
+fn watching_turn(h: &mut Host, w: &mut Watches) -> Result<(), Exit>
+    requires no_exit { h.old.world.exit ≡ None }
+    requires room { h.old.world.steps < MAX_STEPS }
     ensures world { record { host = h.new.world; watching = w.new }
         ≡ turn_with_watchpoints (record { host = h.old.world; watching = w.old }) }
     ensures bytes { ChangesOnly (watch_footprint (record { host = h.old.world; watching = w.old })) h.old.bytes h.new.bytes }
@@ -87,11 +86,7 @@ pub fn watch_turn(h: &mut Host, w: &mut Watches) -> Result<(), Exit>
     ensures goes_on { OnOk result (h.new.world.exit ≡ None) }
     ensures ends { IfErr result (λ exit. h.new.world.exit ≡ Some exit) }
     ensures steps { h.new.world.steps ≤ h.old.world.steps + 1 }
-    ensures was_on { h.new.world.exit ≡ None → h.old.world.exit ≡ None }
 {
-    if let Some(exit) = h.exit() {
-        return Err(exit);
-    }
     if delivers_hit(h, w) {
         w.clear_due();
         return h.deliver_turn(Fault {
@@ -107,6 +102,44 @@ pub fn watch_turn(h: &mut Host, w: &mut Watches) -> Result<(), Exit>
     h.turn()
 }
 
+/// One turn of a host with its client's watchpoints. In protected mode a hit that is due is delivered as exception 1, in a turn of its own; INT 31h
+/// functions 0B00h to 0B03h are served here; any other turn is the host's, and what its instruction hits is noted. After an exit it returns
+/// that exit again and changes nothing. Source: own.
+#[inline(always)]
+#[tactic(auto, unfolding(crate::specs::Turn::turn_with_watchpoints), using(crate::proofs::TurnParts::none_watched, crate::proofs::TurnParts::not_called))]
+pub fn watch_turn(h: &mut Host, w: &mut Watches) -> Result<(), Exit>
+    requires { h.old.world.exit ≡ None → h.old.world.steps < MAX_STEPS }
+    ensures world { record { host = h.new.world; watching = w.new }
+        ≡ turn_with_watchpoints (record { host = h.old.world; watching = w.old }) }
+    ensures bytes { ChangesOnly (watch_footprint (record { host = h.old.world; watching = w.old })) h.old.bytes h.new.bytes }
+    ensures kept { IfErr result (λ _. h.new.bytes ≡ h.old.bytes) }
+    ensures goes_on { OnOk result (h.new.world.exit ≡ None) }
+    ensures ends { IfErr result (λ exit. h.new.world.exit ≡ Some exit) }
+    ensures steps { h.new.world.steps ≤ h.old.world.steps + 1 }
+    ensures was_on { h.new.world.exit ≡ None → h.old.world.exit ≡ None }
+{
+    if let Some(exit) = h.exit() {
+        return Err(exit);
+    }
+    // Nothing is watched, and an instruction is run. So no watchpoint is looked for, and the host's turn knows that no trap is there.
+    if w.is_unused() && !is_at_trap(h.machine()) {
+        return h.turn();
+    }
+    watching_turn(h, w)
+}
+
+// The exit of a run that has ended.
+#[inline(never)]
+fn ended_exit(h: &Host) -> Exit
+    requires { IsSome h.now.world.exit }
+    ensures { h.now.world.exit ≡ Some result }
+{
+    match h.exit() {
+        Some(exit) => exit,
+        None => unreachable!(),
+    }
+}
+
 /// Turns up to an exit, or as many as the bound, with the exit `Bound` then. Source: own.
 pub fn run_with_watchpoints(h: &mut Host, w: &mut Watches, bound: u32) -> Exit
     requires { h.old.world.exit ≡ None → h.old.world.steps + bound ≤ MAX_STEPS }
@@ -115,8 +148,8 @@ pub fn run_with_watchpoints(h: &mut Host, w: &mut Watches, bound: u32) -> Exit
     ensures answer { h.new.world.exit ≡ Some result }
 {
     for count in 0..bound {
-        if let Err(exit) = watch_turn(h, w) {
-            return exit;
+        if let Err(_) = watch_turn(h, w) {
+            return ended_exit(h);
         }
     }
     match h.exit() {

@@ -13,7 +13,7 @@ use std::marker::Model;
 pub struct Watches {
     watches: [Option<Watch>; WATCHES as usize],
     due: bool,
-    // One was made since the start, and may be held.
+    // One was made since the start: it may be held, and a hit of it due.
     used: bool,
 }
 
@@ -26,7 +26,7 @@ impl Model for Watches {
 
     ghost view = { λ w. record { watches = w.watches; due = w.due } };
 
-    ghost invariant = { λ w. (length w.watches ≡ WATCHES) × (w.used ≡ false → w.watches ≡ no_watches.watches) };
+    ghost invariant = { λ w. (length w.watches ≡ WATCHES) × (w.used ≡ false → w.watches ≡ no_watches.watches) × (w.used ≡ false → w.due ≡ false) };
 }
 
 impl Watches {
@@ -61,9 +61,10 @@ impl Watches {
         &self.watches
     }
 
-    /// Whether no watchpoint was made yet, so that none is held.
+    /// Whether no watchpoint was made yet, so that none is held, and no hit waits.
     pub(crate) fn is_unused(&self) -> bool
-        ensures { result ≡ true → self.now.watches ≡ no_watches.watches }
+        ensures watches { result ≡ true → self.now.watches ≡ no_watches.watches }
+        ensures due { result ≡ true → self.now.due ≡ false }
     {
         !self.used
     }

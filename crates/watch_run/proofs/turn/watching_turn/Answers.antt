@@ -1,7 +1,7 @@
 use Rattle.std.proofs.Common.{rules}
 use Rattle.watch_run.specs.Turn.{turn_with_watchpoints}
 use Rattle.watch_run.proofs.TurnParts.{told_steps}
-use Rattle.watch_run.proofs.turn.watch_turn.Goals as goal
+use Rattle.watch_run.proofs.turn.watching_turn.Goals as goal
 
 pub returns-then-delivers_hit-clause-world : goal.returns-then-delivers_hit-clause-world
 unfolding turn_with_watchpoints
