@@ -1,7 +1,7 @@
 -- The words in turn.
 use Rattle.std.proofs.Common.{◌≡◌, ◌≤◌, ◌<◌, ◌+◌, ◌∙◌, ℕ, List, [], ◌∷◌, map, drop, length, refl, sym, ap, drop-cons, add-one, suc}
 use Rattle.std.proofs.lemmas.List.{drop_all}
-use Rattle.std.specs.List.{slice_index_or}
+use Rattle.std.specs.List.{fold, slice_index_or}
 use Rattle.std.specs.declared.option.Option.{Option}
 use Rattle.std.specs.Prelude.{option_and_then, Some}
 use Rattle.dpmi_words.specs.Reading.{Text, Reading, reads, step}
@@ -27,3 +27,10 @@ pub words_done : {X : Type 0} (names : List Text) (f : X → Text) (xs : List X)
     whole ≡ reads names (map f (drop i xs)) r → whole ≡ Some r
 words_done names f xs i whole r le so_far =
     so_far ∙ ap (λ l. reads names (map f l) r) (drop_all i xs le) ∙ reads_none names r
+
+-- one more step of a fold over a list
+pub step_folded : {A X : Type 0} (add : A → Text → A) (f : X → Text) (xs : List X) (i : ℕ) (d : X) (whole before after : A) → i < length xs →
+    after ≡ add before (f (slice_index_or xs i d)) → whole ≡ fold add before (map f (drop i xs)) → whole ≡ fold add after (map f (drop (i + 1) xs))
+step_folded add f xs i d whole before after lt added so_far =
+    let here : drop i xs ≡ slice_index_or xs i d ∷ drop (i + 1) xs = rw add-one (drop-cons xs i d lt) in
+    so_far ∙ ap (λ l. fold add before (map f l)) here ∙ ap (λ a. fold add a (map f (drop (i + 1) xs))) (sym added)
