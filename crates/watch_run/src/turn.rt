@@ -121,7 +121,7 @@ pub fn watch_turn(h: &mut Host, w: &mut Watches) -> Result<(), Exit>
     if let Some(exit) = h.exit() {
         return Err(exit);
     }
-    // Nothing is watched, and an instruction is run. So no watchpoint is looked for, and the host's turn knows that no trap is there.
+    // Nothing is watched, no hit waits, and a client's instruction calls no function: the turn is the host's.
     if w.is_unused() && !is_at_trap(h.machine()) {
         return h.turn();
     }
