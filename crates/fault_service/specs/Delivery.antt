@@ -1,6 +1,6 @@
 -- Exceptions in protected mode: the frame on the host's protected-mode stack of the depth, and the handler.
 -- Source: DPMI 0.9, "Exceptions"; where the frame lies, and that an exception whose handler can't be loaded ends the client, is own.
-use Rattle.std.specs.Prelude.{ℕ, ◌+◌, ◌-◌, ◌*◌, false, List, [], ◌∷◌, ◌++◌, nat_le, if◌then◌else◌, Ok, Err, Some, None}
+use Rattle.std.specs.Prelude.{ℕ, ◌-◌, ◌*◌, false, List, [], ◌∷◌, ◌++◌, nat_le, if◌then◌else◌, Ok, Err, Some, None}
 use Rattle.std.specs.declared.result.Result.{Result}
 use Rattle.client_world.specs.declared.calls.Record.TheVariants.{Exc}
 use Rattle.client_world.specs.declared.faults.Fault.{Fault}
