@@ -159,8 +159,26 @@ impl Host {
         if let Some(exit) = self.exit {
             return Err(exit);
         }
+        let t = current_trap(&self.machine);
+        self.turn_at(t)
+    }
+
+    /// The turn of a client that has not ended, for a caller that has asked already at which trap the machine is.
+    #[inline(always)]
+    #[tactic(auto, unfolding(crate::specs::Turn::turn))]
+    pub fn turn_at(&mut self, t: Trap) -> Result<(), Exit>
+        requires no_exit { self.old.world.exit ≡ None }
+        requires trap { t ≡ current_trap self.old.world.machine }
+        requires room { self.old.world.steps < MAX_STEPS }
+        ensures world { self.new.world ≡ turn self.old.world }
+        ensures bytes { ChangesOnly (turn_footprint self.old.world) self.old.bytes self.new.bytes }
+        ensures kept { IfErr result (λ _. self.new.bytes ≡ self.old.bytes) }
+        ensures goes_on { OnOk result (self.new.world.exit ≡ None) }
+        ensures ends { IfErr result (λ exit. self.new.world.exit ≡ Some exit) }
+        ensures steps { self.new.world.steps ≡ self.old.world.steps + 1 }
+    {
         self.steps += 1;
-        match self.work() {
+        match self.work(t) {
             Ok(()) => Ok(()),
             Err(exit) => {
                 self.exit = Some(exit);
@@ -268,17 +286,18 @@ impl Host {
         }
     }
 
-    // What a turn does. It is counted already, so that there is room for two lines of the trace.
+    // What a turn does at a trap, or at none. It is counted already, so that there is room for two lines of the trace.
     #[inline(always)]
     #[tactic(auto, unfolding(crate::specs::Turn::work, crate::specs::Footprint::work_footprint))]
-    fn work(&mut self) -> Result<(), Exit>
+    fn work(&mut self, t: Trap) -> Result<(), Exit>
+        requires trap { t ≡ current_trap self.old.world.machine }
         requires room { self.old.world.lines + 2 ≤ 2 * self.old.world.steps }
         ensures host { ComesTo self.old self.new result (work self.old.world) }
         ensures bytes { ChangesOnly (work_footprint self.old.world.machine) self.old.bytes self.new.bytes }
     {
-        match current_trap(&self.machine) {
+        match t {
             Trap::NoTrap => self.run_client(),
-            t => self.serve_trap(t),
+            _ => self.serve_trap(t),
         }
     }
 }

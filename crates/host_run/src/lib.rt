@@ -32,4 +32,4 @@ pub use laws::{
     every_turn_extends_the_console, every_turn_is_counted, every_turn_is_sound,
     nested_calls_return_in_order, no_instruction_runs_at_a_trap, once_ended_a_run_stays,
 };
-pub use traps::is_at_trap;
+pub use traps::{Trap, current_trap, is_at_trap};

@@ -144,7 +144,7 @@ fn trap_in_rom(m: &Machine) -> Trap
 /// that sum is then the linear address in either mode.
 #[inline(always)]
 #[tactic(auto, using(crate::proofs::NoTraps::none_below, crate::proofs::NoTraps::none_above))]
-pub(crate) fn current_trap(m: &Machine) -> Trap
+pub fn current_trap(m: &Machine) -> Trap
     ensures { result ≡ current_trap m.now.world }
 {
     let at = u64::from(m.first_byte(SegReg::Cs)) + u64::from(m.registers().eip);

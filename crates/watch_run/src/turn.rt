@@ -1,5 +1,5 @@
 // Turns of a host with its client's watchpoints, and runs.
-ghost use Rattle.std.specs.Prelude.{◌≡◌, ◌≤◌, ◌<◌, ◌+◌, IfErr, IsSome, IsTrue, OnOk, None, Some, Err};
+ghost use Rattle.std.specs.Prelude.{◌≡◌, ◌≤◌, ◌<◌, ◌+◌, IfErr, IsTrue, OnOk, None, Some, Err};
 ghost use Rattle.client_world.specs.declared.limits.TheConstants.{MAX_STEPS};
 ghost use Rattle.client_world.specs.Registers.{low_half};
 ghost use Rattle.client_world.specs.WatchWorld.{WatchWorld};
@@ -12,7 +12,7 @@ use crate::watch::Watches;
 use client_world::faults::DEBUG;
 use client_world::{Exit, Fault, Mode};
 use guest_space::Machine;
-use host_run::{Host, is_at_trap};
+use host_run::{Host, Trap, current_trap, is_at_trap};
 
 // Whether a function of INT 31h is one of those on watchpoints.
 fn is_watch_function(ax: u16) -> bool
@@ -122,22 +122,13 @@ pub fn watch_turn(h: &mut Host, w: &mut Watches) -> Result<(), Exit>
         return Err(exit);
     }
     // Nothing is watched, no hit waits, and a client's instruction calls no function: the turn is the host's.
-    if w.is_unused() && !is_at_trap(h.machine()) {
-        return h.turn();
+    if w.is_unused() {
+        match current_trap(h.machine()) {
+            Trap::NoTrap => return h.turn_at(Trap::NoTrap),
+            _ => {}
+        }
     }
     watching_turn(h, w)
-}
-
-// The exit of a run that has ended.
-#[inline(never)]
-fn ended_exit(h: &Host) -> Exit
-    requires { IsSome h.now.world.exit }
-    ensures { h.now.world.exit ≡ Some result }
-{
-    match h.exit() {
-        Some(exit) => exit,
-        None => unreachable!(),
-    }
 }
 
 /// Turns up to an exit, or as many as the bound, with the exit `Bound` then. Source: own.
@@ -148,8 +139,8 @@ pub fn run_with_watchpoints(h: &mut Host, w: &mut Watches, bound: u32) -> Exit
     ensures answer { h.new.world.exit ≡ Some result }
 {
     for count in 0..bound {
-        if let Err(_) = watch_turn(h, w) {
-            return ended_exit(h);
+        if let Err(exit) = watch_turn(h, w) {
+            return exit;
         }
     }
     match h.exit() {

@@ -24,6 +24,6 @@ pub returns-in-Err-clause-world : goal.returns-in-Err-clause-world
 returns-in-Err-clause-world c =
     let first : WatchWorld = record { host = c.args.h.now.world; watching = c.args.w.now } in
     let new : WatchWorld = record { host = c.watch_turn.new.h.world; watching = c.watch_turn.new.w } in
-    run_ended first new c.args.bound c.loop-count.count c.in-Err.field-0
+    run_ended first new c.args.bound c.loop-count.count c.in-Err.exit
     (c.watch_turn.ensures.world ∙ ap turn_with_watchpoints c.loop-count.invariant.0 ∙ sym (one_more first c.loop-count.count))
     c.loop-count-test.true c.in-Err.ensures.ends

@@ -1,6 +1,6 @@
 use Rattle.std.proofs.Common.{rules}
 use Rattle.host_run.specs.Turn.{turn}
-use Rattle.host_run.proofs.host.Host.turn.Goals as goal
+use Rattle.host_run.proofs.host.Host.turn_at.Goals as goal
 
 pub returns-in-Ok-clause-world : goal.returns-in-Ok-clause-world
 unfolding turn
