@@ -8,11 +8,12 @@ ghost use Rattle.cpu_step.specs.Step.{behind, client_row, client_step, code, exe
 use arrayvec::ArrayVec;
 use client_world::faults::{GENERAL_PROTECTION, INVALID_OPCODE};
 use client_world::{CodeWords, Event, Fault, SegReg};
-use exec_core::{is_core, run_core};
-use exec_flow::run_flow;
+use exec_core::{carry_out_core, is_core};
+use exec_flow::carry_out_flow;
 use guest_space::Machine;
 use insn_decode::{Decoded, Memo, decode};
 use insn_forms::{Insn, every_instruction_is_well_formed};
+use insn_plan::Raised;
 
 /// Whether operands and addresses have 32 bits where no prefix says otherwise: the code segment has D = 1.
 /// Source: 80386 Programmer's Reference Manual, ch. 16, "How the 80386 Implements 16-Bit and 32-Bit Features".
@@ -35,21 +36,21 @@ pub fn move_behind(m: &mut Machine, len: u8)
 // Runs an instruction whose EIP is already after it, by the crate that has it.
 #[inline(always)]
 #[tactic(auto, unfolding(crate::specs::Step::client_row), using(crate::proofs::CoreOrFlow::flow_where_not_core))]
-fn run(m: &mut Machine, insn: &Insn, len: u8) -> Result<(), Event>
+fn run(m: &mut Machine, insn: &Insn, len: u8) -> Result<(), Raised>
     requires { IsWellFormed insn.now }
     ensures { CarriesOut m.old m.new result (client_row m.old.world insn.now len) }
 {
     if is_core(insn) {
-        run_core(m, insn, len)
+        carry_out_core(m, insn, len)
     } else {
-        run_flow(m, insn, len)
+        carry_out_flow(m, insn, len)
     }
 }
 
 // Executes an instruction of `len` bytes; an event leaves the machine as it was, EIP too.
 #[inline(always)]
 #[tactic(auto, unfolding(crate::specs::Step::executed))]
-fn execute(m: &mut Machine, insn: &Insn, len: u8) -> Result<(), Event>
+fn execute(m: &mut Machine, insn: &Insn, len: u8) -> Result<(), Raised>
     requires { IsWellFormed insn.now }
     ensures { Follows m.old m.new result (executed m.old insn.now len) }
 {
@@ -57,9 +58,9 @@ fn execute(m: &mut Machine, insn: &Insn, len: u8) -> Result<(), Event>
     move_behind(m, len);
     match run(m, insn, len) {
         Ok(()) => Ok(()),
-        Err(event) => {
+        Err(raised) => {
             m.set_eip(start);
-            Err(event)
+            Err(raised)
         }
     }
 }
@@ -81,11 +82,10 @@ fn unfinished(m: &Machine, bytes: &ArrayVec<u8, 15>) -> Fault
     }
 }
 
-/// Makes the client's next instruction, or gives its event, which leaves the machine as it was.
-/// Source: 80386 Programmer's Reference Manual, ch. 9, "Exception 6" and "Exception 13", and ch. 17.
+// Decodes the client's next instruction and makes it.
 #[inline(never)]
 #[tactic(auto, unfolding(crate::specs::Step::client_step))]
-pub fn step(m: &mut Machine) -> Result<(), Event>
+fn decode_and_step(m: &mut Machine) -> Result<(), Raised>
     ensures { Follows m.old m.new result (client_step m.old) }
 {
     let code = m.code();
@@ -94,11 +94,22 @@ pub fn step(m: &mut Machine) -> Result<(), Event>
             every_instruction_is_well_formed();
             execute(m, &insn, len)
         }
-        Decoded::Invalid => Err(Event::Fault(Fault {
+        Decoded::Invalid => Err(Raised::from(Fault {
             number: INVALID_OPCODE,
             code: 0,
         })),
-        Decoded::More => Err(Event::Fault(unfinished(m, &code))),
+        Decoded::More => Err(Raised::from(unfinished(m, &code))),
+    }
+}
+
+/// Makes the client's next instruction, or gives its event, which leaves the machine as it was.
+/// Source: 80386 Programmer's Reference Manual, ch. 9, "Exception 6" and "Exception 13", and ch. 17.
+pub fn step(m: &mut Machine) -> Result<(), Event>
+    ensures { Follows m.old m.new result (client_step m.old) }
+{
+    match decode_and_step(m) {
+        Ok(()) => Ok(()),
+        Err(raised) => Err(raised.event()),
     }
 }
 
@@ -116,7 +127,7 @@ fn learn_and_step(
     memo: &mut Memo,
     words: CodeWords,
     big: bool,
-) -> Result<(), Event>
+) -> Result<(), Raised>
     requires code { code m.old.world ≡ code_bytes words }
     requires big { big ≡ has_big_code m.old.world }
     ensures { Follows m.old m.new result (client_step m.old) }
@@ -127,26 +138,26 @@ fn learn_and_step(
     }
     match memo.known(key, words, big) {
         Some(entry) => execute(m, &entry.insn, entry.len),
-        None => step(m),
+        None => decode_and_step(m),
     }
 }
 
 // Makes the next instruction where a quick look doesn't show its code bytes: their page is noted first.
 #[inline(never)]
-fn note_and_step(m: &mut Machine, memo: &mut Memo) -> Result<(), Event>
+fn note_and_step(m: &mut Machine, memo: &mut Memo) -> Result<(), Raised>
     ensures { Follows m.old m.new result (client_step m.old) }
 {
     m.warm(SegReg::Cs, m.registers().eip);
     match m.code_words() {
         Some(words) => learn_and_step(m, memo, words, has_big_code(m)),
-        None => step(m),
+        None => decode_and_step(m),
     }
 }
 
-/// Makes the client's next instruction as `step` does, with a memo of the instructions that were decoded before.
+/// Makes the client's next instruction as `step` does, with a memo of the instructions that were decoded before, and the event in one word.
 #[inline(always)]
 #[tactic(auto, using(crate::proofs::KnownSteps::known_step))]
-pub fn step_with_memo(m: &mut Machine, memo: &mut Memo) -> Result<(), Event>
+pub fn step_with_memo(m: &mut Machine, memo: &mut Memo) -> Result<(), Raised>
     ensures { Follows m.old m.new result (client_step m.old) }
 {
     match m.code_words() {

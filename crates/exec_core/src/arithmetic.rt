@@ -11,12 +11,12 @@ ghost use Rattle.insn_plan.specs.Plan.{CarriesOut, Follows, after_commit};
 ghost use Rattle.insn_plan.specs.Registers.{offset_of};
 
 use crate::operations::{Binary, BinaryAt, Unary, UnaryAt};
-use client_world::{Event, Flags};
+use client_world::Flags;
 use cpu_alu::sub;
 use cpu_values::cut;
 use guest_space::Machine;
 use insn_forms::{Insn, MemForm, Operand};
-use insn_plan::{offset_of, put_register, source, write_number};
+use insn_plan::{Raised, offset_of, put_register, source, write_number};
 
 // A function of an operation, at a width of 8, 16 or 32 bits.
 macro_rules! at_width {
@@ -55,7 +55,7 @@ fn write_binary<const W: u8, O: BinaryAt<W>>(
     place: &MemForm,
     a: u32,
     b: u32,
-) -> Result<(), Event>
+) -> Result<(), Raised>
     requires { IsWidth W }
     ensures { let value = O.formula W (cut W a) (cut W b) m.old.world.regs.flags in
         Follows m.old m.new result (after_commit m.old (and_write place.now.seg (offset_of m.old.world.regs addr32 place.now) W value.0
@@ -72,7 +72,7 @@ fn write_binary<const W: u8, O: BinaryAt<W>>(
 /// ADD, OR, ADC, SBB, AND, SUB, XOR. Source: 80386 Programmer's Reference Manual, ch. 17.
 #[inline(never)]
 #[tactic(auto, unfolding(crate::specs::Arithmetic::binary, insn_plan::specs::Operands::put_operand, insn_plan::specs::Plan::carried_out, insn_plan::specs::Plan::after_commit, guest_space::specs::Pending::first_refusal, guest_space::specs::Pending::all_written))]
-pub(crate) fn binary<O: Binary>(m: &mut Machine, i: &Insn) -> Result<(), Event>
+pub(crate) fn binary<O: Binary>(m: &mut Machine, i: &Insn) -> Result<(), Raised>
     requires { IsTrue (is_width i.now.width) }
     ensures { CarriesOut m.old m.new result (binary O.formula m.old.world i.now) }
 {
@@ -93,7 +93,7 @@ pub(crate) fn binary<O: Binary>(m: &mut Machine, i: &Insn) -> Result<(), Event>
 /// CMP and TEST. Source: as above.
 #[inline(never)]
 #[tactic(auto, unfolding(crate::specs::Arithmetic::compare, insn_plan::specs::Plan::carried_out, insn_plan::specs::Plan::after_commit, guest_space::specs::Pending::first_refusal, guest_space::specs::Pending::all_written))]
-pub(crate) fn compare<O: Binary>(m: &mut Machine, i: &Insn) -> Result<(), Event>
+pub(crate) fn compare<O: Binary>(m: &mut Machine, i: &Insn) -> Result<(), Raised>
     requires { IsTrue (is_width i.now.width) }
     ensures { CarriesOut m.old m.new result (compare O.formula m.old.world i.now) }
 {
@@ -138,7 +138,7 @@ fn write_unary<const W: u8, O: UnaryAt<W>>(
     addr32: bool,
     place: &MemForm,
     a: u32,
-) -> Result<(), Event>
+) -> Result<(), Raised>
     requires { IsWidth W }
     ensures { let value = O.formula W (cut W a) m.old.world.regs.flags in
         Follows m.old m.new result (after_commit m.old (and_write place.now.seg (offset_of m.old.world.regs addr32 place.now) W value.0
@@ -154,7 +154,7 @@ fn write_unary<const W: u8, O: UnaryAt<W>>(
 /// INC, DEC, NEG, NOT. Source: as above.
 #[inline(never)]
 #[tactic(auto, unfolding(crate::specs::Arithmetic::unary, insn_plan::specs::Operands::put_operand, insn_plan::specs::Plan::carried_out, insn_plan::specs::Plan::after_commit, guest_space::specs::Pending::first_refusal, guest_space::specs::Pending::all_written))]
-pub(crate) fn unary<O: Unary>(m: &mut Machine, i: &Insn) -> Result<(), Event>
+pub(crate) fn unary<O: Unary>(m: &mut Machine, i: &Insn) -> Result<(), Raised>
     requires { IsTrue (is_width i.now.width) }
     ensures { CarriesOut m.old m.new result (unary O.formula m.old.world i.now) }
 {

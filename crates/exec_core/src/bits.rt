@@ -18,15 +18,15 @@ ghost use Rattle.insn_forms.specs.Kinds.{is_width};
 ghost use Rattle.insn_plan.specs.Plan.{CarriesOut};
 
 use crate::moves::cut;
-use client_world::{Event, Flags};
+use client_world::Flags;
 use guest_space::Machine;
 use insn_forms::{Insn, MemForm, Operand};
-use insn_plan::{condition, put_operand, put_with_flags, source};
+use insn_plan::{Raised, condition, put_operand, put_with_flags, source};
 
 /// SETcc. Source: 80386 Programmer's Reference Manual, ch. 17.
 #[inline(never)]
 #[tactic(auto, unfolding(crate::specs::Bits::setcc, insn_plan::specs::Plan::carried_out))]
-pub(crate) fn setcc(m: &mut Machine, i: &Insn, n: u8) -> Result<(), Event>
+pub(crate) fn setcc(m: &mut Machine, i: &Insn, n: u8) -> Result<(), Raised>
     ensures { CarriesOut m.old m.new result (setcc m.old.world i.now n) }
 {
     let v = u32::from(condition(n, m.registers().flags));
@@ -85,7 +85,7 @@ fn bit_at(v: u32, n: u8) -> bool
 /// BT. Source: as above.
 #[inline(never)]
 #[tactic(auto, unfolding(crate::specs::Bits::bit_test, insn_plan::specs::Plan::carried_out, insn_plan::specs::Plan::after_commit, guest_space::specs::Pending::first_refusal, guest_space::specs::Pending::all_written))]
-pub(crate) fn bit_test(m: &mut Machine, i: &Insn) -> Result<(), Event>
+pub(crate) fn bit_test(m: &mut Machine, i: &Insn) -> Result<(), Raised>
     requires { IsTrue (is_width i.now.width) }
     ensures { CarriesOut m.old m.new result (bit_test m.old.world i.now) }
 {
@@ -151,7 +151,7 @@ impl BitChange for Toggle {
 /// BTS, BTR, BTC. Source: as above.
 #[inline(never)]
 #[tactic(auto, unfolding(crate::specs::Bits::bit_change, insn_plan::specs::Plan::carried_out))]
-pub(crate) fn bit_change<C: BitChange>(m: &mut Machine, i: &Insn) -> Result<(), Event>
+pub(crate) fn bit_change<C: BitChange>(m: &mut Machine, i: &Insn) -> Result<(), Raised>
     requires { IsTrue (is_width i.now.width) }
     ensures { CarriesOut m.old m.new result (bit_change C.formula m.old.world i.now) }
 {
@@ -195,7 +195,7 @@ fn highest_bit(mut v: u32, width: u8) -> u32
 /// BSF. Source: as above.
 #[inline(never)]
 #[tactic(auto, unfolding(crate::specs::Bits::bit_scan, insn_plan::specs::Plan::carried_out, insn_plan::specs::Plan::after_commit, guest_space::specs::Pending::first_refusal, guest_space::specs::Pending::all_written))]
-pub(crate) fn bit_scan_forward(m: &mut Machine, i: &Insn) -> Result<(), Event>
+pub(crate) fn bit_scan_forward(m: &mut Machine, i: &Insn) -> Result<(), Raised>
     requires { IsTrue (is_width i.now.width) }
     ensures { CarriesOut m.old m.new result (bit_scan lowest_bit m.old.world i.now) }
 {
@@ -215,7 +215,7 @@ pub(crate) fn bit_scan_forward(m: &mut Machine, i: &Insn) -> Result<(), Event>
 /// BSR. Source: as above.
 #[inline(never)]
 #[tactic(auto, unfolding(crate::specs::Bits::bit_scan, insn_plan::specs::Plan::carried_out, insn_plan::specs::Plan::after_commit, guest_space::specs::Pending::first_refusal, guest_space::specs::Pending::all_written))]
-pub(crate) fn bit_scan_reverse(m: &mut Machine, i: &Insn) -> Result<(), Event>
+pub(crate) fn bit_scan_reverse(m: &mut Machine, i: &Insn) -> Result<(), Raised>
     requires { IsTrue (is_width i.now.width) }
     ensures { CarriesOut m.old m.new result (bit_scan highest_bit m.old.world i.now) }
 {

@@ -8,12 +8,12 @@ ghost use Rattle.guest_space.specs.Registers.{with_registers};
 ghost use Rattle.insn_plan.specs.Plan.{CarriesOut};
 
 use crate::products::divide_error;
+use client_world::Flags;
 use client_world::general::EAX;
-use client_world::{Event, Flags};
 use cpu_alu::{aaa, aad, aam, aas, daa, das};
 use guest_space::Machine;
 use insn_forms::Insn;
-use insn_plan::{put_register, source};
+use insn_plan::{Raised, put_register, source};
 
 // Sets AX and the flags.
 fn set_ax(m: &mut Machine, ax: u16, flags: Flags)
@@ -25,7 +25,7 @@ fn set_ax(m: &mut Machine, ax: u16, flags: Flags)
 
 /// DAA. Source: 80386 Programmer's Reference Manual, ch. 17.
 #[inline(never)]
-pub(crate) fn decimal_adjust_after_addition(m: &mut Machine) -> Result<(), Event>
+pub(crate) fn decimal_adjust_after_addition(m: &mut Machine) -> Result<(), Raised>
     ensures { CarriesOut m.old m.new result (adjust daa_of m.old.world) }
 {
     let (ax, flags) = daa(m.registers().ax(), m.registers().flags);
@@ -35,7 +35,7 @@ pub(crate) fn decimal_adjust_after_addition(m: &mut Machine) -> Result<(), Event
 
 /// DAS. Source: as above.
 #[inline(never)]
-pub(crate) fn decimal_adjust_after_subtraction(m: &mut Machine) -> Result<(), Event>
+pub(crate) fn decimal_adjust_after_subtraction(m: &mut Machine) -> Result<(), Raised>
     ensures { CarriesOut m.old m.new result (adjust das_of m.old.world) }
 {
     let (ax, flags) = das(m.registers().ax(), m.registers().flags);
@@ -45,7 +45,7 @@ pub(crate) fn decimal_adjust_after_subtraction(m: &mut Machine) -> Result<(), Ev
 
 /// AAA. Source: as above.
 #[inline(never)]
-pub(crate) fn adjust_after_addition(m: &mut Machine) -> Result<(), Event>
+pub(crate) fn adjust_after_addition(m: &mut Machine) -> Result<(), Raised>
     ensures { CarriesOut m.old m.new result (adjust aaa_of m.old.world) }
 {
     let (ax, flags) = aaa(m.registers().ax(), m.registers().flags);
@@ -55,7 +55,7 @@ pub(crate) fn adjust_after_addition(m: &mut Machine) -> Result<(), Event>
 
 /// AAS. Source: as above.
 #[inline(never)]
-pub(crate) fn adjust_after_subtraction(m: &mut Machine) -> Result<(), Event>
+pub(crate) fn adjust_after_subtraction(m: &mut Machine) -> Result<(), Raised>
     ensures { CarriesOut m.old m.new result (adjust aas_of m.old.world) }
 {
     let (ax, flags) = aas(m.registers().ax(), m.registers().flags);
@@ -65,7 +65,7 @@ pub(crate) fn adjust_after_subtraction(m: &mut Machine) -> Result<(), Event>
 
 /// AAD. Source: as above.
 #[inline(never)]
-pub(crate) fn adjust_before_division(m: &mut Machine, i: &Insn) -> Result<(), Event>
+pub(crate) fn adjust_before_division(m: &mut Machine, i: &Insn) -> Result<(), Raised>
     ensures { CarriesOut m.old m.new result (aad m.old.world i.now) }
 {
     let base = source(m, i.addr32, 8, &i.first)?;
@@ -80,7 +80,7 @@ pub(crate) fn adjust_before_division(m: &mut Machine, i: &Insn) -> Result<(), Ev
 
 /// AAM; exception 0 for base 0. Source: as above.
 #[inline(never)]
-pub(crate) fn adjust_after_product(m: &mut Machine, i: &Insn) -> Result<(), Event>
+pub(crate) fn adjust_after_product(m: &mut Machine, i: &Insn) -> Result<(), Raised>
     ensures { CarriesOut m.old m.new result (aam m.old.world i.now) }
 {
     let base = source(m, i.addr32, 8, &i.first)?;

@@ -29,6 +29,7 @@ use crate::strings::{cmps, lods, movs, scas, stos};
 use client_world::Event;
 use guest_space::Machine;
 use insn_forms::{Insn, Op, Operand};
+use insn_plan::Raised;
 
 // Whether an operand isn't a segment register.
 fn is_no_segment(operand: &Operand) -> bool
@@ -71,81 +72,92 @@ pub fn is_core(i: &Insn) -> bool
 
 /// Runs an instruction of this crate, whose EIP is already after it. An event leaves the machine as it was.
 /// Source: 80386 Programmer's Reference Manual, ch. 17; that an instruction that faults changes nothing is own.
-#[inline(always)]
-#[tactic(auto, unfolding(crate::specs::Dispatch::is_core, crate::specs::Dispatch::core_row))]
 pub fn run_core(m: &mut Machine, insn: &Insn, len: u8) -> Result<(), Event>
     requires core { IsCore insn.now }
     requires width { IsTrue (is_width insn.now.width) }
     requires number { IsTrue (has_good_number insn.now.op) }
     ensures { CarriesOut m.old m.new result (core_row insn.now.op m.old.world insn.now len) }
 {
-    // Each arm returns by itself: its result is then copied in the parts in which it was stored. Copied in other parts, after a `match`, it
-    // waits for the stores.
+    match carry_out_core(m, insn, len) {
+        Ok(()) => Ok(()),
+        Err(raised) => Err(raised.event()),
+    }
+}
+
+/// The same, with the event in one word.
+#[inline(always)]
+#[tactic(auto, unfolding(crate::specs::Dispatch::is_core, crate::specs::Dispatch::core_row))]
+pub fn carry_out_core(m: &mut Machine, insn: &Insn, len: u8) -> Result<(), Raised>
+    requires core { IsCore insn.now }
+    requires width { IsTrue (is_width insn.now.width) }
+    requires number { IsTrue (has_good_number insn.now.op) }
+    ensures { CarriesOut m.old m.new result (core_row insn.now.op m.old.world insn.now len) }
+{
     match insn.op {
-        Op::Mov => return mov(m, insn),
-        Op::Add => return binary::<Add>(m, insn),
-        Op::Or => return binary::<Or>(m, insn),
-        Op::Adc => return binary::<AddWithCarry>(m, insn),
-        Op::Sbb => return binary::<SubtractWithBorrow>(m, insn),
-        Op::And => return binary::<And>(m, insn),
-        Op::Sub => return binary::<Subtract>(m, insn),
-        Op::Xor => return binary::<ExclusiveOr>(m, insn),
-        Op::Cmp => return compare::<Subtract>(m, insn),
-        Op::Test => return compare::<And>(m, insn),
-        Op::Inc => return unary::<Increment>(m, insn),
-        Op::Dec => return unary::<Decrement>(m, insn),
-        Op::Not => return unary::<Complement>(m, insn),
-        Op::Neg => return unary::<Negate>(m, insn),
-        Op::Mul => return multiply::<Unsigned>(m, insn),
-        Op::Imul => return multiply_signed(m, insn),
-        Op::Div => return divide::<Unsigned>(m, insn),
-        Op::Idiv => return divide::<Signed>(m, insn),
-        Op::Daa => return decimal_adjust_after_addition(m),
-        Op::Das => return decimal_adjust_after_subtraction(m),
-        Op::Aaa => return adjust_after_addition(m),
-        Op::Aas => return adjust_after_subtraction(m),
-        Op::Aam => return adjust_after_product(m, insn),
-        Op::Aad => return adjust_before_division(m, insn),
-        Op::Rol => return shift::<RotateLeft>(m, insn),
-        Op::Ror => return shift::<RotateRight>(m, insn),
-        Op::Rcl => return shift::<RotateLeftThroughCarry>(m, insn),
-        Op::Rcr => return shift::<RotateRightThroughCarry>(m, insn),
-        Op::Shl => return shift::<ShiftLeft>(m, insn),
-        Op::Shr => return shift::<ShiftRight>(m, insn),
-        Op::Sar => return shift::<ShiftArithmeticRight>(m, insn),
-        Op::Shld => return shift_in::<ShiftLeftDouble>(m, insn),
-        Op::Shrd => return shift_in::<ShiftRightDouble>(m, insn),
-        Op::Bt => return bit_test(m, insn),
-        Op::Bts => return bit_change::<Set>(m, insn),
-        Op::Btr => return bit_change::<Reset>(m, insn),
-        Op::Btc => return bit_change::<Toggle>(m, insn),
-        Op::Bsf => return bit_scan_forward(m, insn),
-        Op::Bsr => return bit_scan_reverse(m, insn),
-        Op::Setcc(n) => return setcc(m, insn, n),
-        Op::Movzx(from) => return movzx(m, insn, from),
-        Op::Movsx(from) => return movsx(m, insn, from),
-        Op::Xchg => return xchg(m, insn),
-        Op::Lea => return lea(m, insn),
-        Op::Xlat => return xlat(m, insn),
-        Op::Cbw => return cbw(m, insn),
-        Op::Cwd => return cwd(m, insn),
-        Op::Lahf => return lahf(m),
-        Op::Sahf => return sahf(m),
-        Op::Push => return push(m, insn),
-        Op::Pop => return pop(m, insn),
-        Op::Pusha => return pusha(m, insn),
-        Op::Popa => return popa(m, insn),
-        Op::Movs => return movs(m, insn, len),
-        Op::Cmps => return cmps(m, insn, len),
-        Op::Stos => return stos(m, insn, len),
-        Op::Lods => return lods(m, insn, len),
-        Op::Scas => return scas(m, insn, len),
-        Op::Clc => return clc(m),
-        Op::Stc => return stc(m),
-        Op::Cmc => return cmc(m),
-        Op::Cld => return cld(m),
-        Op::Std => return std(m),
-        Op::Wait => return wait(m),
+        Op::Mov => mov(m, insn),
+        Op::Add => binary::<Add>(m, insn),
+        Op::Or => binary::<Or>(m, insn),
+        Op::Adc => binary::<AddWithCarry>(m, insn),
+        Op::Sbb => binary::<SubtractWithBorrow>(m, insn),
+        Op::And => binary::<And>(m, insn),
+        Op::Sub => binary::<Subtract>(m, insn),
+        Op::Xor => binary::<ExclusiveOr>(m, insn),
+        Op::Cmp => compare::<Subtract>(m, insn),
+        Op::Test => compare::<And>(m, insn),
+        Op::Inc => unary::<Increment>(m, insn),
+        Op::Dec => unary::<Decrement>(m, insn),
+        Op::Not => unary::<Complement>(m, insn),
+        Op::Neg => unary::<Negate>(m, insn),
+        Op::Mul => multiply::<Unsigned>(m, insn),
+        Op::Imul => multiply_signed(m, insn),
+        Op::Div => divide::<Unsigned>(m, insn),
+        Op::Idiv => divide::<Signed>(m, insn),
+        Op::Daa => decimal_adjust_after_addition(m),
+        Op::Das => decimal_adjust_after_subtraction(m),
+        Op::Aaa => adjust_after_addition(m),
+        Op::Aas => adjust_after_subtraction(m),
+        Op::Aam => adjust_after_product(m, insn),
+        Op::Aad => adjust_before_division(m, insn),
+        Op::Rol => shift::<RotateLeft>(m, insn),
+        Op::Ror => shift::<RotateRight>(m, insn),
+        Op::Rcl => shift::<RotateLeftThroughCarry>(m, insn),
+        Op::Rcr => shift::<RotateRightThroughCarry>(m, insn),
+        Op::Shl => shift::<ShiftLeft>(m, insn),
+        Op::Shr => shift::<ShiftRight>(m, insn),
+        Op::Sar => shift::<ShiftArithmeticRight>(m, insn),
+        Op::Shld => shift_in::<ShiftLeftDouble>(m, insn),
+        Op::Shrd => shift_in::<ShiftRightDouble>(m, insn),
+        Op::Bt => bit_test(m, insn),
+        Op::Bts => bit_change::<Set>(m, insn),
+        Op::Btr => bit_change::<Reset>(m, insn),
+        Op::Btc => bit_change::<Toggle>(m, insn),
+        Op::Bsf => bit_scan_forward(m, insn),
+        Op::Bsr => bit_scan_reverse(m, insn),
+        Op::Setcc(n) => setcc(m, insn, n),
+        Op::Movzx(from) => movzx(m, insn, from),
+        Op::Movsx(from) => movsx(m, insn, from),
+        Op::Xchg => xchg(m, insn),
+        Op::Lea => lea(m, insn),
+        Op::Xlat => xlat(m, insn),
+        Op::Cbw => cbw(m, insn),
+        Op::Cwd => cwd(m, insn),
+        Op::Lahf => lahf(m),
+        Op::Sahf => sahf(m),
+        Op::Push => push(m, insn),
+        Op::Pop => pop(m, insn),
+        Op::Pusha => pusha(m, insn),
+        Op::Popa => popa(m, insn),
+        Op::Movs => movs(m, insn, len),
+        Op::Cmps => cmps(m, insn, len),
+        Op::Stos => stos(m, insn, len),
+        Op::Lods => lods(m, insn, len),
+        Op::Scas => scas(m, insn, len),
+        Op::Clc => clc(m),
+        Op::Stc => stc(m),
+        Op::Cmc => cmc(m),
+        Op::Cld => cld(m),
+        Op::Std => std(m),
+        Op::Wait => wait(m),
         _ => unreachable!(),
     }
 }

@@ -4,14 +4,14 @@ ghost use Rattle.exec_core.specs.FlagRows.{clc, stc, cmc, cld, std, lahf, sahf, 
 ghost use Rattle.insn_plan.specs.Plan.{CarriesOut};
 
 use crate::products::AH;
-use client_world::{Event, Flags};
+use client_world::Flags;
 use guest_space::Machine;
-use insn_plan::{put_register, register};
+use insn_plan::{Raised, put_register, register};
 
 /// CLC. Source: 80386 Programmer's Reference Manual, ch. 17.
 #[inline(always)]
 #[tactic(auto, unfolding(crate::specs::FlagRows::clc, insn_plan::specs::Plan::carried_out, insn_plan::specs::Plan::after_commit, guest_space::specs::Pending::first_refusal, guest_space::specs::Pending::all_written))]
-pub(crate) fn clc(m: &mut Machine) -> Result<(), Event>
+pub(crate) fn clc(m: &mut Machine) -> Result<(), Raised>
     ensures { CarriesOut m.old m.new result (clc m.old.world) }
 {
     m.set_flags(Flags {
@@ -24,7 +24,7 @@ pub(crate) fn clc(m: &mut Machine) -> Result<(), Event>
 /// STC. Source: as above.
 #[inline(always)]
 #[tactic(auto, unfolding(crate::specs::FlagRows::stc, insn_plan::specs::Plan::carried_out, insn_plan::specs::Plan::after_commit, guest_space::specs::Pending::first_refusal, guest_space::specs::Pending::all_written))]
-pub(crate) fn stc(m: &mut Machine) -> Result<(), Event>
+pub(crate) fn stc(m: &mut Machine) -> Result<(), Raised>
     ensures { CarriesOut m.old m.new result (stc m.old.world) }
 {
     m.set_flags(Flags {
@@ -37,7 +37,7 @@ pub(crate) fn stc(m: &mut Machine) -> Result<(), Event>
 /// CMC. Source: as above.
 #[inline(always)]
 #[tactic(auto, unfolding(crate::specs::FlagRows::cmc, insn_plan::specs::Plan::carried_out, insn_plan::specs::Plan::after_commit, guest_space::specs::Pending::first_refusal, guest_space::specs::Pending::all_written))]
-pub(crate) fn cmc(m: &mut Machine) -> Result<(), Event>
+pub(crate) fn cmc(m: &mut Machine) -> Result<(), Raised>
     ensures { CarriesOut m.old m.new result (cmc m.old.world) }
 {
     let f = m.registers().flags;
@@ -48,7 +48,7 @@ pub(crate) fn cmc(m: &mut Machine) -> Result<(), Event>
 /// CLD. Source: as above.
 #[inline(always)]
 #[tactic(auto, unfolding(crate::specs::FlagRows::cld, insn_plan::specs::Plan::carried_out, insn_plan::specs::Plan::after_commit, guest_space::specs::Pending::first_refusal, guest_space::specs::Pending::all_written))]
-pub(crate) fn cld(m: &mut Machine) -> Result<(), Event>
+pub(crate) fn cld(m: &mut Machine) -> Result<(), Raised>
     ensures { CarriesOut m.old m.new result (cld m.old.world) }
 {
     m.set_flags(Flags {
@@ -61,7 +61,7 @@ pub(crate) fn cld(m: &mut Machine) -> Result<(), Event>
 /// STD. Source: as above.
 #[inline(always)]
 #[tactic(auto, unfolding(crate::specs::FlagRows::std, insn_plan::specs::Plan::carried_out, insn_plan::specs::Plan::after_commit, guest_space::specs::Pending::first_refusal, guest_space::specs::Pending::all_written))]
-pub(crate) fn std(m: &mut Machine) -> Result<(), Event>
+pub(crate) fn std(m: &mut Machine) -> Result<(), Raised>
     ensures { CarriesOut m.old m.new result (std m.old.world) }
 {
     m.set_flags(Flags {
@@ -74,7 +74,7 @@ pub(crate) fn std(m: &mut Machine) -> Result<(), Event>
 /// LAHF. Source: as above.
 #[inline(never)]
 #[tactic(auto, unfolding(crate::specs::FlagRows::lahf, insn_plan::specs::Plan::carried_out, insn_plan::specs::Plan::after_commit, guest_space::specs::Pending::first_refusal, guest_space::specs::Pending::all_written))]
-pub(crate) fn lahf(m: &mut Machine) -> Result<(), Event>
+pub(crate) fn lahf(m: &mut Machine) -> Result<(), Raised>
     ensures { CarriesOut m.old m.new result (lahf m.old.world) }
 {
     let image = m.registers().flags.image(false);
@@ -85,7 +85,7 @@ pub(crate) fn lahf(m: &mut Machine) -> Result<(), Event>
 /// SAHF. Source: as above.
 #[inline(never)]
 #[tactic(auto, using(crate::proofs::Parts::ah_fits), unfolding(crate::specs::FlagRows::sahf, insn_plan::specs::Plan::carried_out, insn_plan::specs::Plan::after_commit, guest_space::specs::Pending::first_refusal, guest_space::specs::Pending::all_written))]
-pub(crate) fn sahf(m: &mut Machine) -> Result<(), Event>
+pub(crate) fn sahf(m: &mut Machine) -> Result<(), Raised>
     ensures { CarriesOut m.old m.new result (sahf m.old.world) }
 {
     let r = m.registers();
@@ -102,7 +102,7 @@ pub(crate) fn sahf(m: &mut Machine) -> Result<(), Event>
 /// WAIT: nothing happens. Source: as above.
 #[inline(always)]
 #[tactic(auto, unfolding(crate::specs::FlagRows::wait, insn_plan::specs::Plan::carried_out, insn_plan::specs::Plan::after_commit, guest_space::specs::Pending::first_refusal, guest_space::specs::Pending::all_written))]
-pub(crate) fn wait(m: &mut Machine) -> Result<(), Event>
+pub(crate) fn wait(m: &mut Machine) -> Result<(), Raised>
     ensures { CarriesOut m.old m.new result (wait m.old.world) }
 {
     Ok(())

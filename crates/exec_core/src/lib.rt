@@ -17,5 +17,5 @@ mod stacks;
 mod strings;
 mod touches;
 
-pub use dispatch::{is_core, run_core};
+pub use dispatch::{carry_out_core, is_core, run_core};
 pub use touches::touches_core;

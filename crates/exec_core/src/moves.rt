@@ -18,12 +18,11 @@ ghost use Rattle.exec_core.specs.Moves.{
 ghost use Rattle.insn_forms.specs.Kinds.{is_width};
 ghost use Rattle.insn_plan.specs.Plan.{CarriesOut};
 
-use client_world::Event;
 use client_world::general::{EAX, EDX};
 use guest_space::Machine;
 use insn_forms::{Insn, Operand};
 use insn_plan::{
-    Next, cut_address, offset_of, put_operand, put_register, read_width, register, source,
+    Next, Raised, cut_address, offset_of, put_operand, put_register, read_width, register, source,
 };
 
 /// A number cut to a width of 8, 16 or 32 bits.
@@ -43,7 +42,7 @@ pub(crate) fn cut(width: u8, v: u32) -> u32
 /// MOV. Source: 80386 Programmer's Reference Manual, ch. 17.
 #[inline(always)]
 #[tactic(auto, unfolding(crate::specs::Moves::mov, insn_plan::specs::Plan::carried_out))]
-pub(crate) fn mov(m: &mut Machine, i: &Insn) -> Result<(), Event>
+pub(crate) fn mov(m: &mut Machine, i: &Insn) -> Result<(), Raised>
     ensures { CarriesOut m.old m.new result (mov m.old.world i.now) }
 {
     let v = source(m, i.addr32, i.width, &i.second)?;
@@ -53,7 +52,7 @@ pub(crate) fn mov(m: &mut Machine, i: &Insn) -> Result<(), Event>
 /// MOVZX. Source: as above.
 #[inline(always)]
 #[tactic(auto, unfolding(crate::specs::Moves::movzx, insn_plan::specs::Plan::carried_out))]
-pub(crate) fn movzx(m: &mut Machine, i: &Insn, from: u8) -> Result<(), Event>
+pub(crate) fn movzx(m: &mut Machine, i: &Insn, from: u8) -> Result<(), Raised>
     requires { IsTrue (is_width from) }
     ensures { CarriesOut m.old m.new result (movzx m.old.world i.now from) }
 {
@@ -80,7 +79,7 @@ fn sign_extended(from: u8, width: u8, v: u32) -> u32
 /// MOVSX. Source: as above.
 #[inline(always)]
 #[tactic(auto, unfolding(crate::specs::Moves::movsx, insn_plan::specs::Plan::carried_out))]
-pub(crate) fn movsx(m: &mut Machine, i: &Insn, from: u8) -> Result<(), Event>
+pub(crate) fn movsx(m: &mut Machine, i: &Insn, from: u8) -> Result<(), Raised>
     requires from { IsTrue (is_width from) }
     requires width { IsTrue (is_width i.now.width) }
     ensures { CarriesOut m.old m.new result (movsx m.old.world i.now from) }
@@ -93,7 +92,7 @@ pub(crate) fn movsx(m: &mut Machine, i: &Insn, from: u8) -> Result<(), Event>
 /// XCHG. Source: as above.
 #[inline(never)]
 #[tactic(auto, unfolding(crate::specs::Moves::xchg, insn_plan::specs::Plan::carried_out))]
-pub(crate) fn xchg(m: &mut Machine, i: &Insn) -> Result<(), Event>
+pub(crate) fn xchg(m: &mut Machine, i: &Insn) -> Result<(), Raised>
     ensures { CarriesOut m.old m.new result (xchg m.old.world i.now) }
 {
     let a = source(m, i.addr32, i.width, &i.first)?;
@@ -118,7 +117,7 @@ fn operand_offset(m: &Machine, i: &Insn, operand: &Operand) -> u32
 /// LEA. Source: as above.
 #[inline(always)]
 #[tactic(auto, unfolding(crate::specs::Moves::lea, insn_plan::specs::Plan::carried_out))]
-pub(crate) fn lea(m: &mut Machine, i: &Insn) -> Result<(), Event>
+pub(crate) fn lea(m: &mut Machine, i: &Insn) -> Result<(), Raised>
     requires { IsTrue (is_width i.now.width) }
     ensures { CarriesOut m.old m.new result (lea m.old.world i.now) }
 {
@@ -129,7 +128,7 @@ pub(crate) fn lea(m: &mut Machine, i: &Insn) -> Result<(), Event>
 /// XLAT. Source: as above.
 #[inline(never)]
 #[tactic(auto, unfolding(crate::specs::Moves::xlat, insn_plan::specs::Plan::carried_out, insn_plan::specs::Plan::after_commit, guest_space::specs::Pending::first_refusal, guest_space::specs::Pending::all_written))]
-pub(crate) fn xlat(m: &mut Machine, i: &Insn) -> Result<(), Event>
+pub(crate) fn xlat(m: &mut Machine, i: &Insn) -> Result<(), Raised>
     ensures { CarriesOut m.old m.new result (xlat m.old.world i.now) }
 {
     let r = m.registers();
@@ -150,7 +149,7 @@ fn half_width(width: u8) -> u8
 /// CBW and CWDE. Source: as above.
 #[inline(never)]
 #[tactic(auto, using(crate::proofs::Parts::half_fits), unfolding(crate::specs::Moves::cbw, insn_plan::specs::Plan::carried_out, insn_plan::specs::Plan::after_commit, guest_space::specs::Pending::first_refusal, guest_space::specs::Pending::all_written))]
-pub(crate) fn cbw(m: &mut Machine, i: &Insn) -> Result<(), Event>
+pub(crate) fn cbw(m: &mut Machine, i: &Insn) -> Result<(), Raised>
     requires { IsTrue (is_width i.now.width) }
     ensures { CarriesOut m.old m.new result (cbw m.old.world i.now) }
 {
@@ -175,7 +174,7 @@ fn sign_bits(width: u8, v: u32) -> u32
 /// CWD and CDQ. Source: as above.
 #[inline(never)]
 #[tactic(auto, unfolding(crate::specs::Moves::cwd, insn_plan::specs::Plan::carried_out, insn_plan::specs::Plan::after_commit, guest_space::specs::Pending::first_refusal, guest_space::specs::Pending::all_written))]
-pub(crate) fn cwd(m: &mut Machine, i: &Insn) -> Result<(), Event>
+pub(crate) fn cwd(m: &mut Machine, i: &Insn) -> Result<(), Raised>
     requires { IsTrue (is_width i.now.width) }
     ensures { CarriesOut m.old m.new result (cwd m.old.world i.now) }
 {

@@ -27,12 +27,12 @@ ghost use Rattle.insn_plan.specs.Registers.{register};
 
 use client_world::faults::DIVIDE_ERROR;
 use client_world::general::{EAX, EDX};
-use client_world::{Event, Fault, Flags, Regs};
+use client_world::{Fault, Flags, Regs};
 use cpu_alu::{div, idiv, imul, mul};
 use cpu_values::cut;
 use guest_space::Machine;
 use insn_forms::{Insn, Operand};
-use insn_plan::{put_register, put_with_flags, register, source};
+use insn_plan::{Raised, put_register, put_with_flags, register, source};
 
 /// The number of AH among the registers of 8 bits.
 pub(crate) const AH: u8 = 4;
@@ -129,10 +129,10 @@ impl Sign for Signed {
 }
 
 /// Exception 0.
-pub(crate) fn divide_error() -> Event
+pub(crate) fn divide_error() -> Raised
     ensures { result ≡ fault (fault_with DIVIDE_ERROR 0) }
 {
-    Event::Fault(Fault {
+    Raised::from(Fault {
         number: DIVIDE_ERROR,
         code: 0,
     })
@@ -170,7 +170,7 @@ pub(crate) fn word_in(r: &Regs, width: u8, n: u8) -> u32
 /// MUL, and IMUL of one operand. Source: 80386 Programmer's Reference Manual, ch. 17.
 #[inline(never)]
 #[tactic(auto, unfolding(crate::specs::Products::multiply, insn_plan::specs::Plan::carried_out, insn_plan::specs::Plan::after_commit, guest_space::specs::Pending::first_refusal, guest_space::specs::Pending::all_written))]
-pub(crate) fn multiply<S: Sign>(m: &mut Machine, i: &Insn) -> Result<(), Event>
+pub(crate) fn multiply<S: Sign>(m: &mut Machine, i: &Insn) -> Result<(), Raised>
     requires { IsTrue (is_width i.now.width) }
     ensures { CarriesOut m.old m.new result (multiply S.product m.old.world i.now) }
 {
@@ -183,7 +183,7 @@ pub(crate) fn multiply<S: Sign>(m: &mut Machine, i: &Insn) -> Result<(), Event>
 }
 
 // Puts the low half of IMUL's product where the first operand names and sets the flags, or gives the fault of the write.
-fn put_low_product(m: &mut Machine, i: &Insn, a: u32, b: u32) -> Result<(), Event>
+fn put_low_product(m: &mut Machine, i: &Insn, a: u32, b: u32) -> Result<(), Raised>
     requires { IsTrue (is_width i.now.width) }
     ensures { let value = imul_of i.now.width (cut i.now.width a) (cut i.now.width b) m.old.world.regs.flags in
         Follows m.old m.new result
@@ -195,7 +195,7 @@ fn put_low_product(m: &mut Machine, i: &Insn, a: u32, b: u32) -> Result<(), Even
 
 // IMUL of two operands.
 #[tactic(auto, unfolding(crate::specs::Products::multiply_two, insn_plan::specs::Plan::carried_out))]
-fn multiply_two(m: &mut Machine, i: &Insn) -> Result<(), Event>
+fn multiply_two(m: &mut Machine, i: &Insn) -> Result<(), Raised>
     requires { IsTrue (is_width i.now.width) }
     ensures { CarriesOut m.old m.new result (multiply_two m.old.world i.now) }
 {
@@ -206,7 +206,7 @@ fn multiply_two(m: &mut Machine, i: &Insn) -> Result<(), Event>
 
 // IMUL of three operands.
 #[tactic(auto, unfolding(crate::specs::Products::multiply_three, insn_plan::specs::Plan::carried_out))]
-fn multiply_three(m: &mut Machine, i: &Insn) -> Result<(), Event>
+fn multiply_three(m: &mut Machine, i: &Insn) -> Result<(), Raised>
     requires { IsTrue (is_width i.now.width) }
     ensures { CarriesOut m.old m.new result (multiply_three m.old.world i.now) }
 {
@@ -218,7 +218,7 @@ fn multiply_three(m: &mut Machine, i: &Insn) -> Result<(), Event>
 /// IMUL, by the number of its operands. Source: as above.
 #[inline(never)]
 #[tactic(auto, unfolding(crate::specs::Products::imul))]
-pub(crate) fn multiply_signed(m: &mut Machine, i: &Insn) -> Result<(), Event>
+pub(crate) fn multiply_signed(m: &mut Machine, i: &Insn) -> Result<(), Raised>
     requires { IsTrue (is_width i.now.width) }
     ensures { CarriesOut m.old m.new result (imul m.old.world i.now) }
 {
@@ -234,7 +234,7 @@ pub(crate) fn multiply_signed(m: &mut Machine, i: &Insn) -> Result<(), Event>
 /// DIV and IDIV; exception 0 where there is no quotient. Source: as above.
 #[inline(never)]
 #[tactic(auto, unfolding(crate::specs::Products::divide, insn_plan::specs::Plan::carried_out, insn_plan::specs::Plan::after_commit, guest_space::specs::Pending::first_refusal, guest_space::specs::Pending::all_written))]
-pub(crate) fn divide<S: Sign>(m: &mut Machine, i: &Insn) -> Result<(), Event>
+pub(crate) fn divide<S: Sign>(m: &mut Machine, i: &Insn) -> Result<(), Raised>
     requires { IsTrue (is_width i.now.width) }
     ensures { CarriesOut m.old m.new result (divide S.quotient m.old.world i.now) }
 {

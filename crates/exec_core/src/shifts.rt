@@ -12,12 +12,12 @@ ghost use Rattle.insn_plan.specs.Registers.{offset_of};
 
 use crate::arithmetic::at_width;
 use crate::shift_operations::{Shift, ShiftAt};
-use client_world::{Event, Flags};
+use client_world::Flags;
 use cpu_alu::{shld, shrd};
 use cpu_values::cut;
 use guest_space::Machine;
 use insn_forms::{Insn, MemForm, Operand};
-use insn_plan::{offset_of, put_register, put_with_flags, source, write_number};
+use insn_plan::{Raised, offset_of, put_register, put_with_flags, source, write_number};
 
 // Sets the flags of a shift, and gives its result.
 #[inline(always)]
@@ -42,7 +42,7 @@ fn write_shift<const W: u8, O: ShiftAt<W>>(
     place: &MemForm,
     a: u32,
     n: u8,
-) -> Result<(), Event>
+) -> Result<(), Raised>
     requires { IsWidth W }
     ensures { let value = O.formula W (cut W a) n m.old.world.regs.flags in
         Follows m.old m.new result (after_commit m.old (and_write place.now.seg (offset_of m.old.world.regs addr32 place.now) W value.0
@@ -58,7 +58,7 @@ fn write_shift<const W: u8, O: ShiftAt<W>>(
 /// SHL, SHR, SAR, ROL, ROR, RCL, RCR. Source: 80386 Programmer's Reference Manual, ch. 17.
 #[inline(never)]
 #[tactic(auto, unfolding(crate::specs::Shifts::shift, insn_plan::specs::Operands::put_operand, insn_plan::specs::Plan::carried_out, insn_plan::specs::Plan::after_commit, guest_space::specs::Pending::first_refusal, guest_space::specs::Pending::all_written))]
-pub(crate) fn shift<O: Shift>(m: &mut Machine, i: &Insn) -> Result<(), Event>
+pub(crate) fn shift<O: Shift>(m: &mut Machine, i: &Insn) -> Result<(), Raised>
     requires { IsTrue (is_width i.now.width) }
     ensures { CarriesOut m.old m.new result (shift O.formula m.old.world i.now) }
 {
@@ -131,7 +131,7 @@ impl DoubleShift for ShiftRightDouble {
 /// SHLD, SHRD. Source: as above.
 #[inline(never)]
 #[tactic(auto, unfolding(crate::specs::Shifts::shift_in, insn_plan::specs::Plan::carried_out))]
-pub(crate) fn shift_in<O: DoubleShift>(m: &mut Machine, i: &Insn) -> Result<(), Event>
+pub(crate) fn shift_in<O: DoubleShift>(m: &mut Machine, i: &Insn) -> Result<(), Raised>
     requires { IsTrue (is_width i.now.width) }
     ensures { CarriesOut m.old m.new result (shift_in O.formula m.old.world i.now) }
 {

@@ -9,11 +9,11 @@ ghost use Rattle.insn_forms.specs.declared.insn.Insn.{Insn};
 ghost use Rattle.insn_forms.specs.declared.insn.Operand.TheVariants.{Mem};
 
 use client_world::general::{EAX, EBP, EBX, ECX, EDI, EDX, ESI, ESP};
-use client_world::{Event, Regs, SegReg};
+use client_world::{Regs, SegReg};
 use guest_space::{Machine, Write, byte_count};
 use insn_forms::{Insn, MemForm, Operand};
 use insn_plan::{
-    cut_address, eight_items, esp_up, has_big_stack, item_pushed, offset_of, push_item,
+    Raised, cut_address, eight_items, esp_up, has_big_stack, item_pushed, offset_of, push_item,
     put_register, read_width, register, settle_pushes, settle_quickly, source, stack_item,
     write_number,
 };
@@ -21,7 +21,7 @@ use insn_plan::{
 /// PUSH. Source: 80386 Programmer's Reference Manual, ch. 17.
 #[inline(always)]
 #[tactic(auto, unfolding(crate::specs::Stacks::push, insn_plan::specs::Plan::carried_out))]
-pub(crate) fn push(m: &mut Machine, i: &Insn) -> Result<(), Event>
+pub(crate) fn push(m: &mut Machine, i: &Insn) -> Result<(), Raised>
     ensures { CarriesOut m.old m.new result (push m.old.world i.now) }
 {
     let v = source(m, i.addr32, i.width, &i.first)?;
@@ -31,7 +31,7 @@ pub(crate) fn push(m: &mut Machine, i: &Insn) -> Result<(), Event>
 // Puts a number that was popped into memory, at the address that ESP gives after the pop.
 #[inline(never)]
 #[tactic(auto, unfolding(insn_plan::specs::Operands::put_operand, insn_plan::specs::Plan::after_commit, client_world::specs::General::with_general))]
-fn pop_into_memory(m: &mut Machine, i: &Insn, f: &MemForm, esp: u32, v: u32) -> Result<(), Event>
+fn pop_into_memory(m: &mut Machine, i: &Insn, f: &MemForm, esp: u32, v: u32) -> Result<(), Raised>
     ensures { let r = record m.old.world.regs { esp = esp } in Follows m.old m.new result
         (after_commit m.old (put_operand r i.now.addr32 i.now.width (Mem f.now) v (with_regs r (unchanged m.old.world)))) }
 {
@@ -44,7 +44,7 @@ fn pop_into_memory(m: &mut Machine, i: &Insn, f: &MemForm, esp: u32, v: u32) -> 
 /// POP. Source: as above.
 #[inline(always)]
 #[tactic(auto, using(crate::proofs::TopItem::top_item), unfolding(crate::specs::Stacks::pop, insn_plan::specs::Stack::items_popped, insn_plan::specs::Operands::put_operand, insn_plan::specs::Plan::carried_out, insn_plan::specs::Plan::after_commit, guest_space::specs::Pending::first_refusal, guest_space::specs::Pending::all_written, client_world::specs::General::with_general))]
-pub(crate) fn pop(m: &mut Machine, i: &Insn) -> Result<(), Event>
+pub(crate) fn pop(m: &mut Machine, i: &Insn) -> Result<(), Raised>
     ensures { CarriesOut m.old m.new result (pop m.old.world i.now) }
 {
     let big = has_big_stack(m);
@@ -87,7 +87,7 @@ fn eight_pushes(m: &Machine, width: u8, big: bool) -> ([Write; 8], u32)
 // PUSHA at any width, on any stack.
 #[inline(never)]
 #[tactic(auto, unfolding(insn_plan::specs::Plan::carried_out))]
-fn pusha_in_general(m: &mut Machine, i: &Insn) -> Result<(), Event>
+fn pusha_in_general(m: &mut Machine, i: &Insn) -> Result<(), Raised>
     ensures { CarriesOut m.old m.new result (pusha m.old.world i.now) }
 {
     let (writes, esp) = eight_pushes(m, i.width, has_big_stack(m));
@@ -97,7 +97,7 @@ fn pusha_in_general(m: &mut Machine, i: &Insn) -> Result<(), Event>
 // PUSHA at a width that is known, where the stack pointer is SP.
 #[inline(always)]
 #[tactic(auto, unfolding(insn_plan::specs::Plan::carried_out))]
-fn pusha_of_width(m: &mut Machine, i: &Insn, width: u8) -> Result<(), Event>
+fn pusha_of_width(m: &mut Machine, i: &Insn, width: u8) -> Result<(), Raised>
     requires width { width ≡ i.now.width }
     requires small { has_big_stack m.old.world ≡ false }
     ensures { CarriesOut m.old m.new result (pusha m.old.world i.now) }
@@ -112,7 +112,7 @@ fn pusha_of_width(m: &mut Machine, i: &Insn, width: u8) -> Result<(), Event>
 
 /// PUSHA. Source: as above.
 #[inline(never)]
-pub(crate) fn pusha(m: &mut Machine, i: &Insn) -> Result<(), Event>
+pub(crate) fn pusha(m: &mut Machine, i: &Insn) -> Result<(), Raised>
     ensures { CarriesOut m.old m.new result (pusha m.old.world i.now) }
 {
     if has_big_stack(m) {
@@ -150,7 +150,7 @@ fn set_popped(m: &mut Machine, i: &Insn, width: u8, items: [u32; 8])
 // POPA, item by item.
 #[inline(never)]
 #[tactic(auto, unfolding(crate::specs::Stacks::popa, insn_plan::specs::Plan::carried_out))]
-fn popa_by_items(m: &mut Machine, i: &Insn) -> Result<(), Event>
+fn popa_by_items(m: &mut Machine, i: &Insn) -> Result<(), Raised>
     ensures { CarriesOut m.old m.new result (popa m.old.world i.now) }
 {
     let di = stack_item(m, i.width, 0)?;
@@ -166,7 +166,7 @@ fn popa_by_items(m: &mut Machine, i: &Insn) -> Result<(), Event>
 
 // POPA at a width that is known.
 #[inline(always)]
-fn popa_of_width(m: &mut Machine, i: &Insn, width: u8) -> Result<(), Event>
+fn popa_of_width(m: &mut Machine, i: &Insn, width: u8) -> Result<(), Raised>
     requires { width ≡ i.now.width }
     ensures { CarriesOut m.old m.new result (popa m.old.world i.now) }
 {
@@ -181,7 +181,7 @@ fn popa_of_width(m: &mut Machine, i: &Insn, width: u8) -> Result<(), Event>
 
 /// POPA. Source: as above.
 #[inline(never)]
-pub(crate) fn popa(m: &mut Machine, i: &Insn) -> Result<(), Event>
+pub(crate) fn popa(m: &mut Machine, i: &Insn) -> Result<(), Raised>
     ensures { CarriesOut m.old m.new result (popa m.old.world i.now) }
 {
     if i.width == 16 {

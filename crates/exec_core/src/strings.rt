@@ -22,11 +22,11 @@ ghost use Rattle.insn_plan.specs.Registers.{cut_address};
 
 use crate::arithmetic::difference_flags;
 use client_world::general::{EAX, ECX, EDI, ESI};
-use client_world::{Event, Flags, SegReg};
+use client_world::{Flags, SegReg};
 use guest_space::{Machine, byte_count};
 use insn_forms::{Insn, Rep};
 use insn_plan::{
-    copy_quickly, counter, cut_address, put_register, read_width, register, with_address,
+    Raised, copy_quickly, counter, cut_address, put_register, read_width, register, with_address,
     write_number,
 };
 
@@ -153,7 +153,7 @@ fn goes_on_while(rep: Rep, f: Flags) -> bool
 /// Source: 80386 Programmer's Reference Manual, ch. 17, "MOVS/MOVSB/MOVSW/MOVSD"; that a repetition is a step is own.
 #[inline(never)]
 #[tactic(auto, unfolding(crate::specs::Strings::movs, insn_plan::specs::Plan::carried_out, insn_plan::specs::Plan::after_commit, guest_space::specs::Pending::first_refusal, guest_space::specs::Pending::all_written))]
-pub(crate) fn movs(m: &mut Machine, i: &Insn, len: u8) -> Result<(), Event>
+pub(crate) fn movs(m: &mut Machine, i: &Insn, len: u8) -> Result<(), Raised>
     ensures { CarriesOut m.old m.new result (movs m.old.world i.now len) }
 {
     if is_over(m, i) {
@@ -174,7 +174,7 @@ pub(crate) fn movs(m: &mut Machine, i: &Insn, len: u8) -> Result<(), Event>
 // The same, where the tables have to be asked.
 #[inline(never)]
 #[tactic(auto, unfolding(crate::specs::Strings::movs, insn_plan::specs::Plan::carried_out, insn_plan::specs::Plan::after_commit, guest_space::specs::Pending::first_refusal, guest_space::specs::Pending::all_written))]
-fn movs_by_tables(m: &mut Machine, i: &Insn, len: u8) -> Result<(), Event>
+fn movs_by_tables(m: &mut Machine, i: &Insn, len: u8) -> Result<(), Raised>
     requires { is_over m.old.world i.now ≡ false }
     ensures { CarriesOut m.old m.new result (movs m.old.world i.now len) }
 {
@@ -191,7 +191,7 @@ fn movs_by_tables(m: &mut Machine, i: &Insn, len: u8) -> Result<(), Event>
 /// Source: 80386 Programmer's Reference Manual, ch. 17, "CMPS/CMPSB/CMPSW/CMPSD"; that a repetition is a step is own.
 #[inline(never)]
 #[tactic(auto, unfolding(crate::specs::Strings::cmps, insn_plan::specs::Plan::carried_out, insn_plan::specs::Plan::after_commit, guest_space::specs::Pending::first_refusal, guest_space::specs::Pending::all_written))]
-pub(crate) fn cmps(m: &mut Machine, i: &Insn, len: u8) -> Result<(), Event>
+pub(crate) fn cmps(m: &mut Machine, i: &Insn, len: u8) -> Result<(), Raised>
     requires { IsTrue (is_width i.now.width) }
     ensures { CarriesOut m.old m.new result (cmps m.old.world i.now len) }
 {
@@ -213,7 +213,7 @@ pub(crate) fn cmps(m: &mut Machine, i: &Insn, len: u8) -> Result<(), Event>
 /// Source: 80386 Programmer's Reference Manual, ch. 17, "STOS/STOSB/STOSW/STOSD"; that a repetition is a step is own.
 #[inline(never)]
 #[tactic(auto, unfolding(crate::specs::Strings::stos, insn_plan::specs::Plan::carried_out, insn_plan::specs::Plan::after_commit, guest_space::specs::Pending::first_refusal, guest_space::specs::Pending::all_written))]
-pub(crate) fn stos(m: &mut Machine, i: &Insn, len: u8) -> Result<(), Event>
+pub(crate) fn stos(m: &mut Machine, i: &Insn, len: u8) -> Result<(), Raised>
     ensures { CarriesOut m.old m.new result (stos m.old.world i.now len) }
 {
     if is_over(m, i) {
@@ -231,7 +231,7 @@ pub(crate) fn stos(m: &mut Machine, i: &Insn, len: u8) -> Result<(), Event>
 /// Source: 80386 Programmer's Reference Manual, ch. 17, "LODS/LODSB/LODSW/LODSD"; that a repetition is a step is own.
 #[inline(never)]
 #[tactic(auto, unfolding(crate::specs::Strings::lods, insn_plan::specs::Plan::carried_out, insn_plan::specs::Plan::after_commit, guest_space::specs::Pending::first_refusal, guest_space::specs::Pending::all_written, client_world::specs::General::with_general, insn_plan::specs::Registers::with_register))]
-pub(crate) fn lods(m: &mut Machine, i: &Insn, len: u8) -> Result<(), Event>
+pub(crate) fn lods(m: &mut Machine, i: &Insn, len: u8) -> Result<(), Raised>
     ensures { CarriesOut m.old m.new result (lods m.old.world i.now len) }
 {
     if is_over(m, i) {
@@ -249,7 +249,7 @@ pub(crate) fn lods(m: &mut Machine, i: &Insn, len: u8) -> Result<(), Event>
 /// Source: 80386 Programmer's Reference Manual, ch. 17, "SCAS/SCASB/SCASW/SCASD"; that a repetition is a step is own.
 #[inline(never)]
 #[tactic(auto, unfolding(crate::specs::Strings::scas, insn_plan::specs::Plan::carried_out, insn_plan::specs::Plan::after_commit, guest_space::specs::Pending::first_refusal, guest_space::specs::Pending::all_written))]
-pub(crate) fn scas(m: &mut Machine, i: &Insn, len: u8) -> Result<(), Event>
+pub(crate) fn scas(m: &mut Machine, i: &Insn, len: u8) -> Result<(), Raised>
     requires { IsTrue (is_width i.now.width) }
     ensures { CarriesOut m.old m.new result (scas m.old.world i.now len) }
 {

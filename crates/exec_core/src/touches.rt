@@ -22,14 +22,14 @@ use crate::moves::cut;
 use crate::products::{Sign, Signed, Unsigned, divide_error, high_register, word_in};
 use arrayvec::ArrayVec;
 use client_world::general::EAX;
-use client_world::{Event, Regs, SegReg, Touch};
+use client_world::{Regs, SegReg, Touch};
 use guest_space::{Machine, byte_count};
 use insn_forms::{Insn, Op, Operand, Rep};
-use insn_plan::{Accesses, MAX_ACCESSES, cut_address, esp_up};
+use insn_plan::{Accesses, MAX_ACCESSES, Raised, cut_address, esp_up};
 
 // Reads the first two operands, and puts into the first.
 #[tactic(auto, unfolding(crate::specs::Arithmetic::binary, crate::specs::Products::multiply_two, insn_plan::specs::Accesses::accesses_after), using(insn_plan::proofs::AccessLists::put_accesses))]
-fn both_into_first(a: &mut Accesses<'_>, i: &Insn) -> Result<(), Event>
+fn both_into_first(a: &mut Accesses<'_>, i: &Insn) -> Result<(), Raised>
     requires { length a.old.accesses ≡ 0 }
     ensures arithmetic { (formula : Formula) → Notes a.old a.new result (binary formula a.old.world i.now) }
     ensures product { Notes a.old a.new result (multiply_two a.old.world i.now) }
@@ -42,7 +42,7 @@ fn both_into_first(a: &mut Accesses<'_>, i: &Insn) -> Result<(), Event>
 
 // Reads the first two operands.
 #[tactic(auto, unfolding(crate::specs::Arithmetic::compare, insn_plan::specs::Accesses::accesses_after))]
-fn both(a: &mut Accesses<'_>, i: &Insn) -> Result<(), Event>
+fn both(a: &mut Accesses<'_>, i: &Insn) -> Result<(), Raised>
     requires { length a.old.accesses ≡ 0 }
     ensures { (formula : Formula) → Notes a.old a.new result (compare formula a.old.world i.now) }
 {
@@ -53,7 +53,7 @@ fn both(a: &mut Accesses<'_>, i: &Insn) -> Result<(), Event>
 
 // Reads the first operand, and puts into it.
 #[tactic(auto, unfolding(crate::specs::Arithmetic::unary, insn_plan::specs::Accesses::accesses_after), using(insn_plan::proofs::AccessLists::put_accesses))]
-fn first_into_first(a: &mut Accesses<'_>, i: &Insn) -> Result<(), Event>
+fn first_into_first(a: &mut Accesses<'_>, i: &Insn) -> Result<(), Raised>
     requires { length a.old.accesses ≡ 0 }
     ensures { (formula : SingleFormula) → Notes a.old a.new result (unary formula a.old.world i.now) }
 {
@@ -64,7 +64,7 @@ fn first_into_first(a: &mut Accesses<'_>, i: &Insn) -> Result<(), Event>
 
 // Puts into the first operand, at a width.
 #[tactic(auto, unfolding(crate::specs::Bits::setcc, crate::specs::Moves::lea, insn_plan::specs::Accesses::accesses_after), using(insn_plan::proofs::AccessLists::put_accesses))]
-fn into_first(a: &mut Accesses<'_>, i: &Insn, width: u8) -> Result<(), Event>
+fn into_first(a: &mut Accesses<'_>, i: &Insn, width: u8) -> Result<(), Raised>
     requires { length a.old.accesses ≡ 0 }
     ensures byte { width ≡ 8 → (n : ℕ) → Notes a.old a.new result (setcc a.old.world i.now n) }
     ensures word { width ≡ i.now.width → Notes a.old a.new result (lea a.old.world i.now) }
@@ -75,7 +75,7 @@ fn into_first(a: &mut Accesses<'_>, i: &Insn, width: u8) -> Result<(), Event>
 
 // Reads the second operand at a width, and puts into the first.
 #[tactic(auto, unfolding(crate::specs::Moves::mov, crate::specs::Moves::movzx, crate::specs::Moves::movsx, insn_plan::specs::Accesses::accesses_after), using(insn_plan::proofs::AccessLists::put_accesses))]
-fn second_into_first(a: &mut Accesses<'_>, i: &Insn, from: u8) -> Result<(), Event>
+fn second_into_first(a: &mut Accesses<'_>, i: &Insn, from: u8) -> Result<(), Raised>
     requires { length a.old.accesses ≡ 0 }
     ensures same { from ≡ i.now.width → Notes a.old a.new result (mov a.old.world i.now) }
     ensures zeros { Notes a.old a.new result (movzx a.old.world i.now from) }
@@ -88,7 +88,7 @@ fn second_into_first(a: &mut Accesses<'_>, i: &Insn, from: u8) -> Result<(), Eve
 
 // XCHG.
 #[tactic(auto, unfolding(crate::specs::Moves::xchg, insn_plan::specs::Accesses::accesses_after), using(insn_plan::proofs::AccessLists::put_accesses))]
-fn xchg(a: &mut Accesses<'_>, i: &Insn) -> Result<(), Event>
+fn xchg(a: &mut Accesses<'_>, i: &Insn) -> Result<(), Raised>
     requires { length a.old.accesses ≡ 0 }
     ensures { Notes a.old a.new result (xchg a.old.world i.now) }
 {
@@ -101,7 +101,7 @@ fn xchg(a: &mut Accesses<'_>, i: &Insn) -> Result<(), Event>
 
 // XLAT.
 #[tactic(auto, unfolding(crate::specs::Moves::xlat, insn_plan::specs::Accesses::accesses_after))]
-fn xlat(a: &mut Accesses<'_>, i: &Insn) -> Result<(), Event>
+fn xlat(a: &mut Accesses<'_>, i: &Insn) -> Result<(), Raised>
     requires { length a.old.accesses ≡ 0 }
     ensures { Notes a.old a.new result (xlat a.old.world i.now) }
 {
@@ -113,7 +113,7 @@ fn xlat(a: &mut Accesses<'_>, i: &Insn) -> Result<(), Event>
 
 // MUL, and IMUL of one operand.
 #[tactic(auto, unfolding(crate::specs::Products::multiply, insn_plan::specs::Accesses::accesses_after))]
-fn multiply(a: &mut Accesses<'_>, i: &Insn) -> Result<(), Event>
+fn multiply(a: &mut Accesses<'_>, i: &Insn) -> Result<(), Raised>
     requires { length a.old.accesses ≡ 0 }
     ensures { (product : Product) → Notes a.old a.new result (multiply product a.old.world i.now) }
 {
@@ -123,7 +123,7 @@ fn multiply(a: &mut Accesses<'_>, i: &Insn) -> Result<(), Event>
 
 // IMUL of three operands.
 #[tactic(auto, unfolding(crate::specs::Products::multiply_three, insn_plan::specs::Accesses::accesses_after), using(insn_plan::proofs::AccessLists::put_accesses))]
-fn multiply_three(a: &mut Accesses<'_>, i: &Insn) -> Result<(), Event>
+fn multiply_three(a: &mut Accesses<'_>, i: &Insn) -> Result<(), Raised>
     requires { length a.old.accesses ≡ 0 }
     ensures { Notes a.old a.new result (multiply_three a.old.world i.now) }
 {
@@ -135,7 +135,7 @@ fn multiply_three(a: &mut Accesses<'_>, i: &Insn) -> Result<(), Event>
 
 // IMUL.
 #[tactic(auto, unfolding(crate::specs::Products::imul))]
-fn imul(a: &mut Accesses<'_>, i: &Insn) -> Result<(), Event>
+fn imul(a: &mut Accesses<'_>, i: &Insn) -> Result<(), Raised>
     requires { length a.old.accesses ≡ 0 }
     ensures { Notes a.old a.new result (imul a.old.world i.now) }
 {
@@ -150,7 +150,7 @@ fn imul(a: &mut Accesses<'_>, i: &Insn) -> Result<(), Event>
 
 // DIV and IDIV.
 #[tactic(auto, unfolding(crate::specs::Products::divide, insn_plan::specs::Accesses::accesses_after))]
-fn divide<S: Sign>(a: &mut Accesses<'_>, i: &Insn) -> Result<(), Event>
+fn divide<S: Sign>(a: &mut Accesses<'_>, i: &Insn) -> Result<(), Raised>
     requires width { IsTrue (is_width i.now.width) }
     requires start { length a.old.accesses ≡ 0 }
     ensures { Notes a.old a.new result (divide S.quotient a.old.world i.now) }
@@ -167,7 +167,7 @@ fn divide<S: Sign>(a: &mut Accesses<'_>, i: &Insn) -> Result<(), Event>
 
 // AAD.
 #[tactic(auto, unfolding(crate::specs::Decimal::aad, insn_plan::specs::Accesses::accesses_after))]
-fn aad(a: &mut Accesses<'_>, i: &Insn) -> Result<(), Event>
+fn aad(a: &mut Accesses<'_>, i: &Insn) -> Result<(), Raised>
     requires { length a.old.accesses ≡ 0 }
     ensures { Notes a.old a.new result (aad a.old.world i.now) }
 {
@@ -177,7 +177,7 @@ fn aad(a: &mut Accesses<'_>, i: &Insn) -> Result<(), Event>
 
 // AAM.
 #[tactic(auto, unfolding(crate::specs::Decimal::aam, insn_plan::specs::Accesses::accesses_after))]
-fn aam(a: &mut Accesses<'_>, i: &Insn) -> Result<(), Event>
+fn aam(a: &mut Accesses<'_>, i: &Insn) -> Result<(), Raised>
     requires { length a.old.accesses ≡ 0 }
     ensures { Notes a.old a.new result (aam a.old.world i.now) }
 {
@@ -191,7 +191,7 @@ fn aam(a: &mut Accesses<'_>, i: &Insn) -> Result<(), Event>
 
 // SHL, SHR, SAR, ROL, ROR, RCL, RCR.
 #[tactic(auto, unfolding(crate::specs::Shifts::shift, insn_plan::specs::Accesses::accesses_after), using(insn_plan::proofs::AccessLists::put_accesses))]
-fn shift(a: &mut Accesses<'_>, i: &Insn) -> Result<(), Event>
+fn shift(a: &mut Accesses<'_>, i: &Insn) -> Result<(), Raised>
     requires { length a.old.accesses ≡ 0 }
     ensures { (formula : Formula) → Notes a.old a.new result (shift formula a.old.world i.now) }
 {
@@ -203,7 +203,7 @@ fn shift(a: &mut Accesses<'_>, i: &Insn) -> Result<(), Event>
 
 // SHLD, SHRD.
 #[tactic(auto, unfolding(crate::specs::Shifts::shift_in, insn_plan::specs::Accesses::accesses_after), using(insn_plan::proofs::AccessLists::put_accesses))]
-fn shift_in(a: &mut Accesses<'_>, i: &Insn) -> Result<(), Event>
+fn shift_in(a: &mut Accesses<'_>, i: &Insn) -> Result<(), Raised>
     requires { length a.old.accesses ≡ 0 }
     ensures { (formula : DoubleFormula) → Notes a.old a.new result (shift_in formula a.old.world i.now) }
 {
@@ -216,7 +216,7 @@ fn shift_in(a: &mut Accesses<'_>, i: &Insn) -> Result<(), Event>
 
 // BT.
 #[tactic(auto, unfolding(crate::specs::Bits::bit_test, insn_plan::specs::Accesses::accesses_after))]
-fn bit_test(a: &mut Accesses<'_>, i: &Insn) -> Result<(), Event>
+fn bit_test(a: &mut Accesses<'_>, i: &Insn) -> Result<(), Raised>
     requires width { IsTrue (is_width i.now.width) }
     requires start { length a.old.accesses ≡ 0 }
     ensures { Notes a.old a.new result (bit_test a.old.world i.now) }
@@ -229,7 +229,7 @@ fn bit_test(a: &mut Accesses<'_>, i: &Insn) -> Result<(), Event>
 
 // BTS, BTR, BTC.
 #[tactic(auto, unfolding(crate::specs::Bits::bit_change, insn_plan::specs::Accesses::accesses_after), using(insn_plan::proofs::AccessLists::put_accesses))]
-fn bit_change(a: &mut Accesses<'_>, i: &Insn) -> Result<(), Event>
+fn bit_change(a: &mut Accesses<'_>, i: &Insn) -> Result<(), Raised>
     requires width { IsTrue (is_width i.now.width) }
     requires start { length a.old.accesses ≡ 0 }
     ensures { (change : ℕ → ℕ → ℕ) → Notes a.old a.new result (bit_change change a.old.world i.now) }
@@ -243,7 +243,7 @@ fn bit_change(a: &mut Accesses<'_>, i: &Insn) -> Result<(), Event>
 
 // BSF and BSR.
 #[tactic(auto, unfolding(crate::specs::Bits::bit_scan, insn_plan::specs::Accesses::accesses_after), using(insn_plan::proofs::AccessLists::put_accesses))]
-fn bit_scan(a: &mut Accesses<'_>, i: &Insn) -> Result<(), Event>
+fn bit_scan(a: &mut Accesses<'_>, i: &Insn) -> Result<(), Raised>
     requires width { IsTrue (is_width i.now.width) }
     requires start { length a.old.accesses ≡ 0 }
     ensures { (place : ℕ → ℕ → ℕ) → Notes a.old a.new result (bit_scan place a.old.world i.now) }
@@ -257,7 +257,7 @@ fn bit_scan(a: &mut Accesses<'_>, i: &Insn) -> Result<(), Event>
 
 // PUSH.
 #[tactic(auto, unfolding(crate::specs::Stacks::push, insn_plan::specs::Accesses::accesses_after), using(insn_plan::proofs::AccessLists::pushed_accesses))]
-fn push(a: &mut Accesses<'_>, i: &Insn) -> Result<(), Event>
+fn push(a: &mut Accesses<'_>, i: &Insn) -> Result<(), Raised>
     requires { length a.old.accesses ≡ 0 }
     ensures { Notes a.old a.new result (push a.old.world i.now) }
 {
@@ -278,7 +278,7 @@ fn popped(a: &Accesses<'_>, width: u8) -> Regs
 
 // POP.
 #[tactic(auto, unfolding(crate::specs::Stacks::pop, insn_plan::specs::Accesses::accesses_after), using(insn_plan::proofs::AccessLists::put_accesses))]
-fn pop(a: &mut Accesses<'_>, i: &Insn) -> Result<(), Event>
+fn pop(a: &mut Accesses<'_>, i: &Insn) -> Result<(), Raised>
     requires { length a.old.accesses ≡ 0 }
     ensures { Notes a.old a.new result (pop a.old.world i.now) }
 {
@@ -289,7 +289,7 @@ fn pop(a: &mut Accesses<'_>, i: &Insn) -> Result<(), Event>
 
 // PUSHA.
 #[tactic(auto, unfolding(crate::specs::Stacks::pusha, insn_plan::specs::Accesses::accesses_after), using(insn_plan::proofs::AccessLists::pushed_accesses, insn_plan::proofs::AccessLists::pushed_esp))]
-fn pusha(a: &mut Accesses<'_>, i: &Insn) -> Result<(), Event>
+fn pusha(a: &mut Accesses<'_>, i: &Insn) -> Result<(), Raised>
     requires { length a.old.accesses ≡ 0 }
     ensures { Notes a.old a.new result (pusha a.old.world i.now) }
 {
@@ -306,7 +306,7 @@ fn pusha(a: &mut Accesses<'_>, i: &Insn) -> Result<(), Event>
 
 // POPA.
 #[tactic(auto, unfolding(crate::specs::Stacks::popa, insn_plan::specs::Accesses::accesses_after))]
-fn popa(a: &mut Accesses<'_>, i: &Insn) -> Result<(), Event>
+fn popa(a: &mut Accesses<'_>, i: &Insn) -> Result<(), Raised>
     requires { length a.old.accesses ≡ 0 }
     ensures { Notes a.old a.new result (popa a.old.world i.now) }
 {
@@ -328,7 +328,7 @@ fn is_over(a: &Accesses<'_>, i: &Insn) -> bool
 }
 
 // Reads the element at (E)SI.
-fn read_source(a: &mut Accesses<'_>, i: &Insn) -> Result<u32, Event>
+fn read_source(a: &mut Accesses<'_>, i: &Insn) -> Result<u32, Raised>
     requires { length a.old.accesses < 2 }
     ensures value { result ≡ value_of a.old.world (source_element a.old.world i.now) }
     ensures noted { a.new ≡ record a.old { accesses = and_read a.old.accesses (source_element a.old.world i.now) } }
@@ -339,7 +339,7 @@ fn read_source(a: &mut Accesses<'_>, i: &Insn) -> Result<u32, Event>
 }
 
 // Reads the element at ES:(E)DI.
-fn read_destination(a: &mut Accesses<'_>, i: &Insn) -> Result<u32, Event>
+fn read_destination(a: &mut Accesses<'_>, i: &Insn) -> Result<u32, Raised>
     requires { length a.old.accesses < 2 }
     ensures value { result ≡ value_of a.old.world (destination_element a.old.world i.now) }
     ensures noted { a.new ≡ record a.old { accesses = and_read a.old.accesses (destination_element a.old.world i.now) } }
@@ -367,7 +367,7 @@ fn write_destination(a: &mut Accesses<'_>, i: &Insn)
 
 // MOVS.
 #[tactic(auto, unfolding(crate::specs::Strings::movs, insn_plan::specs::Accesses::accesses_after))]
-fn movs(a: &mut Accesses<'_>, i: &Insn, len: u8) -> Result<(), Event>
+fn movs(a: &mut Accesses<'_>, i: &Insn, len: u8) -> Result<(), Raised>
     requires { length a.old.accesses ≡ 0 }
     ensures { Notes a.old a.new result (movs a.old.world i.now len) }
 {
@@ -380,7 +380,7 @@ fn movs(a: &mut Accesses<'_>, i: &Insn, len: u8) -> Result<(), Event>
 
 // CMPS.
 #[tactic(auto, unfolding(crate::specs::Strings::cmps, insn_plan::specs::Accesses::accesses_after))]
-fn cmps(a: &mut Accesses<'_>, i: &Insn, len: u8) -> Result<(), Event>
+fn cmps(a: &mut Accesses<'_>, i: &Insn, len: u8) -> Result<(), Raised>
     requires { length a.old.accesses ≡ 0 }
     ensures { Notes a.old a.new result (cmps a.old.world i.now len) }
 {
@@ -393,7 +393,7 @@ fn cmps(a: &mut Accesses<'_>, i: &Insn, len: u8) -> Result<(), Event>
 
 // STOS.
 #[tactic(auto, unfolding(crate::specs::Strings::stos, insn_plan::specs::Accesses::accesses_after))]
-fn stos(a: &mut Accesses<'_>, i: &Insn, len: u8) -> Result<(), Event>
+fn stos(a: &mut Accesses<'_>, i: &Insn, len: u8) -> Result<(), Raised>
     requires { length a.old.accesses ≡ 0 }
     ensures { Notes a.old a.new result (stos a.old.world i.now len) }
 {
@@ -405,7 +405,7 @@ fn stos(a: &mut Accesses<'_>, i: &Insn, len: u8) -> Result<(), Event>
 
 // LODS.
 #[tactic(auto, unfolding(crate::specs::Strings::lods, insn_plan::specs::Accesses::accesses_after))]
-fn lods(a: &mut Accesses<'_>, i: &Insn, len: u8) -> Result<(), Event>
+fn lods(a: &mut Accesses<'_>, i: &Insn, len: u8) -> Result<(), Raised>
     requires { length a.old.accesses ≡ 0 }
     ensures { Notes a.old a.new result (lods a.old.world i.now len) }
 {
@@ -417,7 +417,7 @@ fn lods(a: &mut Accesses<'_>, i: &Insn, len: u8) -> Result<(), Event>
 
 // SCAS.
 #[tactic(auto, unfolding(crate::specs::Strings::scas, insn_plan::specs::Accesses::accesses_after))]
-fn scas(a: &mut Accesses<'_>, i: &Insn, len: u8) -> Result<(), Event>
+fn scas(a: &mut Accesses<'_>, i: &Insn, len: u8) -> Result<(), Raised>
     requires { length a.old.accesses ≡ 0 }
     ensures { Notes a.old a.new result (scas a.old.world i.now len) }
 {
@@ -429,7 +429,7 @@ fn scas(a: &mut Accesses<'_>, i: &Insn, len: u8) -> Result<(), Event>
 
 // Follows an instruction of this crate.
 #[tactic(auto, unfolding(crate::specs::Dispatch::is_core, crate::specs::Dispatch::core_row, crate::specs::Decimal::adjust, crate::specs::Moves::cbw, crate::specs::Moves::cwd, crate::specs::FlagRows::lahf, crate::specs::FlagRows::sahf, crate::specs::FlagRows::clc, crate::specs::FlagRows::stc, crate::specs::FlagRows::cmc, crate::specs::FlagRows::cld, crate::specs::FlagRows::std, crate::specs::FlagRows::wait, insn_plan::specs::Accesses::accesses_after))]
-fn follow(a: &mut Accesses<'_>, insn: &Insn, len: u8) -> Result<(), Event>
+fn follow(a: &mut Accesses<'_>, insn: &Insn, len: u8) -> Result<(), Raised>
     requires core { IsCore insn.now }
     requires width { IsTrue (is_width insn.now.width) }
     requires start { length a.old.accesses ≡ 0 }

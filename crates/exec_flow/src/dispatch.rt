@@ -18,63 +18,75 @@ use crate::transfers::{call, jcc, jcxz, jmp, loop_while, ret};
 use client_world::{Event, SegReg};
 use guest_space::Machine;
 use insn_forms::{Insn, Op};
+use insn_plan::Raised;
 
 /// Runs an instruction of this crate; EIP already points after it. An event leaves the machine as it was; a software interrupt is an event
 /// that names its number and the instruction's length.
 /// Source: 80386 Programmer's Reference Manual, ch. 17; that an instruction which faults changes nothing is own.
-#[inline(always)]
-#[tactic(auto, unfolding(crate::specs::Dispatch::is_flow, crate::specs::Dispatch::flow_row))]
 pub fn run_flow(m: &mut Machine, insn: &Insn, len: u8) -> Result<(), Event>
     requires flow { IsFlow insn.now }
     requires width { IsTrue (is_width insn.now.width) }
     requires number { IsTrue (has_good_number insn.now.op) }
     ensures { CarriesOut m.old m.new result (flow_row insn.now.op m.old.world insn.now len) }
 {
-    // Each arm returns by itself: its result is then copied in the parts in which it was stored. Copied in other parts, after a `match`, it
-    // waits for the stores.
+    match carry_out_flow(m, insn, len) {
+        Ok(()) => Ok(()),
+        Err(raised) => Err(raised.event()),
+    }
+}
+
+/// The same, with the event in one word.
+#[inline(always)]
+#[tactic(auto, unfolding(crate::specs::Dispatch::is_flow, crate::specs::Dispatch::flow_row))]
+pub fn carry_out_flow(m: &mut Machine, insn: &Insn, len: u8) -> Result<(), Raised>
+    requires flow { IsFlow insn.now }
+    requires width { IsTrue (is_width insn.now.width) }
+    requires number { IsTrue (has_good_number insn.now.op) }
+    ensures { CarriesOut m.old m.new result (flow_row insn.now.op m.old.world insn.now len) }
+{
     match insn.op {
-        Op::Jcc(n) => return jcc(m, insn, n),
-        Op::Jmp => return jmp(m, insn),
-        Op::Call => return call(m, insn),
-        Op::Ret => return ret(m, insn),
-        Op::Push => return push_segment(m, insn),
-        Op::Pop => return pop_segment(m, insn),
-        Op::Mov => return mov_segment(m, insn),
-        Op::Les => return load_pointer(m, insn, SegReg::Es),
-        Op::Lds => return load_pointer(m, insn, SegReg::Ds),
-        Op::Loop => return loop_while(m, insn, true),
-        Op::Loope => return loop_while(m, insn, m.registers().flags.zf),
-        Op::Loopne => return loop_while(m, insn, !m.registers().flags.zf),
-        Op::Jcxz => return jcxz(m, insn),
-        Op::Pushf => return pushf(m, insn),
-        Op::Popf => return popf(m, insn),
-        Op::JmpFar => return jump_far(m, insn),
-        Op::CallFar => return call_far(m, insn),
-        Op::Retf => return retf(m, insn),
-        Op::Int => return int(insn, len),
-        Op::Int3 => return int3(len),
-        Op::Into => return into(m, len),
-        Op::Iret => return iret(m, insn),
-        Op::Bound => return bound(m, insn),
-        Op::Enter => return enter(m, insn),
-        Op::Leave => return leave(m, insn),
-        Op::Cli => return cli(m),
-        Op::Sti => return sti(m),
-        Op::In => return input(m, insn),
-        Op::Out => return output(m),
-        Op::Lss => return load_pointer(m, insn, SegReg::Ss),
-        Op::Lfs => return load_pointer(m, insn, SegReg::Fs),
-        Op::Lgs => return load_pointer(m, insn, SegReg::Gs),
-        Op::Lar => return tell_access_rights(m, insn),
-        Op::Lsl => return tell_byte_limit(m, insn),
-        Op::Verr => return verify_readable(m, insn),
-        Op::Verw => return verify_writable(m, insn),
-        Op::Arpl => return arpl(m, insn),
-        Op::Sldt | Op::Str | Op::Sgdt | Op::Sidt | Op::Smsw => return invalid_opcode(),
-        Op::Lldt | Op::Ltr => return load_table(m),
-        Op::Hlt | Op::Ins | Op::Outs | Op::Lgdt | Op::Lidt | Op::Lmsw => return privileged(),
-        Op::Clts | Op::MovControl | Op::MovDebug | Op::MovTest => return privileged(),
-        Op::Esc => return escape(),
+        Op::Jcc(n) => jcc(m, insn, n),
+        Op::Jmp => jmp(m, insn),
+        Op::Call => call(m, insn),
+        Op::Ret => ret(m, insn),
+        Op::Push => push_segment(m, insn),
+        Op::Pop => pop_segment(m, insn),
+        Op::Mov => mov_segment(m, insn),
+        Op::Les => load_pointer(m, insn, SegReg::Es),
+        Op::Lds => load_pointer(m, insn, SegReg::Ds),
+        Op::Loop => loop_while(m, insn, true),
+        Op::Loope => loop_while(m, insn, m.registers().flags.zf),
+        Op::Loopne => loop_while(m, insn, !m.registers().flags.zf),
+        Op::Jcxz => jcxz(m, insn),
+        Op::Pushf => pushf(m, insn),
+        Op::Popf => popf(m, insn),
+        Op::JmpFar => jump_far(m, insn),
+        Op::CallFar => call_far(m, insn),
+        Op::Retf => retf(m, insn),
+        Op::Int => int(insn, len),
+        Op::Int3 => int3(len),
+        Op::Into => into(m, len),
+        Op::Iret => iret(m, insn),
+        Op::Bound => bound(m, insn),
+        Op::Enter => enter(m, insn),
+        Op::Leave => leave(m, insn),
+        Op::Cli => cli(m),
+        Op::Sti => sti(m),
+        Op::In => input(m, insn),
+        Op::Out => output(m),
+        Op::Lss => load_pointer(m, insn, SegReg::Ss),
+        Op::Lfs => load_pointer(m, insn, SegReg::Fs),
+        Op::Lgs => load_pointer(m, insn, SegReg::Gs),
+        Op::Lar => tell_access_rights(m, insn),
+        Op::Lsl => tell_byte_limit(m, insn),
+        Op::Verr => verify_readable(m, insn),
+        Op::Verw => verify_writable(m, insn),
+        Op::Arpl => arpl(m, insn),
+        Op::Sldt | Op::Str | Op::Sgdt | Op::Sidt | Op::Smsw => invalid_opcode(),
+        Op::Lldt | Op::Ltr => load_table(m),
+        Op::Hlt | Op::Ins | Op::Outs | Op::Lgdt | Op::Lidt | Op::Lmsw => privileged(),
+        Op::Clts | Op::MovControl | Op::MovDebug | Op::MovTest => privileged(),
+        Op::Esc => escape(),
         _ => unreachable!(),
     }
 }

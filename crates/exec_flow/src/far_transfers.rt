@@ -11,10 +11,10 @@ use crate::stack_tops::{popped_esp, released_esp};
 use crate::transfers::{check_transfer, immediate};
 use client_world::general::ESP;
 use client_world::selectors::client_selector;
-use client_world::{Event, Fault, Mode, Regs, SegReg, low_half};
+use client_world::{Fault, Mode, Regs, SegReg, low_half};
 use guest_space::Machine;
 use insn_forms::Insn;
-use insn_plan::{Next, stack_item};
+use insn_plan::{Next, Raised, stack_item};
 
 /// What CS holds after a transfer to a selector: in protected mode with privilege level 3. Source: own.
 #[inline(always)]
@@ -56,7 +56,7 @@ fn far_transfer(m: &mut Machine, sel: u16, ip: u32, ret: bool) -> Result<(), Fau
 /// JMP far. Source: 80386 Programmer's Reference Manual, ch. 17.
 #[inline(never)]
 #[tactic(auto, unfolding(crate::specs::FarTransfers::jump_far, crate::specs::FarTransfers::far_transfer, insn_plan::specs::Plan::carried_out, insn_plan::specs::Plan::after_commit, guest_space::specs::Pending::first_refusal, guest_space::specs::Pending::all_written))]
-pub(crate) fn jump_far(m: &mut Machine, i: &Insn) -> Result<(), Event>
+pub(crate) fn jump_far(m: &mut Machine, i: &Insn) -> Result<(), Raised>
     ensures { CarriesOut m.old m.new result (jump_far m.old.world i.now) }
 {
     let p = pointer(m, i, &i.first)?;
@@ -67,7 +67,7 @@ pub(crate) fn jump_far(m: &mut Machine, i: &Insn) -> Result<(), Event>
 /// CALL far. Source: as above.
 #[inline(never)]
 #[tactic(auto, unfolding(crate::specs::FarTransfers::call_far, crate::specs::FarTransfers::far_transfer, insn_plan::specs::Plan::carried_out))]
-pub(crate) fn call_far(m: &mut Machine, i: &Insn) -> Result<(), Event>
+pub(crate) fn call_far(m: &mut Machine, i: &Insn) -> Result<(), Raised>
     ensures { CarriesOut m.old m.new result (call_far m.old.world i.now) }
 {
     let p = pointer(m, i, &i.first)?;
@@ -89,7 +89,7 @@ pub(crate) fn call_far(m: &mut Machine, i: &Insn) -> Result<(), Event>
 /// which changes nothing. Source: 80386 Programmer's Reference Manual, ch. 17, RET.
 #[inline(always)]
 #[tactic(auto, unfolding(crate::specs::FarTransfers::far_frame_popped, crate::specs::FarTransfers::far_transfer, insn_plan::specs::Plan::carried_out, insn_plan::specs::Plan::after_commit, guest_space::specs::Pending::first_refusal, guest_space::specs::Pending::all_written, client_world::specs::General::with_general, insn_plan::specs::Stack::items_popped))]
-pub fn pop_far_frame(m: &mut Machine, bits: u8, bytes: u32) -> Result<(), Event>
+pub fn pop_far_frame(m: &mut Machine, bits: u8, bytes: u32) -> Result<(), Raised>
     ensures { CarriesOut m.old m.new result (far_frame_popped m.old.world bits bytes) }
 {
     let ip = stack_item(m, bits, 0)?;
@@ -103,7 +103,7 @@ pub fn pop_far_frame(m: &mut Machine, bits: u8, bytes: u32) -> Result<(), Event>
 /// RETF. Source: 80386 Programmer's Reference Manual, ch. 17, RET.
 #[inline(always)]
 #[tactic(auto, unfolding(crate::specs::FarTransfers::retf))]
-pub(crate) fn retf(m: &mut Machine, i: &Insn) -> Result<(), Event>
+pub(crate) fn retf(m: &mut Machine, i: &Insn) -> Result<(), Raised>
     ensures { CarriesOut m.old m.new result (retf m.old.world i.now) }
 {
     pop_far_frame(m, i.width, immediate(&i.first))
@@ -120,7 +120,7 @@ struct Frame {
 // Reads the frame at the stack's top, in items of n bits, to which a return may be made; or gives the event.
 #[inline(always)]
 #[tactic(auto, unfolding(crate::specs::FarTransfers::frame_popped, crate::specs::FarTransfers::far_transfer))]
-fn frame_at_top(m: &Machine, bits: u8) -> Result<Frame, Event>
+fn frame_at_top(m: &Machine, bits: u8) -> Result<Frame, Raised>
     ensures { MatchResult result
         (λ frame. planned m.now.world (frame_popped m.now.world bits)
         ≡ Ok (frame_left m.now.world bits frame.ip frame.cs frame.image))
@@ -144,7 +144,7 @@ pub fn can_pop_frame(m: &Machine, bits: u8) -> bool
 /// changes nothing. Source: 80386 Programmer's Reference Manual, ch. 17, IRET.
 #[inline(always)]
 #[tactic(auto, using(insn_plan::proofs::Settled::carried_event))]
-pub fn pop_frame(m: &mut Machine, bits: u8) -> Result<(), Event>
+pub fn pop_frame(m: &mut Machine, bits: u8) -> Result<(), Raised>
     ensures { CarriesOut m.old m.new result (frame_popped m.old.world bits) }
 {
     let frame = frame_at_top(m, bits)?;
@@ -158,7 +158,7 @@ pub fn pop_frame(m: &mut Machine, bits: u8) -> Result<(), Event>
 /// IRET. Source: 80386 Programmer's Reference Manual, ch. 17.
 #[inline(always)]
 #[tactic(auto, unfolding(crate::specs::FarTransfers::iret))]
-pub(crate) fn iret(m: &mut Machine, i: &Insn) -> Result<(), Event>
+pub(crate) fn iret(m: &mut Machine, i: &Insn) -> Result<(), Raised>
     ensures { CarriesOut m.old m.new result (iret m.old.world i.now) }
 {
     pop_frame(m, i.width)

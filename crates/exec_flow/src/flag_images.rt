@@ -6,10 +6,10 @@ ghost use Rattle.insn_plan.specs.Plan.{CarriesOut, with_state};
 
 use crate::stack_tops::popped_esp;
 use client_world::general::ESP;
-use client_world::{Event, Flags, Mode, is_interrupt_set, low_half};
+use client_world::{Flags, Mode, is_interrupt_set, low_half};
 use guest_space::Machine;
 use insn_forms::Insn;
-use insn_plan::{push_item, stack_item};
+use insn_plan::{Raised, push_item, stack_item};
 
 // IF as PUSHF shows it.
 #[inline(always)]
@@ -25,7 +25,7 @@ fn shown_interrupt(m: &Machine) -> bool
 /// PUSHF. Source: 80386 Programmer's Reference Manual, ch. 17; what IF shows is own.
 #[inline(always)]
 #[tactic(auto, unfolding(crate::specs::FlagImages::pushf, insn_plan::specs::Plan::carried_out))]
-pub(crate) fn pushf(m: &mut Machine, i: &Insn) -> Result<(), Event>
+pub(crate) fn pushf(m: &mut Machine, i: &Insn) -> Result<(), Raised>
     ensures { CarriesOut m.old m.new result (pushf m.old.world i.now) }
 {
     let image = m.registers().flags.image(shown_interrupt(m));
@@ -58,7 +58,7 @@ pub(crate) fn set_popped_flags(m: &mut Machine, image: u32)
 /// POPF. Source: as above.
 #[inline(always)]
 #[tactic(auto, unfolding(crate::specs::FlagImages::popf, crate::specs::FlagImages::flags_popped, insn_plan::specs::Plan::carried_out, insn_plan::specs::Plan::after_commit, guest_space::specs::Pending::first_refusal, guest_space::specs::Pending::all_written, client_world::specs::General::with_general, insn_plan::specs::Stack::items_popped))]
-pub(crate) fn popf(m: &mut Machine, i: &Insn) -> Result<(), Event>
+pub(crate) fn popf(m: &mut Machine, i: &Insn) -> Result<(), Raised>
     ensures { CarriesOut m.old m.new result (popf m.old.world i.now) }
 {
     let image = stack_item(m, i.width, 0)?;
@@ -70,7 +70,7 @@ pub(crate) fn popf(m: &mut Machine, i: &Insn) -> Result<(), Event>
 /// CLI. Source: DPMI 0.9, "Interrupt State".
 #[inline(never)]
 #[tactic(auto, unfolding(crate::specs::FlagImages::cli, insn_plan::specs::Plan::carried_out, insn_plan::specs::Plan::after_commit, guest_space::specs::Pending::first_refusal, guest_space::specs::Pending::all_written))]
-pub(crate) fn cli(m: &mut Machine) -> Result<(), Event>
+pub(crate) fn cli(m: &mut Machine) -> Result<(), Raised>
     ensures { CarriesOut m.old m.new result (cli m.old.world) }
 {
     m.set_vif(false);
@@ -80,7 +80,7 @@ pub(crate) fn cli(m: &mut Machine) -> Result<(), Event>
 /// STI. Source: as above.
 #[inline(never)]
 #[tactic(auto, unfolding(crate::specs::FlagImages::sti, insn_plan::specs::Plan::carried_out, insn_plan::specs::Plan::after_commit, guest_space::specs::Pending::first_refusal, guest_space::specs::Pending::all_written))]
-pub(crate) fn sti(m: &mut Machine) -> Result<(), Event>
+pub(crate) fn sti(m: &mut Machine) -> Result<(), Raised>
     ensures { CarriesOut m.old m.new result (sti m.old.world) }
 {
     m.set_vif(true);

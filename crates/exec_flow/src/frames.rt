@@ -21,14 +21,14 @@ ghost use Rattle.insn_plan.specs.declared.next.TheConstants.{MAX_WRITES};
 use crate::pointers::memory_bytes;
 use crate::raising::exception;
 use crate::transfers::{at_operand_size, immediate};
+use client_world::SegReg;
 use client_world::faults::BOUNDS_CHECK;
 use client_world::general::{EBP, ESP};
-use client_world::{Event, SegReg};
 use guest_space::{Machine, byte_count};
 use insn_forms::Insn;
 use insn_plan::{
-    Next, cut_address, esp_up, has_big_stack, number_at, put_register, read_width, register,
-    set_register, source, stack_pointer, with_pointer,
+    Next, Raised, cut_address, esp_up, has_big_stack, number_at, put_register, read_width,
+    register, set_register, source, stack_pointer, with_pointer,
 };
 
 /// Where the frame pointer of a level was saved: that many items below (E)BP.
@@ -40,7 +40,7 @@ pub(crate) fn saved_frame(ebp: u32, i: &Insn, level: u8) -> u32
 }
 
 // Reads the frame pointer that was saved for a level, or gives the fault of the access.
-fn read_frame(m: &Machine, i: &Insn, level: u8) -> Result<u32, Event>
+fn read_frame(m: &Machine, i: &Insn, level: u8) -> Result<u32, Raised>
     ensures { result
         ≡ value_of m.now.world (From Ss (saved_frame m.now.world i.now level) (byte_count i.now.width)) }
 {
@@ -49,7 +49,7 @@ fn read_frame(m: &Machine, i: &Insn, level: u8) -> Result<u32, Event>
 }
 
 // Reads and pushes the saved frame pointers of n levels, from level 1 on, or gives the fault of a read.
-fn push_frames(m: &Machine, i: &Insn, n: u8, next: &mut Next) -> Result<(), Event>
+fn push_frames(m: &Machine, i: &Insn, n: u8, next: &mut Next) -> Result<(), Raised>
     requires writes { length next.old.writes + n < MAX_WRITES }
     ensures pushed { MatchResult result
         (λ _. (rest : Pending → Act) →
@@ -82,7 +82,7 @@ fn make_frame(m: &Machine, i: &Insn, frame: u32, next: &mut Next)
 
 // What ENTER leaves, before anything is written.
 #[tactic(auto, unfolding(crate::specs::Frames::enter))]
-fn plan_enter(m: &Machine, i: &Insn, next: &mut Next) -> Result<(), Event>
+fn plan_enter(m: &Machine, i: &Insn, next: &mut Next) -> Result<(), Raised>
     requires { next.old ≡ unchanged m.now.world }
     ensures { Leaves next.new result (planned m.now.world (enter m.now.world i.now)) }
 {
@@ -100,7 +100,7 @@ fn plan_enter(m: &Machine, i: &Insn, next: &mut Next) -> Result<(), Event>
 /// ENTER. Source: 80386 Programmer's Reference Manual, ch. 17; that it reads before it writes is own.
 #[inline(never)]
 #[tactic(auto, using(insn_plan::proofs::Settled::carried_by, insn_plan::proofs::Settled::carried_event))]
-pub(crate) fn enter(m: &mut Machine, i: &Insn) -> Result<(), Event>
+pub(crate) fn enter(m: &mut Machine, i: &Insn) -> Result<(), Raised>
     ensures { CarriesOut m.old m.new result (enter m.old.world i.now) }
 {
     let mut next = Next::new(m);
@@ -111,7 +111,7 @@ pub(crate) fn enter(m: &mut Machine, i: &Insn) -> Result<(), Event>
 /// LEAVE. Source: 80386 Programmer's Reference Manual, ch. 17.
 #[inline(always)]
 #[tactic(auto, unfolding(crate::specs::Frames::leave, insn_plan::specs::Plan::carried_out, insn_plan::specs::Plan::after_commit, guest_space::specs::Pending::first_refusal, guest_space::specs::Pending::all_written, client_world::specs::General::with_general, insn_plan::specs::Stack::items_popped))]
-pub(crate) fn leave(m: &mut Machine, i: &Insn) -> Result<(), Event>
+pub(crate) fn leave(m: &mut Machine, i: &Insn) -> Result<(), Raised>
     ensures { CarriesOut m.old m.new result (leave m.old.world i.now) }
 {
     let big = has_big_stack(m);
@@ -147,7 +147,7 @@ pub(crate) fn is_less_signed(width: u8, a: u64, b: u64) -> bool
 /// BOUND. Source: 80386 Programmer's Reference Manual, ch. 17; that the pair is one access is own.
 #[inline(never)]
 #[tactic(auto, unfolding(crate::specs::Frames::bound, insn_plan::specs::Plan::carried_out, insn_plan::specs::Plan::after_commit, guest_space::specs::Pending::first_refusal, guest_space::specs::Pending::all_written))]
-pub(crate) fn bound(m: &mut Machine, i: &Insn) -> Result<(), Event>
+pub(crate) fn bound(m: &mut Machine, i: &Insn) -> Result<(), Raised>
     requires { IsTrue (is_width i.now.width) }
     ensures { CarriesOut m.old m.new result (bound m.old.world i.now) }
 {

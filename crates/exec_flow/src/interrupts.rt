@@ -6,40 +6,37 @@ ghost use Rattle.insn_plan.specs.Act.{unchanged};
 ghost use Rattle.insn_plan.specs.Plan.{CarriesOut};
 
 use crate::transfers::immediate;
-use client_world::{Event, Mode, Width};
+use client_world::{Mode, Width};
 use guest_space::Machine;
 use insn_forms::Insn;
-use insn_plan::Next;
+use insn_plan::{Next, Raised};
 
 /// INT. Source: 80386 Programmer's Reference Manual, ch. 17, "INT/INTO".
 #[inline(never)]
 #[tactic(auto, unfolding(crate::specs::Interrupts::int, insn_plan::specs::Plan::carried_out))]
-pub(crate) fn int(i: &Insn, len: u8) -> Result<(), Event>
+pub(crate) fn int(i: &Insn, len: u8) -> Result<(), Raised>
     ensures { (v : MachineView) → CarriesOut v v result (int i.now len) }
 {
-    Err(Event::Soft {
-        number: (immediate(&i.first) % 0x100) as u8,
-        len,
-    })
+    Err(Raised::soft((immediate(&i.first) % 0x100) as u8, len))
 }
 
 /// INT 3. Source: as above; that it is the client's interrupt 3 is own.
 #[inline(never)]
 #[tactic(auto, unfolding(crate::specs::Interrupts::int3, insn_plan::specs::Plan::carried_out))]
-pub(crate) fn int3(len: u8) -> Result<(), Event>
+pub(crate) fn int3(len: u8) -> Result<(), Raised>
     ensures { (v : MachineView) → CarriesOut v v result (int3 len) }
 {
-    Err(Event::Soft { number: 3, len })
+    Err(Raised::soft(3, len))
 }
 
 /// INTO. Source: as above; that it is the client's interrupt 4 is own.
 #[inline(never)]
 #[tactic(auto, unfolding(crate::specs::Interrupts::into, insn_plan::specs::Plan::carried_out, insn_plan::specs::Plan::after_commit, guest_space::specs::Pending::first_refusal, guest_space::specs::Pending::all_written))]
-pub(crate) fn into(m: &Machine, len: u8) -> Result<(), Event>
+pub(crate) fn into(m: &Machine, len: u8) -> Result<(), Raised>
     ensures { CarriesOut m.now m.now result (into m.now.world len) }
 {
     if m.registers().flags.of {
-        Err(Event::Soft { number: 4, len })
+        Err(Raised::soft(4, len))
     } else {
         Ok(())
     }

@@ -3,10 +3,9 @@ ghost use Rattle.std.specs.Prelude.{◌≡◌};
 ghost use Rattle.exec_flow.specs.Pointers.{memory_bytes, offset_range, pointer, pointer_size, pointer_offset, pointer_selector};
 ghost use Rattle.insn_plan.specs.Act.{IsCount, value_of};
 
-use client_world::Event;
 use guest_space::Machine;
 use insn_forms::{Insn, Operand};
-use insn_plan::{offset_of, read_number};
+use insn_plan::{Raised, offset_of, read_number};
 
 /// Reads an operand in memory as a number of n bytes, or gives the fault of the access.
 #[inline(always)]
@@ -16,7 +15,7 @@ pub(crate) fn memory_bytes(
     i: &Insn,
     n: u8,
     operand: &Operand,
-) -> Result<u64, Event>
+) -> Result<u64, Raised>
     requires count { IsCount n }
     ensures value { result ≡ value_of m.old.world (memory_bytes m.old.world i.now n operand.now) }
     ensures kept { m.new ≡ m.old }
@@ -60,7 +59,7 @@ pub(crate) fn pointer_size(i: &Insn) -> u8
 /// Source: 80386 Programmer's Reference Manual, ch. 2, "Pointer"; that it is one access is own.
 #[inline(always)]
 #[tactic(auto, unfolding(crate::specs::Pointers::pointer, insn_plan::specs::Act::value_of))]
-pub(crate) fn pointer(m: &mut Machine, i: &Insn, operand: &Operand) -> Result<u64, Event>
+pub(crate) fn pointer(m: &mut Machine, i: &Insn, operand: &Operand) -> Result<u64, Raised>
     ensures value { result ≡ value_of m.old.world (pointer m.old.world i.now operand.now) }
     ensures kept { m.new ≡ m.old }
 {

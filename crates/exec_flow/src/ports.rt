@@ -4,10 +4,9 @@ ghost use Rattle.exec_flow.specs.Ports.{input, output};
 ghost use Rattle.insn_forms.specs.Kinds.{is_width};
 ghost use Rattle.insn_plan.specs.Plan.{CarriesOut};
 
-use client_world::Event;
 use guest_space::Machine;
 use insn_forms::Insn;
-use insn_plan::put_operand;
+use insn_plan::{Raised, put_operand};
 
 // The number whose bits of a width are all ones.
 fn all_ones(width: u8) -> u32
@@ -20,7 +19,7 @@ fn all_ones(width: u8) -> u32
 /// IN. Source: 80386 Programmer's Reference Manual, ch. 17; that no port answers is own.
 #[inline(never)]
 #[tactic(auto, unfolding(crate::specs::Ports::input, insn_plan::specs::Plan::carried_out))]
-pub(crate) fn input(m: &mut Machine, i: &Insn) -> Result<(), Event>
+pub(crate) fn input(m: &mut Machine, i: &Insn) -> Result<(), Raised>
     requires { IsTrue (is_width i.now.width) }
     ensures { CarriesOut m.old m.new result (input m.old.world i.now) }
 {
@@ -30,7 +29,7 @@ pub(crate) fn input(m: &mut Machine, i: &Insn) -> Result<(), Event>
 /// OUT. Source: as above.
 #[inline(never)]
 #[tactic(auto, unfolding(crate::specs::Ports::output, insn_plan::specs::Plan::carried_out, insn_plan::specs::Plan::after_commit, guest_space::specs::Pending::first_refusal, guest_space::specs::Pending::all_written))]
-pub(crate) fn output(m: &Machine) -> Result<(), Event>
+pub(crate) fn output(m: &Machine) -> Result<(), Raised>
     ensures { CarriesOut m.now m.now result (output m.now.world) }
 {
     Ok(())

@@ -18,11 +18,11 @@ ghost use Rattle.insn_plan.specs.Plan.{CarriesOut, Follows, after_commit};
 
 use crate::raising::exception;
 use client_world::faults::INVALID_OPCODE;
-use client_world::{Desc, Event, Flags, Mode, Origin, low_half};
+use client_world::{Desc, Flags, Mode, Origin, low_half};
 use desc_table::pack;
 use guest_space::Machine;
 use insn_forms::Insn;
-use insn_plan::{put_with_flags, source};
+use insn_plan::{Raised, put_with_flags, source};
 
 // The number of privilege levels, 0 to 3.
 const PRIVILEGE_LEVELS: u32 = 4;
@@ -65,7 +65,7 @@ fn is_writable_row(row: Option<(Desc, Origin)>) -> bool
 /// VERR. Source: 80386 Programmer's Reference Manual, ch. 17.
 #[inline(never)]
 #[tactic(auto, unfolding(crate::specs::Questions::verify, crate::specs::Raising::in_protected, crate::specs::Raising::invalid_opcode, insn_plan::specs::Plan::carried_out, insn_plan::specs::Plan::after_commit, guest_space::specs::Pending::first_refusal, guest_space::specs::Pending::all_written))]
-pub(crate) fn verify_readable(m: &mut Machine, i: &Insn) -> Result<(), Event>
+pub(crate) fn verify_readable(m: &mut Machine, i: &Insn) -> Result<(), Raised>
     ensures { CarriesOut m.old m.new result (verify is_readable m.old.world i.now) }
 {
     if m.mode() == Mode::Real {
@@ -80,7 +80,7 @@ pub(crate) fn verify_readable(m: &mut Machine, i: &Insn) -> Result<(), Event>
 /// VERW. Source: as above.
 #[inline(never)]
 #[tactic(auto, unfolding(crate::specs::Questions::verify, crate::specs::Raising::in_protected, crate::specs::Raising::invalid_opcode, insn_plan::specs::Plan::carried_out, insn_plan::specs::Plan::after_commit, guest_space::specs::Pending::first_refusal, guest_space::specs::Pending::all_written))]
-pub(crate) fn verify_writable(m: &mut Machine, i: &Insn) -> Result<(), Event>
+pub(crate) fn verify_writable(m: &mut Machine, i: &Insn) -> Result<(), Raised>
     ensures { CarriesOut m.old m.new result (verify is_writable_row m.old.world i.now) }
 {
     if m.mode() == Mode::Real {
@@ -103,7 +103,7 @@ fn access_rights(d: &Desc) -> u32
 }
 
 // Puts a number into the first operand and sets ZF, or gives the fault of the write, which changes nothing.
-fn tell_number(m: &mut Machine, i: &Insn, v: u32) -> Result<(), Event>
+fn tell_number(m: &mut Machine, i: &Insn, v: u32) -> Result<(), Raised>
     ensures { Follows m.old m.new result (after_commit m.old
         (put_operand m.old.world.regs i.now.addr32 i.now.width i.now.first v (with_flags (with_zero m.old.world true) m.old.world))) }
 {
@@ -113,7 +113,7 @@ fn tell_number(m: &mut Machine, i: &Insn, v: u32) -> Result<(), Event>
 
 // Clears ZF.
 #[tactic(auto, unfolding(insn_plan::specs::Plan::after_commit, guest_space::specs::Pending::first_refusal, guest_space::specs::Pending::all_written))]
-fn tell_nothing(m: &mut Machine) -> Result<(), Event>
+fn tell_nothing(m: &mut Machine) -> Result<(), Raised>
     ensures { Follows m.old m.new result (after_commit m.old (with_flags (with_zero m.old.world false) m.old.world)) }
 {
     let flags = with_zero(m, false);
@@ -124,7 +124,7 @@ fn tell_nothing(m: &mut Machine) -> Result<(), Event>
 /// LAR. Source: 80386 Programmer's Reference Manual, ch. 17; its mask is own.
 #[inline(never)]
 #[tactic(auto, unfolding(crate::specs::Questions::tell, crate::specs::Raising::in_protected, crate::specs::Raising::invalid_opcode, insn_plan::specs::Plan::carried_out))]
-pub(crate) fn tell_access_rights(m: &mut Machine, i: &Insn) -> Result<(), Event>
+pub(crate) fn tell_access_rights(m: &mut Machine, i: &Insn) -> Result<(), Raised>
     ensures { CarriesOut m.old m.new result (tell access_rights m.old.world i.now) }
 {
     if m.mode() == Mode::Real {
@@ -140,7 +140,7 @@ pub(crate) fn tell_access_rights(m: &mut Machine, i: &Insn) -> Result<(), Event>
 /// LSL. Source: 80386 Programmer's Reference Manual, ch. 17.
 #[inline(never)]
 #[tactic(auto, unfolding(crate::specs::Questions::tell, crate::specs::Raising::in_protected, crate::specs::Raising::invalid_opcode, insn_plan::specs::Plan::carried_out))]
-pub(crate) fn tell_byte_limit(m: &mut Machine, i: &Insn) -> Result<(), Event>
+pub(crate) fn tell_byte_limit(m: &mut Machine, i: &Insn) -> Result<(), Raised>
     ensures { CarriesOut m.old m.new result (tell byte_limit m.old.world i.now) }
 {
     if m.mode() == Mode::Real {
@@ -163,7 +163,7 @@ pub(crate) fn privilege_of(sel: u32) -> u32
 /// ARPL. Source: as above.
 #[inline(never)]
 #[tactic(auto, unfolding(crate::specs::Questions::arpl, crate::specs::Raising::in_protected, crate::specs::Raising::invalid_opcode, insn_plan::specs::Plan::carried_out))]
-pub(crate) fn arpl(m: &mut Machine, i: &Insn) -> Result<(), Event>
+pub(crate) fn arpl(m: &mut Machine, i: &Insn) -> Result<(), Raised>
     ensures { CarriesOut m.old m.new result (arpl m.old.world i.now) }
 {
     if m.mode() == Mode::Real {

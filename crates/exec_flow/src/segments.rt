@@ -17,10 +17,10 @@ ghost use Rattle.insn_plan.specs.Plan.{CarriesOut};
 use crate::pointers::{pointer, pointer_offset, pointer_selector};
 use crate::stack_tops::popped_esp;
 use client_world::general::ESP;
-use client_world::{Event, Fault, Mode, SegReg, low_half};
+use client_world::{Fault, Mode, SegReg, low_half};
 use guest_space::Machine;
 use insn_forms::{Insn, Operand};
-use insn_plan::{push_item, put_operand, source, stack_item};
+use insn_plan::{Raised, push_item, put_operand, source, stack_item};
 
 /// Whether a selector may be loaded into a segment register; in real mode every word may.
 #[inline(always)]
@@ -50,7 +50,7 @@ fn load_segment(m: &mut Machine, seg: SegReg, sel: u16) -> Result<(), Fault>
 // MOV into a segment register.
 #[inline(always)]
 #[tactic(auto, unfolding(crate::specs::Segments::mov_to_segment, crate::specs::Segments::segment_loaded, insn_plan::specs::Plan::carried_out, insn_plan::specs::Plan::after_commit, guest_space::specs::Pending::first_refusal, guest_space::specs::Pending::all_written))]
-fn mov_to_segment(m: &mut Machine, i: &Insn, seg: SegReg) -> Result<(), Event>
+fn mov_to_segment(m: &mut Machine, i: &Insn, seg: SegReg) -> Result<(), Raised>
     ensures { CarriesOut m.old m.new result (mov_to_segment m.old.world i.now seg) }
 {
     let v = source(m, i.addr32, 16, &i.second)?;
@@ -61,7 +61,7 @@ fn mov_to_segment(m: &mut Machine, i: &Insn, seg: SegReg) -> Result<(), Event>
 // MOV from a segment register.
 #[inline(always)]
 #[tactic(auto, unfolding(crate::specs::Segments::mov_from_segment, insn_plan::specs::Plan::carried_out))]
-fn mov_from_segment(m: &mut Machine, i: &Insn) -> Result<(), Event>
+fn mov_from_segment(m: &mut Machine, i: &Insn) -> Result<(), Raised>
     ensures { CarriesOut m.old m.new result (mov_from_segment m.old.world i.now) }
 {
     let v = source(m, i.addr32, 16, &i.second)?;
@@ -71,7 +71,7 @@ fn mov_from_segment(m: &mut Machine, i: &Insn) -> Result<(), Event>
 /// MOV with a segment register. Source: 80386 Programmer's Reference Manual, ch. 17.
 #[inline(always)]
 #[tactic(auto, unfolding(crate::specs::Segments::mov_segment))]
-pub(crate) fn mov_segment(m: &mut Machine, i: &Insn) -> Result<(), Event>
+pub(crate) fn mov_segment(m: &mut Machine, i: &Insn) -> Result<(), Raised>
     ensures { CarriesOut m.old m.new result (mov_segment m.old.world i.now) }
 {
     match i.first {
@@ -87,7 +87,7 @@ pub(crate) fn mov_segment(m: &mut Machine, i: &Insn) -> Result<(), Event>
 /// PUSH of a segment register. Source: as above.
 #[inline(always)]
 #[tactic(auto, unfolding(crate::specs::Segments::push_segment, insn_plan::specs::Plan::carried_out))]
-pub(crate) fn push_segment(m: &mut Machine, i: &Insn) -> Result<(), Event>
+pub(crate) fn push_segment(m: &mut Machine, i: &Insn) -> Result<(), Raised>
     ensures { CarriesOut m.old m.new result (push_segment m.old.world i.now) }
 {
     let v = source(m, i.addr32, i.width, &i.first)?;
@@ -97,7 +97,7 @@ pub(crate) fn push_segment(m: &mut Machine, i: &Insn) -> Result<(), Event>
 // POP into a segment register.
 #[inline(always)]
 #[tactic(auto, unfolding(crate::specs::Segments::pop_into, crate::specs::Segments::segment_loaded, insn_plan::specs::Plan::carried_out, insn_plan::specs::Plan::after_commit, guest_space::specs::Pending::first_refusal, guest_space::specs::Pending::all_written, client_world::specs::General::with_general, insn_plan::specs::Stack::items_popped))]
-fn pop_into(m: &mut Machine, i: &Insn, seg: SegReg) -> Result<(), Event>
+fn pop_into(m: &mut Machine, i: &Insn, seg: SegReg) -> Result<(), Raised>
     ensures { CarriesOut m.old m.new result (pop_into m.old.world i.now seg) }
 {
     let v = stack_item(m, i.width, 0)?;
@@ -111,7 +111,7 @@ fn pop_into(m: &mut Machine, i: &Insn, seg: SegReg) -> Result<(), Event>
 /// POP of a segment register. Source: as above.
 #[inline(always)]
 #[tactic(auto, unfolding(crate::specs::Segments::pop_segment, insn_plan::specs::Plan::carried_out, insn_plan::specs::Plan::after_commit, guest_space::specs::Pending::first_refusal, guest_space::specs::Pending::all_written))]
-pub(crate) fn pop_segment(m: &mut Machine, i: &Insn) -> Result<(), Event>
+pub(crate) fn pop_segment(m: &mut Machine, i: &Insn) -> Result<(), Raised>
     ensures { CarriesOut m.old m.new result (pop_segment m.old.world i.now) }
 {
     match i.first {
@@ -127,7 +127,7 @@ pub(crate) fn pop_segment(m: &mut Machine, i: &Insn) -> Result<(), Event>
 /// LES, LDS, LSS, LFS, LGS. Source: 80386 Programmer's Reference Manual, ch. 17, LGS/LSS/LDS/LES/LFS.
 #[inline(always)]
 #[tactic(auto, unfolding(crate::specs::Segments::load_pointer, crate::specs::Segments::segment_loaded, insn_plan::specs::Plan::carried_out), using(crate::proofs::Loaded::settled_with_selector, insn_plan::proofs::Settled::refused_with))]
-pub(crate) fn load_pointer(m: &mut Machine, i: &Insn, seg: SegReg) -> Result<(), Event>
+pub(crate) fn load_pointer(m: &mut Machine, i: &Insn, seg: SegReg) -> Result<(), Raised>
     ensures { CarriesOut m.old m.new result (load_pointer seg m.old.world i.now) }
 {
     let p = pointer(m, i, &i.second)?;

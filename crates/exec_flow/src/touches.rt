@@ -26,10 +26,10 @@ use crate::segments::check_load;
 use crate::transfers::{at_operand_size, check_transfer, immediate};
 use arrayvec::ArrayVec;
 use client_world::faults::{BOUNDS_CHECK, GENERAL_PROTECTION, INVALID_OPCODE};
-use client_world::{Event, Fault, Mode, SegReg, Touch, low_half};
+use client_world::{Fault, Mode, SegReg, Touch, low_half};
 use guest_space::{Machine, byte_count};
 use insn_forms::{Insn, Op, Operand};
-use insn_plan::{Accesses, MAX_ACCESSES, condition, cut_address, offset_of};
+use insn_plan::{Accesses, MAX_ACCESSES, Raised, condition, cut_address, offset_of};
 
 // Whether a transfer may go to an offset of a segment.
 fn check_code(a: &Accesses<'_>, sel: u16, off: u32, ret: bool) -> Result<(), Fault>
@@ -58,7 +58,7 @@ fn check_register(a: &Accesses<'_>, seg: SegReg, sel: u16) -> Result<(), Fault>
 
 // Reads the target of a near transfer, before it is cut.
 #[tactic(auto, unfolding(crate::specs::Transfers::target, insn_plan::specs::Act::value_of))]
-fn target(a: &mut Accesses<'_>, i: &Insn) -> Result<u64, Event>
+fn target(a: &mut Accesses<'_>, i: &Insn) -> Result<u64, Raised>
     requires { length a.old.accesses ≡ 0 }
     ensures value { result ≡ value_of a.old.world (target a.old.world i.now i.now.first) }
     ensures noted { a.new ≡ record a.old { accesses = and_read a.old.accesses (target a.old.world i.now i.now.first) } }
@@ -72,7 +72,7 @@ fn target(a: &mut Accesses<'_>, i: &Insn) -> Result<u64, Event>
 
 // Reads an operand in memory as a number of n bytes.
 #[tactic(auto, unfolding(crate::specs::Pointers::memory_bytes, insn_plan::specs::Act::value_of))]
-fn memory_bytes(a: &mut Accesses<'_>, i: &Insn, n: u8, operand: &Operand) -> Result<u64, Event>
+fn memory_bytes(a: &mut Accesses<'_>, i: &Insn, n: u8, operand: &Operand) -> Result<u64, Raised>
     requires count { IsCount n }
     requires room { length a.old.accesses < 2 }
     ensures value { result ≡ value_of a.old.world (memory_bytes a.old.world i.now n operand.now) }
@@ -94,7 +94,7 @@ fn memory_bytes(a: &mut Accesses<'_>, i: &Insn, n: u8, operand: &Operand) -> Res
 
 // Reads a far pointer as one number, the offset lowest.
 #[tactic(auto, unfolding(crate::specs::Pointers::pointer, insn_plan::specs::Act::value_of))]
-fn pointer(a: &mut Accesses<'_>, i: &Insn, operand: &Operand) -> Result<u64, Event>
+fn pointer(a: &mut Accesses<'_>, i: &Insn, operand: &Operand) -> Result<u64, Raised>
     requires { length a.old.accesses ≡ 0 }
     ensures value { result ≡ value_of a.old.world (pointer a.old.world i.now operand.now) }
     ensures noted { a.new ≡ record a.old { accesses = and_read a.old.accesses (pointer a.old.world i.now operand.now) } }
@@ -109,7 +109,7 @@ fn pointer(a: &mut Accesses<'_>, i: &Insn, operand: &Operand) -> Result<u64, Eve
 
 // Jcc.
 #[tactic(auto, unfolding(crate::specs::Transfers::jcc, crate::specs::Transfers::near_transfer, insn_plan::specs::Accesses::accesses_after))]
-fn jcc(a: &mut Accesses<'_>, i: &Insn, n: u8) -> Result<(), Event>
+fn jcc(a: &mut Accesses<'_>, i: &Insn, n: u8) -> Result<(), Raised>
     requires { length a.old.accesses ≡ 0 }
     ensures { Notes a.old a.new result (jcc a.old.world i.now n) }
 {
@@ -122,7 +122,7 @@ fn jcc(a: &mut Accesses<'_>, i: &Insn, n: u8) -> Result<(), Event>
 
 // JCXZ.
 #[tactic(auto, unfolding(crate::specs::Transfers::jcxz, crate::specs::Transfers::near_transfer, insn_plan::specs::Accesses::accesses_after))]
-fn jcxz(a: &mut Accesses<'_>, i: &Insn) -> Result<(), Event>
+fn jcxz(a: &mut Accesses<'_>, i: &Insn) -> Result<(), Raised>
     requires { length a.old.accesses ≡ 0 }
     ensures { Notes a.old a.new result (jcxz a.old.world i.now) }
 {
@@ -135,7 +135,7 @@ fn jcxz(a: &mut Accesses<'_>, i: &Insn) -> Result<(), Event>
 
 // LOOP, and LOOPE and LOOPNE with their condition.
 #[tactic(auto, unfolding(crate::specs::Transfers::loop_while, crate::specs::Transfers::near_transfer, insn_plan::specs::Accesses::accesses_after))]
-fn loop_while(a: &mut Accesses<'_>, i: &Insn, holds: bool) -> Result<(), Event>
+fn loop_while(a: &mut Accesses<'_>, i: &Insn, holds: bool) -> Result<(), Raised>
     requires { length a.old.accesses ≡ 0 }
     ensures { Notes a.old a.new result (loop_while holds a.old.world i.now) }
 {
@@ -149,7 +149,7 @@ fn loop_while(a: &mut Accesses<'_>, i: &Insn, holds: bool) -> Result<(), Event>
 
 // JMP.
 #[tactic(auto, unfolding(crate::specs::Transfers::jmp, crate::specs::Transfers::near_transfer, insn_plan::specs::Accesses::accesses_after))]
-fn jmp(a: &mut Accesses<'_>, i: &Insn) -> Result<(), Event>
+fn jmp(a: &mut Accesses<'_>, i: &Insn) -> Result<(), Raised>
     requires { length a.old.accesses ≡ 0 }
     ensures { Notes a.old a.new result (jmp a.old.world i.now) }
 {
@@ -160,7 +160,7 @@ fn jmp(a: &mut Accesses<'_>, i: &Insn) -> Result<(), Event>
 
 // CALL.
 #[tactic(auto, unfolding(crate::specs::Transfers::call, crate::specs::Transfers::near_transfer, insn_plan::specs::Accesses::accesses_after), using(insn_plan::proofs::AccessLists::pushed_accesses))]
-fn call(a: &mut Accesses<'_>, i: &Insn) -> Result<(), Event>
+fn call(a: &mut Accesses<'_>, i: &Insn) -> Result<(), Raised>
     requires { length a.old.accesses ≡ 0 }
     ensures { Notes a.old a.new result (call a.old.world i.now) }
 {
@@ -172,7 +172,7 @@ fn call(a: &mut Accesses<'_>, i: &Insn) -> Result<(), Event>
 
 // RET.
 #[tactic(auto, unfolding(crate::specs::Transfers::ret, crate::specs::Transfers::near_transfer, insn_plan::specs::Accesses::accesses_after))]
-fn ret(a: &mut Accesses<'_>, i: &Insn) -> Result<(), Event>
+fn ret(a: &mut Accesses<'_>, i: &Insn) -> Result<(), Raised>
     requires { length a.old.accesses ≡ 0 }
     ensures { Notes a.old a.new result (ret a.old.world i.now) }
 {
@@ -183,7 +183,7 @@ fn ret(a: &mut Accesses<'_>, i: &Insn) -> Result<(), Event>
 
 // JMP far.
 #[tactic(auto, unfolding(crate::specs::FarTransfers::jump_far, crate::specs::FarTransfers::far_transfer, insn_plan::specs::Accesses::accesses_after))]
-fn jump_far(a: &mut Accesses<'_>, i: &Insn) -> Result<(), Event>
+fn jump_far(a: &mut Accesses<'_>, i: &Insn) -> Result<(), Raised>
     requires { length a.old.accesses ≡ 0 }
     ensures { Notes a.old a.new result (jump_far a.old.world i.now) }
 {
@@ -194,7 +194,7 @@ fn jump_far(a: &mut Accesses<'_>, i: &Insn) -> Result<(), Event>
 
 // CALL far.
 #[tactic(auto, unfolding(crate::specs::FarTransfers::call_far, crate::specs::FarTransfers::far_transfer, insn_plan::specs::Accesses::accesses_after), using(insn_plan::proofs::AccessLists::pushed_accesses, insn_plan::proofs::AccessLists::pushed_esp))]
-fn call_far(a: &mut Accesses<'_>, i: &Insn) -> Result<(), Event>
+fn call_far(a: &mut Accesses<'_>, i: &Insn) -> Result<(), Raised>
     requires { length a.old.accesses ≡ 0 }
     ensures { Notes a.old a.new result (call_far a.old.world i.now) }
 {
@@ -207,7 +207,7 @@ fn call_far(a: &mut Accesses<'_>, i: &Insn) -> Result<(), Event>
 
 // RETF.
 #[tactic(auto, unfolding(crate::specs::FarTransfers::retf, crate::specs::FarTransfers::far_frame_popped, crate::specs::FarTransfers::far_transfer, insn_plan::specs::Accesses::accesses_after))]
-fn retf(a: &mut Accesses<'_>, i: &Insn) -> Result<(), Event>
+fn retf(a: &mut Accesses<'_>, i: &Insn) -> Result<(), Raised>
     requires { length a.old.accesses ≡ 0 }
     ensures { Notes a.old a.new result (retf a.old.world i.now) }
 {
@@ -219,7 +219,7 @@ fn retf(a: &mut Accesses<'_>, i: &Insn) -> Result<(), Event>
 
 // IRET.
 #[tactic(auto, unfolding(crate::specs::FarTransfers::iret, crate::specs::FarTransfers::frame_popped, crate::specs::FarTransfers::far_transfer, crate::specs::FlagImages::flags_popped, insn_plan::specs::Accesses::accesses_after))]
-fn iret(a: &mut Accesses<'_>, i: &Insn) -> Result<(), Event>
+fn iret(a: &mut Accesses<'_>, i: &Insn) -> Result<(), Raised>
     requires { length a.old.accesses ≡ 0 }
     ensures { Notes a.old a.new result (iret a.old.world i.now) }
 {
@@ -232,7 +232,7 @@ fn iret(a: &mut Accesses<'_>, i: &Insn) -> Result<(), Event>
 
 // PUSHF.
 #[tactic(auto, unfolding(crate::specs::FlagImages::pushf, insn_plan::specs::Accesses::accesses_after), using(insn_plan::proofs::AccessLists::pushed_accesses))]
-fn pushf(a: &mut Accesses<'_>, i: &Insn) -> Result<(), Event>
+fn pushf(a: &mut Accesses<'_>, i: &Insn) -> Result<(), Raised>
     requires { length a.old.accesses ≡ 0 }
     ensures { Notes a.old a.new result (pushf a.old.world i.now) }
 {
@@ -242,7 +242,7 @@ fn pushf(a: &mut Accesses<'_>, i: &Insn) -> Result<(), Event>
 
 // POPF.
 #[tactic(auto, unfolding(crate::specs::FlagImages::popf, crate::specs::FlagImages::flags_popped, insn_plan::specs::Accesses::accesses_after))]
-fn popf(a: &mut Accesses<'_>, i: &Insn) -> Result<(), Event>
+fn popf(a: &mut Accesses<'_>, i: &Insn) -> Result<(), Raised>
     requires { length a.old.accesses ≡ 0 }
     ensures { Notes a.old a.new result (popf a.old.world i.now) }
 {
@@ -252,12 +252,12 @@ fn popf(a: &mut Accesses<'_>, i: &Insn) -> Result<(), Event>
 
 // INTO.
 #[tactic(auto, unfolding(crate::specs::Interrupts::into, insn_plan::specs::Accesses::accesses_after))]
-fn into(a: &mut Accesses<'_>, len: u8) -> Result<(), Event>
+fn into(a: &mut Accesses<'_>, len: u8) -> Result<(), Raised>
     requires { length a.old.accesses ≡ 0 }
     ensures { Notes a.old a.new result (into a.old.world len) }
 {
     if a.regs().flags.of {
-        Err(Event::Soft { number: 4, len })
+        Err(Raised::soft(4, len))
     } else {
         Ok(())
     }
@@ -265,7 +265,7 @@ fn into(a: &mut Accesses<'_>, len: u8) -> Result<(), Event>
 
 // IN.
 #[tactic(auto, unfolding(crate::specs::Ports::input, insn_plan::specs::Accesses::accesses_after), using(insn_plan::proofs::AccessLists::put_accesses))]
-fn input(a: &mut Accesses<'_>, i: &Insn) -> Result<(), Event>
+fn input(a: &mut Accesses<'_>, i: &Insn) -> Result<(), Raised>
     requires { length a.old.accesses ≡ 0 }
     ensures { Notes a.old a.new result (input a.old.world i.now) }
 {
@@ -275,7 +275,7 @@ fn input(a: &mut Accesses<'_>, i: &Insn) -> Result<(), Event>
 
 // VERR and VERW.
 #[tactic(auto, unfolding(crate::specs::Questions::verify, crate::specs::Raising::in_protected, crate::specs::Raising::invalid_opcode, insn_plan::specs::Accesses::accesses_after))]
-fn verify(a: &mut Accesses<'_>, i: &Insn) -> Result<(), Event>
+fn verify(a: &mut Accesses<'_>, i: &Insn) -> Result<(), Raised>
     requires { length a.old.accesses ≡ 0 }
     ensures { (test : Row → Bool) → Notes a.old a.new result (verify test a.old.world i.now) }
 {
@@ -288,7 +288,7 @@ fn verify(a: &mut Accesses<'_>, i: &Insn) -> Result<(), Event>
 
 // LAR and LSL.
 #[tactic(auto, unfolding(crate::specs::Questions::tell, crate::specs::Raising::in_protected, crate::specs::Raising::invalid_opcode, insn_plan::specs::Accesses::accesses_after), using(insn_plan::proofs::AccessLists::put_accesses))]
-fn tell(a: &mut Accesses<'_>, i: &Insn) -> Result<(), Event>
+fn tell(a: &mut Accesses<'_>, i: &Insn) -> Result<(), Raised>
     requires { length a.old.accesses ≡ 0 }
     ensures { (number : ADesc → ℕ) → Notes a.old a.new result (tell number a.old.world i.now) }
 {
@@ -304,7 +304,7 @@ fn tell(a: &mut Accesses<'_>, i: &Insn) -> Result<(), Event>
 
 // ARPL.
 #[tactic(auto, unfolding(crate::specs::Questions::arpl, crate::specs::Raising::in_protected, crate::specs::Raising::invalid_opcode, insn_plan::specs::Accesses::accesses_after), using(insn_plan::proofs::AccessLists::put_accesses))]
-fn arpl(a: &mut Accesses<'_>, i: &Insn) -> Result<(), Event>
+fn arpl(a: &mut Accesses<'_>, i: &Insn) -> Result<(), Raised>
     requires { length a.old.accesses ≡ 0 }
     ensures { Notes a.old a.new result (arpl a.old.world i.now) }
 {
@@ -321,7 +321,7 @@ fn arpl(a: &mut Accesses<'_>, i: &Insn) -> Result<(), Event>
 
 // MOV into a segment register.
 #[tactic(auto, unfolding(crate::specs::Segments::mov_to_segment, crate::specs::Segments::segment_loaded, insn_plan::specs::Accesses::accesses_after))]
-fn mov_to_segment(a: &mut Accesses<'_>, i: &Insn, seg: SegReg) -> Result<(), Event>
+fn mov_to_segment(a: &mut Accesses<'_>, i: &Insn, seg: SegReg) -> Result<(), Raised>
     requires { length a.old.accesses ≡ 0 }
     ensures { Notes a.old a.new result (mov_to_segment a.old.world i.now seg) }
 {
@@ -332,7 +332,7 @@ fn mov_to_segment(a: &mut Accesses<'_>, i: &Insn, seg: SegReg) -> Result<(), Eve
 
 // MOV from a segment register.
 #[tactic(auto, unfolding(crate::specs::Segments::mov_from_segment, insn_plan::specs::Accesses::accesses_after), using(insn_plan::proofs::AccessLists::put_accesses))]
-fn mov_from_segment(a: &mut Accesses<'_>, i: &Insn) -> Result<(), Event>
+fn mov_from_segment(a: &mut Accesses<'_>, i: &Insn) -> Result<(), Raised>
     requires { length a.old.accesses ≡ 0 }
     ensures { Notes a.old a.new result (mov_from_segment a.old.world i.now) }
 {
@@ -343,7 +343,7 @@ fn mov_from_segment(a: &mut Accesses<'_>, i: &Insn) -> Result<(), Event>
 
 // MOV with a segment register.
 #[tactic(auto, unfolding(crate::specs::Segments::mov_segment, insn_plan::specs::Accesses::accesses_after))]
-fn mov_segment(a: &mut Accesses<'_>, i: &Insn) -> Result<(), Event>
+fn mov_segment(a: &mut Accesses<'_>, i: &Insn) -> Result<(), Raised>
     requires { length a.old.accesses ≡ 0 }
     ensures { Notes a.old a.new result (mov_segment a.old.world i.now) }
 {
@@ -359,7 +359,7 @@ fn mov_segment(a: &mut Accesses<'_>, i: &Insn) -> Result<(), Event>
 
 // PUSH of a segment register.
 #[tactic(auto, unfolding(crate::specs::Segments::push_segment, insn_plan::specs::Accesses::accesses_after), using(insn_plan::proofs::AccessLists::pushed_accesses))]
-fn push_segment(a: &mut Accesses<'_>, i: &Insn) -> Result<(), Event>
+fn push_segment(a: &mut Accesses<'_>, i: &Insn) -> Result<(), Raised>
     requires { length a.old.accesses ≡ 0 }
     ensures { Notes a.old a.new result (push_segment a.old.world i.now) }
 {
@@ -370,7 +370,7 @@ fn push_segment(a: &mut Accesses<'_>, i: &Insn) -> Result<(), Event>
 
 // POP into a segment register.
 #[tactic(auto, unfolding(crate::specs::Segments::pop_into, crate::specs::Segments::segment_loaded, insn_plan::specs::Accesses::accesses_after))]
-fn pop_into(a: &mut Accesses<'_>, i: &Insn, seg: SegReg) -> Result<(), Event>
+fn pop_into(a: &mut Accesses<'_>, i: &Insn, seg: SegReg) -> Result<(), Raised>
     requires { length a.old.accesses ≡ 0 }
     ensures { Notes a.old a.new result (pop_into a.old.world i.now seg) }
 {
@@ -381,7 +381,7 @@ fn pop_into(a: &mut Accesses<'_>, i: &Insn, seg: SegReg) -> Result<(), Event>
 
 // POP of a segment register.
 #[tactic(auto, unfolding(crate::specs::Segments::pop_segment, insn_plan::specs::Accesses::accesses_after))]
-fn pop_segment(a: &mut Accesses<'_>, i: &Insn) -> Result<(), Event>
+fn pop_segment(a: &mut Accesses<'_>, i: &Insn) -> Result<(), Raised>
     requires { length a.old.accesses ≡ 0 }
     ensures { Notes a.old a.new result (pop_segment a.old.world i.now) }
 {
@@ -397,7 +397,7 @@ fn pop_segment(a: &mut Accesses<'_>, i: &Insn) -> Result<(), Event>
 
 // LES, LDS, LSS, LFS, LGS.
 #[tactic(auto, unfolding(crate::specs::Segments::load_pointer, crate::specs::Segments::segment_loaded, insn_plan::specs::Accesses::accesses_after), using(insn_plan::proofs::AccessLists::put_accesses))]
-fn load_pointer(a: &mut Accesses<'_>, i: &Insn, seg: SegReg) -> Result<(), Event>
+fn load_pointer(a: &mut Accesses<'_>, i: &Insn, seg: SegReg) -> Result<(), Raised>
     requires { length a.old.accesses ≡ 0 }
     ensures { Notes a.old a.new result (load_pointer seg a.old.world i.now) }
 {
@@ -409,7 +409,7 @@ fn load_pointer(a: &mut Accesses<'_>, i: &Insn, seg: SegReg) -> Result<(), Event
 
 // LEAVE.
 #[tactic(auto, unfolding(crate::specs::Frames::leave, insn_plan::specs::Accesses::accesses_after))]
-fn leave(a: &mut Accesses<'_>, i: &Insn) -> Result<(), Event>
+fn leave(a: &mut Accesses<'_>, i: &Insn) -> Result<(), Raised>
     requires { length a.old.accesses ≡ 0 }
     ensures { Notes a.old a.new result (leave a.old.world i.now) }
 {
@@ -420,7 +420,7 @@ fn leave(a: &mut Accesses<'_>, i: &Insn) -> Result<(), Event>
 
 // BOUND.
 #[tactic(auto, unfolding(crate::specs::Frames::bound, insn_plan::specs::Accesses::accesses_after))]
-fn bound(a: &mut Accesses<'_>, i: &Insn) -> Result<(), Event>
+fn bound(a: &mut Accesses<'_>, i: &Insn) -> Result<(), Raised>
     requires width { IsTrue (is_width i.now.width) }
     requires start { length a.old.accesses ≡ 0 }
     ensures { Notes a.old a.new result (bound a.old.world i.now) }
@@ -436,7 +436,7 @@ fn bound(a: &mut Accesses<'_>, i: &Insn) -> Result<(), Event>
 }
 
 // Reads the frame pointer that was saved for a level.
-fn read_frame(a: &mut Accesses<'_>, i: &Insn, level: u8) -> Result<u32, Event>
+fn read_frame(a: &mut Accesses<'_>, i: &Insn, level: u8) -> Result<u32, Raised>
     requires { length a.old.accesses < 32 }
     ensures value { result ≡ value_of a.old.world (frame_input a.old.world i.now level) }
     ensures noted { a.new ≡ record a.old { accesses = and_read a.old.accesses (frame_input a.old.world i.now level) } }
@@ -448,7 +448,7 @@ fn read_frame(a: &mut Accesses<'_>, i: &Insn, level: u8) -> Result<u32, Event>
 
 // Reads the saved frame pointers of n levels, from level 1 on.
 #[tactic(auto, using(crate::proofs::EnterLaws::reads_left, crate::proofs::EnterLaws::reads_done, crate::proofs::EnterLaws::reads_refused))]
-fn read_frames(a: &mut Accesses<'_>, i: &Insn, n: u8) -> Result<(), Event>
+fn read_frames(a: &mut Accesses<'_>, i: &Insn, n: u8) -> Result<(), Raised>
     requires few { n < 32 }
     requires start { length a.old.accesses ≡ 0 }
     ensures read { MatchResult result
@@ -476,7 +476,7 @@ fn push_times(a: &mut Accesses<'_>, i: &Insn, n: u8)
 
 // ENTER.
 #[tactic(auto, using(crate::proofs::EnterLaws::enter_plain, crate::proofs::EnterLaws::enter_read, crate::proofs::EnterLaws::enter_fault))]
-fn enter(a: &mut Accesses<'_>, i: &Insn) -> Result<(), Event>
+fn enter(a: &mut Accesses<'_>, i: &Insn) -> Result<(), Raised>
     requires { length a.old.accesses ≡ 0 }
     ensures { Notes a.old a.new result (enter a.old.world i.now) }
 {
@@ -490,7 +490,7 @@ fn enter(a: &mut Accesses<'_>, i: &Insn) -> Result<(), Event>
 
 // Follows an instruction of this crate.
 #[tactic(auto, unfolding(crate::specs::Dispatch::is_flow, crate::specs::Dispatch::flow_row, crate::specs::FlagImages::cli, crate::specs::FlagImages::sti, crate::specs::Ports::output, crate::specs::Interrupts::int, crate::specs::Interrupts::int3, crate::specs::Raising::invalid_opcode, crate::specs::Raising::privileged, crate::specs::Raising::escape, crate::specs::Raising::load_table, crate::specs::Raising::in_protected, insn_plan::specs::Accesses::accesses_after))]
-fn follow(a: &mut Accesses<'_>, insn: &Insn, len: u8) -> Result<(), Event>
+fn follow(a: &mut Accesses<'_>, insn: &Insn, len: u8) -> Result<(), Raised>
     requires flow { IsFlow insn.now }
     requires width { IsTrue (is_width insn.now.width) }
     requires start { length a.old.accesses ≡ 0 }

@@ -20,15 +20,17 @@ ghost use Rattle.insn_plan.specs.Plan.{CarriesOut};
 use crate::stack_tops::released_esp;
 use client_world::faults::GENERAL_PROTECTION;
 use client_world::general::{ECX, ESP};
-use client_world::{Event, Fault, Mode, SegReg};
+use client_world::{Fault, Mode, SegReg};
 use guest_space::Machine;
 use insn_forms::{Insn, Operand};
-use insn_plan::{condition, counter, cut_address, push_item, source, stack_item, with_address};
+use insn_plan::{
+    Raised, condition, counter, cut_address, push_item, source, stack_item, with_address,
+};
 
 // Reads the target of a near transfer, before it is cut, or gives the fault of the access.
 #[inline(always)]
 #[tactic(auto, unfolding(crate::specs::Transfers::target, insn_plan::specs::Act::value_of))]
-fn target(m: &mut Machine, i: &Insn) -> Result<u64, Event>
+fn target(m: &mut Machine, i: &Insn) -> Result<u64, Raised>
     ensures value { result ≡ value_of m.old.world (target m.old.world i.now i.now.first) }
     ensures kept { m.new ≡ m.old }
 {
@@ -100,7 +102,7 @@ fn near_transfer(m: &mut Machine, i: &Insn, ip: u64) -> Result<(), Fault>
 /// Jcc. Source: 80386 Programmer's Reference Manual, ch. 17.
 #[inline(always)]
 #[tactic(auto, unfolding(crate::specs::Transfers::jcc, crate::specs::Transfers::near_transfer, insn_plan::specs::Plan::carried_out, insn_plan::specs::Plan::after_commit, guest_space::specs::Pending::first_refusal, guest_space::specs::Pending::all_written))]
-pub(crate) fn jcc(m: &mut Machine, i: &Insn, n: u8) -> Result<(), Event>
+pub(crate) fn jcc(m: &mut Machine, i: &Insn, n: u8) -> Result<(), Raised>
     ensures { CarriesOut m.old m.new result (jcc m.old.world i.now n) }
 {
     let ip = target(m, i)?;
@@ -113,7 +115,7 @@ pub(crate) fn jcc(m: &mut Machine, i: &Insn, n: u8) -> Result<(), Event>
 /// JCXZ. Source: as above.
 #[inline(always)]
 #[tactic(auto, unfolding(crate::specs::Transfers::jcxz, crate::specs::Transfers::near_transfer, insn_plan::specs::Plan::carried_out, insn_plan::specs::Plan::after_commit, guest_space::specs::Pending::first_refusal, guest_space::specs::Pending::all_written))]
-pub(crate) fn jcxz(m: &mut Machine, i: &Insn) -> Result<(), Event>
+pub(crate) fn jcxz(m: &mut Machine, i: &Insn) -> Result<(), Raised>
     ensures { CarriesOut m.old m.new result (jcxz m.old.world i.now) }
 {
     let ip = target(m, i)?;
@@ -135,7 +137,7 @@ fn count_down(m: &Machine, i: &Insn) -> u32
 /// Source: 80386 Programmer's Reference Manual, ch. 17, "LOOP/LOOPcond"; that a loop whose jump faults keeps its counter is own.
 #[inline(always)]
 #[tactic(auto, unfolding(crate::specs::Transfers::loop_while, crate::specs::Transfers::near_transfer, insn_plan::specs::Plan::carried_out, insn_plan::specs::Plan::after_commit, guest_space::specs::Pending::first_refusal, guest_space::specs::Pending::all_written, client_world::specs::General::with_general))]
-pub(crate) fn loop_while(m: &mut Machine, i: &Insn, holds: bool) -> Result<(), Event>
+pub(crate) fn loop_while(m: &mut Machine, i: &Insn, holds: bool) -> Result<(), Raised>
     ensures { CarriesOut m.old m.new result (loop_while holds m.old.world i.now) }
 {
     let ip = target(m, i)?;
@@ -151,7 +153,7 @@ pub(crate) fn loop_while(m: &mut Machine, i: &Insn, holds: bool) -> Result<(), E
 /// JMP. Source: 80386 Programmer's Reference Manual, ch. 17.
 #[inline(always)]
 #[tactic(auto, unfolding(crate::specs::Transfers::jmp, crate::specs::Transfers::near_transfer, insn_plan::specs::Plan::carried_out, insn_plan::specs::Plan::after_commit, guest_space::specs::Pending::first_refusal, guest_space::specs::Pending::all_written))]
-pub(crate) fn jmp(m: &mut Machine, i: &Insn) -> Result<(), Event>
+pub(crate) fn jmp(m: &mut Machine, i: &Insn) -> Result<(), Raised>
     ensures { CarriesOut m.old m.new result (jmp m.old.world i.now) }
 {
     let ip = target(m, i)?;
@@ -162,7 +164,7 @@ pub(crate) fn jmp(m: &mut Machine, i: &Insn) -> Result<(), Event>
 /// CALL. Source: as above.
 #[inline(always)]
 #[tactic(auto, unfolding(crate::specs::Transfers::call, crate::specs::Transfers::near_transfer, insn_plan::specs::Plan::carried_out), using(insn_plan::proofs::Settled::settled_with, insn_plan::proofs::Settled::refused_with))]
-pub(crate) fn call(m: &mut Machine, i: &Insn) -> Result<(), Event>
+pub(crate) fn call(m: &mut Machine, i: &Insn) -> Result<(), Raised>
     ensures { CarriesOut m.old m.new result (call m.old.world i.now) }
 {
     let ip = target(m, i)?;
@@ -187,7 +189,7 @@ pub(crate) fn immediate(operand: &Operand) -> u32
 /// RET. Source: as above.
 #[inline(always)]
 #[tactic(auto, unfolding(crate::specs::Transfers::ret, crate::specs::Transfers::near_transfer, insn_plan::specs::Plan::carried_out, insn_plan::specs::Plan::after_commit, guest_space::specs::Pending::first_refusal, guest_space::specs::Pending::all_written, client_world::specs::General::with_general, insn_plan::specs::Stack::items_popped))]
-pub(crate) fn ret(m: &mut Machine, i: &Insn) -> Result<(), Event>
+pub(crate) fn ret(m: &mut Machine, i: &Insn) -> Result<(), Raised>
     ensures { CarriesOut m.old m.new result (ret m.old.world i.now) }
 {
     let ip = stack_item(m, i.width, 0)?;

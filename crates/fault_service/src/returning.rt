@@ -4,10 +4,10 @@ ghost use Rattle.insn_plan.specs.Plan.{CarriesOut, planned};
 ghost use Rattle.mode_stack.specs.Stack.{top};
 ghost use Rattle.fault_service.specs.Return.{exception_left, exception_popped, exception_return, exit_of_record, is_exception};
 
-use client_world::{Event, Exit, Flags, Record, Regs, SegReg, is_interrupt_set, low_half};
+use client_world::{Exit, Flags, Record, Regs, SegReg, is_interrupt_set, low_half};
 use exec_flow::frame_bits;
 use guest_space::Machine;
-use insn_plan::stack_item;
+use insn_plan::{Raised, stack_item};
 use mode_stack::{pop, top};
 
 // Whether the innermost record is an exception's.
@@ -32,7 +32,7 @@ struct Frame {
 
 // Reads the frame above the return address, in items of n bits, to which a return may be made; or gives the event.
 #[tactic(auto, unfolding(crate::specs::Return::exception_popped))]
-fn frame_at_top(m: &Machine, bits: u8) -> Result<Frame, Event>
+fn frame_at_top(m: &Machine, bits: u8) -> Result<Frame, Raised>
     ensures { MatchResult result
         (λ frame. planned m.now.world (exception_popped m.now.world bits)
         ≡ Ok (exception_left m.now.world frame.ip frame.cs frame.image frame.sp frame.ss))
@@ -57,7 +57,7 @@ fn frame_at_top(m: &Machine, bits: u8) -> Result<Frame, Event>
 
 // Pops that frame; or gives the event, which changes nothing.
 #[tactic(auto, using(insn_plan::proofs::Settled::carried_event))]
-fn pop_exception(m: &mut Machine, bits: u8) -> Result<(), Event>
+fn pop_exception(m: &mut Machine, bits: u8) -> Result<(), Raised>
     ensures { CarriesOut m.old m.new result (exception_popped m.old.world bits) }
 {
     let frame = frame_at_top(m, bits)?;

@@ -22,6 +22,7 @@ use dos_calls::{Console, Keys};
 use fault_service::{a_machine_changes_only_what_is_written, default_handler_exit, soft_int};
 use guest_space::Machine;
 use insn_decode::Memo;
+use insn_plan::Raised;
 use std::alloc::{AllocError, Global};
 use std::marker::Model;
 
@@ -225,12 +226,12 @@ impl Host {
     // What the event of a client's instruction comes to: its exception is delivered, or its software interrupt is raised. It is out of line, so
     // that the turn of an instruction without an event has one answer to look at.
     #[inline(never)]
-    fn handle_event(&mut self, event: Event) -> Result<(), Exit>
+    fn handle_event(&mut self, raised: Raised) -> Result<(), Exit>
         requires room { self.old.world.lines + 2 ≤ 2 * self.old.world.steps }
-        ensures host { ComesTo self.old self.new result (after_step self.old.world (Err event)) }
-        ensures machine { OnOk result (after_client_event (machine_view self.old) (Err event) ≡ Ok (machine_view self.new)) }
+        ensures host { ComesTo self.old self.new result (after_step self.old.world (Err raised)) }
+        ensures machine { OnOk result (after_client_event (machine_view self.old) (Err raised) ≡ Ok (machine_view self.new)) }
     {
-        match event {
+        match raised.event() {
             Event::Fault(f) => self.deliver(f),
             Event::Soft { number, len } => self.raise_interrupt(number, len),
         }
@@ -246,7 +247,7 @@ impl Host {
     {
         match step_machine(&mut self.machine, &mut self.memo) {
             Ok(()) => Ok(()),
-            Err(event) => self.handle_event(event),
+            Err(raised) => self.handle_event(raised),
         }
     }
 

@@ -7,19 +7,20 @@ ghost use Rattle.dos_calls.specs.Calls.{dos_call};
 ghost use Rattle.dos_calls.specs.Multiplex.{multiplex_call};
 ghost use Rattle.interrupts.specs.Worlds.{world_step, world_popped};
 
-use client_world::{DosDone, Event, Exit};
+use client_world::{DosDone, Exit};
 use cpu_step::step_with_memo;
 use dos_calls::{Console, Keys, every_dos_call_keeps_the_rest, int2f, int21};
 use fault_service::pop_iret;
 use guest_space::Machine;
 use insn_decode::Memo;
+use insn_plan::Raised;
 use interrupts::{
     a_real_frame_is_popped_where_it_fits, can_pop_iret, every_answer_depends_on_the_world_alone,
 };
 
 /// The client's next instruction, or its event, which leaves the machine.
 #[inline(always)]
-pub(crate) fn step_machine(m: &mut Machine, memo: &mut Memo) -> Result<(), Event>
+pub(crate) fn step_machine(m: &mut Machine, memo: &mut Memo) -> Result<(), Raised>
     ensures machine { MatchResult result (λ _. client_step m.old ≡ Ok m.new)
         (λ e. (client_step m.old ≡ Err e) × (m.new ≡ m.old)) }
     ensures world { MatchResult result (λ _. world_step m.old.world ≡ Ok m.new.world)

@@ -4,6 +4,7 @@ pub mod Conditions
 pub mod Counter
 pub mod Operands
 pub mod Plan
+pub mod Raised
 pub mod Registers
 pub mod Stack
 pub mod Written

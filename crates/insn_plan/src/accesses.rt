@@ -8,11 +8,12 @@ ghost use Rattle.insn_plan.specs.Operands.{source};
 ghost use Rattle.insn_plan.specs.Stack.{stack_item, has_big_stack};
 
 use crate::operands::given;
+use crate::raised::Raised;
 use crate::read::{number_at, read_number};
 use crate::registers::{cut_address, offset_of};
 use crate::stack::{has_big_stack, pointer_down, with_pointer};
 use arrayvec::ArrayVec;
-use client_world::{Event, Regs, SegReg, Touch};
+use client_world::{Regs, SegReg, Touch};
 use guest_space::{Machine, byte_count};
 use insn_forms::Operand;
 use std::marker::Model;
@@ -116,7 +117,7 @@ impl<'a> Accesses<'a> {
 
     /// Reads 1, 2, 4, 6 or 8 bytes at an offset of a segment register, or gives the fault of the access.
     #[tactic(auto, using(crate::proofs::Moved::value_moved))]
-    pub fn read(&mut self, seg: SegReg, off: u32, count: u8) -> Result<u64, Event>
+    pub fn read(&mut self, seg: SegReg, off: u32, count: u8) -> Result<u64, Raised>
         requires count { IsCount count }
         requires room { length self.old.accesses < MAX_ACCESSES }
         ensures value { result ≡ value_of self.old.world (From seg off count) }
@@ -129,7 +130,7 @@ impl<'a> Accesses<'a> {
 
     /// Reads an operand, in memory at that width, or gives the fault of the access.
     #[tactic(auto, using(crate::proofs::Moved::value_moved, crate::proofs::Moved::source_moved), unfolding(crate::specs::Operands::source))]
-    pub fn operand(&mut self, addr32: bool, width: u8, operand: &Operand) -> Result<u32, Event>
+    pub fn operand(&mut self, addr32: bool, width: u8, operand: &Operand) -> Result<u32, Raised>
         requires { length self.old.accesses < MAX_ACCESSES }
         ensures value { result ≡ value_of self.old.world (source self.old.world.regs addr32 width operand.now) }
         ensures noted { self.new ≡ record self.old {
@@ -148,7 +149,7 @@ impl<'a> Accesses<'a> {
 
     /// The same, as the number of 1, 2 or 4 bytes.
     #[tactic(auto, using(crate::proofs::Moved::value_moved))]
-    pub fn read_width(&mut self, seg: SegReg, off: u32, count: u8) -> Result<u32, Event>
+    pub fn read_width(&mut self, seg: SegReg, off: u32, count: u8) -> Result<u32, Raised>
         requires count { IsCountOfWidth count }
         requires room { length self.old.accesses < MAX_ACCESSES }
         ensures value { result ≡ value_of self.old.world (From seg off count) }
@@ -170,7 +171,7 @@ impl<'a> Accesses<'a> {
     }
 
     /// Reads the item of a width at a place of the stack, counted from the top, or gives the fault of the access.
-    pub fn stack_item(&mut self, width: u8, place: u8) -> Result<u32, Event>
+    pub fn stack_item(&mut self, width: u8, place: u8) -> Result<u32, Raised>
         requires { length self.old.accesses < MAX_ACCESSES }
         ensures value { result ≡ value_of self.old.world (stack_item self.old.world width place) }
         ensures noted { self.new ≡ record self.old { accesses = and_read self.old.accesses (stack_item self.old.world width place) } }

@@ -8,6 +8,7 @@ mod conditions;
 mod loop_counter;
 mod next;
 mod operands;
+mod raised;
 mod read;
 mod registers;
 mod stack;
@@ -17,6 +18,7 @@ pub use conditions::condition;
 pub use loop_counter::{counter, with_address};
 pub use next::{MAX_WRITES, Next};
 pub use operands::{copy_quickly, put_operand, put_register, put_with_flags, source, write_number};
+pub use raised::Raised;
 pub use read::{number_at, read_number, read_width};
 pub use registers::{cut_address, offset_of, register, set_register};
 pub use stack::{

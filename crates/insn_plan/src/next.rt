@@ -5,8 +5,9 @@ ghost use Rattle.insn_plan.specs.Act.{unchanged};
 ghost use Rattle.insn_plan.specs.Operands.{and_write, put_operand};
 ghost use Rattle.insn_plan.specs.Plan.{Follows, after_commit};
 
+use crate::raised::Raised;
 use crate::registers::{offset_of, set_register};
-use client_world::{Event, Fault, Regs, SegReg};
+use client_world::{Fault, Regs, SegReg};
 use guest_space::{Machine, Write};
 use insn_forms::Operand;
 use std::marker::Model;
@@ -133,7 +134,7 @@ impl Next {
     /// Makes all the writes, and then sets the registers and the virtual interrupt flag; or, where one of the writes has a fault, does
     /// nothing at all.
     #[tactic(auto, unfolding(crate::specs::Plan::after_commit))]
-    pub fn settle(&self, m: &mut Machine) -> Result<(), Event>
+    pub fn settle(&self, m: &mut Machine) -> Result<(), Raised>
         ensures { Follows m.old m.new result (after_commit m.old self.now) }
     {
         m.write_all(&self.writes[..self.write_count])?;

@@ -8,16 +8,17 @@ ghost use Rattle.insn_plan.specs.Plan.{Follows, after_commit};
 ghost use Rattle.insn_plan.specs.Registers.{offset_of, with_register};
 ghost use Rattle.insn_plan.specs.Written.{IsRefused, IsWritten};
 
+use crate::raised::Raised;
 use crate::read::{read_quickly, read_width};
 use crate::registers::{offset_of, register};
-use client_world::{Event, Flags, Regs, SegReg};
+use client_world::{Flags, Regs, SegReg};
 use cpu_values::{put8, put16};
 use guest_space::{Machine, Write, byte_count};
 use insn_forms::{MemForm, Operand};
 
 // Reads an operand in memory.
 #[inline(never)]
-fn memory_source(m: &mut Machine, addr32: bool, width: u8, f: &MemForm) -> Result<u32, Event>
+fn memory_source(m: &mut Machine, addr32: bool, width: u8, f: &MemForm) -> Result<u32, Raised>
     ensures value { result ≡ value_of m.old.world (From f.now.seg (offset_of m.old.world.regs addr32 f.now) (byte_count width)) }
     ensures kept { m.new ≡ m.old }
 {
@@ -41,7 +42,7 @@ pub(crate) fn given(r: &Regs, operand: &Operand) -> u32
 /// Reads an operand, in memory at that width, or gives the fault of the access.
 #[inline(always)]
 #[tactic(auto, unfolding(crate::specs::Operands::source, crate::specs::Act::value_of))]
-pub fn source(m: &mut Machine, addr32: bool, width: u8, operand: &Operand) -> Result<u32, Event>
+pub fn source(m: &mut Machine, addr32: bool, width: u8, operand: &Operand) -> Result<u32, Raised>
     ensures value { result ≡ value_of m.old.world (source m.old.world.regs addr32 width operand.now) }
     ensures kept { m.new ≡ m.old }
 {
@@ -76,7 +77,7 @@ pub fn put_register(m: &mut Machine, width: u8, n: u8, v: u32)
 // Makes a write, by the tables, after its page was noted.
 #[inline(never)]
 #[tactic(auto, using(crate::proofs::WrittenState::made, crate::proofs::WrittenState::refused))]
-fn note_and_write(m: &mut Machine, write: &Write) -> Result<(), Event>
+fn note_and_write(m: &mut Machine, write: &Write) -> Result<(), Raised>
     ensures done { OnOk result (IsWritten write.now m.old m.new) }
     ensures refused { IfErr result (λ e. IsRefused write.now m.old m.new e) }
 {
@@ -95,7 +96,7 @@ pub fn write_number(
     off: u32,
     width: u8,
     value: u32,
-) -> Result<(), Event>
+) -> Result<(), Raised>
     ensures done { OnOk result (IsWritten (record { seg = seg; off = off; width = width; value = value }) m.old m.new) }
     ensures refused { IfErr result (λ e. IsRefused (record { seg = seg; off = off; width = width; value = value }) m.old m.new e) }
 {
@@ -146,7 +147,7 @@ fn put_in_memory(
     width: u8,
     f: &MemForm,
     v: u32,
-) -> Result<(), Event>
+) -> Result<(), Raised>
     ensures { Follows m.old m.new result (after_commit m.old
         (and_write f.now.seg (offset_of m.old.world.regs addr32 f.now) width v (with_flags flags m.old.world))) }
 {
@@ -166,7 +167,7 @@ pub fn put_with_flags(
     width: u8,
     operand: &Operand,
     v: u32,
-) -> Result<(), Event>
+) -> Result<(), Raised>
     ensures { Follows m.old m.new result
         (after_commit m.old (put_operand m.old.world.regs addr32 width operand.now v (with_flags flags m.old.world))) }
 {
@@ -193,7 +194,7 @@ pub fn put_operand(
     width: u8,
     operand: &Operand,
     v: u32,
-) -> Result<(), Event>
+) -> Result<(), Raised>
     ensures { Follows m.old m.new result
         (after_commit m.old (put_operand m.old.world.regs addr32 width operand.now v (unchanged m.old.world))) }
 {

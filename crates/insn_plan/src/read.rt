@@ -3,7 +3,8 @@ ghost use Rattle.std.specs.Prelude.{◌≡◌, IfSome, Ok};
 ghost use Rattle.guest_space.specs.Pending.{IsCountOfWidth, byte_count};
 ghost use Rattle.insn_plan.specs.Act.{From, IsCount, value_of, number_of};
 
-use client_world::{Event, SegReg};
+use crate::raised::Raised;
+use client_world::SegReg;
 use guest_space::{Machine, byte_count};
 
 // The number of one byte.
@@ -53,7 +54,7 @@ fn quadword(bytes: [u8; 8]) -> u64
 /// The number of 1, 2 or 4 bytes at an offset of a segment register, or the fault of the access; the machine is only looked at.
 #[inline(always)]
 #[tactic(auto, unfolding(crate::specs::Act::value_of))]
-pub fn number_at(m: &Machine, seg: SegReg, off: u32, count: u8) -> Result<u32, Event>
+pub fn number_at(m: &Machine, seg: SegReg, off: u32, count: u8) -> Result<u32, Raised>
     requires { IsCountOfWidth count }
     ensures { result ≡ value_of m.now.world (From seg off count) }
 {
@@ -79,7 +80,7 @@ pub(crate) fn read_quickly(m: &Machine, seg: SegReg, off: u32, width: u8) -> Opt
 
 // The number, by the tables, after its page was noted.
 #[inline(never)]
-fn note_and_read(m: &mut Machine, seg: SegReg, off: u32, width: u8) -> Result<u32, Event>
+fn note_and_read(m: &mut Machine, seg: SegReg, off: u32, width: u8) -> Result<u32, Raised>
     ensures value { result ≡ value_of m.old.world (From seg off (byte_count width)) }
     ensures kept { m.new ≡ m.old }
 {
@@ -90,7 +91,7 @@ fn note_and_read(m: &mut Machine, seg: SegReg, off: u32, width: u8) -> Result<u3
 /// Reads a number of a width at an offset of a segment register, or gives the fault of the access. Where a quick look doesn't show it, the
 /// page is noted.
 #[inline(always)]
-pub fn read_width(m: &mut Machine, seg: SegReg, off: u32, width: u8) -> Result<u32, Event>
+pub fn read_width(m: &mut Machine, seg: SegReg, off: u32, width: u8) -> Result<u32, Raised>
     ensures value { result ≡ value_of m.old.world (From seg off (byte_count width)) }
     ensures kept { m.new ≡ m.old }
 {
@@ -102,7 +103,7 @@ pub fn read_width(m: &mut Machine, seg: SegReg, off: u32, width: u8) -> Result<u
 
 /// The number of 1, 2, 4, 6 or 8 bytes at an offset of a segment register, or the fault of the access.
 #[tactic(auto, unfolding(crate::specs::Act::value_of))]
-pub fn read_number(m: &Machine, seg: SegReg, off: u32, count: u8) -> Result<u64, Event>
+pub fn read_number(m: &Machine, seg: SegReg, off: u32, count: u8) -> Result<u64, Raised>
     requires { IsCount count }
     ensures { result ≡ value_of m.now.world (From seg off count) }
 {

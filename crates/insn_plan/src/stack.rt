@@ -18,10 +18,11 @@ ghost use Rattle.insn_plan.specs.declared.next.TheConstants.{MAX_WRITES};
 
 use crate::next::Next;
 use crate::operands::write_number;
+use crate::raised::Raised;
 use crate::read::{doubleword, number_at, word};
 use crate::registers::cut_address;
 use client_world::general::ESP;
-use client_world::{Event, Regs, SegReg};
+use client_world::{Regs, SegReg};
 use guest_space::{Machine, Write, byte_count};
 
 /// Whether the stack pointer is ESP: the segment in SS has B = 1.
@@ -80,7 +81,7 @@ pub fn stack_pointer(m: &Machine, r: &Regs) -> u32
 /// Reads the item of a width at a place of the stack, counted from the top, or gives the fault of the access.
 #[inline(always)]
 #[tactic(auto, unfolding(crate::specs::Stack::stack_item))]
-pub fn stack_item(m: &Machine, width: u8, place: u8) -> Result<u32, Event>
+pub fn stack_item(m: &Machine, width: u8, place: u8) -> Result<u32, Raised>
     ensures { result ≡ value_of m.now.world (stack_item m.now.world width place) }
 {
     let count = byte_count(width);
@@ -94,7 +95,7 @@ pub fn stack_item(m: &Machine, width: u8, place: u8) -> Result<u32, Event>
 /// Source: 80386 Programmer's Reference Manual, ch. 17, PUSH.
 #[inline(always)]
 #[tactic(auto, unfolding(crate::specs::Stack::pushed, crate::specs::Plan::after_commit, client_world::specs::General::with_general))]
-pub fn push_item(m: &mut Machine, width: u8, v: u32) -> Result<(), Event>
+pub fn push_item(m: &mut Machine, width: u8, v: u32) -> Result<(), Raised>
     ensures { Follows m.old m.new result (after_commit m.old (pushed m.old.world width v (unchanged m.old.world))) }
 {
     let big = has_big_stack(m);
@@ -125,7 +126,7 @@ pub fn item_pushed(big: bool, width: u8, esp: u32, v: u32) -> (Write, u32)
 /// Makes the writes of some pushes and then sets ESP; or, where one of them has a fault, does nothing at all.
 #[inline(always)]
 #[tactic(auto, unfolding(crate::specs::Plan::after_commit, client_world::specs::General::with_general))]
-pub fn settle_pushes(m: &mut Machine, writes: &[Write], esp: u32) -> Result<(), Event>
+pub fn settle_pushes(m: &mut Machine, writes: &[Write], esp: u32) -> Result<(), Raised>
     ensures { Follows m.old m.new result (after_commit m.old (pushes_made m.old.world writes.now esp)) }
 {
     m.write_all(writes)?;

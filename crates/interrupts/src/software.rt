@@ -90,8 +90,10 @@ fn push_frame(m: &mut Machine, n: u8) -> Result<(), Fault>
     }
     match next.settle(m) {
         Ok(()) => Ok(()),
-        Err(Event::Fault(f)) => Err(f),
-        Err(Event::Soft { .. }) => unreachable!(),
+        Err(raised) => match raised.event() {
+            Event::Fault(f) => Err(f),
+            Event::Soft { .. } => unreachable!(),
+        },
     }
 }
 
