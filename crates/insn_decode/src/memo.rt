@@ -1,5 +1,5 @@
 // Instructions that were decoded before.
-ghost use Rattle.std.specs.Prelude.{◌≡◌, ◌<◌, IfSome, IsTrue, length, take};
+ghost use Rattle.std.specs.Prelude.{◌≡◌, ◌<◌, ◌≤◌, ◌-◌, ◌*◌, ◌^◌, IfSome, IsTrue, length, take};
 ghost use Rattle.client_world.specs.CodeWords.{code_bytes};
 ghost use Rattle.insn_decode.specs.Decode.{decoded};
 ghost use Rattle.insn_decode.specs.declared.decoding.Decoded.TheVariants.{Whole};
@@ -19,16 +19,18 @@ const PLACES: usize = 4096;
 const WORD_BYTES: u8 = 8;
 
 /// An instruction and the number of its bytes, beside what it was decoded from: 15 code bytes, and whether operands and addresses have
-/// 32 bits by default.
+/// 32 bits by default. Times `scale`, modulo 2^64, a word of code keeps the bytes of an instruction of up to 8 bytes alone.
 #[derive(Clone, Copy)]
 pub struct Entry {
     words: CodeWords,
     big: bool,
+    scale: u64,
     pub insn: Insn,
     pub len: u8,
     ghost decoded: { decoded big (code_bytes words) ≡ Whole insn len },
     ghost well_formed: { IsWellFormed insn },
     ghost some: { 0 < len },
+    ghost scaled: { len ≤ 8 → scale ≡ 2 ^ (8 * (8 - len)) },
 }
 
 /// A memo of decoded instructions. Each entry is what `decode` returns for the bytes that are beside it, so that none is ever out of
@@ -39,18 +41,30 @@ pub struct Memo {
     ghost long: { length entries.items ≡ PLACES },
 }
 
+// The scale of an instruction of `len` bytes.
+fn scale_of(len: u8) -> u64
+    requires { 0 < len }
+    ensures { len ≤ 8 → result ≡ 2 ^ (8 * (8 - len)) }
+{
+    if len < WORD_BYTES {
+        1u64 << (8 * (WORD_BYTES - len))
+    } else {
+        1
+    }
+}
+
 // Whether code bytes agree in the first `len` of them.
 #[inline(always)]
-fn has_same_start(a: CodeWords, b: CodeWords, len: u8) -> bool
-    requires { 0 < len }
+fn has_same_start(a: CodeWords, b: CodeWords, len: u8, scale: u64) -> bool
+    requires some { 0 < len }
+    requires scaled { len ≤ 8 → scale ≡ 2 ^ (8 * (8 - len)) }
     ensures { IsTrue result → take len (code_bytes a) ≡ take len (code_bytes b) }
 {
     if len > WORD_BYTES {
         return a.low == b.low && a.high == b.high;
     }
-    let unused = 8 * (WORD_BYTES - len);
-    // The low bits of two words are the same where those of their difference are 0. This takes one shift.
-    a.low.wrapping_sub(b.low) << unused == 0
+    // The low bits of two words are the same where those of their difference are 0.
+    a.low.wrapping_sub(b.low).wrapping_mul(scale) == 0
 }
 
 impl Entry {
@@ -63,6 +77,7 @@ impl Entry {
                 Some(Entry {
                     words,
                     big,
+                    scale: scale_of(len),
                     insn,
                     len,
                 })
@@ -76,7 +91,7 @@ impl Entry {
     fn is_of(&self, words: CodeWords, big: bool) -> bool
         ensures { IsTrue result → decoded big (code_bytes words) ≡ Whole self.now.insn self.now.len }
     {
-        self.big == big && has_same_start(self.words, words, self.len)
+        self.big == big && has_same_start(self.words, words, self.len, self.scale)
     }
 }
 

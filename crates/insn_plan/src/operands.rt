@@ -9,21 +9,31 @@ ghost use Rattle.insn_plan.specs.Registers.{offset_of, with_register};
 ghost use Rattle.insn_plan.specs.Written.{IsRefused, IsWritten};
 
 use crate::raised::Raised;
-use crate::read::{read_quickly, read_width};
+use crate::read::{note_and_read, read_quickly};
 use crate::registers::{offset_of, register};
 use client_world::{Flags, Regs, SegReg};
 use cpu_values::{put8, put16};
 use guest_space::{Machine, Write, byte_count};
 use insn_forms::{MemForm, Operand};
 
-// Reads an operand in memory.
+// An operand in memory, where a quick look shows it; `None` says nothing. It is out of line, and its answer stays in a register.
+#[inline(never)]
+fn quick_source(m: &Machine, addr32: bool, width: u8, f: &MemForm) -> Option<u32>
+    ensures { IfSome result (λ v.
+        value_of m.now.world (From f.now.seg (offset_of m.now.world.regs addr32 f.now) (byte_count width)) ≡ Ok v) }
+{
+    let off = offset_of(m.registers(), addr32, f);
+    read_quickly(m, f.seg, off, width)
+}
+
+// Reads an operand in memory by the tables.
 #[inline(never)]
 fn memory_source(m: &mut Machine, addr32: bool, width: u8, f: &MemForm) -> Result<u32, Raised>
     ensures value { result ≡ value_of m.old.world (From f.now.seg (offset_of m.old.world.regs addr32 f.now) (byte_count width)) }
     ensures kept { m.new ≡ m.old }
 {
     let off = offset_of(m.registers(), addr32, f);
-    read_width(m, f.seg, off, width)
+    note_and_read(m, f.seg, off, width)
 }
 
 /// What an operand gives that isn't in memory, and 0 for one that is.
@@ -48,7 +58,10 @@ pub fn source(m: &mut Machine, addr32: bool, width: u8, operand: &Operand) -> Re
 {
     match operand {
         Operand::Reg { width, number } => Ok(register(m.registers(), *width, *number)),
-        Operand::Mem(f) => memory_source(m, addr32, width, f),
+        Operand::Mem(f) => match quick_source(m, addr32, width, f) {
+            Some(v) => Ok(v),
+            None => memory_source(m, addr32, width, f),
+        },
         Operand::Imm(v) => Ok(*v),
         Operand::Seg(seg) => Ok(u32::from(m.registers().selector(*seg))),
         Operand::Empty | Operand::Far(_) => Ok(0),
