@@ -120,6 +120,7 @@ fn code_key(m: &Machine) -> u32 {
 }
 
 // Makes the instruction of these code bytes, which the memo learns where it doesn't know it.
+#[cold]
 #[inline(never)]
 #[tactic(auto, using(crate::proofs::KnownSteps::known_step))]
 fn learn_and_step(
@@ -143,6 +144,7 @@ fn learn_and_step(
 }
 
 // Makes the next instruction where a quick look doesn't show its code bytes: their page is noted first.
+#[cold]
 #[inline(never)]
 fn note_and_step(m: &mut Machine, memo: &mut Memo) -> Result<(), Raised>
     ensures { Follows m.old m.new result (client_step m.old) }

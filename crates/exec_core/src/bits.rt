@@ -29,7 +29,7 @@ use insn_plan::{Raised, condition, put_operand, put_with_flags, source};
 pub(crate) fn setcc(m: &mut Machine, i: &Insn, n: u8) -> Result<(), Raised>
     ensures { CarriesOut m.old m.new result (setcc m.old.world i.now n) }
 {
-    let v = u32::from(condition(n, m.registers().flags));
+    let v = u32::from(condition(n, &m.registers().flags));
     put_operand(m, i.addr32, 8, &i.first, v)
 }
 

@@ -40,7 +40,7 @@ pub(crate) fn cut(width: u8, v: u32) -> u32
 }
 
 /// MOV. Source: 80386 Programmer's Reference Manual, ch. 17.
-#[inline(always)]
+#[inline(never)]
 #[tactic(auto, unfolding(crate::specs::Moves::mov, insn_plan::specs::Plan::carried_out))]
 pub(crate) fn mov(m: &mut Machine, i: &Insn) -> Result<(), Raised>
     ensures { CarriesOut m.old m.new result (mov m.old.world i.now) }
@@ -50,7 +50,7 @@ pub(crate) fn mov(m: &mut Machine, i: &Insn) -> Result<(), Raised>
 }
 
 /// MOVZX. Source: as above.
-#[inline(always)]
+#[inline(never)]
 #[tactic(auto, unfolding(crate::specs::Moves::movzx, insn_plan::specs::Plan::carried_out))]
 pub(crate) fn movzx(m: &mut Machine, i: &Insn, from: u8) -> Result<(), Raised>
     requires { IsTrue (is_width from) }
@@ -77,7 +77,7 @@ fn sign_extended(from: u8, width: u8, v: u32) -> u32
 }
 
 /// MOVSX. Source: as above.
-#[inline(always)]
+#[inline(never)]
 #[tactic(auto, unfolding(crate::specs::Moves::movsx, insn_plan::specs::Plan::carried_out))]
 pub(crate) fn movsx(m: &mut Machine, i: &Insn, from: u8) -> Result<(), Raised>
     requires from { IsTrue (is_width from) }
@@ -115,7 +115,7 @@ fn operand_offset(m: &Machine, i: &Insn, operand: &Operand) -> u32
 }
 
 /// LEA. Source: as above.
-#[inline(always)]
+#[inline(never)]
 #[tactic(auto, unfolding(crate::specs::Moves::lea, insn_plan::specs::Plan::carried_out))]
 pub(crate) fn lea(m: &mut Machine, i: &Insn) -> Result<(), Raised>
     requires { IsTrue (is_width i.now.width) }

@@ -19,7 +19,7 @@ use insn_plan::{
 };
 
 /// PUSH. Source: 80386 Programmer's Reference Manual, ch. 17.
-#[inline(always)]
+#[inline(never)]
 #[tactic(auto, unfolding(crate::specs::Stacks::push, insn_plan::specs::Plan::carried_out))]
 pub(crate) fn push(m: &mut Machine, i: &Insn) -> Result<(), Raised>
     ensures { CarriesOut m.old m.new result (push m.old.world i.now) }
@@ -42,7 +42,7 @@ fn pop_into_memory(m: &mut Machine, i: &Insn, f: &MemForm, esp: u32, v: u32) -> 
 }
 
 /// POP. Source: as above.
-#[inline(always)]
+#[inline(never)]
 #[tactic(auto, using(crate::proofs::TopItem::top_item), unfolding(crate::specs::Stacks::pop, insn_plan::specs::Stack::items_popped, insn_plan::specs::Operands::put_operand, insn_plan::specs::Plan::carried_out, insn_plan::specs::Plan::after_commit, guest_space::specs::Pending::first_refusal, guest_space::specs::Pending::all_written, client_world::specs::General::with_general))]
 pub(crate) fn pop(m: &mut Machine, i: &Insn) -> Result<(), Raised>
     ensures { CarriesOut m.old m.new result (pop m.old.world i.now) }

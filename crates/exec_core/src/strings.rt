@@ -172,6 +172,7 @@ pub(crate) fn movs(m: &mut Machine, i: &Insn, len: u8) -> Result<(), Raised>
 }
 
 // The same, where the tables have to be asked.
+#[cold]
 #[inline(never)]
 #[tactic(auto, unfolding(crate::specs::Strings::movs, insn_plan::specs::Plan::carried_out, insn_plan::specs::Plan::after_commit, guest_space::specs::Pending::first_refusal, guest_space::specs::Pending::all_written))]
 fn movs_by_tables(m: &mut Machine, i: &Insn, len: u8) -> Result<(), Raised>

@@ -101,7 +101,7 @@ pub fn pop_far_frame(m: &mut Machine, bits: u8, bytes: u32) -> Result<(), Raised
 }
 
 /// RETF. Source: 80386 Programmer's Reference Manual, ch. 17, RET.
-#[inline(always)]
+#[inline(never)]
 #[tactic(auto, unfolding(crate::specs::FarTransfers::retf))]
 pub(crate) fn retf(m: &mut Machine, i: &Insn) -> Result<(), Raised>
     ensures { CarriesOut m.old m.new result (retf m.old.world i.now) }
@@ -156,7 +156,7 @@ pub fn pop_frame(m: &mut Machine, bits: u8) -> Result<(), Raised>
 }
 
 /// IRET. Source: 80386 Programmer's Reference Manual, ch. 17.
-#[inline(always)]
+#[inline(never)]
 #[tactic(auto, unfolding(crate::specs::FarTransfers::iret))]
 pub(crate) fn iret(m: &mut Machine, i: &Insn) -> Result<(), Raised>
     ensures { CarriesOut m.old m.new result (iret m.old.world i.now) }

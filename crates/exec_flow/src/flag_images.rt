@@ -23,7 +23,7 @@ fn shown_interrupt(m: &Machine) -> bool
 }
 
 /// PUSHF. Source: 80386 Programmer's Reference Manual, ch. 17; what IF shows is own.
-#[inline(always)]
+#[inline(never)]
 #[tactic(auto, unfolding(crate::specs::FlagImages::pushf, insn_plan::specs::Plan::carried_out))]
 pub(crate) fn pushf(m: &mut Machine, i: &Insn) -> Result<(), Raised>
     ensures { CarriesOut m.old m.new result (pushf m.old.world i.now) }
@@ -56,7 +56,7 @@ pub(crate) fn set_popped_flags(m: &mut Machine, image: u32)
 }
 
 /// POPF. Source: as above.
-#[inline(always)]
+#[inline(never)]
 #[tactic(auto, unfolding(crate::specs::FlagImages::popf, crate::specs::FlagImages::flags_popped, insn_plan::specs::Plan::carried_out, insn_plan::specs::Plan::after_commit, guest_space::specs::Pending::first_refusal, guest_space::specs::Pending::all_written, client_world::specs::General::with_general, insn_plan::specs::Stack::items_popped))]
 pub(crate) fn popf(m: &mut Machine, i: &Insn) -> Result<(), Raised>
     ensures { CarriesOut m.old m.new result (popf m.old.world i.now) }

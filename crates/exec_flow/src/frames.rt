@@ -109,7 +109,7 @@ pub(crate) fn enter(m: &mut Machine, i: &Insn) -> Result<(), Raised>
 }
 
 /// LEAVE. Source: 80386 Programmer's Reference Manual, ch. 17.
-#[inline(always)]
+#[inline(never)]
 #[tactic(auto, unfolding(crate::specs::Frames::leave, insn_plan::specs::Plan::carried_out, insn_plan::specs::Plan::after_commit, guest_space::specs::Pending::first_refusal, guest_space::specs::Pending::all_written, client_world::specs::General::with_general, insn_plan::specs::Stack::items_popped))]
 pub(crate) fn leave(m: &mut Machine, i: &Insn) -> Result<(), Raised>
     ensures { CarriesOut m.old m.new result (leave m.old.world i.now) }

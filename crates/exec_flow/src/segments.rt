@@ -69,7 +69,7 @@ fn mov_from_segment(m: &mut Machine, i: &Insn) -> Result<(), Raised>
 }
 
 /// MOV with a segment register. Source: 80386 Programmer's Reference Manual, ch. 17.
-#[inline(always)]
+#[inline(never)]
 #[tactic(auto, unfolding(crate::specs::Segments::mov_segment))]
 pub(crate) fn mov_segment(m: &mut Machine, i: &Insn) -> Result<(), Raised>
     ensures { CarriesOut m.old m.new result (mov_segment m.old.world i.now) }
@@ -85,7 +85,7 @@ pub(crate) fn mov_segment(m: &mut Machine, i: &Insn) -> Result<(), Raised>
 }
 
 /// PUSH of a segment register. Source: as above.
-#[inline(always)]
+#[inline(never)]
 #[tactic(auto, unfolding(crate::specs::Segments::push_segment, insn_plan::specs::Plan::carried_out))]
 pub(crate) fn push_segment(m: &mut Machine, i: &Insn) -> Result<(), Raised>
     ensures { CarriesOut m.old m.new result (push_segment m.old.world i.now) }
@@ -109,7 +109,7 @@ fn pop_into(m: &mut Machine, i: &Insn, seg: SegReg) -> Result<(), Raised>
 }
 
 /// POP of a segment register. Source: as above.
-#[inline(always)]
+#[inline(never)]
 #[tactic(auto, unfolding(crate::specs::Segments::pop_segment, insn_plan::specs::Plan::carried_out, insn_plan::specs::Plan::after_commit, guest_space::specs::Pending::first_refusal, guest_space::specs::Pending::all_written))]
 pub(crate) fn pop_segment(m: &mut Machine, i: &Insn) -> Result<(), Raised>
     ensures { CarriesOut m.old m.new result (pop_segment m.old.world i.now) }
@@ -125,7 +125,7 @@ pub(crate) fn pop_segment(m: &mut Machine, i: &Insn) -> Result<(), Raised>
 }
 
 /// LES, LDS, LSS, LFS, LGS. Source: 80386 Programmer's Reference Manual, ch. 17, LGS/LSS/LDS/LES/LFS.
-#[inline(always)]
+#[inline(never)]
 #[tactic(auto, unfolding(crate::specs::Segments::load_pointer, crate::specs::Segments::segment_loaded, insn_plan::specs::Plan::carried_out), using(crate::proofs::Loaded::settled_with_selector, insn_plan::proofs::Settled::refused_with))]
 pub(crate) fn load_pointer(m: &mut Machine, i: &Insn, seg: SegReg) -> Result<(), Raised>
     ensures { CarriesOut m.old m.new result (load_pointer seg m.old.world i.now) }

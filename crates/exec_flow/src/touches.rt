@@ -114,7 +114,7 @@ fn jcc(a: &mut Accesses<'_>, i: &Insn, n: u8) -> Result<(), Raised>
     ensures { Notes a.old a.new result (jcc a.old.world i.now n) }
 {
     let ip = target(a, i)?;
-    if condition(n, a.regs().flags) {
+    if condition(n, &a.regs().flags) {
         check_near(a, i, ip)?;
     }
     Ok(())

@@ -69,6 +69,16 @@ pub fn check_transfer(m: &Machine, sel: u16, off: u32, ret: bool) -> Result<(), 
     }
 }
 
+// The same of a near transfer, where the hidden part doesn't show it.
+#[cold]
+#[inline(never)]
+fn check_near_by_row(m: &Machine, off: u32) -> Result<(), Fault>
+    ensures { MatchResult result (λ _. transfer_fault m.now.world m.now.world.regs.cs off false ≡ None)
+        (λ fault. transfer_fault m.now.world m.now.world.regs.cs off false ≡ Some fault) }
+{
+    check_transfer(m, m.registers().cs, off, false)
+}
+
 /// Whether a near transfer may go to an offset. Source: as above.
 #[inline(always)]
 pub(crate) fn check_near(m: &Machine, off: u32) -> Result<(), Fault>
@@ -78,7 +88,7 @@ pub(crate) fn check_near(m: &Machine, off: u32) -> Result<(), Fault>
     if m.is_near_target(off) {
         Ok(())
     } else {
-        check_transfer(m, m.registers().cs, off, false)
+        check_near_by_row(m, off)
     }
 }
 
@@ -100,20 +110,20 @@ fn near_transfer(m: &mut Machine, i: &Insn, ip: u64) -> Result<(), Fault>
 }
 
 /// Jcc. Source: 80386 Programmer's Reference Manual, ch. 17.
-#[inline(always)]
+#[inline(never)]
 #[tactic(auto, unfolding(crate::specs::Transfers::jcc, crate::specs::Transfers::near_transfer, insn_plan::specs::Plan::carried_out, insn_plan::specs::Plan::after_commit, guest_space::specs::Pending::first_refusal, guest_space::specs::Pending::all_written))]
 pub(crate) fn jcc(m: &mut Machine, i: &Insn, n: u8) -> Result<(), Raised>
     ensures { CarriesOut m.old m.new result (jcc m.old.world i.now n) }
 {
     let ip = target(m, i)?;
-    if condition(n, m.registers().flags) {
+    if condition(n, &m.registers().flags) {
         near_transfer(m, i, ip)?;
     }
     Ok(())
 }
 
 /// JCXZ. Source: as above.
-#[inline(always)]
+#[inline(never)]
 #[tactic(auto, unfolding(crate::specs::Transfers::jcxz, crate::specs::Transfers::near_transfer, insn_plan::specs::Plan::carried_out, insn_plan::specs::Plan::after_commit, guest_space::specs::Pending::first_refusal, guest_space::specs::Pending::all_written))]
 pub(crate) fn jcxz(m: &mut Machine, i: &Insn) -> Result<(), Raised>
     ensures { CarriesOut m.old m.new result (jcxz m.old.world i.now) }
@@ -135,7 +145,7 @@ fn count_down(m: &Machine, i: &Insn) -> u32
 
 /// LOOP, and LOOPE and LOOPNE with their condition.
 /// Source: 80386 Programmer's Reference Manual, ch. 17, "LOOP/LOOPcond"; that a loop whose jump faults keeps its counter is own.
-#[inline(always)]
+#[inline(never)]
 #[tactic(auto, unfolding(crate::specs::Transfers::loop_while, crate::specs::Transfers::near_transfer, insn_plan::specs::Plan::carried_out, insn_plan::specs::Plan::after_commit, guest_space::specs::Pending::first_refusal, guest_space::specs::Pending::all_written, client_world::specs::General::with_general))]
 pub(crate) fn loop_while(m: &mut Machine, i: &Insn, holds: bool) -> Result<(), Raised>
     ensures { CarriesOut m.old m.new result (loop_while holds m.old.world i.now) }
@@ -151,7 +161,7 @@ pub(crate) fn loop_while(m: &mut Machine, i: &Insn, holds: bool) -> Result<(), R
 }
 
 /// JMP. Source: 80386 Programmer's Reference Manual, ch. 17.
-#[inline(always)]
+#[inline(never)]
 #[tactic(auto, unfolding(crate::specs::Transfers::jmp, crate::specs::Transfers::near_transfer, insn_plan::specs::Plan::carried_out, insn_plan::specs::Plan::after_commit, guest_space::specs::Pending::first_refusal, guest_space::specs::Pending::all_written))]
 pub(crate) fn jmp(m: &mut Machine, i: &Insn) -> Result<(), Raised>
     ensures { CarriesOut m.old m.new result (jmp m.old.world i.now) }
@@ -162,7 +172,7 @@ pub(crate) fn jmp(m: &mut Machine, i: &Insn) -> Result<(), Raised>
 }
 
 /// CALL. Source: as above.
-#[inline(always)]
+#[inline(never)]
 #[tactic(auto, unfolding(crate::specs::Transfers::call, crate::specs::Transfers::near_transfer, insn_plan::specs::Plan::carried_out), using(insn_plan::proofs::Settled::settled_with, insn_plan::proofs::Settled::refused_with))]
 pub(crate) fn call(m: &mut Machine, i: &Insn) -> Result<(), Raised>
     ensures { CarriesOut m.old m.new result (call m.old.world i.now) }
@@ -187,7 +197,7 @@ pub(crate) fn immediate(operand: &Operand) -> u32
 }
 
 /// RET. Source: as above.
-#[inline(always)]
+#[inline(never)]
 #[tactic(auto, unfolding(crate::specs::Transfers::ret, crate::specs::Transfers::near_transfer, insn_plan::specs::Plan::carried_out, insn_plan::specs::Plan::after_commit, guest_space::specs::Pending::first_refusal, guest_space::specs::Pending::all_written, client_world::specs::General::with_general, insn_plan::specs::Stack::items_popped))]
 pub(crate) fn ret(m: &mut Machine, i: &Insn) -> Result<(), Raised>
     ensures { CarriesOut m.old m.new result (ret m.old.world i.now) }

@@ -6,8 +6,8 @@ use client_world::Flags;
 
 // The condition of an even number, by half the number.
 #[inline(always)]
-fn even_condition(half: u8, f: Flags) -> bool
-    ensures { result ≡ even_condition half f }
+fn even_condition(half: u8, f: &Flags) -> bool
+    ensures { result ≡ even_condition half f.now }
 {
     match half {
         0 => f.of,
@@ -23,8 +23,8 @@ fn even_condition(half: u8, f: Flags) -> bool
 
 /// Whether a condition 0 to 15 holds. Source: 80386 Programmer's Reference Manual, appendix D.
 #[inline(always)]
-pub fn condition(n: u8, f: Flags) -> bool
-    ensures { result ≡ condition n f }
+pub fn condition(n: u8, f: &Flags) -> bool
+    ensures { result ≡ condition n f.now }
 {
     if n % 2 == 0 {
         even_condition(n / 2, f)

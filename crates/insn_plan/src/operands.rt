@@ -16,8 +16,8 @@ use cpu_values::{put8, put16};
 use guest_space::{Machine, Write, byte_count};
 use insn_forms::{MemForm, Operand};
 
-// An operand in memory, where a quick look shows it; `None` says nothing. It is out of line, and its answer stays in a register.
-#[inline(never)]
+// An operand in memory, where a quick look shows it; `None` says nothing.
+#[inline(always)]
 fn quick_source(m: &Machine, addr32: bool, width: u8, f: &MemForm) -> Option<u32>
     ensures { IfSome result (λ v.
         value_of m.now.world (From f.now.seg (offset_of m.now.world.regs addr32 f.now) (byte_count width)) ≡ Ok v) }
@@ -27,6 +27,7 @@ fn quick_source(m: &Machine, addr32: bool, width: u8, f: &MemForm) -> Option<u32
 }
 
 // Reads an operand in memory by the tables.
+#[cold]
 #[inline(never)]
 fn memory_source(m: &mut Machine, addr32: bool, width: u8, f: &MemForm) -> Result<u32, Raised>
     ensures value { result ≡ value_of m.old.world (From f.now.seg (offset_of m.old.world.regs addr32 f.now) (byte_count width)) }
@@ -88,6 +89,7 @@ pub fn put_register(m: &mut Machine, width: u8, n: u8, v: u32)
 }
 
 // Makes a write, by the tables, after its page was noted.
+#[cold]
 #[inline(never)]
 #[tactic(auto, using(crate::proofs::WrittenState::made, crate::proofs::WrittenState::refused))]
 fn note_and_write(m: &mut Machine, write: &Write) -> Result<(), Raised>
