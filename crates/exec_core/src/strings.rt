@@ -26,9 +26,23 @@ use client_world::{Flags, SegReg};
 use guest_space::{Machine, byte_count};
 use insn_forms::{Insn, Rep};
 use insn_plan::{
-    Raised, copy_quickly, counter, cut_address, put_register, read_width, register, with_address,
+    Raised, copy_quickly, cut_address, put_register, read_width, register, with_address,
     write_number,
 };
+
+// A row at the element's width and the address size of its instruction, both of which the compiler then knows.
+macro_rules! at_size {
+    ($row:ident, $m:ident, $i:ident, $len:ident) => {
+        match ($i.width, $i.addr32) {
+            (8, false) => $row($m, $i, $len, 8, false),
+            (8, true) => $row($m, $i, $len, 8, true),
+            (16, false) => $row($m, $i, $len, 16, false),
+            (16, true) => $row($m, $i, $len, 16, true),
+            (_, false) => $row($m, $i, $len, 32, false),
+            (_, true) => $row($m, $i, $len, 32, true),
+        }
+    };
+}
 
 // Whether there is a repeat prefix.
 #[inline(always)]
@@ -43,18 +57,20 @@ fn is_repeated(rep: Rep) -> bool
 
 // Whether there is nothing to do: a counter of 0 under a repeat prefix.
 #[inline(always)]
-fn is_over(m: &Machine, i: &Insn) -> bool
+fn is_over(m: &Machine, i: &Insn, addr32: bool) -> bool
+    requires { addr32 ≡ i.now.addr32 }
     ensures { result ≡ is_over m.now.world i.now }
 {
-    is_repeated(i.rep) && counter(m, i) == 0
+    is_repeated(i.rep) && cut_address(addr32, u64::from(m.registers().ecx)) == 0
 }
 
 // How far a string register moves, modulo 2^32: by the bytes of the element, or back by them where DF is set.
 #[inline(always)]
-fn element_distance(m: &Machine, i: &Insn) -> u32
+fn element_distance(m: &Machine, i: &Insn, width: u8) -> u32
+    requires { width ≡ i.now.width }
     ensures { result ≡ element_distance m.now.world i.now }
 {
-    let size = u32::from(byte_count(i.width));
+    let size = u32::from(byte_count(width));
     if m.registers().flags.df {
         u32::MAX - size + 1
     } else {
@@ -64,58 +80,64 @@ fn element_distance(m: &Machine, i: &Insn) -> u32
 
 // A string register after the element, or before it where DF is set.
 #[inline(always)]
-fn next_element(i: &Insn, at: u32, distance: u32) -> u32
-    ensures { result ≡ moved_address i.now.addr32 at distance }
+fn next_element(addr32: bool, at: u32, distance: u32) -> u32
+    ensures { result ≡ moved_address addr32 at distance }
 {
     let moved = u64::from(at) + u64::from(distance);
-    with_address(i.addr32, at, cut_address(i.addr32, moved))
+    with_address(addr32, at, cut_address(addr32, moved))
 }
 
 // The offset of the element at (E)SI.
 #[inline(always)]
-fn source_offset(m: &Machine, i: &Insn) -> u32
-    ensures { result ≡ cut_address i.now.addr32 m.now.world.regs.esi }
+fn source_offset(m: &Machine, addr32: bool) -> u32
+    ensures { result ≡ cut_address addr32 m.now.world.regs.esi }
 {
-    cut_address(i.addr32, u64::from(m.registers().esi))
+    cut_address(addr32, u64::from(m.registers().esi))
 }
 
 // The offset of the element at ES:(E)DI.
 #[inline(always)]
-fn destination_offset(m: &Machine, i: &Insn) -> u32
-    ensures { result ≡ cut_address i.now.addr32 m.now.world.regs.edi }
+fn destination_offset(m: &Machine, addr32: bool) -> u32
+    ensures { result ≡ cut_address addr32 m.now.world.regs.edi }
 {
-    cut_address(i.addr32, u64::from(m.registers().edi))
+    cut_address(addr32, u64::from(m.registers().edi))
 }
 
 // Moves (E)SI to the next element.
 #[inline(always)]
 #[tactic(auto, unfolding(client_world::specs::General::with_general))]
-fn move_source(m: &mut Machine, i: &Insn)
+fn move_source(m: &mut Machine, i: &Insn, width: u8, addr32: bool)
+    requires width { width ≡ i.now.width }
+    requires size { addr32 ≡ i.now.addr32 }
     ensures { m.new ≡ with_registers (with_source_next m.old.world i.now m.old.world.regs) m.old }
 {
-    let esi = next_element(i, m.registers().esi, element_distance(m, i));
+    let esi = next_element(addr32, m.registers().esi, element_distance(m, i, width));
     m.set_general(ESI, esi);
 }
 
 // Moves (E)DI to the next element.
 #[inline(always)]
 #[tactic(auto, unfolding(client_world::specs::General::with_general))]
-fn move_destination(m: &mut Machine, i: &Insn)
+fn move_destination(m: &mut Machine, i: &Insn, width: u8, addr32: bool)
+    requires width { width ≡ i.now.width }
+    requires size { addr32 ≡ i.now.addr32 }
     ensures { m.new ≡ with_registers (with_destination_next m.old.world i.now m.old.world.regs) m.old }
 {
-    let edi = next_element(i, m.registers().edi, element_distance(m, i));
+    let edi = next_element(addr32, m.registers().edi, element_distance(m, i, width));
     m.set_general(EDI, edi);
 }
 
 // Moves both to the next element.
 #[inline(always)]
 #[tactic(auto, unfolding(client_world::specs::General::with_general))]
-fn move_both(m: &mut Machine, i: &Insn)
+fn move_both(m: &mut Machine, i: &Insn, width: u8, addr32: bool)
+    requires width { width ≡ i.now.width }
+    requires size { addr32 ≡ i.now.addr32 }
     ensures { m.new ≡ with_registers (with_source_next m.old.world i.now (with_destination_next m.old.world i.now m.old.world.regs)) m.old }
 {
-    let distance = element_distance(m, i);
-    let esi = next_element(i, m.registers().esi, distance);
-    let edi = next_element(i, m.registers().edi, distance);
+    let distance = element_distance(m, i, width);
+    let esi = next_element(addr32, m.registers().esi, distance);
+    let edi = next_element(addr32, m.registers().edi, distance);
     m.set_general(ESI, esi);
     m.set_general(EDI, edi);
 }
@@ -123,12 +145,13 @@ fn move_both(m: &mut Machine, i: &Insn)
 // Counts an element under a repeat prefix: the counter goes down, and while there are more the instruction pointer goes back.
 #[inline(always)]
 #[tactic(auto, unfolding(client_world::specs::General::with_general))]
-fn count_element(m: &mut Machine, i: &Insn, len: u8, goes_on: bool)
+fn count_element(m: &mut Machine, i: &Insn, addr32: bool, len: u8, goes_on: bool)
+    requires { addr32 ≡ i.now.addr32 }
     ensures { m.new ≡ with_registers (repeated m.old.world i.now len goes_on m.old.world.regs) m.old }
 {
     if is_repeated(i.rep) {
-        let count = counter(m, i);
-        let ecx = with_address(i.addr32, m.registers().ecx, count.saturating_sub(1));
+        let count = cut_address(addr32, u64::from(m.registers().ecx));
+        let ecx = with_address(addr32, m.registers().ecx, count.saturating_sub(1));
         if goes_on && count != 1 {
             let eip = u64::from(m.registers().eip) + 0x1_0000_0000 - u64::from(len);
             m.set_eip((eip % 0x1_0000_0000) as u32);
@@ -152,19 +175,30 @@ fn goes_on_while(rep: Rep, f: Flags) -> bool
 /// MOVS: the element at ES:(E)DI becomes the one at (E)SI.
 /// Source: 80386 Programmer's Reference Manual, ch. 17, "MOVS/MOVSB/MOVSW/MOVSD"; that a repetition is a step is own.
 #[inline(never)]
-#[tactic(auto, unfolding(crate::specs::Strings::movs, insn_plan::specs::Plan::carried_out, insn_plan::specs::Plan::after_commit, guest_space::specs::Pending::first_refusal, guest_space::specs::Pending::all_written))]
 pub(crate) fn movs(m: &mut Machine, i: &Insn, len: u8) -> Result<(), Raised>
+    requires { IsTrue (is_width i.now.width) }
     ensures { CarriesOut m.old m.new result (movs m.old.world i.now len) }
 {
-    if is_over(m, i) {
+    at_size!(movs_at, m, i, len)
+}
+
+// MOVS at a width and an address size.
+#[inline(always)]
+#[tactic(auto, unfolding(crate::specs::Strings::movs, insn_plan::specs::Plan::carried_out, insn_plan::specs::Plan::after_commit, guest_space::specs::Pending::first_refusal, guest_space::specs::Pending::all_written))]
+fn movs_at(m: &mut Machine, i: &Insn, len: u8, width: u8, addr32: bool) -> Result<(), Raised>
+    requires width { width ≡ i.now.width }
+    requires size { addr32 ≡ i.now.addr32 }
+    ensures { CarriesOut m.old m.new result (movs m.old.world i.now len) }
+{
+    if is_over(m, i, addr32) {
         return Ok(());
     }
-    let source = (i.seg, source_offset(m, i));
-    let destination = (SegReg::Es, destination_offset(m, i));
-    match copy_quickly(m, i.width, source, destination) {
+    let source = (i.seg, source_offset(m, addr32));
+    let destination = (SegReg::Es, destination_offset(m, addr32));
+    match copy_quickly(m, width, source, destination) {
         Some(_) => {
-            move_both(m, i);
-            count_element(m, i, len, true);
+            move_both(m, i, width, addr32);
+            count_element(m, i, addr32, len, true);
             Ok(())
         }
         None => movs_by_tables(m, i, len),
@@ -179,33 +213,44 @@ fn movs_by_tables(m: &mut Machine, i: &Insn, len: u8) -> Result<(), Raised>
     requires { is_over m.old.world i.now ≡ false }
     ensures { CarriesOut m.old m.new result (movs m.old.world i.now len) }
 {
-    let from = source_offset(m, i);
+    let from = source_offset(m, i.addr32);
     let v = read_width(m, i.seg, from, i.width)?;
-    let to = destination_offset(m, i);
+    let to = destination_offset(m, i.addr32);
     write_number(m, SegReg::Es, to, i.width, v)?;
-    move_both(m, i);
-    count_element(m, i, len, true);
+    move_both(m, i, i.width, i.addr32);
+    count_element(m, i, i.addr32, len, true);
     Ok(())
 }
 
 /// CMPS: the flags of the element at (E)SI less the one at ES:(E)DI.
 /// Source: 80386 Programmer's Reference Manual, ch. 17, "CMPS/CMPSB/CMPSW/CMPSD"; that a repetition is a step is own.
 #[inline(never)]
-#[tactic(auto, unfolding(crate::specs::Strings::cmps, insn_plan::specs::Plan::carried_out, insn_plan::specs::Plan::after_commit, guest_space::specs::Pending::first_refusal, guest_space::specs::Pending::all_written))]
 pub(crate) fn cmps(m: &mut Machine, i: &Insn, len: u8) -> Result<(), Raised>
     requires { IsTrue (is_width i.now.width) }
     ensures { CarriesOut m.old m.new result (cmps m.old.world i.now len) }
 {
-    if is_over(m, i) {
+    at_size!(cmps_at, m, i, len)
+}
+
+// CMPS at a width and an address size.
+#[inline(always)]
+#[tactic(auto, unfolding(crate::specs::Strings::cmps, insn_plan::specs::Plan::carried_out, insn_plan::specs::Plan::after_commit, guest_space::specs::Pending::first_refusal, guest_space::specs::Pending::all_written))]
+fn cmps_at(m: &mut Machine, i: &Insn, len: u8, width: u8, addr32: bool) -> Result<(), Raised>
+    requires good { IsTrue (is_width i.now.width) }
+    requires width { width ≡ i.now.width }
+    requires size { addr32 ≡ i.now.addr32 }
+    ensures { CarriesOut m.old m.new result (cmps m.old.world i.now len) }
+{
+    if is_over(m, i, addr32) {
         return Ok(());
     }
-    let first = source_offset(m, i);
-    let a = read_width(m, i.seg, first, i.width)?;
-    let second = destination_offset(m, i);
-    let b = read_width(m, SegReg::Es, second, i.width)?;
-    let flags = difference_flags(i.width, a, b, m.registers().flags);
-    move_both(m, i);
-    count_element(m, i, len, goes_on_while(i.rep, flags));
+    let first = source_offset(m, addr32);
+    let a = read_width(m, i.seg, first, width)?;
+    let second = destination_offset(m, addr32);
+    let b = read_width(m, SegReg::Es, second, width)?;
+    let flags = difference_flags(width, a, b, m.registers().flags);
+    move_both(m, i, width, addr32);
+    count_element(m, i, addr32, len, goes_on_while(i.rep, flags));
     m.set_flags(flags);
     Ok(())
 }
@@ -213,56 +258,89 @@ pub(crate) fn cmps(m: &mut Machine, i: &Insn, len: u8) -> Result<(), Raised>
 /// STOS: the element at ES:(E)DI becomes the accumulator.
 /// Source: 80386 Programmer's Reference Manual, ch. 17, "STOS/STOSB/STOSW/STOSD"; that a repetition is a step is own.
 #[inline(never)]
-#[tactic(auto, unfolding(crate::specs::Strings::stos, insn_plan::specs::Plan::carried_out, insn_plan::specs::Plan::after_commit, guest_space::specs::Pending::first_refusal, guest_space::specs::Pending::all_written))]
 pub(crate) fn stos(m: &mut Machine, i: &Insn, len: u8) -> Result<(), Raised>
+    requires { IsTrue (is_width i.now.width) }
     ensures { CarriesOut m.old m.new result (stos m.old.world i.now len) }
 {
-    if is_over(m, i) {
+    at_size!(stos_at, m, i, len)
+}
+
+// STOS at a width and an address size.
+#[inline(always)]
+#[tactic(auto, unfolding(crate::specs::Strings::stos, insn_plan::specs::Plan::carried_out, insn_plan::specs::Plan::after_commit, guest_space::specs::Pending::first_refusal, guest_space::specs::Pending::all_written))]
+fn stos_at(m: &mut Machine, i: &Insn, len: u8, width: u8, addr32: bool) -> Result<(), Raised>
+    requires width { width ≡ i.now.width }
+    requires size { addr32 ≡ i.now.addr32 }
+    ensures { CarriesOut m.old m.new result (stos m.old.world i.now len) }
+{
+    if is_over(m, i, addr32) {
         return Ok(());
     }
-    let accumulator = register(m.registers(), i.width, EAX);
-    let to = destination_offset(m, i);
-    write_number(m, SegReg::Es, to, i.width, accumulator)?;
-    move_destination(m, i);
-    count_element(m, i, len, true);
+    let accumulator = register(m.registers(), width, EAX);
+    let to = destination_offset(m, addr32);
+    write_number(m, SegReg::Es, to, width, accumulator)?;
+    move_destination(m, i, width, addr32);
+    count_element(m, i, addr32, len, true);
     Ok(())
 }
 
 /// LODS: the accumulator becomes the element at (E)SI.
 /// Source: 80386 Programmer's Reference Manual, ch. 17, "LODS/LODSB/LODSW/LODSD"; that a repetition is a step is own.
 #[inline(never)]
-#[tactic(auto, unfolding(crate::specs::Strings::lods, insn_plan::specs::Plan::carried_out, insn_plan::specs::Plan::after_commit, guest_space::specs::Pending::first_refusal, guest_space::specs::Pending::all_written, client_world::specs::General::with_general, insn_plan::specs::Registers::with_register))]
 pub(crate) fn lods(m: &mut Machine, i: &Insn, len: u8) -> Result<(), Raised>
+    requires { IsTrue (is_width i.now.width) }
     ensures { CarriesOut m.old m.new result (lods m.old.world i.now len) }
 {
-    if is_over(m, i) {
+    at_size!(lods_at, m, i, len)
+}
+
+// LODS at a width and an address size.
+#[inline(always)]
+#[tactic(auto, unfolding(crate::specs::Strings::lods, insn_plan::specs::Plan::carried_out, insn_plan::specs::Plan::after_commit, guest_space::specs::Pending::first_refusal, guest_space::specs::Pending::all_written, client_world::specs::General::with_general, insn_plan::specs::Registers::with_register))]
+fn lods_at(m: &mut Machine, i: &Insn, len: u8, width: u8, addr32: bool) -> Result<(), Raised>
+    requires width { width ≡ i.now.width }
+    requires size { addr32 ≡ i.now.addr32 }
+    ensures { CarriesOut m.old m.new result (lods m.old.world i.now len) }
+{
+    if is_over(m, i, addr32) {
         return Ok(());
     }
-    let from = source_offset(m, i);
-    let v = read_width(m, i.seg, from, i.width)?;
-    put_register(m, i.width, EAX, v);
-    move_source(m, i);
-    count_element(m, i, len, true);
+    let from = source_offset(m, addr32);
+    let v = read_width(m, i.seg, from, width)?;
+    put_register(m, width, EAX, v);
+    move_source(m, i, width, addr32);
+    count_element(m, i, addr32, len, true);
     Ok(())
 }
 
 /// SCAS: the flags of the accumulator less the element at ES:(E)DI.
 /// Source: 80386 Programmer's Reference Manual, ch. 17, "SCAS/SCASB/SCASW/SCASD"; that a repetition is a step is own.
 #[inline(never)]
-#[tactic(auto, unfolding(crate::specs::Strings::scas, insn_plan::specs::Plan::carried_out, insn_plan::specs::Plan::after_commit, guest_space::specs::Pending::first_refusal, guest_space::specs::Pending::all_written))]
 pub(crate) fn scas(m: &mut Machine, i: &Insn, len: u8) -> Result<(), Raised>
     requires { IsTrue (is_width i.now.width) }
     ensures { CarriesOut m.old m.new result (scas m.old.world i.now len) }
 {
-    if is_over(m, i) {
+    at_size!(scas_at, m, i, len)
+}
+
+// SCAS at a width and an address size.
+#[inline(always)]
+#[tactic(auto, unfolding(crate::specs::Strings::scas, insn_plan::specs::Plan::carried_out, insn_plan::specs::Plan::after_commit, guest_space::specs::Pending::first_refusal, guest_space::specs::Pending::all_written))]
+fn scas_at(m: &mut Machine, i: &Insn, len: u8, width: u8, addr32: bool) -> Result<(), Raised>
+    requires good { IsTrue (is_width i.now.width) }
+    requires width { width ≡ i.now.width }
+    requires size { addr32 ≡ i.now.addr32 }
+    ensures { CarriesOut m.old m.new result (scas m.old.world i.now len) }
+{
+    if is_over(m, i, addr32) {
         return Ok(());
     }
-    let from = destination_offset(m, i);
-    let b = read_width(m, SegReg::Es, from, i.width)?;
-    let a = register(m.registers(), i.width, EAX);
-    let flags = difference_flags(i.width, a, b, m.registers().flags);
-    move_destination(m, i);
-    count_element(m, i, len, goes_on_while(i.rep, flags));
+    let from = destination_offset(m, addr32);
+    let b = read_width(m, SegReg::Es, from, width)?;
+    let a = register(m.registers(), width, EAX);
+    let flags = difference_flags(width, a, b, m.registers().flags);
+    move_destination(m, i, width, addr32);
+    count_element(m, i, addr32, len, goes_on_while(i.rep, flags));
     m.set_flags(flags);
     Ok(())
 }
