@@ -8,7 +8,7 @@ ghost use Rattle.cpu_step.specs.Step.{behind, client_row, client_step, code, exe
 use arrayvec::ArrayVec;
 use client_world::faults::{GENERAL_PROTECTION, INVALID_OPCODE};
 use client_world::{CodeWords, Event, Fault, SegReg};
-use exec_core::{carry_out_core, is_core};
+use exec_core::carry_out_core;
 use exec_flow::carry_out_flow;
 use guest_space::Machine;
 use insn_decode::{Decoded, Memo, decode};
@@ -40,10 +40,9 @@ fn run(m: &mut Machine, insn: &Insn, len: u8) -> Result<(), Raised>
     requires { IsWellFormed insn.now }
     ensures { CarriesOut m.old m.new result (client_row m.old.world insn.now len) }
 {
-    if is_core(insn) {
-        carry_out_core(m, insn, len)
-    } else {
-        carry_out_flow(m, insn, len)
+    match carry_out_core(m, insn, len) {
+        Some(result) => result,
+        None => carry_out_flow(m, insn, len),
     }
 }
 

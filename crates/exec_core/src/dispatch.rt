@@ -1,5 +1,5 @@
 // The operations of this crate, and what each of them does.
-ghost use Rattle.std.specs.Prelude.{◌≡◌, IsTrue};
+ghost use Rattle.std.specs.Prelude.{◌≡◌, IfNone, IfSome, IsTrue, false, true};
 ghost use Rattle.exec_core.specs.Dispatch.{is_core, is_no_segment, core_row, IsCore};
 ghost use Rattle.insn_forms.specs.Kinds.{is_width, has_good_number};
 ghost use Rattle.insn_plan.specs.Plan.{CarriesOut};
@@ -71,8 +71,99 @@ pub fn is_core(i: &Insn) -> bool
     }
 }
 
-/// Runs an instruction of this crate, whose EIP is already after it. An event leaves the machine as it was.
+/// Carries out an instruction of this crate, whose EIP is already after it. An event leaves the machine as it was. `None`: the instruction isn't
+/// one of this crate, and nothing is done.
 /// Source: 80386 Programmer's Reference Manual, ch. 17; that an instruction that faults changes nothing is own.
+#[inline(always)]
+#[tactic(auto, unfolding(crate::specs::Dispatch::is_core, crate::specs::Dispatch::core_row))]
+pub fn carry_out_core(m: &mut Machine, insn: &Insn, len: u8) -> Option<Result<(), Raised>>
+    requires width { IsTrue (is_width insn.now.width) }
+    requires number { IsTrue (has_good_number insn.now.op) }
+    ensures done { IfSome result (λ r. CarriesOut m.old m.new r (core_row insn.now.op m.old.world insn.now len)) }
+    ensures core { IfSome result (λ r. is_core insn.now.op insn.now.first insn.now.second ≡ true) }
+    ensures other { IfNone result (is_core insn.now.op insn.now.first insn.now.second ≡ false) }
+    ensures kept { IfNone result (m.new ≡ m.old) }
+{
+    match insn.op {
+        Op::Mov if is_no_segment(&insn.first) && is_no_segment(&insn.second) => Some(mov(m, insn)),
+        Op::Add => Some(binary::<Add>(m, insn)),
+        Op::Or => Some(binary::<Or>(m, insn)),
+        Op::Adc => Some(binary::<AddWithCarry>(m, insn)),
+        Op::Sbb => Some(binary::<SubtractWithBorrow>(m, insn)),
+        Op::And => Some(binary::<And>(m, insn)),
+        Op::Sub => Some(binary::<Subtract>(m, insn)),
+        Op::Xor => Some(binary::<ExclusiveOr>(m, insn)),
+        Op::Cmp => Some(compare::<Subtract>(m, insn)),
+        Op::Test => Some(compare::<And>(m, insn)),
+        Op::Inc => Some(unary::<Increment>(m, insn)),
+        Op::Dec => Some(unary::<Decrement>(m, insn)),
+        Op::Not => Some(unary::<Complement>(m, insn)),
+        Op::Neg => Some(unary::<Negate>(m, insn)),
+        Op::Mul => Some(multiply::<Unsigned>(m, insn)),
+        Op::Imul => Some(multiply_signed(m, insn)),
+        Op::Div => Some(divide::<Unsigned>(m, insn)),
+        Op::Idiv => Some(divide::<Signed>(m, insn)),
+        Op::Daa => Some(decimal_adjust_after_addition(m)),
+        Op::Das => Some(decimal_adjust_after_subtraction(m)),
+        Op::Aaa => Some(adjust_after_addition(m)),
+        Op::Aas => Some(adjust_after_subtraction(m)),
+        Op::Aam => Some(adjust_after_product(m, insn)),
+        Op::Aad => Some(adjust_before_division(m, insn)),
+        Op::Rol => Some(shift::<RotateLeft>(m, insn)),
+        Op::Ror => Some(shift::<RotateRight>(m, insn)),
+        Op::Rcl => Some(shift::<RotateLeftThroughCarry>(m, insn)),
+        Op::Rcr => Some(shift::<RotateRightThroughCarry>(m, insn)),
+        Op::Shl => Some(shift::<ShiftLeft>(m, insn)),
+        Op::Shr => Some(shift::<ShiftRight>(m, insn)),
+        Op::Sar => Some(shift::<ShiftArithmeticRight>(m, insn)),
+        Op::Shld => Some(shift_in::<ShiftLeftDouble>(m, insn)),
+        Op::Shrd => Some(shift_in::<ShiftRightDouble>(m, insn)),
+        Op::Bt => Some(bit_test(m, insn)),
+        Op::Bts => Some(bit_change::<Set>(m, insn)),
+        Op::Btr => Some(bit_change::<Reset>(m, insn)),
+        Op::Btc => Some(bit_change::<Toggle>(m, insn)),
+        Op::Bsf => Some(bit_scan_forward(m, insn)),
+        Op::Bsr => Some(bit_scan_reverse(m, insn)),
+        Op::Setcc(n) => Some(setcc(m, insn, n)),
+        Op::Movzx(from) => Some(movzx(m, insn, from)),
+        Op::Movsx(from) => Some(movsx(m, insn, from)),
+        Op::Xchg => Some(xchg(m, insn)),
+        Op::Lea => Some(lea(m, insn)),
+        Op::Xlat => Some(xlat(m, insn)),
+        Op::Cbw => Some(cbw(m, insn)),
+        Op::Cwd => Some(cwd(m, insn)),
+        Op::Lahf => Some(lahf(m)),
+        Op::Sahf => Some(sahf(m)),
+        Op::Push if is_no_segment(&insn.first) => Some(push(m, insn)),
+        Op::Pop if is_no_segment(&insn.first) => Some(pop(m, insn)),
+        Op::Pusha => Some(pusha(m, insn)),
+        Op::Popa => Some(popa(m, insn)),
+        Op::Movs => Some(movs(m, insn, len)),
+        Op::Cmps => Some(cmps(m, insn, len)),
+        Op::Stos => Some(stos(m, insn, len)),
+        Op::Lods => Some(lods(m, insn, len)),
+        Op::Scas => Some(scas(m, insn, len)),
+        Op::Clc => Some(clc(m)),
+        Op::Stc => Some(stc(m)),
+        Op::Cmc => Some(cmc(m)),
+        Op::Cld => Some(cld(m)),
+        Op::Std => Some(std(m)),
+        Op::Wait => Some(wait(m)),
+        Op::Mov | Op::Push | Op::Pop => None,
+        Op::Pushf | Op::Popf | Op::Jcc(_) | Op::Jcxz | Op::Loop | Op::Loope | Op::Loopne => None,
+        Op::Jmp | Op::JmpFar | Op::Call | Op::CallFar | Op::Ret | Op::Retf | Op::Iret => None,
+        Op::Int | Op::Int3 | Op::Into | Op::Bound | Op::Enter | Op::Leave => None,
+        Op::Cli | Op::Sti | Op::Hlt | Op::In | Op::Out | Op::Ins | Op::Outs => None,
+        Op::Les | Op::Lds | Op::Lss | Op::Lfs | Op::Lgs => None,
+        Op::Lar | Op::Lsl | Op::Verr | Op::Verw | Op::Arpl => None,
+        Op::Sldt | Op::Str | Op::Lldt | Op::Ltr | Op::Sgdt | Op::Sidt | Op::Lgdt | Op::Lidt => None,
+        Op::Smsw | Op::Lmsw | Op::Clts | Op::MovControl | Op::MovDebug | Op::MovTest | Op::Esc =>
+            None,
+    }
+}
+
+/// Runs an instruction of this crate, whose EIP is already after it. An event leaves the machine as it was.
+/// Source: as above.
 pub fn run_core(m: &mut Machine, insn: &Insn, len: u8) -> Result<(), Event>
     requires core { IsCore insn.now }
     requires width { IsTrue (is_width insn.now.width) }
@@ -80,85 +171,8 @@ pub fn run_core(m: &mut Machine, insn: &Insn, len: u8) -> Result<(), Event>
     ensures { CarriesOut m.old m.new result (core_row insn.now.op m.old.world insn.now len) }
 {
     match carry_out_core(m, insn, len) {
-        Ok(()) => Ok(()),
-        Err(raised) => Err(raised.event()),
-    }
-}
-
-/// The same, with the event in one word.
-#[inline(always)]
-#[tactic(auto, unfolding(crate::specs::Dispatch::is_core, crate::specs::Dispatch::core_row))]
-pub fn carry_out_core(m: &mut Machine, insn: &Insn, len: u8) -> Result<(), Raised>
-    requires core { IsCore insn.now }
-    requires width { IsTrue (is_width insn.now.width) }
-    requires number { IsTrue (has_good_number insn.now.op) }
-    ensures { CarriesOut m.old m.new result (core_row insn.now.op m.old.world insn.now len) }
-{
-    match insn.op {
-        Op::Mov => mov(m, insn),
-        Op::Add => binary::<Add>(m, insn),
-        Op::Or => binary::<Or>(m, insn),
-        Op::Adc => binary::<AddWithCarry>(m, insn),
-        Op::Sbb => binary::<SubtractWithBorrow>(m, insn),
-        Op::And => binary::<And>(m, insn),
-        Op::Sub => binary::<Subtract>(m, insn),
-        Op::Xor => binary::<ExclusiveOr>(m, insn),
-        Op::Cmp => compare::<Subtract>(m, insn),
-        Op::Test => compare::<And>(m, insn),
-        Op::Inc => unary::<Increment>(m, insn),
-        Op::Dec => unary::<Decrement>(m, insn),
-        Op::Not => unary::<Complement>(m, insn),
-        Op::Neg => unary::<Negate>(m, insn),
-        Op::Mul => multiply::<Unsigned>(m, insn),
-        Op::Imul => multiply_signed(m, insn),
-        Op::Div => divide::<Unsigned>(m, insn),
-        Op::Idiv => divide::<Signed>(m, insn),
-        Op::Daa => decimal_adjust_after_addition(m),
-        Op::Das => decimal_adjust_after_subtraction(m),
-        Op::Aaa => adjust_after_addition(m),
-        Op::Aas => adjust_after_subtraction(m),
-        Op::Aam => adjust_after_product(m, insn),
-        Op::Aad => adjust_before_division(m, insn),
-        Op::Rol => shift::<RotateLeft>(m, insn),
-        Op::Ror => shift::<RotateRight>(m, insn),
-        Op::Rcl => shift::<RotateLeftThroughCarry>(m, insn),
-        Op::Rcr => shift::<RotateRightThroughCarry>(m, insn),
-        Op::Shl => shift::<ShiftLeft>(m, insn),
-        Op::Shr => shift::<ShiftRight>(m, insn),
-        Op::Sar => shift::<ShiftArithmeticRight>(m, insn),
-        Op::Shld => shift_in::<ShiftLeftDouble>(m, insn),
-        Op::Shrd => shift_in::<ShiftRightDouble>(m, insn),
-        Op::Bt => bit_test(m, insn),
-        Op::Bts => bit_change::<Set>(m, insn),
-        Op::Btr => bit_change::<Reset>(m, insn),
-        Op::Btc => bit_change::<Toggle>(m, insn),
-        Op::Bsf => bit_scan_forward(m, insn),
-        Op::Bsr => bit_scan_reverse(m, insn),
-        Op::Setcc(n) => setcc(m, insn, n),
-        Op::Movzx(from) => movzx(m, insn, from),
-        Op::Movsx(from) => movsx(m, insn, from),
-        Op::Xchg => xchg(m, insn),
-        Op::Lea => lea(m, insn),
-        Op::Xlat => xlat(m, insn),
-        Op::Cbw => cbw(m, insn),
-        Op::Cwd => cwd(m, insn),
-        Op::Lahf => lahf(m),
-        Op::Sahf => sahf(m),
-        Op::Push => push(m, insn),
-        Op::Pop => pop(m, insn),
-        Op::Pusha => pusha(m, insn),
-        Op::Popa => popa(m, insn),
-        Op::Movs => movs(m, insn, len),
-        Op::Cmps => cmps(m, insn, len),
-        Op::Stos => stos(m, insn, len),
-        Op::Lods => lods(m, insn, len),
-        Op::Scas => scas(m, insn, len),
-        Op::Clc => clc(m),
-        Op::Stc => stc(m),
-        Op::Cmc => cmc(m),
-        Op::Cld => cld(m),
-        Op::Std => std(m),
-        Op::Wait => wait(m),
-        _ => unreachable!(),
+        Some(Ok(())) => Ok(()),
+        Some(Err(raised)) => Err(raised.event()),
+        None => unreachable!(),
     }
 }

@@ -81,7 +81,12 @@ pub(crate) fn read_quickly(m: &Machine, seg: SegReg, off: u32, width: u8) -> Opt
 // The number, by the tables, after its page was noted.
 #[cold]
 #[inline(never)]
-pub(crate) fn note_and_read(m: &mut Machine, seg: SegReg, off: u32, width: u8) -> Result<u32, Raised>
+pub(crate) fn note_and_read(
+    m: &mut Machine,
+    seg: SegReg,
+    off: u32,
+    width: u8,
+) -> Result<u32, Raised>
     ensures value { result ≡ value_of m.old.world (From seg off (byte_count width)) }
     ensures kept { m.new ≡ m.old }
 {

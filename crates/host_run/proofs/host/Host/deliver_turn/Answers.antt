@@ -1,7 +1,32 @@
-use Rattle.std.proofs.Common.{rules}
+use Rattle.std.proofs.Common.{◌≡◌, ◌∙◌, Ok, Result, ap, rules, subst, sym}
+use Rattle.client_world.specs.declared.faults.Fault.{Fault}
+use Rattle.client_world.specs.declared.outcome.Exit.{Exit}
+use Rattle.client_world.specs.declared.registers.Mode.{Mode}
+use Rattle.client_world.specs.declared.registers.Mode.TheVariants.{Real, Protected}
+use Rattle.fault_service.specs.ByMode.{delivery}
+use Rattle.fault_service.specs.Delivery.{protected_delivery}
+use Rattle.fault_service.specs.Memory.{DeliveryLaw}
+use Rattle.host_memory.specs.View.{MachineView}
+use Rattle.interrupts.specs.Delivery.{real_delivery}
 use Rattle.host_run.specs.OtherTurns.{exception_turn}
+use Rattle.host_run.specs.View.{machine_view}
 use Rattle.host_run.proofs.host.Host.deliver_turn.Goals as goal
+
+-- in protected mode it is the delivery of that mode
+in_protected : (v : MachineView) (f : Fault) → v.world.mode ≡ Protected → protected_delivery v f ≡ delivery v f
+unfolding delivery
+in_protected v f mode =
+    sym (ap (λ (m : Mode). elim m as (λ _. Result MachineView Exit) [ Real ↦ real_delivery v f | Protected ↦ protected_delivery v f ]) mode)
 
 pub returns-in-Ok-clause-world : goal.returns-in-Ok-clause-world
 unfolding exception_turn
 returns-in-Ok-clause-world c = search rules
+
+pub returns-in-Ok-clause-bytes : goal.returns-in-Ok-clause-bytes
+returns-in-Ok-clause-bytes c =
+    let machine : c.self.inside.machine ≡ machine_view c.args.self.now = ap machine_view c.self.view_is in
+    let law : DeliveryLaw (machine_view c.args.self.now) = subst DeliveryLaw machine c.a_machine_changes_only_what_is_written.ensures.delivery in
+    let new = machine_view c.deliver.new.self in
+    let made : delivery (machine_view c.args.self.now) c.args.f ≡ Ok new =
+    subst (λ (v : MachineView). delivery v c.args.f ≡ Ok new) machine c.in-Ok.ensures.machine in
+    law c.args.f new (in_protected (machine_view c.args.self.now) c.args.f c.requires.mode ∙ made)
