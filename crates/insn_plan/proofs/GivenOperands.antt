@@ -1,7 +1,6 @@
 -- An operand that isn't in memory gives its number.
 use Rattle.std.proofs.Common.{◌≡◌, ℕ, Bool, refl}
 use Rattle.client_world.specs.declared.registers.Regs.{Regs}
-use Rattle.client_world.specs.World.{World}
 use Rattle.insn_forms.specs.declared.insn.MemForm.{MemForm}
 use Rattle.insn_forms.specs.declared.insn.Operand.{Operand}
 use Rattle.insn_forms.specs.declared.insn.Operand.TheVariants.{Empty, Reg, Seg, Mem, Imm, Far}

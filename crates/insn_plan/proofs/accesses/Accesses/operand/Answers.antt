@@ -1,5 +1,4 @@
-use Rattle.std.proofs.Common.{◌∙◌, ap, refl, arith, sym}
-use Rattle.client_world.specs.declared.registers.Regs.{Regs}
+use Rattle.std.proofs.Common.{refl, arith}
 use Rattle.insn_plan.specs.Act.{value_of}
 use Rattle.insn_plan.specs.Operands.{given, source}
 use Rattle.insn_plan.proofs.GivenOperands.{source_given}
