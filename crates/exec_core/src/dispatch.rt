@@ -39,7 +39,6 @@ fn is_no_segment(operand: &Operand) -> bool
 }
 
 /// Whether the instruction is one of this crate.
-#[inline(always)]
 #[tactic(auto, unfolding(crate::specs::Dispatch::is_core))]
 pub fn is_core(i: &Insn) -> bool
     ensures { result ≡ is_core i.now.op i.now.first i.now.second }
