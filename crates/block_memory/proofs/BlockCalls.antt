@@ -15,7 +15,7 @@ use Rattle.host_memory.specs.Layout.{handles_part, pages_of}
 use Rattle.host_memory.proofs.BlockRows.{row_there, held_base}
 use Rattle.host_memory.proofs.Parts.{parts_of}
 use Rattle.block_memory.specs.BlockChanges.{blocks_held, CanHoldIn, CanMoveIn, CanSizeIn, HasBlockIn, HasPagesIn, IsHeldIn, ReplacesBlock, with_at}
-use Rattle.block_memory.specs.BlockSizes.{CanHold, CanMove, HasPages, at_base, base_of_held, extended, sized_block, shorter, slid}
+use Rattle.block_memory.specs.BlockSizes.{CanHold, CanMove, HasPages, at_base, base_of_held, block_with_zero_pages, sized_block, shorter, after_slide}
 use Rattle.block_memory.proofs.BlockSteps.{becomes, for_budget, held_still, held_there, one_budget, ranges_held, replaced_at, same_blocks}
 use Rattle.block_memory.proofs.MoveWrites.{moved, moved_changes}
 use Rattle.block_memory.proofs.PageChanges.{block_reads}
@@ -70,16 +70,16 @@ dropped b c place replaces budget holds =
 
 -- the three writes
 moved_is : (b b1 b2 b3 : List ℕ) (place old base n : ℕ) →
-    b1 ≡ slid b (PAGE_SIZE * BLOCK_TABLES + PAGE_ENTRY_SIZE * first_page old) (PAGE_SIZE * BLOCK_TABLES + PAGE_ENTRY_SIZE * first_page base) (PAGE_ENTRY_SIZE * n) →
-    b2 ≡ slid b1 (PAGE_SIZE * LOCK_COUNTS + LOCK_COUNT_SIZE * first_page old) (PAGE_SIZE * LOCK_COUNTS + LOCK_COUNT_SIZE * first_page base) (LOCK_COUNT_SIZE * n) →
+    b1 ≡ after_slide b (PAGE_SIZE * BLOCK_TABLES + PAGE_ENTRY_SIZE * first_page old) (PAGE_SIZE * BLOCK_TABLES + PAGE_ENTRY_SIZE * first_page base) (PAGE_ENTRY_SIZE * n) →
+    b2 ≡ after_slide b1 (PAGE_SIZE * LOCK_COUNTS + LOCK_COUNT_SIZE * first_page old) (PAGE_SIZE * LOCK_COUNTS + LOCK_COUNT_SIZE * first_page base) (LOCK_COUNT_SIZE * n) →
     b3 ≡ with_block_row b2 place base n → b3 ≡ moved b place old base n
 moved_is b b1 b2 b3 place old base n e f g =
     g ∙ ap (λ (x : List ℕ). with_block_row x place base n)
-    (f ∙ ap (λ (x : List ℕ). slid x (PAGE_SIZE * LOCK_COUNTS + LOCK_COUNT_SIZE * first_page old) (PAGE_SIZE * LOCK_COUNTS + LOCK_COUNT_SIZE * first_page base) (LOCK_COUNT_SIZE * n)) e)
+    (f ∙ ap (λ (x : List ℕ). after_slide x (PAGE_SIZE * LOCK_COUNTS + LOCK_COUNT_SIZE * first_page old) (PAGE_SIZE * LOCK_COUNTS + LOCK_COUNT_SIZE * first_page base) (LOCK_COUNT_SIZE * n)) e)
 
 pub block_moved : (b b1 b2 b3 : List ℕ) (place old base n : ℕ) → CanMoveIn b place old base n →
-    b1 ≡ slid b (PAGE_SIZE * BLOCK_TABLES + PAGE_ENTRY_SIZE * first_page old) (PAGE_SIZE * BLOCK_TABLES + PAGE_ENTRY_SIZE * first_page base) (PAGE_ENTRY_SIZE * n) →
-    b2 ≡ slid b1 (PAGE_SIZE * LOCK_COUNTS + LOCK_COUNT_SIZE * first_page old) (PAGE_SIZE * LOCK_COUNTS + LOCK_COUNT_SIZE * first_page base) (LOCK_COUNT_SIZE * n) →
+    b1 ≡ after_slide b (PAGE_SIZE * BLOCK_TABLES + PAGE_ENTRY_SIZE * first_page old) (PAGE_SIZE * BLOCK_TABLES + PAGE_ENTRY_SIZE * first_page base) (PAGE_ENTRY_SIZE * n) →
+    b2 ≡ after_slide b1 (PAGE_SIZE * LOCK_COUNTS + LOCK_COUNT_SIZE * first_page old) (PAGE_SIZE * LOCK_COUNTS + LOCK_COUNT_SIZE * first_page base) (LOCK_COUNT_SIZE * n) →
     b3 ≡ with_block_row b2 place base n → ReplacesBlock b b3 place (λ o. at_base base o)
 block_moved b b1 b2 b3 place old base n g e1 e2 e3 =
     let blocks = blocks_held b g.budget in
@@ -166,7 +166,7 @@ based_byte base (Some block) at has = has
 -- and in the end it has that address and size
 pub block_resized : (b c d e : List ℕ) (place from old base pages kept : ℕ) (g : CanSizeIn b place base pages) →
     Sizing (blocks_held b g.budget) g.budget place from old base pages kept → ReplacesBlock b c place (λ o. shorter o kept) → ReplacesBlock c d place (λ o. at_base base o) →
-    ReplacesBlock d e place (λ o. extended base o (pages - kept)) → ReplacesBlock b e place (λ o. sized_block base pages o)
+    ReplacesBlock d e place (λ o. block_with_zero_pages base o (pages - kept)) → ReplacesBlock b e place (λ o. sized_block base pages o)
 block_resized b c d e place from old base pages kept g s cut move extend =
     let blocks = blocks_held b g.budget in
     let o = slice_index_or blocks place None in
@@ -179,8 +179,8 @@ block_resized b c d e place from old base pages kept g s cut move extend =
     let size : length cut_list ≡ length blocks = length-set blocks place _ in
     let moved_now : with_at (blocks_held c g.budget) place (λ x. at_base base x) ≡ moved_blocks cut_list place base =
     ap (λ (bs : List (Option MemoryBlock)). moved_blocks bs place base) one.are in
-    let last : with_at (blocks_held d g.budget) place (λ x. extended base x (pages - kept)) ≡ final =
-    ap (λ (bs : List (Option MemoryBlock)). with_at bs place (λ x. extended base x (pages - kept))) (two.are ∙ moved_now)
+    let last : with_at (blocks_held d g.budget) place (λ x. block_with_zero_pages base x (pages - kept)) ≡ final =
+    ap (λ (bs : List (Option MemoryBlock)). with_at bs place (λ x. block_with_zero_pages base x (pages - kept))) (two.are ∙ moved_now)
     ∙ sized_blocks blocks g.budget place from old base pages kept g.holds.sound s in
     let long : length (bytes_of_block o) ≡ PAGE_SIZE * old = length-bytes blocks g.budget place g.holds.sound o refl ∙ ap (λ (n : ℕ). PAGE_SIZE * n) s.has.count in
     let in_cut = held_there blocks place (sized_block base pages o) (shorter o kept) (omega arith)

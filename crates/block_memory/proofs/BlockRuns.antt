@@ -8,7 +8,7 @@ use Rattle.client_world.specs.World.{MemoryBlock}
 use Rattle.guest_ram.specs.Listed.{zeros}
 use Rattle.host_memory.specs.Holds.{Holds}
 use Rattle.block_memory.specs.BlockChanges.{blocks_held, CanHoldIn, HasPagesIn, ReplacesBlock, ReplacesBlocks, with_at}
-use Rattle.block_memory.specs.BlockSizes.{CanHold, HasPages, extended, longer, shorter}
+use Rattle.block_memory.specs.BlockSizes.{CanHold, HasPages, block_with_zero_pages, longer, shorter}
 use Rattle.block_memory.proofs.BlockSteps.{becomes, for_budget, held_there, replaced_by, same_blocks}
 use Rattle.block_memory.proofs.SizedBlocks.{start_longer, step_longer, start_shorter, step_shorter, shorter_next, shorter_byte}
 use Rattle.block_memory.proofs.SizedSound.{can_hold_next, has_pages_next}
@@ -38,7 +38,7 @@ next_page b place base n to g more =
 pub record Extending (old now : List ℕ) (place base from n to : ℕ) : Type 0 where
   pub budget : ℕ
   pub before : Holds old budget
-  pub steps : ReplacesBlocks old now budget (with_at (blocks_held old budget) place (λ o. extended base o (n - from)))
+  pub steps : ReplacesBlocks old now budget (with_at (blocks_held old budget) place (λ o. block_with_zero_pages base o (n - from)))
   pub can : CanHold (blocks_held now budget) budget place base n to
 
 pub extending : (b : List ℕ) (place base from to : ℕ) → CanHoldIn b place base from to → Extending b b place base from from to
@@ -53,8 +53,8 @@ pub extending_in : (old now : List ℕ) (place base from n to : ℕ) → Extendi
 extending_in old now place base from n to s = record { budget = s.budget; holds = s.steps.after; can = s.can }
 
 -- a block that is longer has the bytes of a shorter one
-extended_byte : (base : ℕ) (o : Option MemoryBlock) (more at : ℕ) → HasByte o at → HasByte (extended base o more) at
-unfolding extended
+extended_byte : (base : ℕ) (o : Option MemoryBlock) (more at : ℕ) → HasByte o at → HasByte (block_with_zero_pages base o more) at
+unfolding block_with_zero_pages
 extended_byte base None more at has = absurd has
 extended_byte base (Some block) more at has = elim (cases_eq more 0) [
   | inl none ↦ rw (eq-eqb more 0 none) has
@@ -70,24 +70,24 @@ extended_more old now next place base from n to low more s step =
     let last = step budget s.steps.after.holds in
     let within = s.can.within in let handles = s.can.handles in
     let long : length (blocks_held now budget) ≡ length blocks = ap (λ (bs : List (Option MemoryBlock)). length bs) s.steps.are ∙ length-set blocks place _ in
-    let goal : with_at (blocks_held now budget) place (λ x. Some (longer base x 1)) ≡ slice_set blocks place (extended base o (n + 1 - from)) =
+    let goal : with_at (blocks_held now budget) place (λ x. Some (longer base x 1)) ≡ slice_set blocks place (block_with_zero_pages base o (n + 1 - from)) =
     ap (λ (bs : List (Option MemoryBlock)). with_at bs place (λ x. Some (longer base x 1))) s.steps.are
     ∙ step_longer blocks place base (n - from) o (omega arith)
-    ∙ ap (λ (k : ℕ). slice_set blocks place (extended base o k)) (omega arith) in
+    ∙ ap (λ (k : ℕ). slice_set blocks place (block_with_zero_pages base o k)) (omega arith) in
     record {
       budget = budget;
       before = s.before;
       steps = replaced_by old now next budget _ _ s.steps (becomes now next budget _ _ last goal)
-          (held_there blocks place (extended base o (n + 1 - from)) (extended base o (n - from)) (omega arith) (λ at one two. extended_byte base o (n - from) at one));
+          (held_there blocks place (block_with_zero_pages base o (n + 1 - from)) (block_with_zero_pages base o (n - from)) (omega arith) (λ at one two. extended_byte base o (n - from) at one));
       can = subst (λ (bs : List (Option MemoryBlock)). CanHold bs budget place base (n + 1) to) (sym last.are)
           (can_hold_next (blocks_held now budget) budget place base n to s.can more);
     }
 
 pub extended_all : (old now : List ℕ) (place base from n to : ℕ) → n ≡ to → Extending old now place base from n to →
-    ReplacesBlock old now place (λ o. extended base o (to - from))
+    ReplacesBlock old now place (λ o. block_with_zero_pages base o (to - from))
 extended_all old now place base from n to end s =
-    for_budget old now place (λ o. extended base o (to - from)) s.budget s.before
-    (subst (λ (k : ℕ). ReplacesBlocks old now s.budget (with_at (blocks_held old s.budget) place (λ o. extended base o (k - from)))) end s.steps)
+    for_budget old now place (λ o. block_with_zero_pages base o (to - from)) s.budget s.before
+    (subst (λ (k : ℕ). ReplacesBlocks old now s.budget (with_at (blocks_held old s.budget) place (λ o. block_with_zero_pages base o (k - from)))) end s.steps)
 
 -- how far pages are removed
 pub record Cutting (old now : List ℕ) (place base n : ℕ) : Type 0 where

@@ -11,7 +11,7 @@ use Rattle.guest_ram.specs.Bytes.{put, region}
 use Rattle.guest_ram.specs.Listed.{copies}
 use Rattle.guest_ram.proofs.ListedLaws.{length-copies}
 use Rattle.guest_ram.proofs.PutLaws.{length-region, at_region}
-use Rattle.block_memory.specs.BlockSizes.{CanMove, HasPages, at_base, vacant, vacated, slid}
+use Rattle.block_memory.specs.BlockSizes.{CanMove, HasPages, at_base, vacant_count, vacant_start, after_slide}
 use Rattle.host_memory.specs.Holds.{Holds}
 use Rattle.host_memory.specs.Layout.{world_of, address_of, handles_part, tables_part, locks_part, base_of, pages_of, first_page_of, held_block}
 use Rattle.block_memory.proofs.BlockMore.{blocks_of}
@@ -37,19 +37,19 @@ region_region b lo n at m room within =
     at_region b (lo + at) m k (omega arith) ∙ ap (λ (j : ℕ). get_or b j 0) (add_assoc lo at k)
     ∙ sym (at_region (region b lo n) at m k (omega arith) ∙ at_region b lo n (at + k) (omega arith)))
 
-shift_vacant : (lo from to n : ℕ) → vacant (lo + from) (lo + to) n ≡ vacant from to n
+shift_vacant : (lo from to n : ℕ) → vacant_count (lo + from) (lo + to) n ≡ vacant_count from to n
 shift_vacant lo from to n = elim (cases_lt from to) [
   | inl up ↦ rw (lt-ltb from to up, lt-ltb (lo + from) (lo + to) (let e : lo + from < lo + to = omega arith in e)) (omega arith)
   | inr down ↦ rw (le-ltb from to down, le-ltb (lo + from) (lo + to) (let e : lo + to ≤ lo + from = omega arith in e)) (omega arith)
 ]
 
-shift_vacated : (lo from to n : ℕ) → vacated (lo + from) (lo + to) n ≡ lo + vacated from to n
+shift_vacated : (lo from to n : ℕ) → vacant_start (lo + from) (lo + to) n ≡ lo + vacant_start from to n
 shift_vacated lo from to n = elim (cases_lt from to) [
   | inl up ↦ rw (lt-ltb from to up, lt-ltb (lo + from) (lo + to) (let e : lo + from < lo + to = omega arith in e)) refl
   | inr down ↦ rw (le-ltb from to down, le-ltb (lo + from) (lo + to) (let e : lo + to ≤ lo + from = omega arith in e)) (omega arith)
 ]
 
-left_inside : (from to n room : ℕ) → from + n ≤ room → vacated from to n + vacant from to n ≤ room
+left_inside : (from to n room : ℕ) → from + n ≤ room → vacant_start from to n + vacant_count from to n ≤ room
 left_inside from to n room fits = elim (cases_lt from to) [
   | inl up ↦ rw (lt-ltb from to up) (omega arith)
   | inr down ↦ rw (le-ltb from to down) (omega arith)
@@ -60,20 +60,20 @@ slid_part : (b : List ℕ) (budget lo room from to n : ℕ) (with_part : List �
     from + n ≤ room → to + n ≤ room → parts_of b budget ≡ with_part (region b lo room) →
     ((c ys xs : List ℕ) (at : ℕ) → HasSize c budget → parts_of c budget ≡ with_part ys → at + length xs ≤ room →
     parts_of (put c (lo + at) xs) budget ≡ with_part (put ys at xs)) →
-    parts_of (slid b (lo + from) (lo + to) n) budget ≡ with_part (slid (region b lo room) from to n)
-unfolding slid
+    parts_of (after_slide b (lo + from) (lo + to) n) budget ≡ with_part (after_slide (region b lo room) from to n)
+unfolding after_slide
 slid_part b budget lo room from to n with_part size within source target e puts =
     let xs = region (region b lo room) from n in
     let long : length xs ≡ n = length-region (region b lo room) from n (omega (arith, length-region b lo room within)) in
-    let left = copies (vacant from to n) 0 in
+    let left = copies (vacant_count from to n) 0 in
     rw (shift_vacated lo from to n, shift_vacant lo from to n, region_region b lo room from n within source)
-    (puts (put b (lo + to) xs) (put (region b lo room) to xs) left (vacated from to n) (size_put b budget (lo + to) xs size)
-    (puts b (region b lo room) xs to size e (omega arith)) (omega (arith, length-copies (vacant from to n) 0, left_inside from to n room source)))
+    (puts (put b (lo + to) xs) (put (region b lo room) to xs) left (vacant_start from to n) (size_put b budget (lo + to) xs size)
+    (puts b (region b lo room) xs to size e (omega arith)) (omega (arith, length-copies (vacant_count from to n) 0, left_inside from to n room source)))
 
 -- entries move in the tables
 slid_tables : (b : List ℕ) (budget from to n : ℕ) → HasSize b budget → from + n ≤ PAGE_SIZE * BLOCK_TABLE_FRAMES → to + n ≤ PAGE_SIZE * BLOCK_TABLE_FRAMES →
-    parts_of (slid b (PAGE_SIZE * BLOCK_TABLES + from) (PAGE_SIZE * BLOCK_TABLES + to) n) budget
-    ≡ record (parts_of b budget) { tables = slid (tables_part b) from to n }
+    parts_of (after_slide b (PAGE_SIZE * BLOCK_TABLES + from) (PAGE_SIZE * BLOCK_TABLES + to) n) budget
+    ≡ record (parts_of b budget) { tables = after_slide (tables_part b) from to n }
 slid_tables b budget from to n size source target =
     slid_part b budget (PAGE_SIZE * BLOCK_TABLES) (PAGE_SIZE * BLOCK_TABLE_FRAMES) from to n (λ ys. record (parts_of b budget) { tables = ys })
     size (omega arith) source target refl
@@ -81,8 +81,8 @@ slid_tables b budget from to n size source target =
 
 -- and words in the lock counts
 slid_locks : (b : List ℕ) (budget from to n : ℕ) → HasSize b budget → from + n ≤ PAGE_SIZE * LOCK_COUNT_FRAMES → to + n ≤ PAGE_SIZE * LOCK_COUNT_FRAMES →
-    parts_of (slid b (PAGE_SIZE * LOCK_COUNTS + from) (PAGE_SIZE * LOCK_COUNTS + to) n) budget
-    ≡ record (parts_of b budget) { locks = slid (locks_part b) from to n }
+    parts_of (after_slide b (PAGE_SIZE * LOCK_COUNTS + from) (PAGE_SIZE * LOCK_COUNTS + to) n) budget
+    ≡ record (parts_of b budget) { locks = after_slide (locks_part b) from to n }
 slid_locks b budget from to n size source target =
     slid_part b budget (PAGE_SIZE * LOCK_COUNTS) (PAGE_SIZE * LOCK_COUNT_FRAMES) from to n (λ ys. record (parts_of b budget) { locks = ys })
     size (omega arith) source target refl
@@ -92,8 +92,8 @@ slid_locks b budget from to n size source target =
 abbrev pub moved_parts : MemoryParts → ℕ → ℕ → ℕ → ℕ → MemoryParts
 moved_parts p place old base n = record p {
   handles = with_row p.handles place base n;
-  tables = slid p.tables (PAGE_ENTRY_SIZE * first_page old) (PAGE_ENTRY_SIZE * first_page base) (PAGE_ENTRY_SIZE * n);
-  locks = slid p.locks (LOCK_COUNT_SIZE * first_page old) (LOCK_COUNT_SIZE * first_page base) (LOCK_COUNT_SIZE * n);
+  tables = after_slide p.tables (PAGE_ENTRY_SIZE * first_page old) (PAGE_ENTRY_SIZE * first_page base) (PAGE_ENTRY_SIZE * n);
+  locks = after_slide p.locks (LOCK_COUNT_SIZE * first_page old) (LOCK_COUNT_SIZE * first_page base) (LOCK_COUNT_SIZE * n);
 }
 
 pub moved_more : (p : MemoryParts) (budget place old base n : ℕ) → HasSizes p budget → MayMove (block_parts p) place base n → base_of p.handles place ≡ old →
@@ -137,14 +137,14 @@ moved_holds p budget place old base n sizes h may based =
 -- the writes
 abbrev pub moved : List ℕ → ℕ → ℕ → ℕ → ℕ → List ℕ
 moved b place old base n = with_block_row
-    (slid (slid b (PAGE_SIZE * BLOCK_TABLES + PAGE_ENTRY_SIZE * first_page old) (PAGE_SIZE * BLOCK_TABLES + PAGE_ENTRY_SIZE * first_page base) (PAGE_ENTRY_SIZE * n))
+    (after_slide (after_slide b (PAGE_SIZE * BLOCK_TABLES + PAGE_ENTRY_SIZE * first_page old) (PAGE_SIZE * BLOCK_TABLES + PAGE_ENTRY_SIZE * first_page base) (PAGE_ENTRY_SIZE * n))
     (PAGE_SIZE * LOCK_COUNTS + LOCK_COUNT_SIZE * first_page old) (PAGE_SIZE * LOCK_COUNTS + LOCK_COUNT_SIZE * first_page base) (LOCK_COUNT_SIZE * n))
     place base n
 
 pub moved_size : (b : List ℕ) (budget place old base n : ℕ) → HasSize b budget → HasSize (moved b place old base n) budget
 moved_size b budget place old base n size =
     row_size _ place base n
-    ∙ length-slid (slid b (PAGE_SIZE * BLOCK_TABLES + PAGE_ENTRY_SIZE * first_page old) (PAGE_SIZE * BLOCK_TABLES + PAGE_ENTRY_SIZE * first_page base) (PAGE_ENTRY_SIZE * n))
+    ∙ length-slid (after_slide b (PAGE_SIZE * BLOCK_TABLES + PAGE_ENTRY_SIZE * first_page old) (PAGE_SIZE * BLOCK_TABLES + PAGE_ENTRY_SIZE * first_page base) (PAGE_ENTRY_SIZE * n))
     (PAGE_SIZE * LOCK_COUNTS + LOCK_COUNT_SIZE * first_page old) (PAGE_SIZE * LOCK_COUNTS + LOCK_COUNT_SIZE * first_page base) (LOCK_COUNT_SIZE * n)
     ∙ length-slid b (PAGE_SIZE * BLOCK_TABLES + PAGE_ENTRY_SIZE * first_page old) (PAGE_SIZE * BLOCK_TABLES + PAGE_ENTRY_SIZE * first_page base) (PAGE_ENTRY_SIZE * n)
     ∙ size
@@ -154,17 +154,17 @@ pub moved_are : (b : List ℕ) (budget place old base n : ℕ) → HasHost b bud
 moved_are b budget place old base n host within own range =
     let own_from = own.from in let own_to = own.to in
     let from = range.from in let to = range.to in
-    let b1 = slid b (PAGE_SIZE * BLOCK_TABLES + PAGE_ENTRY_SIZE * first_page old) (PAGE_SIZE * BLOCK_TABLES + PAGE_ENTRY_SIZE * first_page base) (PAGE_ENTRY_SIZE * n) in
+    let b1 = after_slide b (PAGE_SIZE * BLOCK_TABLES + PAGE_ENTRY_SIZE * first_page old) (PAGE_SIZE * BLOCK_TABLES + PAGE_ENTRY_SIZE * first_page base) (PAGE_ENTRY_SIZE * n) in
     let e1 = slid_tables b budget (PAGE_ENTRY_SIZE * first_page old) (PAGE_ENTRY_SIZE * first_page base) (PAGE_ENTRY_SIZE * n) host.size (omega arith) (omega arith) in
     let host1 : HasHost b1 budget = host_by b b1 budget _ host
     (length-slid b (PAGE_SIZE * BLOCK_TABLES + PAGE_ENTRY_SIZE * first_page old) (PAGE_SIZE * BLOCK_TABLES + PAGE_ENTRY_SIZE * first_page base) (PAGE_ENTRY_SIZE * n) ∙ host.size) e1 refl in
-    let b2 = slid b1 (PAGE_SIZE * LOCK_COUNTS + LOCK_COUNT_SIZE * first_page old) (PAGE_SIZE * LOCK_COUNTS + LOCK_COUNT_SIZE * first_page base) (LOCK_COUNT_SIZE * n) in
+    let b2 = after_slide b1 (PAGE_SIZE * LOCK_COUNTS + LOCK_COUNT_SIZE * first_page old) (PAGE_SIZE * LOCK_COUNTS + LOCK_COUNT_SIZE * first_page base) (LOCK_COUNT_SIZE * n) in
     let e2 = slid_locks b1 budget (LOCK_COUNT_SIZE * first_page old) (LOCK_COUNT_SIZE * first_page base) (LOCK_COUNT_SIZE * n) host1.size (omega arith) (omega arith) in
     let host2 : HasHost b2 budget = host_by b1 b2 budget _ host1
     (length-slid b1 (PAGE_SIZE * LOCK_COUNTS + LOCK_COUNT_SIZE * first_page old) (PAGE_SIZE * LOCK_COUNTS + LOCK_COUNT_SIZE * first_page base) (LOCK_COUNT_SIZE * n) ∙ host1.size) e2 refl in
     row_are b2 budget place base n host2 within
     ∙ ap (λ (p : MemoryParts). record p { handles = with_row p.handles place base n })
-    (e2 ∙ ap (λ (p : MemoryParts). record p { locks = slid p.locks (LOCK_COUNT_SIZE * first_page old) (LOCK_COUNT_SIZE * first_page base) (LOCK_COUNT_SIZE * n) }) e1)
+    (e2 ∙ ap (λ (p : MemoryParts). record p { locks = after_slide p.locks (LOCK_COUNT_SIZE * first_page old) (LOCK_COUNT_SIZE * first_page base) (LOCK_COUNT_SIZE * n) }) e1)
 
 -- what the world says of the blocks, the rows say
 pub may_move : (s : BlockParts) (place base n : ℕ) → HasRanges s.handles → CanMove (blocks_of s) place base n → MayMove s place base n

@@ -9,7 +9,7 @@ use Rattle.client_world.specs.Soundness.{SoundBlocks, pages_of_block}
 use Rattle.client_world.specs.World.{MemoryBlock}
 use Rattle.guest_ram.specs.Listed.{zeros}
 use Rattle.guest_ram.proofs.ListedLaws.{length-zeros, at_zeros}
-use Rattle.block_memory.specs.BlockSizes.{HasPages, longer, shorter, extended, at_base, sized_block, fresh_block, locks_of_block}
+use Rattle.block_memory.specs.BlockSizes.{HasPages, longer, shorter, block_with_zero_pages, at_base, sized_block, fresh_block, locks_of_block}
 
 zeros_more : (n m : ℕ) → zeros n ++ zeros m ≡ zeros (n + m)
 zeros_more n m = same_number_lists (zeros n ++ zeros m) (zeros (n + m))
@@ -34,8 +34,8 @@ longer_next base o k =
     ∙ ap (λ (xs : List ℕ). record { base = base; bytes = bytes_of_block o ++ zeros (PAGE_SIZE * (k + 1)); locks = xs })
     (append_assoc (locks_of_block o) (zeros k) (zeros 1) ∙ ap (λ (zs : List ℕ). locks_of_block o ++ zs) (zeros_more k 1))
 
-pub extended_next : (base : ℕ) (o : Option MemoryBlock) (k : ℕ) → Some (longer base (extended base o k) 1) ≡ extended base o (k + 1)
-unfolding extended
+pub extended_next : (base : ℕ) (o : Option MemoryBlock) (k : ℕ) → Some (longer base (block_with_zero_pages base o k) 1) ≡ block_with_zero_pages base o (k + 1)
+unfolding block_with_zero_pages
 extended_next base o k =
     let next : k + 1 ≢ 0 = omega arith in
     elim (cases_eq k 0) [
@@ -43,12 +43,12 @@ extended_next base o k =
       | inr some ↦ rw (ne_eqb k 0 some, ne_eqb (k + 1) 0 next) (ap (λ (b : MemoryBlock). Some b) (longer_next base o k))
     ]
 
-pub extended_none : (base : ℕ) (o : Option MemoryBlock) → extended base o 0 ≡ o
-unfolding extended
+pub extended_none : (base : ℕ) (o : Option MemoryBlock) → block_with_zero_pages base o 0 ≡ o
+unfolding block_with_zero_pages
 extended_none base o = refl
 
-pub extended_fresh : (base pages : ℕ) → pages ≢ 0 → extended base None pages ≡ Some (fresh_block base pages)
-unfolding extended
+pub extended_fresh : (base pages : ℕ) → pages ≢ 0 → block_with_zero_pages base None pages ≡ Some (fresh_block base pages)
+unfolding block_with_zero_pages
 extended_fresh base pages some = rw (ne_eqb pages 0 some) refl
 
 -- shrinking
@@ -101,19 +101,19 @@ shorter_byte (Some block) n at has = elim (cases_eq n 0) [
 -- the blocks of a run of steps
 
 pub start_longer : (blocks : List (Option MemoryBlock)) (place base n : ℕ) → n ≡ 0 →
-    slice_set blocks place (extended base (slice_index_or blocks place None) n) ≡ blocks
+    slice_set blocks place (block_with_zero_pages base (slice_index_or blocks place None) n) ≡ blocks
 start_longer blocks place base n none =
     ap (λ (o : Option MemoryBlock). slice_set blocks place o)
-    (ap (extended base (slice_index_or blocks place None)) none ∙ extended_none base (slice_index_or blocks place None))
+    (ap (block_with_zero_pages base (slice_index_or blocks place None)) none ∙ extended_none base (slice_index_or blocks place None))
     ∙ set-get_or blocks place None
 
 pub step_longer : (blocks : List (Option MemoryBlock)) (place base k : ℕ) (o : Option MemoryBlock) → place < length blocks →
-    (λ (bs : List (Option MemoryBlock)). slice_set bs place (Some (longer base (slice_index_or bs place None) 1))) (slice_set blocks place (extended base o k))
-    ≡ slice_set blocks place (extended base o (k + 1))
+    (λ (bs : List (Option MemoryBlock)). slice_set bs place (Some (longer base (slice_index_or bs place None) 1))) (slice_set blocks place (block_with_zero_pages base o k))
+    ≡ slice_set blocks place (block_with_zero_pages base o (k + 1))
 step_longer blocks place base k o within =
-    set-set blocks place (extended base o k) _
+    set-set blocks place (block_with_zero_pages base o k) _
     ∙ ap (λ (x : Option MemoryBlock). slice_set blocks place x)
-    (ap (λ (x : Option MemoryBlock). Some (longer base x 1)) (get_or-set_same blocks place (extended base o k) None within) ∙ extended_next base o k)
+    (ap (λ (x : Option MemoryBlock). Some (longer base x 1)) (get_or-set_same blocks place (block_with_zero_pages base o k) None within) ∙ extended_next base o k)
 
 pub start_shorter : (blocks : List (Option MemoryBlock)) (budget place base n : ℕ) → SoundBlocks blocks budget → HasPages blocks place base n →
     slice_set blocks place (shorter (slice_index_or blocks place None) n) ≡ blocks
@@ -138,8 +138,8 @@ whole_front xs size few a b = take_all few xs a ∙ sym (take_all size xs b)
 
 pub resized_is : (base pages kept : ℕ) (block : MemoryBlock) → length block.bytes ≡ PAGE_SIZE * length block.locks → kept ≢ 0 →
     ((kept ≡ pages) × (pages ≤ length block.locks)) ⊎ ((kept ≡ length block.locks) × (length block.locks ≤ pages)) →
-    extended base (at_base base (shorter (Some block) kept)) (pages - kept) ≡ sized_block base pages (Some block)
-unfolding extended sized_block
+    block_with_zero_pages base (at_base base (shorter (Some block) kept)) (pages - kept) ≡ sized_block base pages (Some block)
+unfolding block_with_zero_pages sized_block
 resized_is base pages kept block long some way = elim way [
   | inl less ↦ (
       let same = less.0 in let few = less.1 in

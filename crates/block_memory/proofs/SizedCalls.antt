@@ -5,7 +5,7 @@ use Rattle.std.proofs.lemmas.Bool.{cases_lt}
 use Rattle.std.proofs.lemmas.List.{set-set}
 use Rattle.client_world.specs.Soundness.{SoundBlocks, pages_of_block, pages_of_blocks}
 use Rattle.client_world.specs.World.{MemoryBlock}
-use Rattle.block_memory.specs.BlockSizes.{CanHold, CanMove, CanSize, HasPages, shorter, extended, at_base, sized_block, base_of_held}
+use Rattle.block_memory.specs.BlockSizes.{CanHold, CanMove, CanSize, HasPages, shorter, block_with_zero_pages, at_base, sized_block, base_of_held}
 use Rattle.block_memory.proofs.SizedBlocks.{resized_is}
 use Rattle.block_memory.proofs.SizedSound.{pages_put}
 
@@ -82,7 +82,7 @@ can_extend blocks budget place from old base pages kept s has =
 
 -- the block in the end
 resized_block : (blocks : List (Option MemoryBlock)) (budget place from old base pages kept : ℕ) → SoundBlocks blocks budget → Sizing blocks budget place from old base pages kept →
-    (o : Option MemoryBlock) → held blocks place ≡ o → extended base (at_base base (shorter o kept)) (pages - kept) ≡ sized_block base pages o
+    (o : Option MemoryBlock) → held blocks place ≡ o → block_with_zero_pages base (at_base base (shorter o kept)) (pages - kept) ≡ sized_block base pages o
 resized_block blocks budget place from old base pages kept sound s None e = absurd (s.can.held e)
 resized_block blocks budget place from old base pages kept sound s (Some block) e =
     let is = s.few in let some = s.some in let more = s.can.some in
@@ -97,7 +97,7 @@ resized_block blocks budget place from old base pages kept sound s (Some block) 
     ]
 
 pub sized_blocks : (blocks : List (Option MemoryBlock)) (budget place from old base pages kept : ℕ) → SoundBlocks blocks budget → Sizing blocks budget place from old base pages kept →
-    (λ (bs : List (Option MemoryBlock)). slice_set bs place (extended base (slice_index_or bs place None) (pages - kept))) (moved_blocks (cut_blocks blocks place kept) place base)
+    (λ (bs : List (Option MemoryBlock)). slice_set bs place (block_with_zero_pages base (slice_index_or bs place None) (pages - kept))) (moved_blocks (cut_blocks blocks place kept) place base)
     ≡ slice_set blocks place (sized_block base pages (slice_index_or blocks place None))
 sized_blocks blocks budget place from old base pages kept sound s =
     let within = s.has.within in let handles = s.has.handles in
@@ -108,5 +108,5 @@ sized_blocks blocks budget place from old base pages kept sound s =
     let here : held (slice_set cut place x) place ≡ x = get_or-set_same cut place x None (omega arith) in
     set-set cut place x _ ∙ set-set blocks place _ _
     ∙ ap (λ (y : Option MemoryBlock). slice_set blocks place y)
-    (ap (λ (y : Option MemoryBlock). extended base y (pages - kept)) (here ∙ ap (at_base base) here_cut)
+    (ap (λ (y : Option MemoryBlock). block_with_zero_pages base y (pages - kept)) (here ∙ ap (at_base base) here_cut)
     ∙ resized_block blocks budget place from old base pages kept sound s (held blocks place) refl)

@@ -13,7 +13,7 @@ use Rattle.guest_ram.specs.Bytes.{put}
 use Rattle.guest_ram.specs.Listed.{zeros, copies}
 use Rattle.guest_ram.proofs.ListedLaws.{length-zeros, at_zeros, length-copies, at_copies}
 use Rattle.guest_ram.proofs.PutLaws.{length-put}
-use Rattle.block_memory.specs.BlockSizes.{CanHold, CanMove, HasPages, longer, shorter, at_base, with_lock, with_page_lock, zeroed, with_zero_page, base_of_held, locks_of_block}
+use Rattle.block_memory.specs.BlockSizes.{CanHold, CanMove, HasPages, longer, shorter, at_base, with_lock, with_page_lock, blocks_with_zero_page, with_zero_page, base_of_held, locks_of_block}
 use Rattle.block_memory.proofs.PageChanges.{HasLast}
 
 -- the pages of all blocks
@@ -474,7 +474,7 @@ zeroed_sound_at blocks budget place page sound within (Some block) e =
     (let count : pages_of_block (held blocks place) ≡ length block.locks = ap pages_of_block e in omega arith)
 
 pub zeroed_sound : (blocks : List (Option MemoryBlock)) (budget place at : ℕ) → SoundBlocks blocks budget → place < MAX_BLOCKS →
-    SoundBlocks (zeroed blocks (Block (suc place) at)) budget
+    SoundBlocks (blocks_with_zero_page blocks (Block (suc place) at)) budget
 zeroed_sound blocks budget place at sound within = zeroed_sound_at blocks budget place (at / PAGE_SIZE) sound within (held blocks place) refl
 
 zeroed_fits_at : (blocks : List (Option MemoryBlock)) (place page : ℕ) → place < length blocks → HoldBytes blocks → (o : Option MemoryBlock) → held blocks place ≡ o →
@@ -485,5 +485,5 @@ zeroed_fits_at blocks place page within fits (Some was) e =
     subst (λ (x : MemoryBlock). slice_index x.bytes at < 0x100) (same_some _ _ block refl f)
     (let few = put_few was.bytes (PAGE_SIZE * page) (copies PAGE_SIZE 0) 0xFF (λ k. let old = fits (suc place) was e k in omega arith) (copies_few PAGE_SIZE 0xFF) at in omega arith))
 
-pub zeroed_fits : (blocks : List (Option MemoryBlock)) (place at : ℕ) → place < length blocks → HoldBytes blocks → HoldBytes (zeroed blocks (Block (suc place) at))
+pub zeroed_fits : (blocks : List (Option MemoryBlock)) (place at : ℕ) → place < length blocks → HoldBytes blocks → HoldBytes (blocks_with_zero_page blocks (Block (suc place) at))
 zeroed_fits blocks place at within fits = zeroed_fits_at blocks place (at / PAGE_SIZE) within fits (held blocks place) refl

@@ -7,7 +7,7 @@ use Rattle.guest_ram.specs.Bytes.{put, region, dword, word_of}
 use Rattle.guest_ram.specs.Listed.{copies}
 use Rattle.guest_ram.proofs.ListedLaws.{length-copies, at_copies}
 use Rattle.guest_ram.proofs.PutLaws.{length-put, length-region, at_region, put_away, put_within, same_dword}
-use Rattle.block_memory.specs.BlockSizes.{vacant, vacated, slid}
+use Rattle.block_memory.specs.BlockSizes.{vacant_count, vacant_start, after_slide}
 use Rattle.host_memory.specs.Layout.{entry_of, lock_of}
 use Rattle.block_memory.proofs.BlockMoves.{GoAlong}
 
@@ -18,7 +18,7 @@ record Leaves (from to n at count : ℕ) : Type 0 where
   off : (at + count ≤ to) ⊎ (to + n ≤ at)
   covers : (k : ℕ) → from ≤ k → k < from + n → (k < to) ⊎ (to + n ≤ k) → (at ≤ k) × (k < at + count)
 
-leaves : (from to n : ℕ) → Leaves from to n (vacated from to n) (vacant from to n)
+leaves : (from to n : ℕ) → Leaves from to n (vacant_start from to n) (vacant_count from to n)
 leaves from to n = elim (cases_lt from to) [
   | inl up ↦ rw (lt-ltb from to up) (record {
     low = omega arith;
@@ -34,48 +34,48 @@ leaves from to n = elim (cases_lt from to) [
   })
 ]
 
-pub length-slid : (b : List ℕ) (from to n : ℕ) → length (slid b from to n) ≡ length b
-unfolding slid
-length-slid b from to n = length-put (put b to (region b from n)) (vacated from to n) (copies (vacant from to n) 0) ∙ length-put b to (region b from n)
+pub length-slid : (b : List ℕ) (from to n : ℕ) → length (after_slide b from to n) ≡ length b
+unfolding after_slide
+length-slid b from to n = length-put (put b to (region b from n)) (vacant_start from to n) (copies (vacant_count from to n) 0) ∙ length-put b to (region b from n)
 
 -- both runs are inside
 pub record Inside (b : List ℕ) (from to n : ℕ) : Type 0 where
   pub source : from + n ≤ length b
   pub target : to + n ≤ length b
 
-pub slid_there : (b : List ℕ) (from to n k : ℕ) → Inside b from to n → k < n → slice_index (slid b from to n) (to + k) ≡ slice_index b (from + k)
-unfolding slid
+pub slid_there : (b : List ℕ) (from to n k : ℕ) → Inside b from to n → k < n → slice_index (after_slide b from to n) (to + k) ≡ slice_index b (from + k)
+unfolding after_slide
 slid_there b from to n k inside less =
     let source = inside.source in let target = inside.target in
     let l = leaves from to n in
     let long : length (region b from n) ≡ n = length-region b from n source in
-    put_away (put b to (region b from n)) (vacated from to n) (copies (vacant from to n) 0) (to + k) (elim l.off [
-      | inl below ↦ inl (omega (arith, length-copies (vacant from to n) 0))
+    put_away (put b to (region b from n)) (vacant_start from to n) (copies (vacant_count from to n) 0) (to + k) (elim l.off [
+      | inl below ↦ inl (omega (arith, length-copies (vacant_count from to n) 0))
       | inr above ↦ inr (omega arith)
     ])
     ∙ put_within b to (region b from n) k (to + k) (omega arith) (omega arith) refl
     ∙ at_region b from n k less
 
-pub slid_left : (b : List ℕ) (from to n k : ℕ) → Inside b from to n → from ≤ k → k < from + n → (k < to) ⊎ (to + n ≤ k) → slice_index (slid b from to n) k ≡ 0
-unfolding slid
+pub slid_left : (b : List ℕ) (from to n k : ℕ) → Inside b from to n → from ≤ k → k < from + n → (k < to) ⊎ (to + n ≤ k) → slice_index (after_slide b from to n) k ≡ 0
+unfolding after_slide
 slid_left b from to n k inside low high off =
     let source = inside.source in
     let l = leaves from to n in
     let here = l.covers k low high off in
     let a = here.0 in let c = here.1 in let end = l.high in
-    put_within (put b to (region b from n)) (vacated from to n) (copies (vacant from to n) 0) (k - vacated from to n) k
-    (omega (arith, length-copies (vacant from to n) 0, length-put b to (region b from n))) (omega (arith, length-copies (vacant from to n) 0)) (omega arith)
-    ∙ at_copies (vacant from to n) 0 (k - vacated from to n) (omega arith)
+    put_within (put b to (region b from n)) (vacant_start from to n) (copies (vacant_count from to n) 0) (k - vacant_start from to n) k
+    (omega (arith, length-copies (vacant_count from to n) 0, length-put b to (region b from n))) (omega (arith, length-copies (vacant_count from to n) 0)) (omega arith)
+    ∙ at_copies (vacant_count from to n) 0 (k - vacant_start from to n) (omega arith)
 
-pub slid_other : (b : List ℕ) (from to n k : ℕ) → Inside b from to n → (k < from) ⊎ (from + n ≤ k) → (k < to) ⊎ (to + n ≤ k) → slice_index (slid b from to n) k ≡ slice_index b k
-unfolding slid
+pub slid_other : (b : List ℕ) (from to n k : ℕ) → Inside b from to n → (k < from) ⊎ (from + n ≤ k) → (k < to) ⊎ (to + n ≤ k) → slice_index (after_slide b from to n) k ≡ slice_index b k
+unfolding after_slide
 slid_other b from to n k inside away off =
     let source = inside.source in
     let l = leaves from to n in
     let low = l.low in let high = l.high in
-    put_away (put b to (region b from n)) (vacated from to n) (copies (vacant from to n) 0) k (elim away [
+    put_away (put b to (region b from n)) (vacant_start from to n) (copies (vacant_count from to n) 0) k (elim away [
       | inl below ↦ inr (omega arith)
-      | inr above ↦ inl (omega (arith, length-copies (vacant from to n) 0))
+      | inr above ↦ inl (omega (arith, length-copies (vacant_count from to n) 0))
     ])
     ∙ put_away b to (region b from n) k (elim off [
       | inl below ↦ inr below
@@ -91,17 +91,17 @@ zero_dword b at h =
     omega arith
 
 pub entries_go : (b : List ℕ) (from to n : ℕ) → length b ≡ PAGE_ENTRY_SIZE * BLOCK_REGION_PAGES → from + n ≤ BLOCK_REGION_PAGES → to + n ≤ BLOCK_REGION_PAGES →
-    GoAlong (entry_of b) (entry_of (slid b (PAGE_ENTRY_SIZE * from) (PAGE_ENTRY_SIZE * to) (PAGE_ENTRY_SIZE * n))) from to n
+    GoAlong (entry_of b) (entry_of (after_slide b (PAGE_ENTRY_SIZE * from) (PAGE_ENTRY_SIZE * to) (PAGE_ENTRY_SIZE * n))) from to n
 entries_go b from to n long source target = record {
-  there = λ i less. same_dword (slid b (PAGE_ENTRY_SIZE * from) (PAGE_ENTRY_SIZE * to) (PAGE_ENTRY_SIZE * n)) b (PAGE_ENTRY_SIZE * (to + i)) (PAGE_ENTRY_SIZE * (from + i)) (λ k small.
-      ap (slice_index (slid b (PAGE_ENTRY_SIZE * from) (PAGE_ENTRY_SIZE * to) (PAGE_ENTRY_SIZE * n))) (let e : PAGE_ENTRY_SIZE * (to + i) + k ≡ PAGE_ENTRY_SIZE * to + (PAGE_ENTRY_SIZE * i + k) = omega arith in e)
+  there = λ i less. same_dword (after_slide b (PAGE_ENTRY_SIZE * from) (PAGE_ENTRY_SIZE * to) (PAGE_ENTRY_SIZE * n)) b (PAGE_ENTRY_SIZE * (to + i)) (PAGE_ENTRY_SIZE * (from + i)) (λ k small.
+      ap (slice_index (after_slide b (PAGE_ENTRY_SIZE * from) (PAGE_ENTRY_SIZE * to) (PAGE_ENTRY_SIZE * n))) (let e : PAGE_ENTRY_SIZE * (to + i) + k ≡ PAGE_ENTRY_SIZE * to + (PAGE_ENTRY_SIZE * i + k) = omega arith in e)
       ∙ slid_there b (PAGE_ENTRY_SIZE * from) (PAGE_ENTRY_SIZE * to) (PAGE_ENTRY_SIZE * n) (PAGE_ENTRY_SIZE * i + k) inside (omega arith)
       ∙ ap (slice_index b) (let e : PAGE_ENTRY_SIZE * from + (PAGE_ENTRY_SIZE * i + k) ≡ PAGE_ENTRY_SIZE * (from + i) + k = omega arith in e));
   left = λ page small is off. (
       let less = is.less in let same = is.is in
-      zero_dword (slid b (PAGE_ENTRY_SIZE * from) (PAGE_ENTRY_SIZE * to) (PAGE_ENTRY_SIZE * n)) (PAGE_ENTRY_SIZE * page) (λ k few.
+      zero_dword (after_slide b (PAGE_ENTRY_SIZE * from) (PAGE_ENTRY_SIZE * to) (PAGE_ENTRY_SIZE * n)) (PAGE_ENTRY_SIZE * page) (λ k few.
       slid_left b (PAGE_ENTRY_SIZE * from) (PAGE_ENTRY_SIZE * to) (PAGE_ENTRY_SIZE * n) (PAGE_ENTRY_SIZE * page + k) inside (omega arith) (omega arith) (elim off [ inl a ↦ inl (omega arith) | inr a ↦ inr (omega arith) ])));
-  others = λ page small away off. same_dword (slid b (PAGE_ENTRY_SIZE * from) (PAGE_ENTRY_SIZE * to) (PAGE_ENTRY_SIZE * n)) b (PAGE_ENTRY_SIZE * page) (PAGE_ENTRY_SIZE * page) (λ k few.
+  others = λ page small away off. same_dword (after_slide b (PAGE_ENTRY_SIZE * from) (PAGE_ENTRY_SIZE * to) (PAGE_ENTRY_SIZE * n)) b (PAGE_ENTRY_SIZE * page) (PAGE_ENTRY_SIZE * page) (λ k few.
       slid_other b (PAGE_ENTRY_SIZE * from) (PAGE_ENTRY_SIZE * to) (PAGE_ENTRY_SIZE * n) (PAGE_ENTRY_SIZE * page + k) inside (elim away [ inl a ↦ inl (omega arith) | inr a ↦ inr (omega arith) ])
       (elim off [ inl a ↦ inl (omega arith) | inr a ↦ inr (omega arith) ]));
 }
@@ -123,17 +123,17 @@ zero_word b at h =
     omega arith
 
 pub locks_go : (b : List ℕ) (from to n : ℕ) → length b ≡ LOCK_COUNT_SIZE * BLOCK_REGION_PAGES → from + n ≤ BLOCK_REGION_PAGES → to + n ≤ BLOCK_REGION_PAGES →
-    GoAlong (lock_of b) (lock_of (slid b (LOCK_COUNT_SIZE * from) (LOCK_COUNT_SIZE * to) (LOCK_COUNT_SIZE * n))) from to n
+    GoAlong (lock_of b) (lock_of (after_slide b (LOCK_COUNT_SIZE * from) (LOCK_COUNT_SIZE * to) (LOCK_COUNT_SIZE * n))) from to n
 locks_go b from to n long source target = record {
-  there = λ i less. same_word (slid b (LOCK_COUNT_SIZE * from) (LOCK_COUNT_SIZE * to) (LOCK_COUNT_SIZE * n)) b (LOCK_COUNT_SIZE * (to + i)) (LOCK_COUNT_SIZE * (from + i)) (λ k small.
-      ap (slice_index (slid b (LOCK_COUNT_SIZE * from) (LOCK_COUNT_SIZE * to) (LOCK_COUNT_SIZE * n))) (let e : LOCK_COUNT_SIZE * (to + i) + k ≡ LOCK_COUNT_SIZE * to + (LOCK_COUNT_SIZE * i + k) = omega arith in e)
+  there = λ i less. same_word (after_slide b (LOCK_COUNT_SIZE * from) (LOCK_COUNT_SIZE * to) (LOCK_COUNT_SIZE * n)) b (LOCK_COUNT_SIZE * (to + i)) (LOCK_COUNT_SIZE * (from + i)) (λ k small.
+      ap (slice_index (after_slide b (LOCK_COUNT_SIZE * from) (LOCK_COUNT_SIZE * to) (LOCK_COUNT_SIZE * n))) (let e : LOCK_COUNT_SIZE * (to + i) + k ≡ LOCK_COUNT_SIZE * to + (LOCK_COUNT_SIZE * i + k) = omega arith in e)
       ∙ slid_there b (LOCK_COUNT_SIZE * from) (LOCK_COUNT_SIZE * to) (LOCK_COUNT_SIZE * n) (LOCK_COUNT_SIZE * i + k) inside (omega arith)
       ∙ ap (slice_index b) (let e : LOCK_COUNT_SIZE * from + (LOCK_COUNT_SIZE * i + k) ≡ LOCK_COUNT_SIZE * (from + i) + k = omega arith in e));
   left = λ page small is off. (
       let less = is.less in let same = is.is in
-      zero_word (slid b (LOCK_COUNT_SIZE * from) (LOCK_COUNT_SIZE * to) (LOCK_COUNT_SIZE * n)) (LOCK_COUNT_SIZE * page) (λ k few.
+      zero_word (after_slide b (LOCK_COUNT_SIZE * from) (LOCK_COUNT_SIZE * to) (LOCK_COUNT_SIZE * n)) (LOCK_COUNT_SIZE * page) (λ k few.
       slid_left b (LOCK_COUNT_SIZE * from) (LOCK_COUNT_SIZE * to) (LOCK_COUNT_SIZE * n) (LOCK_COUNT_SIZE * page + k) inside (omega arith) (omega arith) (elim off [ inl a ↦ inl (omega arith) | inr a ↦ inr (omega arith) ])));
-  others = λ page small away off. same_word (slid b (LOCK_COUNT_SIZE * from) (LOCK_COUNT_SIZE * to) (LOCK_COUNT_SIZE * n)) b (LOCK_COUNT_SIZE * page) (LOCK_COUNT_SIZE * page) (λ k few.
+  others = λ page small away off. same_word (after_slide b (LOCK_COUNT_SIZE * from) (LOCK_COUNT_SIZE * to) (LOCK_COUNT_SIZE * n)) b (LOCK_COUNT_SIZE * page) (LOCK_COUNT_SIZE * page) (λ k few.
       slid_other b (LOCK_COUNT_SIZE * from) (LOCK_COUNT_SIZE * to) (LOCK_COUNT_SIZE * n) (LOCK_COUNT_SIZE * page + k) inside (elim away [ inl a ↦ inl (omega arith) | inr a ↦ inr (omega arith) ])
       (elim off [ inl a ↦ inl (omega arith) | inr a ↦ inr (omega arith) ]));
 }

@@ -16,7 +16,7 @@ use Rattle.guest_ram.specs.Listed.{listed, copies}
 use Rattle.guest_ram.proofs.PutLaws.{length-put, put_away, put_within}
 use Rattle.guest_ram.proofs.ListedLaws.{length-listed, at_listed, same_listed, listed-set, length-copies, at_copies}
 use Rattle.page_tables.specs.Entry.{page_entry}
-use Rattle.block_memory.specs.BlockSizes.{IsBlocks, zeroed, with_zero_page}
+use Rattle.block_memory.specs.BlockSizes.{IsBlocks, blocks_with_zero_page, with_zero_page}
 use Rattle.page_tables.proofs.FreeWrites.{dword_put_beside}
 use Rattle.host_memory.specs.Holds.{Holds}
 use Rattle.host_memory.specs.Layout.{world_of, address_of, handles_part, tables_part, rows_part, pages_of, first_page_of, entry_of, page_byte, held_block, block_in, blocks_in}
@@ -165,7 +165,7 @@ pub record ClearsPage (b : List ℕ) (budget lin : ℕ) : Type 0 where
   pub holds : Holds (page_cleared b lin) budget
   pub world : (mode : Mode) (regs : Regs) (vif : Bool) (width : Option Width) →
       world_of (page_cleared b lin) budget mode regs vif width
-      ≡ record (world_of b budget mode regs vif width) { blocks = zeroed (blocks_held b budget) (place_in (blocks_held b budget) lin) }
+      ≡ record (world_of b budget mode regs vif width) { blocks = blocks_with_zero_page (blocks_held b budget) (place_in (blocks_held b budget) lin) }
   pub rows : rows_part (page_cleared b lin) ≡ rows_part b
   pub addresses : (p : Place) → address_of (page_cleared b lin) p ≡ address_of b p
 
@@ -191,7 +191,7 @@ clears_page b budget lin holds ranges is =
     let e = put_frames b budget (PAGE_SIZE * (entry_of p.tables (page_at lin) / PAGE_SIZE)) (PAGE_SIZE * frame) (copies PAGE_SIZE 0) holds.size (omega arith) (omega (arith, length-copies PAGE_SIZE 0)) in
     let q : MemoryParts = record p { frames = cleared_frame p.frames frame } in
     let h = holds_parts b budget holds in
-    let blocks : blocks_in p.handles p.tables p.locks (cleared_frame p.frames frame) ≡ zeroed (blocks_held b budget) (place_in (blocks_held b budget) lin) =
+    let blocks : blocks_in p.handles p.tables p.locks (cleared_frame p.frames frame) ≡ blocks_with_zero_page (blocks_held b budget) (place_in (blocks_held b budget) lin) =
     listed-set MAX_BLOCKS (block_in p.handles p.tables p.locks p.frames) (block_in p.handles p.tables p.locks (cleared_frame p.frames frame)) byte.place
     (with_zero_page (block_in p.handles p.tables p.locks p.frames byte.place) (byte.at / PAGE_SIZE)) byte.within
     (row_there p.handles p.tables p.locks (cleared_frame p.frames frame) byte.place byte.some
@@ -200,7 +200,7 @@ clears_page b budget lin holds ranges is =
     (λ other small ne. other_cleared p.handles p.tables p.locks p.taken p.frames budget byte.place (byte.at / PAGE_SIZE) frame c other small ne)
     ∙ ap (λ (o : Option MemoryBlock). slice_set (blocks_held b budget) byte.place (with_zero_page o (byte.at / PAGE_SIZE)))
     (sym (block_at_row p.handles p.tables p.locks p.frames byte.place byte.within))
-    ∙ ap (zeroed (blocks_held b budget)) (sym byte.answer) in
+    ∙ ap (blocks_with_zero_page (blocks_held b budget)) (sym byte.answer) in
     record {
       from = names.from;
       to = names.to;

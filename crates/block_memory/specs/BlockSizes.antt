@@ -69,8 +69,8 @@ pub record HasPages (blocks : List (Option MemoryBlock)) (place base pages : ℕ
   pub below : base + PAGE_SIZE * pages ≤ BLOCK_REGION_END
 
 -- a block, or none, with that many zero pages after its own
-unfoldable pub extended : ℕ → Option MemoryBlock → ℕ → Option MemoryBlock
-extended base block more = if nat_eq more 0 then block else Some (longer base block more)
+unfoldable pub block_with_zero_pages : ℕ → Option MemoryBlock → ℕ → Option MemoryBlock
+block_with_zero_pages base block more = if nat_eq more 0 then block else Some (longer base block more)
 
 -- a block of that many pages may be made at a linear address
 pub record CanMake (blocks : List (Option MemoryBlock)) (budget base pages : ℕ) : Type 0 where
@@ -99,14 +99,14 @@ sized_block base pages (Some block) = Some (record {
 -- a run of n bytes moves from one place to another; what it left is 0
 
 -- how many bytes it left, and from where on
-abbrev pub vacant : ℕ → ℕ → ℕ → ℕ
-vacant from to n = min (if nat_lt from to then to - from else from - to) n
+abbrev pub vacant_count : ℕ → ℕ → ℕ → ℕ
+vacant_count from to n = min (if nat_lt from to then to - from else from - to) n
 
-abbrev pub vacated : ℕ → ℕ → ℕ → ℕ
-vacated from to n = if nat_lt from to then from else from + (n - vacant from to n)
+abbrev pub vacant_start : ℕ → ℕ → ℕ → ℕ
+vacant_start from to n = if nat_lt from to then from else from + (n - vacant_count from to n)
 
-unfoldable pub slid : List ℕ → ℕ → ℕ → ℕ → List ℕ
-slid bytes from to n = put (put bytes to (region bytes from n)) (vacated from to n) (copies (vacant from to n) 0)
+unfoldable pub after_slide : List ℕ → ℕ → ℕ → ℕ → List ℕ
+after_slide bytes from to n = put (put bytes to (region bytes from n)) (vacant_start from to n) (copies (vacant_count from to n) 0)
 
 -- at index `place`, the handle less 1, there is a block of that many pages; with it at that linear address the blocks would be sound
 pub record CanMove (blocks : List (Option MemoryBlock)) (place base pages : ℕ) : Type 0 where
@@ -163,11 +163,11 @@ with_zero_page None page = None
 with_zero_page (Some block) page = Some (record { base = block.base; bytes = put block.bytes (PAGE_SIZE * page) (copies PAGE_SIZE 0); locks = block.locks })
 
 -- the blocks with zeros in the page of a place
-abbrev pub zeroed : List (Option MemoryBlock) → Place → List (Option MemoryBlock)
-zeroed blocks (Dos at) = blocks
-zeroed blocks (Block number at) = with_block_at blocks number (with_zero_page (block_at blocks number) (at / PAGE_SIZE))
-zeroed blocks Host = blocks
-zeroed blocks Nothing = blocks
+abbrev pub blocks_with_zero_page : List (Option MemoryBlock) → Place → List (Option MemoryBlock)
+blocks_with_zero_page blocks (Dos at) = blocks
+blocks_with_zero_page blocks (Block number at) = with_block_at blocks number (with_zero_page (block_at blocks number) (at / PAGE_SIZE))
+blocks_with_zero_page blocks Host = blocks
+blocks_with_zero_page blocks Nothing = blocks
 
 -- the pages of all blocks that are locked
 abbrev pub locked_pages : List (Option MemoryBlock) → ℕ

@@ -3,7 +3,7 @@ ghost use Rattle.std.specs.Prelude.{◌≡◌, ◌≤◌, ◌<◌, ◌+◌, ◌-
 ghost use Rattle.client_world.specs.declared.limits.TheConstants.{MAX_BLOCKS};
 ghost use Rattle.host_memory.specs.Holds.{Holds};
 ghost use Rattle.block_memory.specs.BlockChanges.{CanHoldIn, CanMoveIn, CanSizeIn, HasBlockIn, HasPagesIn, ReplacesBlock, blocks_held};
-ghost use Rattle.block_memory.specs.BlockSizes.{HasPages, at_base, extended, longer, sized_block, shorter};
+ghost use Rattle.block_memory.specs.BlockSizes.{HasPages, at_base, block_with_zero_pages, longer, sized_block, shorter};
 
 use crate::rows::set_block_row;
 use crate::slides::slide;
@@ -53,7 +53,7 @@ fn drop_page(ram: &mut Ram, place: u32, base: u32, n: u32)
 pub fn extend_block(ram: &mut Ram, place: u32, base: u32, from: u32, to: u32)
     requires order { from ≤ to }
     requires room { CanHoldIn ram.old place base from to }
-    ensures { ReplacesBlock ram.old ram.new place (λ block. extended base block (to - from)) }
+    ensures { ReplacesBlock ram.old ram.new place (λ block. block_with_zero_pages base block (to - from)) }
 {
     for n in from..to {
         grow_page(ram, place, base, n);

@@ -10,7 +10,7 @@ use Rattle.client_world.specs.Soundness.{AreApart, HoldBytes, IsBlock, SoundBloc
 use Rattle.client_world.specs.World.{MemoryBlock, block_at, with_block_at}
 use Rattle.guest_ram.specs.Listed.{zeros}
 use Rattle.guest_ram.proofs.ListedLaws.{at_zeros, length-zeros}
-use Rattle.block_memory.specs.BlockSizes.{CanMake, CanSize, fresh_block, lock_in, sized_block, with_lock, zeroed}
+use Rattle.block_memory.specs.BlockSizes.{CanMake, CanSize, fresh_block, lock_in, sized_block, with_lock, blocks_with_zero_page}
 use Rattle.block_memory.proofs.SizedSound.{bytes_put, locked_fits, locked_sound, sound_put, zeroed_fits, zeroed_sound}
 use Rattle.block_services.specs.declared.regions.Change.{Change}
 use Rattle.block_services.specs.declared.regions.Change.TheVariants.{Lock, Unlock, Discard}
@@ -154,7 +154,7 @@ locked_good blocks budget (Block (suc place) at) n g few = (let long = g.sound.h
 locked_good blocks budget Host n g few = g
 locked_good blocks budget Nothing n g few = g
 
-zeroed_good : (blocks : List (Option MemoryBlock)) (budget : ℕ) (p : Place) → Good blocks budget → Good (zeroed blocks p) budget
+zeroed_good : (blocks : List (Option MemoryBlock)) (budget : ℕ) (p : Place) → Good blocks budget → Good (blocks_with_zero_page blocks p) budget
 zeroed_good blocks budget (Dos at) g = g
 zeroed_good blocks budget (Block zero at) g = g
 zeroed_good blocks budget (Block (suc place) at) g = (let long = g.sound.handles in elim (cases_lt place MAX_BLOCKS) [

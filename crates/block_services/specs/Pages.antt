@@ -9,7 +9,7 @@ use Rattle.client_world.specs.declared.place.Place.TheVariants.{Dos, Block, Host
 use Rattle.client_world.specs.Access.{place_in}
 use Rattle.client_world.specs.World.{World, MemoryBlock}
 use Rattle.guest_space.specs.VectorLists.{is_pageable}
-use Rattle.block_memory.specs.BlockSizes.{lock_in, with_lock, zeroed}
+use Rattle.block_memory.specs.BlockSizes.{lock_in, with_lock, blocks_with_zero_page}
 use Rattle.service_rows.specs.FirstIndex.{first_index}
 use Rattle.block_services.specs.declared.regions.Question.{Question}
 use Rattle.block_services.specs.declared.regions.Question.TheVariants.{IsOutside, IsNoBlock, IsLockedMost, IsUnlocked, IsAboveView, IsPageable, IsRelocked}
@@ -62,7 +62,7 @@ some_page question w first n = is_some (first_index (page_answer question w) fir
 abbrev pub changed_page : Change → List (Option MemoryBlock) → Place → List (Option MemoryBlock)
 changed_page Lock blocks place = with_lock blocks place (min (lock_in blocks place + 1) GREATEST_LOCK_COUNT)
 changed_page Unlock blocks place = with_lock blocks place (lock_in blocks place - 1)
-changed_page Discard blocks place = if nat_eq (lock_in blocks place) 0 then zeroed blocks place else blocks
+changed_page Discard blocks place = if nat_eq (lock_in blocks place) 0 then blocks_with_zero_page blocks place else blocks
 
 -- the blocks after the change of n pages in their order
 unfoldable pub changed : Change → List (Option MemoryBlock) → ℕ → ℕ → List (Option MemoryBlock)

@@ -10,7 +10,7 @@ use Rattle.client_world.specs.Soundness.{pages_of_block, pages_of_blocks}
 use Rattle.client_world.specs.World.{World, MemoryBlock, block_at, with_block_at}
 use Rattle.block_memory.specs.BlockSizes.{base_of_held, fresh_block, sized_block}
 use Rattle.service_rows.specs.declared.refusal.Refusal.TheVariants.{InvalidAddress, InvalidValue, InvalidHandle, PhysicalMemoryUnavailable, LinearMemoryUnavailable, HandleUnavailable}
-use Rattle.guest_space.specs.Far.{far_put}
+use Rattle.guest_space.specs.Far.{world_after_far_write}
 use Rattle.service_rows.specs.Reasons.{Service, family_outcome, unsupported}
 use Rattle.block_services.specs.declared.regions.Change.TheVariants.{Lock, Unlock, Discard}
 use Rattle.block_services.specs.declared.regions.Question.{Question}
@@ -63,7 +63,7 @@ with_block_outputs base handle w = record w {
 unfoldable pub free_memory_information : World → Service
 free_memory_information w = record {
   reasons = (InvalidAddress, not (is_reachable w (es_di w) 0x30 true)) ∷ [];
-  after = far_put w (es_di w) 0x30 (free_table w (largest_new_block w.blocks (free_pages w)));
+  after = world_after_far_write w (es_di w) 0x30 (free_table w (largest_new_block w.blocks (free_pages w)));
 }
 
 -- a new block at a page of the block region, under a handle

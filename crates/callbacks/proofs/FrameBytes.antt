@@ -15,7 +15,7 @@ use Rattle.guest_space.specs.Pending.{number_bytes}
 use Rattle.translation.specs.declared.structure.TheConstants.{STRUCTURE_SIZE}
 use Rattle.translation.specs.Structure.{index_results, other_results}
 use Rattle.translation.proofs.SoundReturns.{HasBytes, dword_bytes, index_bytes, join, other_bytes, word_bytes}
-use Rattle.callbacks.specs.Callbacks.{caller_structure, return_frame}
+use Rattle.callbacks.specs.Callbacks.{caller_structure, callback_frame}
 use Rattle.callbacks.specs.Services.{callback_offset}
 
 item_bytes : (width : Option Width) (v : ℕ) → HasBytes (number_bytes (item_bits width) v)
@@ -23,8 +23,8 @@ item_bytes None v = word_bytes v
 item_bytes (Some Sixteen) v = word_bytes v
 item_bytes (Some ThirtyTwo) v = dword_bytes v
 
-pub frame_bytes : (w : World) → AreBytes (return_frame w)
-unfolding return_frame
+pub frame_bytes : (w : World) → AreBytes (callback_frame w)
+unfolding callback_frame
 frame_bytes w =
     (join (join (item_bytes w.width (CALLBACK_RETURN_TRAP - ROM_START)) (item_bytes w.width (selector_of HOST_CODE)))
     (item_bytes w.width (flags_image w.regs.flags w.vif))).each

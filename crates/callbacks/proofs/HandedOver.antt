@@ -13,7 +13,7 @@ use Rattle.client_world.specs.Selector.{row_at_index}
 use Rattle.client_world.specs.Services.{es_di}
 use Rattle.client_world.specs.Soundness.{IsSound}
 use Rattle.client_world.specs.World.{World, depth}
-use Rattle.guest_space.specs.Far.{far_bytes, far_put}
+use Rattle.guest_space.specs.Far.{far_bytes, world_after_far_write}
 use Rattle.guest_space.proofs.FarLaws.{written_is_read}
 use Rattle.guest_space.proofs.FarPuts.{world_far_written}
 use Rattle.translation.specs.declared.structure.TheConstants.{STRUCTURE_SIZE}
@@ -21,7 +21,7 @@ use Rattle.translation.specs.Structure.{structure_bytes, structure_flags, struct
 use Rattle.translation.proofs.Ended.{but_last}
 use Rattle.translation.proofs.PutPart.{reachable_after}
 use Rattle.translation.proofs.ResultsBack.{same_far}
-use Rattle.callbacks.specs.Callbacks.{after_entering, after_leaving, caller_structure, enter_callback, frame_start, frame_size, leave_callback, procedure_regs, return_frame, stack_index, stack_row, with_frame_and_structure, with_stack_row}
+use Rattle.callbacks.specs.Callbacks.{after_entering, after_leaving, caller_structure, enter_callback, callback_frame_start, callback_frame_size, leave_callback, procedure_regs, callback_frame, stack_index, stack_row, with_frame_and_structure, with_stack_row}
 use Rattle.callbacks.specs.HandOver.{HasEntered, HasLeft}
 use Rattle.callbacks.proofs.FrameBytes.{caller_size}
 use Rattle.callbacks.proofs.KeptWorld.{entering_calls, leaving_calls, memory_alone}
@@ -33,7 +33,7 @@ use Rattle.callbacks.proofs.Started.{is_back, is_start}
 
 -- what is written at a pointer is read there
 put_back : (w : World) (p : FarPtr) (n : ℕ) (bytes : List ℕ) → IsSound w → n < PAGE_SIZE → length bytes ≡ n → is_reachable w p n true ≡ true →
-    far_bytes (far_put w p n bytes) p n ≡ bytes
+    far_bytes (world_after_far_write w p n bytes) p n ≡ bytes
 put_back w p n bytes s few size there =
     ap (λ (x : World). far_bytes x p n) (sym (world_far_written (record { world = w; bytes = [] }) p n bytes))
     ∙ written_is_read (record { world = w; bytes = [] }) p n bytes s (omega arith) size there
@@ -43,8 +43,8 @@ memory_back : (w : World) (slot : ℕ) (at : FarPtr) → IsSound w → is_reacha
     structure_bytes (with_frame_and_structure w slot at) at ≡ caller_structure w slot
 unfolding with_frame_and_structure
 memory_back w slot at s there =
-    put_back (far_put w (frame_start w) (frame_size w) (return_frame w)) at STRUCTURE_SIZE (caller_structure w slot) (sound_frame w s) (omega arith)
-    (caller_size w slot) (reachable_after w (frame_start w) (frame_size w) (return_frame w) at STRUCTURE_SIZE true ∙ there)
+    put_back (world_after_far_write w (callback_frame_start w) (callback_frame_size w) (callback_frame w)) at STRUCTURE_SIZE (caller_structure w slot) (sound_frame w s) (omega arith)
+    (caller_size w slot) (reachable_after w (callback_frame_start w) (callback_frame_size w) (callback_frame w) at STRUCTURE_SIZE true ∙ there)
 
 -- the mode, the registers and the records have no part in it
 read_on : (w : World) (slot : ℕ) (procedure at p : FarPtr) (n : ℕ) →

@@ -6,13 +6,13 @@ use Rattle.client_world.specs.declared.registers.Mode.TheVariants.{Protected}
 use Rattle.client_world.specs.declared.segments.FarPtr.{FarPtr}
 use Rattle.client_world.specs.Selector.{Row}
 use Rattle.client_world.specs.World.{World}
-use Rattle.guest_space.specs.Far.{far_put}
+use Rattle.guest_space.specs.Far.{world_after_far_write}
 use Rattle.guest_space.specs.Transfer.{HasOtherMemory}
 use Rattle.guest_space.proofs.FarPuts.{other_far_put}
 use Rattle.guest_space.proofs.MemoryAlone.{other_then}
 use Rattle.translation.specs.declared.structure.TheConstants.{STRUCTURE_SIZE}
 use Rattle.translation.proofs.Ended.{but_last}
-use Rattle.callbacks.specs.Callbacks.{after_entering, after_leaving, caller_structure, enter_callback, frame_start, frame_size, leave_callback, procedure_regs, return_frame, with_frame_and_structure, with_stack_row}
+use Rattle.callbacks.specs.Callbacks.{after_entering, after_leaving, caller_structure, enter_callback, callback_frame_start, callback_frame_size, leave_callback, procedure_regs, callback_frame, with_frame_and_structure, with_stack_row}
 use Rattle.callbacks.specs.HandOver.{IsCallbackPopped, IsCallbackPushed, LeftForProcedure, LeftForReal}
 use Rattle.callbacks.proofs.Started.{is_back, is_start}
 
@@ -20,8 +20,8 @@ use Rattle.callbacks.proofs.Started.{is_back, is_start}
 pub memory_alone : (w : World) (slot : ℕ) (at : FarPtr) → HasOtherMemory w (with_frame_and_structure w slot at)
 unfolding with_frame_and_structure
 memory_alone w slot at =
-    let first = far_put w (frame_start w) (frame_size w) (return_frame w) in
-    other_then w first (far_put first at STRUCTURE_SIZE (caller_structure w slot)) (other_far_put w (frame_start w) (frame_size w) (return_frame w))
+    let first = world_after_far_write w (callback_frame_start w) (callback_frame_size w) (callback_frame w) in
+    other_then w first (world_after_far_write first at STRUCTURE_SIZE (caller_structure w slot)) (other_far_put w (callback_frame_start w) (callback_frame_size w) (callback_frame w))
     (other_far_put first at STRUCTURE_SIZE (caller_structure w slot))
 
 entering_left : (w : World) (slot : ℕ) (procedure at : FarPtr) → LeftForProcedure w (after_entering (with_stack_row w) slot procedure at)

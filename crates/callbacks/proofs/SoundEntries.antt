@@ -18,7 +18,7 @@ use Rattle.client_world.specs.Soundness.{IsSound, HasSegments}
 use Rattle.client_world.specs.World.{World, depth}
 use Rattle.client_world.proofs.SoundWrites.{IsSound-real, IsSound-regs, IsSound-vif}
 use Rattle.guest_ram.specs.Bytes.{AreBytes}
-use Rattle.guest_space.specs.Far.{far_put}
+use Rattle.guest_space.specs.Far.{world_after_far_write}
 use Rattle.guest_space.proofs.Fars.{reached}
 use Rattle.guest_space.proofs.FarPuts.{sound_far_put}
 use Rattle.guest_space.proofs.RecordWrites.{has_width}
@@ -29,7 +29,7 @@ use Rattle.translation.proofs.NamedWords.{loadable_is_word}
 use Rattle.translation.proofs.ReadBytes.{far_are_bytes}
 use Rattle.translation.proofs.SoundCallee.{structure_segments}
 use Rattle.translation.proofs.SoundReturns.{some_width}
-use Rattle.callbacks.specs.Callbacks.{after_entering, after_leaving, caller_structure, enter_callback, frame_start, frame_size, leave_callback, procedure_regs, return_frame, with_frame_and_structure, with_stack_row}
+use Rattle.callbacks.specs.Callbacks.{after_entering, after_leaving, caller_structure, enter_callback, callback_frame_start, callback_frame_size, leave_callback, procedure_regs, callback_frame, with_frame_and_structure, with_stack_row}
 use Rattle.callbacks.proofs.FrameBytes.{caller_bytes, frame_bytes}
 use Rattle.callbacks.proofs.KeptWorld.{memory_alone}
 use Rattle.callbacks.proofs.SoundStackRow.{held_width, sound_with_stack_row}
@@ -70,13 +70,13 @@ procedure_segments w procedure at room code structure = record {
   gs = omega arith;
 }
 
-pub sound_frame : (w : World) → IsSound w → IsSound (far_put w (frame_start w) (frame_size w) (return_frame w))
-sound_frame w s = sound_far_put w (frame_start w) (frame_size w) (return_frame w) s (frame_bytes w)
+pub sound_frame : (w : World) → IsSound w → IsSound (world_after_far_write w (callback_frame_start w) (callback_frame_size w) (callback_frame w))
+sound_frame w s = sound_far_put w (callback_frame_start w) (callback_frame_size w) (callback_frame w) s (frame_bytes w)
 
 sound_memory : (w : World) (slot : ℕ) (at : FarPtr) → IsSound w → IsSound (with_frame_and_structure w slot at)
 unfolding with_frame_and_structure
 sound_memory w slot at s =
-    sound_far_put (far_put w (frame_start w) (frame_size w) (return_frame w)) at STRUCTURE_SIZE (caller_structure w slot) (sound_frame w s)
+    sound_far_put (world_after_far_write w (callback_frame_start w) (callback_frame_size w) (callback_frame w)) at STRUCTURE_SIZE (caller_structure w slot) (sound_frame w s)
     (caller_bytes w slot)
 
 sound_entering : (w : World) (slot : ℕ) (procedure at : FarPtr) → IsSound w → w.width ≢ None → depth w < GREATEST_DEPTH →

@@ -25,7 +25,7 @@ use Rattle.client_world.specs.Selector.{Row, client_selector, selector_of}
 use Rattle.client_world.specs.Services.{es_di}
 use Rattle.client_world.specs.World.{Callback, World, depth}
 use Rattle.exec_flow.specs.Interrupts.{item_bits}
-use Rattle.guest_space.specs.Far.{far_put}
+use Rattle.guest_space.specs.Far.{world_after_far_write}
 use Rattle.guest_space.specs.Pending.{byte_count, number_bytes}
 use Rattle.guest_space.specs.VectorLists.{callback_of_slot}
 use Rattle.mode_stack.specs.Frames.{frame_address}
@@ -52,17 +52,17 @@ with_stack_row w = record w { descriptors = slice_set w.descriptors (stack_index
 
 -- the frame of an interrupt, of the client's width, from the stack pointer up: it returns to the trap of a callback's return, with the real
 -- caller's flags
-unfoldable pub return_frame : World → List ℕ
-return_frame w =
+unfoldable pub callback_frame : World → List ℕ
+callback_frame w =
     number_bytes (item_bits w.width) (CALLBACK_RETURN_TRAP - ROM_START) ++ number_bytes (item_bits w.width) (selector_of HOST_CODE)
     ++ number_bytes (item_bits w.width) (flags_image w.regs.flags w.vif)
 
-abbrev pub frame_size : World → ℕ
-frame_size w = 3 * byte_count (item_bits w.width)
+abbrev pub callback_frame_size : World → ℕ
+callback_frame_size w = 3 * byte_count (item_bits w.width)
 
 -- where it lies
-abbrev pub frame_start : World → FarPtr
-frame_start w = frame_address w (frame_size w)
+abbrev pub callback_frame_start : World → FarPtr
+callback_frame_start w = frame_address w (callback_frame_size w)
 
 -- the call structure: the real caller's registers, with 0 at 0Ch, and with the callback's own address as CS:IP
 unfoldable pub caller_structure : World → ℕ → List ℕ
@@ -76,7 +76,7 @@ procedure_regs w procedure at = record w.regs {
   cs = client_selector procedure.sel;
   eip = procedure.off;
   ss = selector_of HOST_STACKS;
-  esp = (frame_start w).off;
+  esp = (callback_frame_start w).off;
   ds = selector_of (stack_index w);
   esi = with_by_width w.width w.regs.esi (low_half w.regs.esp);
   es = at.sel;
@@ -88,7 +88,7 @@ procedure_regs w procedure at = record w.regs {
 -- the world with the frame, and then the structure
 unfoldable pub with_frame_and_structure : World → ℕ → FarPtr → World
 with_frame_and_structure w slot at =
-    far_put (far_put w (frame_start w) (frame_size w) (return_frame w)) at STRUCTURE_SIZE (caller_structure w slot)
+    world_after_far_write (world_after_far_write w (callback_frame_start w) (callback_frame_size w) (callback_frame w)) at STRUCTURE_SIZE (caller_structure w slot)
 
 -- the world in which the procedure starts, with virtual interrupts off; w has the descriptor of the real caller's stack
 unfoldable pub after_entering : World → ℕ → FarPtr → FarPtr → World

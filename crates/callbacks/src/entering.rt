@@ -5,7 +5,7 @@ ghost use Rattle.client_world.specs.declared.registers.Mode.TheVariants.{Real as
 ghost use Rattle.client_world.specs.Access.{is_reachable};
 ghost use Rattle.client_world.specs.World.{depth};
 ghost use Rattle.exec_flow.specs.Interrupts.{item_bits};
-ghost use Rattle.guest_space.specs.Far.{far_put, far_written};
+ghost use Rattle.guest_space.specs.Far.{world_after_far_write, after_far_write};
 ghost use Rattle.guest_space.specs.Pending.{byte_count, number_bytes};
 ghost use Rattle.guest_space.specs.Transfer.{HasOtherMemory};
 ghost use Rattle.guest_space.specs.VectorLists.{callback_of_slot};
@@ -14,10 +14,10 @@ ghost use Rattle.callbacks.specs.Callbacks.{
   after_entering,
   caller_structure,
   enter_callback,
-  frame_start,
-  frame_size,
+  callback_frame_start,
+  callback_frame_size,
   procedure_regs,
-  return_frame,
+  callback_frame,
   with_frame_and_structure,
   with_stack_row,
 };
@@ -44,10 +44,10 @@ const DEEPEST: u8 = GREATEST_DEPTH as u8;
 const RETURN_OFFSET: u16 = (CALLBACK_RETURN_TRAP - ROM_START) as u16;
 
 // The bytes of the frame for a 16-bit client.
-#[tactic(auto, unfolding(crate::specs::Callbacks::return_frame))]
+#[tactic(auto, unfolding(crate::specs::Callbacks::callback_frame))]
 fn word_frame(m: &Machine) -> [u8; 6]
     requires { item_bits m.now.world.width ≡ 16 }
-    ensures { result ≡ return_frame m.now.world }
+    ensures { result ≡ callback_frame m.now.world }
 {
     let image = m.regs().flags.image(m.vif());
     let mut bytes = [0; 6];
@@ -58,10 +58,10 @@ fn word_frame(m: &Machine) -> [u8; 6]
 }
 
 // And for a 32-bit client.
-#[tactic(auto, unfolding(crate::specs::Callbacks::return_frame))]
+#[tactic(auto, unfolding(crate::specs::Callbacks::callback_frame))]
 fn dword_frame(m: &Machine) -> [u8; 12]
     requires { item_bits m.now.world.width ≡ 32 }
-    ensures { result ≡ return_frame m.now.world }
+    ensures { result ≡ callback_frame m.now.world }
 {
     let image = m.regs().flags.image(m.vif());
     let mut bytes = [0; 12];
@@ -86,9 +86,9 @@ fn is_wide(m: &Machine) -> bool
 }
 
 // Where the frame lies.
-fn frame_start(m: &Machine) -> FarPtr
+fn callback_frame_start(m: &Machine) -> FarPtr
     requires { depth m.now.world < GREATEST_DEPTH }
-    ensures { result ≡ frame_start m.now.world }
+    ensures { result ≡ callback_frame_start m.now.world }
 {
     let size = if is_wide(m) { 12 } else { 6 };
     frame_address(m, size)
@@ -98,11 +98,11 @@ fn frame_start(m: &Machine) -> FarPtr
 fn write_frame(m: &mut Machine)
     requires width { m.old.world.width ≢ None }
     requires depth { depth m.old.world < GREATEST_DEPTH }
-    ensures { m.new ≡ far_written m.old (frame_start m.old.world) (frame_size m.old.world) (return_frame m.old.world) }
+    ensures { m.new ≡ after_far_write m.old (callback_frame_start m.old.world) (callback_frame_size m.old.world) (callback_frame m.old.world) }
 {
     the_protected_stacks_are_reachable();
     m.soundness();
-    let at = frame_start(m);
+    let at = callback_frame_start(m);
     if is_wide(m) {
         m.write_bytes(at, &dword_frame(m));
     } else {
@@ -137,7 +137,7 @@ fn procedure_regs(m: &Machine, procedure: FarPtr, at: FarPtr) -> Regs
         cs: client_selector(procedure.sel),
         eip: procedure.off,
         ss: selector_of(HOST_STACKS),
-        esp: frame_start(m).off,
+        esp: callback_frame_start(m).off,
         ds: selector_of(stack_index(m)),
         esi: with_by_width(m.width(), r.esi, u32::from(low_half(r.esp))),
         es: at.sel,
@@ -149,7 +149,7 @@ fn procedure_regs(m: &Machine, procedure: FarPtr, at: FarPtr) -> Regs
 }
 
 // Writes the frame, and then the structure.
-#[tactic(auto, unfolding(crate::specs::Callbacks::with_frame_and_structure, guest_space::specs::Far::far_put, guest_space::specs::Far::far_written, guest_space::specs::Transfer::with_places))]
+#[tactic(auto, unfolding(crate::specs::Callbacks::with_frame_and_structure, guest_space::specs::Far::world_after_far_write, guest_space::specs::Far::after_far_write, guest_space::specs::Transfer::with_places))]
 fn write_both(m: &mut Machine, slot: u8, at: FarPtr)
     requires width { m.old.world.width ≢ None }
     requires depth { depth m.old.world < GREATEST_DEPTH }

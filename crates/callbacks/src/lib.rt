@@ -1,7 +1,8 @@
-//! Real-mode callbacks: the functions of INT 31h that allocate and free them (0303h and 0304h), the call of a callback from real mode, and the
-//! return from it.
-//! It promises that each leaves the world that its definition names, or is refused and changes AX alone, or gives its exit and changes nothing.
-//! It uses the call structure of translation, the stack of records and the machine of guest_space.
+//! Real-mode callbacks: the functions of INT 31h that allocate and free them (0303h and 0304h), the call of a callback from real mode,
+//! and the return from it.
+//! It promises that each leaves the world that its definition names, or is refused and changes AX alone, or gives its exit and changes
+//! nothing. It uses the call structure of `translation`, the stack of records and the machine of `guest_space`.
+//! Bodies are free. The registers that are handed over (`specs/HandOver`) aren't: `host_run`'s law of nested calls is built on them.
 #![tactic(auto)]
 
 mod dispatch;

@@ -1,6 +1,7 @@
 //! A client that is made from a number, for long runs: 2000 calls of DOS and DPMI services, chosen by a sequence of random numbers.
-//! It promises that the file is the one that its definition in `specs/` names, byte for byte.
-//! It uses no other crate.
+//! It promises that the file is the one that its definition in `specs/` names, byte for byte. It uses no other crate.
+//! How the bytes are put together is free. The definition isn't: a change gives every number another client, and what `soak` wrote
+//! before no longer compares.
 #![tactic(auto)]
 
 ghost use Rattle.std.specs.Prelude.{◌≡◌, ◌≤◌, ◌+◌, ◌++◌, length, IfOk, OnOk};

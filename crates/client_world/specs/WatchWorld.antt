@@ -22,5 +22,5 @@ pub record WatchWorld : Type 0 where
   pub watching : Watching
 
 -- a host whose client has set no watchpoint
-abbrev pub unwatched : HostWorld → WatchWorld
-unwatched h = record { host = h; watching = no_watches }
+abbrev pub host_without_watches : HostWorld → WatchWorld
+host_without_watches h = record { host = h; watching = no_watches }

@@ -1,6 +1,7 @@
-//! The plain types of the client's world: registers, the memory map, limits, places, exits.
-//! It promises that each conversion between them is the one that its definition in `specs/` names.
-//! It uses no other crate; every other crate that knows the client uses it.
+//! The plain types of the client's world, and the model's world itself: registers, the memory map, limits, places, exits.
+//! It promises that each conversion between them is the one that its definition in `specs/` names. It uses no other crate.
+//! The body of a conversion is free. The types and definitions are what every crate that knows the client stands on: a field, a
+//! constant or a line of `World` or `Soundness` changes the contracts of all of them.
 #![tactic(auto)]
 
 mod blocks;

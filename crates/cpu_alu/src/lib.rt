@@ -1,6 +1,8 @@
 //! The processor's arithmetic at widths of 8, 16 and 32 bits, each operation with the flags that it leaves.
-//! It promises that each call is one formula over whole numbers, the word of `specs/` that its contract names.
-//! It uses `cpu_values`' words and `client_world`'s flags; the instructions that compute use it.
+//! It promises that each call is one formula over whole numbers, the word of `specs/` that its contract names. It uses `cpu_values`'
+//! words and `client_world`'s flags; the instructions that compute use it.
+//! A body is free as long as it meets its formula. The formula is the manual's, with flags that the manual leaves undefined fixed by
+//! choice: the rows of `exec_core` name it.
 #![tactic(auto)]
 
 mod decimal;

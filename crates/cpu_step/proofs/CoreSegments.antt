@@ -19,7 +19,7 @@ use Rattle.insn_forms.specs.declared.insn.Insn.{Insn}
 use Rattle.insn_forms.specs.declared.insn.Op.{Op}
 use Rattle.insn_forms.specs.declared.insn.Op.TheVariants as ops
 use Rattle.insn_plan.specs.Registers.{register, with_register}
-use Rattle.insn_plan.specs.Stack.{pushed, items_popped}
+use Rattle.insn_plan.specs.Stack.{with_pushed_number, regs_after_pops}
 use Rattle.cpu_step.proofs.SegmentWords.{HoldWords, LeavesWords, words_if, leaves_if, words_register, words_put, words_pushed}
 
 -- ---- arithmetic, shifts and bits
@@ -176,17 +176,17 @@ unfolding push
 push_leaves w i s = λ v. words_pushed _ _ _ _ s
 
 pop_leaves : (w : World) (i : Insn) → HoldWords w.regs → LeavesWords (pop w i)
-unfolding pop items_popped
+unfolding pop regs_after_pops
 pop_leaves w i s = λ v. words_put _ _ _ _ _ _ s
 
 pusha_leaves : (w : World) (i : Insn) → HoldWords w.regs → LeavesWords (pusha w i)
-unfolding pusha pushed
+unfolding pusha with_pushed_number
 pusha_leaves w i s = s
 
 popa_leaves : (w : World) (i : Insn) → HoldWords w.regs → LeavesWords (popa w i)
-unfolding popa items_popped
+unfolding popa regs_after_pops
 popa_leaves w i s = λ di si bp bx dx cx ax.
-    let none = items_popped w i.width 8 w.regs in
+    let none = regs_after_pops w i.width 8 w.regs in
     let one = with_register none i.width 7 di in
     let two = with_register one i.width 6 si in
     let three = with_register two i.width 5 bp in
@@ -226,72 +226,45 @@ scas_leaves w i len s = leaves_if (is_over w i) _ _ s (λ b.
     let f = (sub_of i.width (cut i.width (register w.regs i.width 0)) (cut i.width b) w.regs.flags).1 in
     repeated_words w i len (goes_on_while i.rep f) (with_destination_next w i (record w.regs { flags = f })) s)
 
--- ---- all of them
+-- ---- all of them: each by the lemma of its row, which is found; the first line makes a case of each operation
 
 pub core_leaves : (op : Op) (w : World) (i : Insn) (len : ℕ) → HoldWords w.regs → LeavesWords (core_row op w i len)
 unfolding core_row
 core_leaves ops.Add w i len s = binary_leaves _ w i s
-core_leaves ops.Or w i len s = binary_leaves _ w i s
-core_leaves ops.Adc w i len s = binary_leaves _ w i s
-core_leaves ops.Sbb w i len s = binary_leaves _ w i s
-core_leaves ops.And w i len s = binary_leaves _ w i s
-core_leaves ops.Sub w i len s = binary_leaves _ w i s
-core_leaves ops.Xor w i len s = binary_leaves _ w i s
-core_leaves ops.Cmp w i len s = compare_leaves _ w i s
-core_leaves ops.Test w i len s = compare_leaves _ w i s
-core_leaves ops.Inc w i len s = unary_leaves _ w i s
-core_leaves ops.Dec w i len s = unary_leaves _ w i s
-core_leaves ops.Not w i len s = unary_leaves _ w i s
-core_leaves ops.Neg w i len s = unary_leaves _ w i s
-core_leaves ops.Mul w i len s = multiply_leaves _ w i s
-core_leaves ops.Imul w i len s = imul_leaves w i s
-core_leaves ops.Div w i len s = divide_leaves _ w i s
-core_leaves ops.Idiv w i len s = divide_leaves _ w i s
-core_leaves ops.Daa w i len s = adjust_leaves _ w s
-core_leaves ops.Das w i len s = adjust_leaves _ w s
-core_leaves ops.Aaa w i len s = adjust_leaves _ w s
-core_leaves ops.Aas w i len s = adjust_leaves _ w s
-core_leaves ops.Aam w i len s = aam_leaves w i s
-core_leaves ops.Aad w i len s = aad_leaves w i s
-core_leaves ops.Rol w i len s = shift_leaves _ w i s
-core_leaves ops.Ror w i len s = shift_leaves _ w i s
-core_leaves ops.Rcl w i len s = shift_leaves _ w i s
-core_leaves ops.Rcr w i len s = shift_leaves _ w i s
-core_leaves ops.Shl w i len s = shift_leaves _ w i s
-core_leaves ops.Shr w i len s = shift_leaves _ w i s
-core_leaves ops.Sar w i len s = shift_leaves _ w i s
-core_leaves ops.Shld w i len s = shift_in_leaves _ w i s
-core_leaves ops.Shrd w i len s = shift_in_leaves _ w i s
-core_leaves ops.Bt w i len s = bit_test_leaves w i s
-core_leaves ops.Bts w i len s = bit_change_leaves _ w i s
-core_leaves ops.Btr w i len s = bit_change_leaves _ w i s
-core_leaves ops.Btc w i len s = bit_change_leaves _ w i s
-core_leaves ops.Bsf w i len s = bit_scan_leaves _ w i s
-core_leaves ops.Bsr w i len s = bit_scan_leaves _ w i s
-core_leaves (ops.Setcc n) w i len s = setcc_leaves w i n s
-core_leaves ops.Mov w i len s = mov_leaves w i s
-core_leaves (ops.Movzx n) w i len s = movzx_leaves w i n s
-core_leaves (ops.Movsx n) w i len s = movsx_leaves w i n s
-core_leaves ops.Xchg w i len s = xchg_leaves w i s
-core_leaves ops.Lea w i len s = lea_leaves w i s
-core_leaves ops.Xlat w i len s = xlat_leaves w i s
-core_leaves ops.Cbw w i len s = cbw_leaves w i s
-core_leaves ops.Cwd w i len s = cwd_leaves w i s
-core_leaves ops.Lahf w i len s = lahf_leaves w s
-core_leaves ops.Sahf w i len s = (flags_alone w s).sahf_leaves
-core_leaves ops.Push w i len s = push_leaves w i s
-core_leaves ops.Pop w i len s = pop_leaves w i s
-core_leaves ops.Pusha w i len s = pusha_leaves w i s
-core_leaves ops.Popa w i len s = popa_leaves w i s
-core_leaves ops.Movs w i len s = movs_leaves w i len s
-core_leaves ops.Cmps w i len s = cmps_leaves w i len s
-core_leaves ops.Stos w i len s = stos_leaves w i len s
-core_leaves ops.Lods w i len s = lods_leaves w i len s
-core_leaves ops.Scas w i len s = scas_leaves w i len s
-core_leaves ops.Clc w i len s = (flags_alone w s).clc_leaves
-core_leaves ops.Stc w i len s = (flags_alone w s).stc_leaves
-core_leaves ops.Cmc w i len s = (flags_alone w s).cmc_leaves
-core_leaves ops.Cld w i len s = (flags_alone w s).cld_leaves
-core_leaves ops.Std w i len s = (flags_alone w s).std_leaves
-core_leaves ops.Wait w i len s = (flags_alone w s).wait_leaves
-core_leaves _ w i len s = s
+core_leaves _ w i len s = search (
+  s,
+  flags_alone w s,
+  binary_leaves,
+  compare_leaves,
+  unary_leaves,
+  multiply_leaves,
+  imul_leaves,
+  divide_leaves,
+  adjust_leaves,
+  aam_leaves,
+  aad_leaves,
+  shift_leaves,
+  shift_in_leaves,
+  bit_test_leaves,
+  bit_change_leaves,
+  bit_scan_leaves,
+  setcc_leaves,
+  mov_leaves,
+  movzx_leaves,
+  movsx_leaves,
+  xchg_leaves,
+  lea_leaves,
+  xlat_leaves,
+  cbw_leaves,
+  cwd_leaves,
+  lahf_leaves,
+  push_leaves,
+  pop_leaves,
+  pusha_leaves,
+  popa_leaves,
+  movs_leaves,
+  cmps_leaves,
+  stos_leaves,
+  lods_leaves,
+  scas_leaves,
+)

@@ -6,13 +6,13 @@ use Rattle.client_world.specs.declared.faults.Event.TheVariants.{Fault as fault}
 use Rattle.client_world.specs.declared.faults.Fault.{Fault}
 use Rattle.client_world.specs.World.{World}
 use Rattle.guest_space.specs.declared.pending.Write.{Write}
-use Rattle.guest_space.specs.Pending.{first_refusal, write_refusal, all_written}
+use Rattle.guest_space.specs.Pending.{first_write_fault, write_fault, after_writes}
 use Rattle.host_memory.specs.View.{MachineView}
 use Rattle.insn_plan.specs.declared.accesses.Access.{Access}
 use Rattle.client_world.specs.declared.watchpoints.Touch.{Touch}
-use Rattle.insn_plan.specs.Accesses.{and_read, and_writes, accesses_after, granted, touch_of, touches_after, touches_where, touches}
+use Rattle.insn_plan.specs.Accesses.{and_read, and_writes, accesses_after, touch_of_access, touch_of, touches_after, touches_where, touches}
 use Rattle.insn_plan.specs.Act.{Act, End, Read, Done, Raise, Interrupt, Input, Given, From, Pending, value_of}
-use Rattle.insn_plan.specs.Plan.{planned, carried_out, after_commit, with_state}
+use Rattle.insn_plan.specs.Plan.{plan_result, after_plan, after_commit, with_state}
 use Rattle.cpu_step.proofs.Joined.{AllGranted, IsGranted, access_of, are_written, granted_front, value_granted, known, known_touches}
 
 granted_back : (w : World) (front back : List Access) → AllGranted w front → AllGranted w back → AllGranted w (front ++ back)
@@ -26,13 +26,13 @@ read_granted w done (From seg off n) v e all = granted_back w done _ all (value_
 -- ---- an instruction that is an event
 
 after_event : (r : Result ℕ Event) (w : World) (done : List Access) (rest : ℕ → Act) (event : Event) →
-    ((v : ℕ) → planned w (rest v) ≡ Err event → accesses_after w done (rest v) ≡ None) →
-    elim r as (λ _. Result Pending Event) [ Ok v ↦ planned w (rest v) | Err e ↦ Err e ] ≡ Err event →
+    ((v : ℕ) → plan_result w (rest v) ≡ Err event → accesses_after w done (rest v) ≡ None) →
+    elim r as (λ _. Result Pending Event) [ Ok v ↦ plan_result w (rest v) | Err e ↦ Err e ] ≡ Err event →
     elim r as (λ _. Option (List Access)) [ Ok v ↦ accesses_after w done (rest v) | Err e ↦ None ] ≡ None
 after_event (Ok v) w done rest event h e = h v e
 after_event (Err other) w done rest event h e = refl
 
-event_none : (w : World) (done : List Access) (act : Act) (event : Event) → planned w act ≡ Err event → accesses_after w done act ≡ None
+event_none : (w : World) (done : List Access) (act : Act) (event : Event) → plan_result w act ≡ Err event → accesses_after w done act ≡ None
 unfolding accesses_after
 event_none w done (End (Done p)) event e = absurd cc
 event_none w done (End (Raise f)) event e = refl
@@ -50,14 +50,14 @@ record Reads (w : World) (done : List Access) (act : Act) (p : Pending) : Type 0
 record Value (w : World) (r : Result ℕ Event) (rest : ℕ → Act) (p : Pending) : Type 0 where
   value : ℕ
   is : r ≡ Ok value
-  others : planned w (rest value) ≡ Ok p
+  others : plan_result w (rest value) ≡ Ok p
 
 value_by : (w : World) (r : Result ℕ Event) (rest : ℕ → Act) (p : Pending) →
-    elim r as (λ _. Result Pending Event) [ Ok v ↦ planned w (rest v) | Err e ↦ Err e ] ≡ Ok p → Value w r rest p
+    elim r as (λ _. Result Pending Event) [ Ok v ↦ plan_result w (rest v) | Err e ↦ Err e ] ≡ Ok p → Value w r rest p
 value_by w (Ok v) rest p e = record { value = v; is = refl; others = e }
 value_by w (Err event) rest p e = absurd cc
 
-reads_of : (w : World) (done : List Access) (act : Act) (p : Pending) → planned w act ≡ Ok p → Reads w done act p
+reads_of : (w : World) (done : List Access) (act : Act) (p : Pending) → plan_result w act ≡ Ok p → Reads w done act p
 unfolding accesses_after
 reads_of w done (End (Done q)) p e =
     let same : q ≡ p = cc in
@@ -80,24 +80,24 @@ no_refusal : (o : Option Fault) (more : Option Fault) → elim o as (λ _. Optio
 no_refusal None more e = (refl, e)
 no_refusal (Some f) more e = absurd cc
 
-writes_granted : (w : World) (done : List Access) (xs : List Write) → first_refusal w xs ≡ None → AllGranted w done → AllGranted w (and_writes done xs)
-unfolding first_refusal write_refusal
+writes_granted : (w : World) (done : List Access) (xs : List Write) → first_write_fault w xs ≡ None → AllGranted w done → AllGranted w (and_writes done xs)
+unfolding first_write_fault write_fault
 writes_granted w done [] e all = all
 writes_granted w done (x ∷ xs) e all =
-    let parts = no_refusal (write_refusal w x) (first_refusal w xs) e in
+    let parts = no_refusal (write_fault w x) (first_write_fault w xs) e in
     writes_granted w (done ++ access_of x ∷ []) xs parts.1 (granted_back w done (access_of x ∷ []) all (parts.0, tt))
 
-none_refused : (w : World) (done : List Access) (xs : List Write) → AllGranted w (and_writes done xs) → first_refusal w xs ≡ None
-unfolding first_refusal write_refusal
+none_refused : (w : World) (done : List Access) (xs : List Write) → AllGranted w (and_writes done xs) → first_write_fault w xs ≡ None
+unfolding first_write_fault write_fault
 none_refused w done [] all = refl
 none_refused w done (x ∷ xs) all =
     let a = access_of x in
     let parts = granted_front w done (a ∷ []) (are_written w (done ++ a ∷ []) xs all).before in
-    ap (λ (o : Option Fault). elim o as (λ _. Option Fault) [ Some f ↦ Some f | None ↦ first_refusal w xs ]) parts.1.0
+    ap (λ (o : Option Fault). elim o as (λ _. Option Fault) [ Some f ↦ Some f | None ↦ first_write_fault w xs ]) parts.1.0
     ∙ none_refused w (done ++ a ∷ []) xs all
 
-granted_some : (w : World) (a : Access) → IsGranted w a → granted w a ≡ Some (touch_of w a)
-unfolding granted
+granted_some : (w : World) (a : Access) → IsGranted w a → touch_of_access w a ≡ Some (touch_of w a)
+unfolding touch_of_access
 granted_some w a e = ap (λ (o : Option Fault). elim o as (λ _. Option Touch) [ None ↦ Some (touch_of w a) | Some f ↦ None ]) e
 
 not_none : (w : World) (done : List Touch) (all : List Access) → AllGranted w all → ¬ (touches_after w done all ≡ None)
@@ -117,25 +117,25 @@ committed_is : (o : Option Fault) (u : MachineView) → elim o as (λ _. Result 
 committed_is None u = refl
 committed_is (Some f) u = refl
 
-commit_is : (v : MachineView) (p : Pending) → after_commit v p ≡ committed (first_refusal v.world p.writes) (with_state p.regs p.vif (all_written v p.writes))
+commit_is : (v : MachineView) (p : Pending) → after_commit v p ≡ committed (first_write_fault v.world p.writes) (with_state p.regs p.vif (after_writes v p.writes))
 unfolding after_commit
-commit_is v p = committed_is (first_refusal v.world p.writes) (with_state p.regs p.vif (all_written v p.writes))
+commit_is v p = committed_is (first_write_fault v.world p.writes) (with_state p.regs p.vif (after_writes v p.writes))
 
-committed_ok : (v : MachineView) (p : Pending) → first_refusal v.world p.writes ≡ None → IsOk (after_commit v p)
+committed_ok : (v : MachineView) (p : Pending) → first_write_fault v.world p.writes ≡ None → IsOk (after_commit v p)
 committed_ok v p e =
     ap (λ (r : Result MachineView Event). is_ok r)
-    (commit_is v p ∙ ap (λ (o : Option Fault). committed o (with_state p.regs p.vif (all_written v p.writes))) e)
+    (commit_is v p ∙ ap (λ (o : Option Fault). committed o (with_state p.regs p.vif (after_writes v p.writes))) e)
 
-committed_err : (v : MachineView) (p : Pending) (f : Fault) → first_refusal v.world p.writes ≡ Some f → IsErr (after_commit v p)
+committed_err : (v : MachineView) (p : Pending) (f : Fault) → first_write_fault v.world p.writes ≡ Some f → IsErr (after_commit v p)
 committed_err v p f e =
     ap (λ (r : Result MachineView Event). is_err r)
-    (commit_is v p ∙ ap (λ (o : Option Fault). committed o (with_state p.regs p.vif (all_written v p.writes))) e)
+    (commit_is v p ∙ ap (λ (o : Option Fault). committed o (with_state p.regs p.vif (after_writes v p.writes))) e)
 
 some_or_none : (list : List Touch) → ¬ (Some list ≡ None)
 some_or_none list e = absurd cc
 
 -- without touches
-refused : (v : MachineView) (act : Act) (p : Pending) (o : Option Fault) → first_refusal v.world p.writes ≡ o → Reads v.world [] act p →
+refused : (v : MachineView) (act : Act) (p : Pending) (o : Option Fault) → first_write_fault v.world p.writes ≡ o → Reads v.world [] act p →
     touches v.world act ≡ None → IsErr (after_commit v p)
 unfolding touches
 refused v act p (Some f) is reads e = committed_err v p f is
@@ -143,18 +143,18 @@ refused v act p None is reads e =
     absurd (not_none v.world [] (and_writes reads.reads p.writes) (writes_granted v.world reads.reads p.writes is (reads.granted tt))
     (ap (touches_where v.world) (sym reads.follow) ∙ e))
 
-untouched_by : (v : MachineView) (act : Act) (r : Result Pending Event) → planned v.world act ≡ r → touches v.world act ≡ None → IsErr (carried_out v r)
-unfolding carried_out
+untouched_by : (v : MachineView) (act : Act) (r : Result Pending Event) → plan_result v.world act ≡ r → touches v.world act ≡ None → IsErr (after_plan v r)
+unfolding after_plan
 untouched_by v act (Err event) is e = refl
-untouched_by v act (Ok p) is e = refused v act p (first_refusal v.world p.writes) refl (reads_of v.world [] act p is) e
+untouched_by v act (Ok p) is e = refused v act p (first_write_fault v.world p.writes) refl (reads_of v.world [] act p is) e
 
-pub untouched : (v : MachineView) (act : Act) → touches v.world act ≡ None → IsErr (carried_out v (planned v.world act))
-untouched v act e = untouched_by v act (planned v.world act) refl e
+pub untouched : (v : MachineView) (act : Act) → touches v.world act ≡ None → IsErr (after_plan v (plan_result v.world act))
+untouched v act e = untouched_by v act (plan_result v.world act) refl e
 
 -- with touches
-touched_by : (v : MachineView) (act : Act) (list : List Touch) (r : Result Pending Event) → planned v.world act ≡ r →
-    touches v.world act ≡ Some list → IsOk (carried_out v r)
-unfolding carried_out touches
+touched_by : (v : MachineView) (act : Act) (list : List Touch) (r : Result Pending Event) → plan_result v.world act ≡ r →
+    touches v.world act ≡ Some list → IsOk (after_plan v r)
+unfolding after_plan touches
 touched_by v act list (Err event) is e =
     absurd (some_or_none list (sym e ∙ ap (touches_where v.world) (event_none v.world [] act event is)))
 touched_by v act list (Ok p) is e =
@@ -164,5 +164,5 @@ touched_by v act list (Ok p) is e =
     let all = subst (λ (all : List Access). AllGranted v.world all) same (known_touches v.world act list k).granted in
     committed_ok v p (none_refused v.world reads.reads p.writes all)
 
-pub has_touches : (v : MachineView) (act : Act) (list : List Touch) → touches v.world act ≡ Some list → IsOk (carried_out v (planned v.world act))
-has_touches v act list e = touched_by v act list (planned v.world act) refl e
+pub has_touches : (v : MachineView) (act : Act) (list : List Touch) → touches v.world act ≡ Some list → IsOk (after_plan v (plan_result v.world act))
+has_touches v act list e = touched_by v act list (plan_result v.world act) refl e

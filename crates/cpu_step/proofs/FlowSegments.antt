@@ -9,16 +9,16 @@ use Rattle.client_world.specs.Loading.{register_fault, transfer_fault}
 use Rattle.client_world.specs.Selector.{Row, client_selector, privilege_of}
 use Rattle.client_world.specs.World.{World}
 use Rattle.exec_flow.specs.Dispatch.{flow_row}
-use Rattle.exec_flow.specs.FarTransfers.{code_selector, far_transfer, jump_far, call_far, far_frame_popped, retf, frame_popped, iret}
-use Rattle.exec_flow.specs.FlagImages.{pushf, flags_popped, popf, cli, sti}
-use Rattle.exec_flow.specs.Frames.{frames_pushed, frame_made, enter, leave, is_less_signed, bound}
+use Rattle.exec_flow.specs.FarTransfers.{code_selector, far_transfer, jump_far, call_far, far_frame_pop, retf, interrupt_frame_pop, iret}
+use Rattle.exec_flow.specs.FlagImages.{pushf, with_popped_flags, popf, cli, sti}
+use Rattle.exec_flow.specs.Frames.{push_saved_frames, with_new_frame, enter, leave, is_less_signed, bound}
 use Rattle.exec_flow.specs.Interrupts.{int, int3, into}
 use Rattle.exec_flow.specs.Pointers.{offset_range}
 use Rattle.exec_flow.specs.Ports.{input, output}
-use Rattle.exec_flow.specs.Questions.{verify, descriptor_answer, tell, arpl}
+use Rattle.exec_flow.specs.Questions.{verify, descriptor_answer, load_from_descriptor, arpl}
 use Rattle.exec_flow.specs.Raising.{invalid_opcode, privileged, escape, in_protected, load_table}
-use Rattle.exec_flow.specs.Segments.{segment_loaded, mov_to_segment, mov_from_segment, mov_segment, push_segment, pop_into, pop_segment, load_pointer}
-use Rattle.exec_flow.specs.Transfers.{at_operand_size, near_transfer, jcc, jcxz, count_down, counted_down, loop_while, jmp, call, immediate, ret}
+use Rattle.exec_flow.specs.Segments.{with_loaded_segment, mov_to_segment, mov_from_segment, mov_segment, push_segment, pop_into, pop_segment, load_pointer}
+use Rattle.exec_flow.specs.Transfers.{at_operand_size, near_transfer, jcc, jcxz, count_down, with_next_count, loop_while, jmp, call, immediate, ret}
 use Rattle.insn_forms.specs.declared.insn.Insn.{Insn}
 use Rattle.insn_forms.specs.declared.insn.Op.{Op}
 use Rattle.insn_forms.specs.declared.insn.Op.TheVariants as ops
@@ -27,7 +27,7 @@ use Rattle.insn_forms.specs.declared.insn.Operand.TheVariants.{Empty, Reg, Seg, 
 use Rattle.insn_plan.specs.Act.{Act, Pending, unchanged}
 use Rattle.insn_plan.specs.Conditions.{condition}
 use Rattle.insn_plan.specs.Counter.{counter}
-use Rattle.insn_plan.specs.Stack.{items_popped}
+use Rattle.insn_plan.specs.Stack.{regs_after_pops}
 use Rattle.cpu_step.proofs.SegmentWords.{HoldWords, LeavesWords, leaves_if, leaves_by_mode, leaves_unless, words_register, words_put, words_pushed, words_selector, half_is_word}
 
 -- ---- near transfers
@@ -46,7 +46,7 @@ jcxz_leaves w i s = λ ip. leaves_if (nat_eq (counter w i) 0) _ _ (near_leaves w
 
 loop_leaves : (holds : Bool) (w : World) (i : Insn) → HoldWords w.regs → LeavesWords (loop_while holds w i)
 unfolding loop_while
-loop_leaves holds w i s = λ ip. leaves_if (holds && not (nat_eq (count_down w i) 0)) _ _ (near_leaves w i ip (counted_down w i) s) s
+loop_leaves holds w i s = λ ip. leaves_if (holds && not (nat_eq (count_down w i) 0)) _ _ (near_leaves w i ip (with_next_count w i) s) s
 
 jmp_leaves : (w : World) (i : Insn) → HoldWords w.regs → LeavesWords (jmp w i)
 unfolding jmp
@@ -57,7 +57,7 @@ unfolding call
 call_leaves w i s = λ ip. near_leaves w i ip _ (words_pushed _ _ _ _ s)
 
 ret_leaves : (w : World) (i : Insn) → HoldWords w.regs → LeavesWords (ret w i)
-unfolding ret items_popped
+unfolding ret regs_after_pops
 ret_leaves w i s = λ ip. near_leaves w i ip _ s
 
 -- ---- far transfers
@@ -83,16 +83,16 @@ call_far_leaves : (w : World) (i : Insn) → HoldWords w.regs → LeavesWords (c
 unfolding call_far
 call_far_leaves w i s = λ p. far_leaves w _ _ _ _ (half_is_word (p / offset_range i)) (words_pushed _ _ _ _ (words_pushed _ _ _ _ s))
 
-pub far_frame_leaves : (w : World) (bits bytes : ℕ) → HoldWords w.regs → LeavesWords (far_frame_popped w bits bytes)
-unfolding far_frame_popped items_popped
+pub far_frame_leaves : (w : World) (bits bytes : ℕ) → HoldWords w.regs → LeavesWords (far_frame_pop w bits bytes)
+unfolding far_frame_pop regs_after_pops
 far_frame_leaves w bits bytes s = λ ip cs. far_leaves w _ _ _ _ (half_is_word cs) s
 
 retf_leaves : (w : World) (i : Insn) → HoldWords w.regs → LeavesWords (retf w i)
 unfolding retf
 retf_leaves w i s = far_frame_leaves w i.width (immediate i.first) s
 
-pub frame_leaves : (w : World) (bits : ℕ) → HoldWords w.regs → LeavesWords (frame_popped w bits)
-unfolding frame_popped flags_popped items_popped
+pub frame_leaves : (w : World) (bits : ℕ) → HoldWords w.regs → LeavesWords (interrupt_frame_pop w bits)
+unfolding interrupt_frame_pop with_popped_flags regs_after_pops
 frame_leaves w bits s = λ ip cs image. far_leaves w _ _ _ _ (half_is_word cs) s
 
 iret_leaves : (w : World) (i : Insn) → HoldWords w.regs → LeavesWords (iret w i)
@@ -101,8 +101,8 @@ iret_leaves w i s = frame_leaves w i.width s
 
 -- ---- segment registers
 
-loaded_leaves : (w : World) (seg : SegReg) (sel : ℕ) (p : Pending) → sel < 0x10000 → HoldWords p.regs → LeavesWords (segment_loaded w seg sel p)
-unfolding segment_loaded
+loaded_leaves : (w : World) (seg : SegReg) (sel : ℕ) (p : Pending) → sel < 0x10000 → HoldWords p.regs → LeavesWords (with_loaded_segment w seg sel p)
+unfolding with_loaded_segment
 loaded_leaves w seg sel p small s = leaves_unless (register_fault w seg sel) _ (words_selector p.regs seg sel s small)
 
 mov_to_leaves : (w : World) (i : Insn) (seg : SegReg) → HoldWords w.regs → LeavesWords (mov_to_segment w i seg)
@@ -132,7 +132,7 @@ unfolding push_segment
 push_segment_leaves w i s = λ v. words_pushed _ _ _ _ s
 
 pop_into_leaves : (w : World) (i : Insn) (seg : SegReg) → HoldWords w.regs → LeavesWords (pop_into w i seg)
-unfolding pop_into items_popped
+unfolding pop_into regs_after_pops
 pop_into_leaves w i seg s = λ v. loaded_leaves w seg _ _ (half_is_word v) s
 
 pop_segment_leaves : (w : World) (i : Insn) → HoldWords w.regs → LeavesWords (pop_segment w i)
@@ -150,17 +150,17 @@ unfolding pushf
 pushf_leaves w i s = words_pushed _ _ _ _ s
 
 popf_leaves : (w : World) (i : Insn) → HoldWords w.regs → LeavesWords (popf w i)
-unfolding popf flags_popped items_popped
+unfolding popf with_popped_flags regs_after_pops
 popf_leaves w i s = λ image. s
 
 frames_leave : (w : World) (i : Insn) (level n : ℕ) (p : Pending) (rest : Pending → Act) → ((q : Pending) → HoldWords q.regs → LeavesWords (rest q)) →
-    HoldWords p.regs → LeavesWords (frames_pushed w i level n p rest)
-unfolding frames_pushed
+    HoldWords p.regs → LeavesWords (push_saved_frames w i level n p rest)
+unfolding push_saved_frames
 frames_leave w i level zero p rest leaves s = leaves p s
 frames_leave w i level (suc n) p rest leaves s = λ v. frames_leave w i (level + 1) n _ rest leaves (words_pushed _ _ _ _ s)
 
-frame_words : (w : World) (i : Insn) (frame : ℕ) (p : Pending) → HoldWords p.regs → HoldWords (frame_made w i frame p).regs
-unfolding frame_made
+frame_words : (w : World) (i : Insn) (frame : ℕ) (p : Pending) → HoldWords p.regs → HoldWords (with_new_frame w i frame p).regs
+unfolding with_new_frame
 frame_words w i frame p s = words_register _ _ _ _ s
 
 enter_leaves : (w : World) (i : Insn) → HoldWords w.regs → LeavesWords (enter w i)
@@ -170,7 +170,7 @@ enter_leaves w i s =
     (frames_leave w i 1 _ _ _ (λ q t. frame_words w i _ _ (words_pushed _ _ _ _ t)) (words_pushed _ _ _ _ s))
 
 leave_leaves : (w : World) (i : Insn) → HoldWords w.regs → LeavesWords (leave w i)
-unfolding leave items_popped
+unfolding leave regs_after_pops
 leave_leaves w i s = λ bp. words_register _ _ _ _ s
 
 bound_leaves : (w : World) (i : Insn) → HoldWords w.regs → LeavesWords (bound w i)
@@ -197,8 +197,8 @@ told_leaves : (number : Desc → ℕ) (w : World) (i : Insn) (row : Row) → Hol
 told_leaves number w i None s = s
 told_leaves number w i (Some row) s = words_put _ _ _ _ _ _ s
 
-tell_leaves : (number : Desc → ℕ) (w : World) (i : Insn) → HoldWords w.regs → LeavesWords (tell number w i)
-unfolding tell
+tell_leaves : (number : Desc → ℕ) (w : World) (i : Insn) → HoldWords w.regs → LeavesWords (load_from_descriptor number w i)
+unfolding load_from_descriptor
 tell_leaves number w i s = in_protected_leaves w _ (λ sel. told_leaves number w i _ s)
 
 arpl_leaves : (w : World) (i : Insn) → HoldWords w.regs → LeavesWords (arpl w i)
@@ -209,63 +209,37 @@ load_table_leaves : (w : World) → LeavesWords (load_table w)
 unfolding load_table privileged
 load_table_leaves w = in_protected_leaves w _ tt
 
--- ---- all of them. Those that raise an exception alone, or leave the registers, are plain
+-- ---- all of them: each by the lemma of its row, which is found; the first line makes a case of each operation. Rows that only raise an
+-- exception, or leave the registers, are opened instead
 
 pub flow_leaves : (op : Op) (w : World) (i : Insn) (len : ℕ) → HoldWords w.regs → LeavesWords (flow_row op w i len)
 unfolding flow_row int int3 cli sti output invalid_opcode privileged escape
 flow_leaves ops.Mov w i len s = mov_segment_leaves w i s
-flow_leaves ops.Push w i len s = push_segment_leaves w i s
-flow_leaves ops.Pop w i len s = pop_segment_leaves w i s
-flow_leaves ops.Pushf w i len s = pushf_leaves w i s
-flow_leaves ops.Popf w i len s = popf_leaves w i s
-flow_leaves (ops.Jcc n) w i len s = jcc_leaves w i n s
-flow_leaves ops.Jcxz w i len s = jcxz_leaves w i s
-flow_leaves ops.Loop w i len s = loop_leaves _ w i s
-flow_leaves ops.Loope w i len s = loop_leaves _ w i s
-flow_leaves ops.Loopne w i len s = loop_leaves _ w i s
-flow_leaves ops.Jmp w i len s = jmp_leaves w i s
-flow_leaves ops.JmpFar w i len s = jump_far_leaves w i s
-flow_leaves ops.Call w i len s = call_leaves w i s
-flow_leaves ops.CallFar w i len s = call_far_leaves w i s
-flow_leaves ops.Ret w i len s = ret_leaves w i s
-flow_leaves ops.Retf w i len s = retf_leaves w i s
-flow_leaves ops.Int w i len s = tt
-flow_leaves ops.Int3 w i len s = tt
-flow_leaves ops.Into w i len s = into_leaves w len s
-flow_leaves ops.Iret w i len s = iret_leaves w i s
-flow_leaves ops.Bound w i len s = bound_leaves w i s
-flow_leaves ops.Enter w i len s = enter_leaves w i s
-flow_leaves ops.Leave w i len s = leave_leaves w i s
-flow_leaves ops.Cli w i len s = s
-flow_leaves ops.Sti w i len s = s
-flow_leaves ops.Hlt w i len s = tt
-flow_leaves ops.In w i len s = in_leaves w i s
-flow_leaves ops.Out w i len s = s
-flow_leaves ops.Ins w i len s = tt
-flow_leaves ops.Outs w i len s = tt
-flow_leaves ops.Les w i len s = pointer_leaves _ w i s
-flow_leaves ops.Lds w i len s = pointer_leaves _ w i s
-flow_leaves ops.Lss w i len s = pointer_leaves _ w i s
-flow_leaves ops.Lfs w i len s = pointer_leaves _ w i s
-flow_leaves ops.Lgs w i len s = pointer_leaves _ w i s
-flow_leaves ops.Lar w i len s = tell_leaves _ w i s
-flow_leaves ops.Lsl w i len s = tell_leaves _ w i s
-flow_leaves ops.Verr w i len s = verify_leaves _ w i s
-flow_leaves ops.Verw w i len s = verify_leaves _ w i s
-flow_leaves ops.Arpl w i len s = arpl_leaves w i s
-flow_leaves ops.Sldt w i len s = tt
-flow_leaves ops.Str w i len s = tt
-flow_leaves ops.Lldt w i len s = load_table_leaves w
-flow_leaves ops.Ltr w i len s = load_table_leaves w
-flow_leaves ops.Sgdt w i len s = tt
-flow_leaves ops.Sidt w i len s = tt
-flow_leaves ops.Lgdt w i len s = tt
-flow_leaves ops.Lidt w i len s = tt
-flow_leaves ops.Smsw w i len s = tt
-flow_leaves ops.Lmsw w i len s = tt
-flow_leaves ops.Clts w i len s = tt
-flow_leaves ops.MovControl w i len s = tt
-flow_leaves ops.MovDebug w i len s = tt
-flow_leaves ops.MovTest w i len s = tt
-flow_leaves ops.Esc w i len s = tt
-flow_leaves _ w i len s = s
+flow_leaves _ w i len s = search (
+  s,
+  mov_segment_leaves,
+  push_segment_leaves,
+  pop_segment_leaves,
+  pushf_leaves,
+  popf_leaves,
+  jcc_leaves,
+  jcxz_leaves,
+  loop_leaves,
+  jmp_leaves,
+  jump_far_leaves,
+  call_leaves,
+  call_far_leaves,
+  ret_leaves,
+  retf_leaves,
+  into_leaves,
+  iret_leaves,
+  bound_leaves,
+  enter_leaves,
+  leave_leaves,
+  in_leaves,
+  pointer_leaves,
+  tell_leaves,
+  verify_leaves,
+  arpl_leaves,
+  load_table_leaves,
+)

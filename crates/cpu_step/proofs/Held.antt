@@ -14,18 +14,18 @@ use Rattle.client_world.specs.declared.segments.SegReg.TheVariants.{Cs}
 use Rattle.client_world.specs.Access.{access, segment_base, places_at, places_from, place_in, linear, first_forbidden, unless_forbidden, may_touch, IsHeld}
 use Rattle.client_world.specs.World.{World}
 use Rattle.client_world.proofs.PlaceLaws.{held-place}
-use Rattle.exec_flow.specs.Interrupts.{interrupt_pushed}
+use Rattle.exec_flow.specs.Interrupts.{interrupt_push}
 use Rattle.guest_space.specs.Code.{code_room}
 use Rattle.guest_space.specs.declared.pending.Write.{Write}
-use Rattle.guest_space.specs.Pending.{byte_count, first_refusal}
+use Rattle.guest_space.specs.Pending.{byte_count, first_write_fault}
 use Rattle.insn_decode.specs.declared.decoding.Decoded.{Decoded}
 use Rattle.insn_decode.specs.declared.decoding.Decoded.TheVariants.{Whole, More, Invalid}
 use Rattle.insn_decode.specs.Decode.{decoded}
-use Rattle.insn_plan.specs.Accesses.{moved}
+use Rattle.insn_plan.specs.Accesses.{with_next_eip}
 use Rattle.insn_plan.specs.Act.{Act, End, Read, Input, Given, From, Pending, value_of}
-use Rattle.insn_plan.specs.Plan.{planned}
+use Rattle.insn_plan.specs.Plan.{plan_result}
 use Rattle.cpu_step.specs.Step.{has_big_code, code, client_row}
-use Rattle.cpu_step.specs.Touched.{and_then, fetched, input_read, read_places, write_places, vector_places, vector_read, places_behind, executed_touches, decoded_touches, touched}
+use Rattle.cpu_step.specs.Touched.{and_then, touched_by_fetch, input_read, read_places, write_places, vector_places, vector_read_places, places_after_reads, touched_by_instruction, touched_by_decoded, touched_by_step}
 
 abbrev AreHeld : World → List Place → Type 0
 AreHeld w places = All (IsHeld w) places
@@ -72,11 +72,11 @@ then_held w (Err f) more h rest = All-nil (IsHeld w)
 
 -- ---- fetches, reads and writes
 
-fetched_held : (w : World) (at n : ℕ) → AreHeld w (fetched w at n)
-unfolding fetched
+fetched_held : (w : World) (at n : ℕ) → AreHeld w (touched_by_fetch w at n)
+unfolding touched_by_fetch
 fetched_held w at zero = All-nil (IsHeld w)
 fetched_held w at (suc n) =
-    then_held w (access w Cs (w.regs.eip + at) 1 false) (fetched w (at + 1) n) (access_held w Cs (w.regs.eip + at) 1 false) (fetched_held w (at + 1) n)
+    then_held w (access w Cs (w.regs.eip + at) 1 false) (touched_by_fetch w (at + 1) n) (access_held w Cs (w.regs.eip + at) 1 false) (fetched_held w (at + 1) n)
 
 input_held : (w : World) (input : Input) (more : List Place) → AreHeld w more → AreHeld w (input_read w input more)
 input_held w (Given v) more rest = rest
@@ -120,39 +120,39 @@ by_mode_held : (w : World) (mode : Mode) (places : List Place) → AreHeld w pla
 by_mode_held w Real places h = h
 by_mode_held w Protected places h = All-nil (IsHeld w)
 
-vector_read_held : (w : World) (n : ℕ) → AreHeld w (vector_read w n)
+vector_read_held : (w : World) (n : ℕ) → AreHeld w (vector_read_places w n)
 vector_read_held w n =
-    let refused = first_refusal w (interrupt_pushed w).writes in
+    let refused = first_write_fault w (interrupt_push w).writes in
     by_mode_held w w.mode (elim refused [ None ↦ vector_places n | Some f ↦ [] ]) (where_pushed_held w refused n)
 
-places_behind_held : (w : World) (r : Result Pending Event) → AreHeld w (places_behind w r)
+places_behind_held : (w : World) (r : Result Pending Event) → AreHeld w (places_after_reads w r)
 places_behind_held w (Ok p) = write_places_held w p.writes
 places_behind_held w (Err (fault f)) = All-nil (IsHeld w)
 places_behind_held w (Err (Soft n len)) =
-    All-append (IsHeld w) (write_places w (interrupt_pushed w).writes) (vector_read w n)
-    (write_places_held w (interrupt_pushed w).writes) (vector_read_held w n)
+    All-append (IsHeld w) (write_places w (interrupt_push w).writes) (vector_read_places w n)
+    (write_places_held w (interrupt_push w).writes) (vector_read_held w n)
 
 -- ---- the whole instruction: EIP has no part in what the client holds
 
-executed_held : (w : World) (act : Act) → AreHeld w (executed_touches w act)
+executed_held : (w : World) (act : Act) → AreHeld w (touched_by_instruction w act)
 executed_held w act =
-    All-append (IsHeld w) (read_places w act) (places_behind w (planned w act)) (read_places_held w act) (places_behind_held w (planned w act))
+    All-append (IsHeld w) (read_places w act) (places_after_reads w (plan_result w act)) (read_places_held w act) (places_behind_held w (plan_result w act))
 
-back : (w : World) (len : ℕ) (p : Place) → IsHeld (moved len w) p → IsHeld w p
+back : (w : World) (len : ℕ) (p : Place) → IsHeld (with_next_eip len w) p → IsHeld w p
 back w len (Dos at) h = h
 back w len (Block number at) h = h
 back w len Host h = h
 back w len Nothing h = h
 
-decoded_held : (w : World) (d : Decoded) → AreHeld w (decoded_touches w d)
+decoded_held : (w : World) (d : Decoded) → AreHeld w (touched_by_decoded w d)
 decoded_held w (Whole insn len) =
-    let act = client_row (moved len w) insn len in
-    All-weaker (IsHeld (moved len w)) (IsHeld w) (back w len) (executed_touches (moved len w) act) (executed_held (moved len w) act)
+    let act = client_row (with_next_eip len w) insn len in
+    All-weaker (IsHeld (with_next_eip len w)) (IsHeld w) (back w len) (touched_by_instruction (with_next_eip len w) act) (executed_held (with_next_eip len w) act)
 decoded_held w More = All-nil (IsHeld w)
 decoded_held w Invalid = All-nil (IsHeld w)
 
-pub touched_held : (w : World) → AreHeld w (touched w)
-unfolding touched
+pub touched_held : (w : World) → AreHeld w (touched_by_step w)
+unfolding touched_by_step
 touched_held w =
     let d = decoded (has_big_code w) (code w) in
-    All-append (IsHeld w) (fetched w 0 code_room) (decoded_touches w d) (fetched_held w 0 code_room) (decoded_held w d)
+    All-append (IsHeld w) (touched_by_fetch w 0 code_room) (touched_by_decoded w d) (fetched_held w 0 code_room) (decoded_held w d)

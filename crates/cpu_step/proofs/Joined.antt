@@ -23,10 +23,10 @@ use Rattle.guest_space.specs.SegmentRows.{first_byte, base_of_row}
 use Rattle.guest_space.specs.Transfer.{access_fault, fault_of, places_of_access, read_result, bytes_at}
 use Rattle.insn_plan.specs.declared.accesses.Access.{Access}
 use Rattle.client_world.specs.declared.watchpoints.Touch.{Touch}
-use Rattle.insn_plan.specs.Accesses.{and_read, and_writes, accesses_after, granted, touch_of, touches_after, touches_where, touches}
+use Rattle.insn_plan.specs.Accesses.{and_read, and_writes, accesses_after, touch_of_access, touch_of, touches_after, touches_where, touches}
 use Rattle.insn_plan.specs.Act.{Act, End, Read, Done, Raise, Interrupt, Input, Given, From, Pending, value_of, number_read}
-use Rattle.insn_plan.specs.Plan.{planned}
-use Rattle.cpu_step.specs.Touched.{and_then, input_read, read_places, write_places, places_behind, executed_touches, touch_places, DoesNotWrap}
+use Rattle.insn_plan.specs.Plan.{plan_result}
+use Rattle.cpu_step.specs.Touched.{and_then, input_read, read_places, write_places, places_after_reads, touched_by_instruction, touch_places, DoesNotWrap}
 
 -- ---- one access
 
@@ -70,7 +70,7 @@ row_base seg sel (Some row) off n write base e =
     fourth (not (suits_register seg row.0.kind)) (not row.0.present) (write && not (is_writable row.0.kind)) (not (is_inside row.0 off n))
     _ _ _ _ row.0.base base e
 
-base_first : (mode : Mode) (r : Regs) (rows : List Row) (seg : SegReg) (off n : ℕ) (write : Bool) (base : ℕ) →
+pub base_first : (mode : Mode) (r : Regs) (rows : List Row) (seg : SegReg) (off n : ℕ) (write : Bool) (base : ℕ) →
     segment_base mode r rows seg off n write ≡ Ok base → base ≡ first_byte mode rows (selector r seg)
 unfolding segment_base
 base_first Real r rows seg off n write base e = either (nat_le (off + n) SEGMENT_SIZE) _ (selector r seg * PARAGRAPH_SIZE) base e
@@ -167,8 +167,8 @@ touch_is w a e =
       inside = run_inside w.blocks (linear at) a.count a.write start (ap (λ (places : List Place). first_forbidden places a.write) again ∙ run.allowed);
     }
 
-granted_touch : (w : World) (a : Access) (t : Touch) → granted w a ≡ Some t → IsTouch w a t
-unfolding granted
+granted_touch : (w : World) (a : Access) (t : Touch) → touch_of_access w a ≡ Some t → IsTouch w a t
+unfolding touch_of_access
 granted_touch w a t e =
     let by = granted_by (access_fault w a.seg a.off a.count a.write) t (touch_of w a) e in
     subst (λ (u : Touch). IsTouch w a u) (sym by.1) (touch_is w a by.0)
@@ -211,10 +211,10 @@ pub record AreTouches (w : World) (done : List Touch) (accesses : List Access) (
 
 record First (w : World) (done : List Touch) (a : Access) (rest : List Access) (list : List Touch) : Type 0 where
   touch : Touch
-  is : granted w a ≡ Some touch
+  is : touch_of_access w a ≡ Some touch
   others : touches_after w (done ++ touch ∷ []) rest ≡ Some list
 
-first_by : (o : Option Touch) (w : World) (done : List Touch) (a : Access) (rest : List Access) (list : List Touch) → o ≡ granted w a →
+first_by : (o : Option Touch) (w : World) (done : List Touch) (a : Access) (rest : List Access) (list : List Touch) → o ≡ touch_of_access w a →
     elim o as (λ _. Option (List Touch)) [ Some touch ↦ touches_after w (done ++ touch ∷ []) rest | None ↦ None ] ≡ Some list →
     First w done a rest list
 first_by None w done a rest list is e = absurd cc
@@ -231,7 +231,7 @@ are_touches w done [] list inside e =
       inside = subst (λ (ts : List Touch). All DoesNotWrap ts) same inside;
     }
 are_touches w done (a ∷ rest) list inside e =
-    let first = first_by (granted w a) w done a rest list refl e in
+    let first = first_by (touch_of_access w a) w done a rest list refl e in
     let touch = granted_touch w a first.touch first.is in
     let one = All-cons DoesNotWrap first.touch [] touch.inside (All-nil DoesNotWrap) in
     let others = are_touches w (done ++ first.touch ∷ []) rest list (All-append DoesNotWrap done (first.touch ∷ []) inside one) first.others in
@@ -287,12 +287,12 @@ follow_by (Err event) w done input rest all is e = absurd cc
 
 -- what is touched, where a read gives a number
 after_value : (w : World) (input : Input) (rest : ℕ → Act) (v : ℕ) → value_of w input ≡ Ok v →
-    executed_touches w (Read input rest) ≡ input_read w input (read_places w (rest v)) ++ places_behind w (planned w (rest v))
+    touched_by_instruction w (Read input rest) ≡ input_read w input (read_places w (rest v)) ++ places_after_reads w (plan_result w (rest v))
 unfolding read_places
 after_value w input rest v e =
     ap (λ (r : Result ℕ Event).
     input_read w input (elim r as (λ _. List Place) [ Ok x ↦ read_places w (rest x) | Err event ↦ [] ])
-    ++ places_behind w (elim r as (λ _. Result Pending Event) [ Ok x ↦ planned w (rest x) | Err event ↦ Err event ])) e
+    ++ places_after_reads w (elim r as (λ _. Result Pending Event) [ Ok x ↦ plan_result w (rest x) | Err event ↦ Err event ])) e
 
 number_granted : (w : World) (r : Result (List Place) Fault) (v : ℕ) → number_read (bytes_at w r) ≡ Ok v → fault_of r ≡ None
 number_granted w (Ok places) v e = refl
@@ -314,7 +314,7 @@ input_joins w done (From seg off n) v more behind e =
     ∙ ap (λ (places : List Place). places ++ behind) (sym (granted_then w a more (value_granted w seg off n v e))))
 
 accesses_join : (w : World) (done : List Access) (act : Act) (all : List Access) → AllGranted w all → accesses_after w done act ≡ Some all →
-    all_places w all ≡ all_places w done ++ executed_touches w act
+    all_places w all ≡ all_places w done ++ touched_by_instruction w act
 unfolding accesses_after read_places
 accesses_join w done (End (Done p)) all granted e =
     let same : and_writes done p.writes ≡ all = cc in
@@ -325,7 +325,7 @@ accesses_join w done (End (Interrupt number len)) all granted e = absurd cc
 accesses_join w done (Read input rest) all granted e =
     let found = follow_by (value_of w input) w done input rest all refl e in
     accesses_join w (and_read done input) (rest found.value) all granted found.others
-    ∙ input_joins w done input found.value (read_places w (rest found.value)) (places_behind w (planned w (rest found.value))) found.is
+    ∙ input_joins w done input found.value (read_places w (rest found.value)) (places_after_reads w (plan_result w (rest found.value))) found.is
     ∙ ap (λ (places : List Place). all_places w done ++ places) (sym (after_value w input rest found.value found.is))
 
 -- ---- an instruction
@@ -347,7 +347,7 @@ known w act list e = known_by (accesses_after w [] act) w act list refl e
 pub known_touches : (w : World) (act : Act) (list : List Touch) (k : Known w act list) → AreTouches w [] k.accesses list
 known_touches w act list k = are_touches w [] k.accesses list (All-nil DoesNotWrap) k.touch
 
-pub touches_join : (w : World) (act : Act) (list : List Touch) → touches w act ≡ Some list → executed_touches w act ≡ touch_places w list
+pub touches_join : (w : World) (act : Act) (list : List Touch) → touches w act ≡ Some list → touched_by_instruction w act ≡ touch_places w list
 touches_join w act list e =
     let k = known w act list e in
     let are = known_touches w act list k in

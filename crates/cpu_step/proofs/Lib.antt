@@ -10,3 +10,4 @@ pub mod Outcomes
 pub mod SegmentWords
 pub mod SoundSteps
 pub mod SoundWritten
+pub mod WindowSteps

@@ -17,18 +17,18 @@ use Rattle.insn_decode.specs.declared.decoding.Decoded.TheVariants.{Whole, More,
 use Rattle.insn_decode.specs.Decode.{decoded}
 use Rattle.insn_decode.proofs.Answering.{decoded_whole, decoded_only, decoded_more, more_decoded, decoded_invalid, invalid_decoded}
 use Rattle.insn_forms.specs.Grammar.{AllBytes, HasEncoding}
-use Rattle.cpu_step.specs.Step.{has_big_code, code, executed, unfinished, IsStep, step_of, client_step}
+use Rattle.cpu_step.specs.Step.{has_big_code, code, after_instruction, incomplete_fault, IsStep, step_of, client_step}
 use Rattle.cpu_step.proofs.CodeBytes.{IsCutOff, most_code, few_code}
 
 -- the fault of an instruction that isn't whole
-unfinished_full : (w : World) (bytes : List ℕ) → length bytes ≡ code_room → unfinished w bytes ≡ fault_with GENERAL_PROTECTION 0
+unfinished_full : (w : World) (bytes : List ℕ) → length bytes ≡ code_room → incomplete_fault w bytes ≡ fault_with GENERAL_PROTECTION 0
 unfinished_full w bytes full = rw full refl
 
 few_differ : (n : ℕ) → n < code_room → nat_eq n code_room ≡ false
 few_differ n few = grind (arith, nat_tests)
 
 unfinished_cut : (w : World) (bytes : List ℕ) (f : Fault) → length bytes < code_room → code_byte w (length bytes) ≡ Err f →
-    unfinished w bytes ≡ f
+    incomplete_fault w bytes ≡ f
 unfinished_cut w bytes f few e = rw (few_differ (length bytes) few, e) refl
 
 -- ---- what reading gives is what the grammar says
@@ -60,7 +60,7 @@ few_or_full : (n : ℕ) → n ≤ code_room → (n < code_room) ⊎ (n ≡ code_
 few_or_full n most = elim (cases_eq n code_room) [ inl full ↦ inr full | inr other ↦ inl (omega arith) ]
 
 where_more : (v : MachineView) (outcome : Result MachineView Event) → AllBytes (code v.world) → IsStep v outcome →
-    decoded (has_big_code v.world) (code v.world) ≡ More → outcome ≡ Err (fault (unfinished v.world (code v.world)))
+    decoded (has_big_code v.world) (code v.world) ≡ More → outcome ≡ Err (fault (incomplete_fault v.world (code v.world)))
 where_more v outcome are s e =
     let w = v.world in
     let begins = decoded_more (has_big_code w) (code w) are e in
@@ -81,7 +81,7 @@ by_decoded v outcome are s (Whole insn len) e =
     let bytes = code v.world in
     let encoded = decoded_whole (has_big_code v.world) insn len bytes are e in
     let parts = take_and_drop len bytes encoded.1 in
-    s.whole insn (take len bytes) (drop len bytes) parts.0 encoded.0 ∙ ap (executed v insn) parts.1
+    s.whole insn (take len bytes) (drop len bytes) parts.0 encoded.0 ∙ ap (after_instruction v insn) parts.1
 by_decoded v outcome are s Invalid e =
     let nor = decoded_invalid (has_big_code v.world) (code v.world) are e in s.invalid nor.0 nor.1
 by_decoded v outcome are s More e = where_more v outcome are s e

@@ -16,9 +16,9 @@ use Rattle.insn_forms.specs.declared.insn.Operand.{Operand}
 use Rattle.insn_forms.specs.declared.insn.Operand.TheVariants.{Empty, Reg, Seg, Mem, Imm, Far}
 use Rattle.insn_plan.specs.Act.{Act, End, Read, Ending, Done, Raise, Interrupt, Pending, unless_fault, value_of}
 use Rattle.insn_plan.specs.Operands.{put_operand}
-use Rattle.insn_plan.specs.Plan.{planned}
+use Rattle.insn_plan.specs.Plan.{plan_result}
 use Rattle.insn_plan.specs.Registers.{with_register}
-use Rattle.insn_plan.specs.Stack.{pushed}
+use Rattle.insn_plan.specs.Stack.{with_pushed_number}
 
 -- ---- six words: the other registers have no part in it, so registers that differ in those alone have one proof
 
@@ -56,14 +56,14 @@ read_words : (r : Result ℕ Event) (next : ℕ → Result Pending Event) (p : P
 read_words (Ok v) next p words e = words v e
 read_words (Err event) next p words e = absurd cc
 
-pub planned_words : (w : World) (act : Act) (p : Pending) → LeavesWords act → planned w act ≡ Ok p → HasSegments p.regs
+pub planned_words : (w : World) (act : Act) (p : Pending) → LeavesWords act → plan_result w act ≡ Ok p → HasSegments p.regs
 planned_words w (End (Done q)) p s e =
     let same : q.regs ≡ p.regs = cc in
     rw (← same) (segments_of q.regs s)
 planned_words w (End (Raise f)) p s e = absurd cc
 planned_words w (End (Interrupt number len)) p s e = absurd cc
 planned_words w (Read input rest) p s e =
-    read_words (value_of w input) (λ v. planned w (rest v)) p (λ v plan. planned_words w (rest v) p (s v) plan) e
+    read_words (value_of w input) (λ v. plan_result w (rest v)) p (λ v plan. planned_words w (rest v) p (s v) plan) e
 
 -- ---- choices
 
@@ -107,8 +107,8 @@ words_put r addr32 width (Mem f) v p s = s
 words_put r addr32 width (Imm x) v p s = s
 words_put r addr32 width (Far pointer) v p s = s
 
-pub words_pushed : (w : World) (width v : ℕ) (p : Pending) → HoldWords p.regs → HoldWords (pushed w width v p).regs
-unfolding pushed
+pub words_pushed : (w : World) (width v : ℕ) (p : Pending) → HoldWords p.regs → HoldWords (with_pushed_number w width v p).regs
+unfolding with_pushed_number
 words_pushed w width v p s = s
 
 -- ---- a segment register, with a word

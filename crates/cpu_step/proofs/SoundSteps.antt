@@ -12,8 +12,8 @@ use Rattle.insn_decode.specs.declared.decoding.Decoded.TheVariants.{Whole, More,
 use Rattle.insn_decode.specs.Decode.{decoded}
 use Rattle.insn_forms.specs.declared.insn.Insn.{Insn}
 use Rattle.insn_plan.specs.Act.{Act, Pending}
-use Rattle.insn_plan.specs.Plan.{planned, carried_out}
-use Rattle.cpu_step.specs.Step.{has_big_code, code, behind, client_row, executed, step_of, client_step}
+use Rattle.insn_plan.specs.Plan.{plan_result, after_plan}
+use Rattle.cpu_step.specs.Step.{has_big_code, code, view_with_next_eip, client_row, after_instruction, step_of, client_step}
 use Rattle.cpu_step.proofs.CoreSegments.{core_leaves}
 use Rattle.cpu_step.proofs.FlowSegments.{flow_leaves}
 use Rattle.cpu_step.proofs.SegmentWords.{HoldWords, LeavesWords, words_of, segments_of, leaves_if, planned_words}
@@ -24,21 +24,21 @@ unfolding client_row
 row_leaves w insn len s = leaves_if (is_core insn.op insn.first insn.second) (core_row insn.op w insn len) (flow_row insn.op w insn len)
     (core_leaves insn.op w insn len s) (flow_leaves insn.op w insn len s)
 
-pub sound_by_plan : (v u : MachineView) (act : Act) (r : Result Pending Event) → planned v.world act ≡ r → LeavesWords act → IsSound v.world →
-    carried_out v r ≡ Ok u → IsSound u.world
-unfolding carried_out
+pub sound_by_plan : (v u : MachineView) (act : Act) (r : Result Pending Event) → plan_result v.world act ≡ r → LeavesWords act → IsSound v.world →
+    after_plan v r ≡ Ok u → IsSound u.world
+unfolding after_plan
 sound_by_plan v u act (Ok p) plan words s e = sound_settled v u p (planned_words v.world act p words plan) s e
 sound_by_plan v u act (Err event) plan words s e = absurd cc
 
-pub sound_behind : (v : MachineView) (len : ℕ) → IsSound v.world → IsSound (behind len v).world
-sound_behind v len s = IsSound-regs v.world _ s (segments_of (behind len v).world.regs (words_of v.world.regs s.segments))
+pub sound_behind : (v : MachineView) (len : ℕ) → IsSound v.world → IsSound (view_with_next_eip len v).world
+sound_behind v len s = IsSound-regs v.world _ s (segments_of (view_with_next_eip len v).world.regs (words_of v.world.regs s.segments))
 
-sound_executed : (v u : MachineView) (insn : Insn) (len : ℕ) → IsSound v.world → executed v insn len ≡ Ok u → IsSound u.world
-unfolding executed
+sound_executed : (v u : MachineView) (insn : Insn) (len : ℕ) → IsSound v.world → after_instruction v insn len ≡ Ok u → IsSound u.world
+unfolding after_instruction
 sound_executed v u insn len s e =
-    let at = behind len v in
+    let at = view_with_next_eip len v in
     let act = client_row at.world insn len in
-    sound_by_plan at u act (planned at.world act) refl (row_leaves at.world insn len (words_of v.world.regs s.segments)) (sound_behind v len s) e
+    sound_by_plan at u act (plan_result at.world act) refl (row_leaves at.world insn len (words_of v.world.regs s.segments)) (sound_behind v len s) e
 
 sound_step_of : (v u : MachineView) (d : Decoded) → IsSound v.world → step_of v d ≡ Ok u → IsSound u.world
 sound_step_of v u (Whole insn len) s e = sound_executed v u insn len s e

@@ -9,8 +9,8 @@ use Rattle.client_world.specs.Soundness.{IsSound, HasSegments}
 use Rattle.client_world.specs.World.{World}
 use Rattle.client_world.proofs.SoundWrites.{MayWrite, IsSound-with_bytes_of, IsSound-regs, IsSound-vif}
 use Rattle.guest_space.specs.declared.pending.Write.{Write}
-use Rattle.guest_space.specs.Pending.{byte_count, number_bytes, written, first_refusal, all_written}
-use Rattle.guest_space.specs.Transfer.{places_of_access, stored}
+use Rattle.guest_space.specs.Pending.{byte_count, number_bytes, after_write, first_write_fault, after_writes}
+use Rattle.guest_space.specs.Transfer.{places_of_access, after_store}
 use Rattle.guest_space.proofs.Machines.{with_places_world}
 use Rattle.guest_space.proofs.OnlyWritten.{write_places}
 use Rattle.host_memory.specs.View.{MachineView}
@@ -60,8 +60,8 @@ sound_at : (w : World) (r : Result (List Place) Fault) (bytes : List ℕ) → ((
 sound_at w (Ok places) bytes may s small = IsSound-with_bytes_of w places bytes s (may places refl) small
 sound_at w (Err f) bytes may s small = s
 
-sound_written : (v : MachineView) (x : Write) → IsSound v.world → IsSound (written v x).world
-unfolding written stored
+sound_written : (v : MachineView) (x : Write) → IsSound v.world → IsSound (after_write v x).world
+unfolding after_write after_store
 sound_written v x s =
     let n = byte_count x.width in
     let bytes = number_bytes x.width x.value in
@@ -70,10 +70,10 @@ sound_written v x s =
     (sound_at v.world granted bytes (λ places e i within. (write_places v.world x.seg x.off n places e i within).may) s
     (number_is_bytes x.width x.value))
 
-pub sound_all_written : (v : MachineView) (xs : List Write) → IsSound v.world → IsSound (all_written v xs).world
-unfolding all_written
+pub sound_all_written : (v : MachineView) (xs : List Write) → IsSound v.world → IsSound (after_writes v xs).world
+unfolding after_writes
 sound_all_written v [] s = s
-sound_all_written v (x ∷ xs) s = sound_all_written (written v x) xs (sound_written v x s)
+sound_all_written v (x ∷ xs) s = sound_all_written (after_write v x) xs (sound_written v x s)
 
 -- ---- a plan
 
@@ -81,13 +81,13 @@ pub sound_state : (v : MachineView) (p : Pending) → HasSegments p.regs → IsS
 sound_state v p segments s = IsSound-vif (record v.world { regs = p.regs }) p.vif (IsSound-regs v.world p.regs s segments)
 
 sound_unless : (v u : MachineView) (p : Pending) (o : Option Fault) → HasSegments p.regs → IsSound v.world →
-    elim o as (λ _. Result MachineView Event) [ Some f ↦ Err (fault f) | None ↦ Ok (with_state p.regs p.vif (all_written v p.writes)) ] ≡ Ok u →
+    elim o as (λ _. Result MachineView Event) [ Some f ↦ Err (fault f) | None ↦ Ok (with_state p.regs p.vif (after_writes v p.writes)) ] ≡ Ok u →
     IsSound u.world
 sound_unless v u p None segments s e =
-    let same : with_state p.regs p.vif (all_written v p.writes) ≡ u = cc in
-    subst (λ (m : MachineView). IsSound m.world) same (sound_state (all_written v p.writes) p segments (sound_all_written v p.writes s))
+    let same : with_state p.regs p.vif (after_writes v p.writes) ≡ u = cc in
+    subst (λ (m : MachineView). IsSound m.world) same (sound_state (after_writes v p.writes) p segments (sound_all_written v p.writes s))
 sound_unless v u p (Some f) segments s e = absurd cc
 
 pub sound_settled : (v u : MachineView) (p : Pending) → HasSegments p.regs → IsSound v.world → after_commit v p ≡ Ok u → IsSound u.world
 unfolding after_commit
-sound_settled v u p segments s e = sound_unless v u p (first_refusal v.world p.writes) segments s e
+sound_settled v u p segments s e = sound_unless v u p (first_write_fault v.world p.writes) segments s e

@@ -19,9 +19,9 @@ use Rattle.insn_decode.specs.declared.decoding.Decoded.TheVariants.{Whole, More,
 use Rattle.insn_decode.specs.Decode.{decoded}
 use Rattle.insn_forms.specs.declared.insn.Insn.{Insn}
 use Rattle.insn_forms.specs.Grammar.{Encoding, HasEncoding, BeginsEncoding}
-use Rattle.insn_plan.specs.Accesses.{moved}
+use Rattle.insn_plan.specs.Accesses.{with_next_eip}
 use Rattle.insn_plan.specs.Act.{Act}
-use Rattle.insn_plan.specs.Plan.{planned, carried_out}
+use Rattle.insn_plan.specs.Plan.{plan_result, after_plan}
 
 -- operands and addresses have 32 bits where nothing else is said: the code segment has D = 1
 unfoldable pub has_big_code : World → Bool
@@ -32,8 +32,8 @@ abbrev pub code : World → List ℕ
 code w = code_from w 0 code_room
 
 -- the machine with EIP past an instruction of `len` bytes
-abbrev pub behind : ℕ → MachineView → MachineView
-behind len v = record v { world = moved len v.world }
+abbrev pub view_with_next_eip : ℕ → MachineView → MachineView
+view_with_next_eip len v = record v { world = with_next_eip len v.world }
 
 -- what an instruction of `len` bytes does
 unfoldable pub client_row : World → Insn → ℕ → Act
@@ -41,8 +41,8 @@ client_row w insn len =
     if is_core insn.op insn.first insn.second then core_row insn.op w insn len else flow_row insn.op w insn len
 
 -- the machine after it, or its event
-unfoldable pub executed : MachineView → Insn → ℕ → Result MachineView Event
-executed v insn len = carried_out (behind len v) (planned (behind len v).world (client_row (behind len v).world insn len))
+unfoldable pub after_instruction : MachineView → Insn → ℕ → Result MachineView Event
+after_instruction v insn len = after_plan (view_with_next_eip len v) (plan_result (view_with_next_eip len v).world (client_row (view_with_next_eip len v).world insn len))
 
 -- ---- what the grammar says
 
@@ -50,7 +50,7 @@ executed v insn len = carried_out (behind len v) (planned (behind len v).world (
 pub record IsStep (v : MachineView) (outcome : Result MachineView Event) : Type 0 where
   -- the first of the code bytes encode an instruction: what it does
   pub whole : (insn : Insn) (front rest : List ℕ) → code v.world ≡ front ++ rest → Encoding (has_big_code v.world) insn front →
-      outcome ≡ executed v insn (length front)
+      outcome ≡ after_instruction v insn (length front)
   -- they encode none, and are the first bytes of none
   pub invalid : ¬ HasEncoding (has_big_code v.world) (code v.world) → ¬ BeginsEncoding (has_big_code v.world) (code v.world) →
       outcome ≡ Err (fault (fault_with INVALID_OPCODE 0))
@@ -68,14 +68,14 @@ abbrev pub next_fault : Result ℕ Fault → Fault
 next_fault (Ok byte) = fault_with GENERAL_PROTECTION 0
 next_fault (Err f) = f
 
-abbrev pub unfinished : World → List ℕ → Fault
-unfinished w bytes =
+abbrev pub incomplete_fault : World → List ℕ → Fault
+incomplete_fault w bytes =
     if nat_eq (length bytes) code_room then fault_with GENERAL_PROTECTION 0 else next_fault (code_byte w (length bytes))
 
 abbrev pub step_of : MachineView → Decoded → Result MachineView Event
-step_of v (Whole insn len) = executed v insn len
+step_of v (Whole insn len) = after_instruction v insn len
 step_of v Invalid = Err (fault (fault_with INVALID_OPCODE 0))
-step_of v More = Err (fault (unfinished v.world (code v.world)))
+step_of v More = Err (fault (incomplete_fault v.world (code v.world)))
 
 -- the machine after the client's next instruction, or its event
 unfoldable pub client_step : MachineView → Result MachineView Event

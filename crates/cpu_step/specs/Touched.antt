@@ -12,17 +12,17 @@ use Rattle.client_world.specs.declared.registers.Mode.TheVariants.{Real, Protect
 use Rattle.client_world.specs.declared.segments.SegReg.TheVariants.{Cs}
 use Rattle.client_world.specs.Access.{access, places_from}
 use Rattle.client_world.specs.World.{World}
-use Rattle.exec_flow.specs.Interrupts.{interrupt_pushed}
+use Rattle.exec_flow.specs.Interrupts.{interrupt_push}
 use Rattle.guest_space.specs.Code.{code_room}
 use Rattle.guest_space.specs.declared.pending.Write.{Write}
-use Rattle.guest_space.specs.Pending.{byte_count, first_refusal}
+use Rattle.guest_space.specs.Pending.{byte_count, first_write_fault}
 use Rattle.insn_decode.specs.declared.decoding.Decoded.{Decoded}
 use Rattle.insn_decode.specs.declared.decoding.Decoded.TheVariants.{Whole, More, Invalid}
 use Rattle.insn_decode.specs.Decode.{decoded}
 use Rattle.client_world.specs.declared.watchpoints.Touch.{Touch}
-use Rattle.insn_plan.specs.Accesses.{moved}
+use Rattle.insn_plan.specs.Accesses.{with_next_eip}
 use Rattle.insn_plan.specs.Act.{Act, End, Read, Input, Given, From, Pending, value_of}
-use Rattle.insn_plan.specs.Plan.{planned}
+use Rattle.insn_plan.specs.Plan.{plan_result}
 use Rattle.cpu_step.specs.Step.{has_big_code, code, client_row}
 
 -- the places of an access, and of what comes after it where it doesn't fault
@@ -31,9 +31,9 @@ and_then (Ok places) more = places ++ more
 and_then (Err f) more = []
 
 -- the code bytes from a place on, n at most
-unfoldable pub fetched : World → ℕ → ℕ → List Place
-fetched w at zero = []
-fetched w at (suc n) = and_then (access w Cs (w.regs.eip + at) 1 false) (fetched w (at + 1) n)
+unfoldable pub touched_by_fetch : World → ℕ → ℕ → List Place
+touched_by_fetch w at zero = []
+touched_by_fetch w at (suc n) = and_then (access w Cs (w.regs.eip + at) 1 false) (touched_by_fetch w (at + 1) n)
 
 -- the reads of an instruction
 abbrev pub input_read : World → Input → List Place → List Place
@@ -54,30 +54,30 @@ abbrev pub vector_places : ℕ → List Place
 vector_places n = Dos (4 * n) ∷ Dos (4 * n + 1) ∷ Dos (4 * n + 2) ∷ Dos (4 * n + 3) ∷ []
 
 -- it is read in real mode, where all was pushed
-abbrev pub vector_read : World → ℕ → List Place
-vector_read w n = elim w.mode [
-  | Real ↦ elim (first_refusal w (interrupt_pushed w).writes) [ None ↦ vector_places n | Some f ↦ [] ]
+abbrev pub vector_read_places : World → ℕ → List Place
+vector_read_places w n = elim w.mode [
+  | Real ↦ elim (first_write_fault w (interrupt_push w).writes) [ None ↦ vector_places n | Some f ↦ [] ]
   | Protected ↦ []
 ]
 
 -- what comes after the reads
-abbrev pub places_behind : World → Result Pending Event → List Place
-places_behind w (Ok p) = write_places w p.writes
-places_behind w (Err (fault f)) = []
-places_behind w (Err (Soft number len)) = write_places w (interrupt_pushed w).writes ++ vector_read w number
+abbrev pub places_after_reads : World → Result Pending Event → List Place
+places_after_reads w (Ok p) = write_places w p.writes
+places_after_reads w (Err (fault f)) = []
+places_after_reads w (Err (Soft number len)) = write_places w (interrupt_push w).writes ++ vector_read_places w number
 
 -- an instruction, with EIP after it
-abbrev pub executed_touches : World → Act → List Place
-executed_touches w act = read_places w act ++ places_behind w (planned w act)
+abbrev pub touched_by_instruction : World → Act → List Place
+touched_by_instruction w act = read_places w act ++ places_after_reads w (plan_result w act)
 
-abbrev pub decoded_touches : World → Decoded → List Place
-decoded_touches w (Whole insn len) = executed_touches (moved len w) (client_row (moved len w) insn len)
-decoded_touches w More = []
-decoded_touches w Invalid = []
+abbrev pub touched_by_decoded : World → Decoded → List Place
+touched_by_decoded w (Whole insn len) = touched_by_instruction (with_next_eip len w) (client_row (with_next_eip len w) insn len)
+touched_by_decoded w More = []
+touched_by_decoded w Invalid = []
 
 -- all of them
-unfoldable pub touched : World → List Place
-touched w = fetched w 0 code_room ++ decoded_touches w (decoded (has_big_code w) (code w))
+unfoldable pub touched_by_step : World → List Place
+touched_by_step w = touched_by_fetch w 0 code_room ++ touched_by_decoded w (decoded (has_big_code w) (code w))
 
 -- ---- the same bytes as runs of linear addresses
 

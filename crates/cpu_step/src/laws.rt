@@ -7,11 +7,11 @@ ghost use Rattle.client_world.specs.Soundness.{IsSound};
 ghost use Rattle.client_world.specs.World.{World};
 ghost use Rattle.host_memory.specs.View.{MachineView};
 ghost use Rattle.cpu_step.specs.Step.{IsStep, client_step};
-ghost use Rattle.cpu_step.specs.Touched.{DoesNotWrap, executed_touches, touch_places, touched};
+ghost use Rattle.cpu_step.specs.Touched.{DoesNotWrap, touched_by_instruction, touch_places, touched_by_step};
 ghost use Rattle.client_world.specs.declared.watchpoints.Touch.{Touch};
 ghost use Rattle.insn_plan.specs.Accesses.{touches};
 ghost use Rattle.insn_plan.specs.Act.{Act};
-ghost use Rattle.insn_plan.specs.Plan.{carried_out, planned};
+ghost use Rattle.insn_plan.specs.Plan.{after_plan, plan_result};
 
 /// In a sound world what the grammar says of the client's next instruction is one outcome, and is what reading its bytes from left to
 /// right gives.
@@ -23,19 +23,19 @@ pub fn a_step_has_one_outcome()
 
 /// Every place that the client's next instruction touches lies in memory that the client holds.
 pub fn every_touched_place_is_held()
-    ensures { (w : World) → All (IsHeld w) (touched w) }
+    ensures { (w : World) → All (IsHeld w) (touched_by_step w) }
 {}
 
 /// The touches of an instruction are what it reads and writes: they have the same places, in the same order, and no run wraps.
 pub fn every_touch_is_an_access()
-    ensures places { (w : World) (act : Act) (list : List Touch) → touches w act ≡ Some list → executed_touches w act ≡ touch_places w list }
+    ensures places { (w : World) (act : Act) (list : List Touch) → touches w act ≡ Some list → touched_by_instruction w act ≡ touch_places w list }
     ensures inside { (w : World) (act : Act) (list : List Touch) → touches w act ≡ Some list → All DoesNotWrap list }
 {}
 
 /// An instruction has touches exactly where it is no event.
 pub fn only_an_event_has_no_touches()
-    ensures none { (v : MachineView) (act : Act) → touches v.world act ≡ None → IsErr (carried_out v (planned v.world act)) }
-    ensures some { (v : MachineView) (act : Act) (list : List Touch) → touches v.world act ≡ Some list → IsOk (carried_out v (planned v.world act)) }
+    ensures none { (v : MachineView) (act : Act) → touches v.world act ≡ None → IsErr (after_plan v (plan_result v.world act)) }
+    ensures some { (v : MachineView) (act : Act) (list : List Touch) → touches v.world act ≡ Some list → IsOk (after_plan v (plan_result v.world act)) }
 {}
 
 /// A step leads from a sound world to a sound one.

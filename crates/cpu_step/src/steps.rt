@@ -1,16 +1,17 @@
 // The client's next instruction.
-ghost use Rattle.std.specs.Prelude.{◌≡◌};
+ghost use Rattle.std.specs.Prelude.{◌≡◌, ◌+◌, ◌<◌, OnOk};
 ghost use Rattle.client_world.specs.CodeWords.{code_bytes};
+ghost use Rattle.guest_space.specs.Windows.{IsWindow};
 ghost use Rattle.insn_forms.specs.Kinds.{IsWellFormed};
 ghost use Rattle.insn_plan.specs.Plan.{CarriesOut, Follows};
-ghost use Rattle.cpu_step.specs.Step.{behind, client_row, client_step, code, executed, has_big_code, unfinished};
+ghost use Rattle.cpu_step.specs.Step.{view_with_next_eip, client_row, client_step, code, after_instruction, has_big_code, incomplete_fault};
 
 use arrayvec::ArrayVec;
 use client_world::faults::{GENERAL_PROTECTION, INVALID_OPCODE};
 use client_world::{CodeWords, Event, Fault, SegReg};
 use exec_core::carry_out_core;
 use exec_flow::carry_out_flow;
-use guest_space::Machine;
+use guest_space::{CodeWindow, Machine};
 use insn_decode::{Decoded, Memo, decode};
 use insn_forms::{Insn, every_instruction_is_well_formed};
 use insn_plan::Raised;
@@ -28,7 +29,7 @@ pub fn has_big_code(m: &Machine) -> bool
 /// Moves EIP past an instruction of `len` bytes, modulo 2^32.
 #[inline(always)]
 pub fn move_behind(m: &mut Machine, len: u8)
-    ensures { m.new ≡ behind len m.old }
+    ensures { m.new ≡ view_with_next_eip len m.old }
 {
     m.set_eip(m.registers().eip.wrapping_add(u32::from(len)));
 }
@@ -48,10 +49,10 @@ fn run(m: &mut Machine, insn: &Insn, len: u8) -> Result<(), Raised>
 
 // Executes an instruction of `len` bytes; an event leaves the machine as it was, EIP too.
 #[inline(always)]
-#[tactic(auto, unfolding(crate::specs::Step::executed))]
+#[tactic(auto, unfolding(crate::specs::Step::after_instruction))]
 fn execute(m: &mut Machine, insn: &Insn, len: u8) -> Result<(), Raised>
     requires { IsWellFormed insn.now }
-    ensures { Follows m.old m.new result (executed m.old insn.now len) }
+    ensures { Follows m.old m.new result (after_instruction m.old insn.now len) }
 {
     let start = m.registers().eip;
     move_behind(m, len);
@@ -65,8 +66,8 @@ fn execute(m: &mut Machine, insn: &Insn, len: u8) -> Result<(), Raised>
 }
 
 // The fault where the code bytes are only the first ones of an instruction.
-fn unfinished(m: &Machine, bytes: &ArrayVec<u8, 15>) -> Fault
-    ensures { result ≡ unfinished m.now.world bytes.now.items }
+fn incomplete_fault(m: &Machine, bytes: &ArrayVec<u8, 15>) -> Fault
+    ensures { result ≡ incomplete_fault m.now.world bytes.now.items }
 {
     let too_long = Fault {
         number: GENERAL_PROTECTION,
@@ -97,7 +98,7 @@ fn decode_and_step(m: &mut Machine) -> Result<(), Raised>
             number: INVALID_OPCODE,
             code: 0,
         })),
-        Decoded::More => Err(Raised::from(unfinished(m, &code))),
+        Decoded::More => Err(Raised::from(incomplete_fault(m, &code))),
     }
 }
 
@@ -112,12 +113,6 @@ pub fn step(m: &mut Machine) -> Result<(), Event>
     }
 }
 
-// The address by which a memo keeps the next instruction: the linear address of CS:EIP.
-#[inline(always)]
-fn code_key(m: &Machine) -> u32 {
-    m.first_byte(SegReg::Cs).wrapping_add(m.registers().eip)
-}
-
 // Makes the instruction of these code bytes, which the memo learns where it doesn't know it.
 #[cold]
 #[inline(never)]
@@ -125,6 +120,7 @@ fn code_key(m: &Machine) -> u32 {
 fn learn_and_step(
     m: &mut Machine,
     memo: &mut Memo,
+    key: u32,
     words: CodeWords,
     big: bool,
 ) -> Result<(), Raised>
@@ -132,7 +128,6 @@ fn learn_and_step(
     requires big { big ≡ has_big_code m.old.world }
     ensures { Follows m.old m.new result (client_step m.old) }
 {
-    let key = code_key(m);
     if memo.known(key, words, big).is_none() {
         memo.learn(key, words, big);
     }
@@ -142,33 +137,59 @@ fn learn_and_step(
     }
 }
 
-// Makes the next instruction where a quick look doesn't show its code bytes: their page is noted first.
+// Makes the instruction of these code bytes, by the memo where it knows it. The key is an address of the code.
+#[inline(always)]
+#[tactic(auto, using(crate::proofs::KnownSteps::known_step))]
+fn step_of_words(
+    m: &mut Machine,
+    memo: &mut Memo,
+    key: u32,
+    words: CodeWords,
+    big: bool,
+) -> Result<(), Raised>
+    requires code { code m.old.world ≡ code_bytes words }
+    requires big { big ≡ has_big_code m.old.world }
+    ensures { Follows m.old m.new result (client_step m.old) }
+{
+    match memo.known(key, words, big) {
+        Some(entry) => execute(m, &entry.insn, entry.len),
+        None => learn_and_step(m, memo, key, words, big),
+    }
+}
+
+/// Makes the client's next instruction as `step` does, with a memo of the instructions that were decoded before, and the event in one word. Its
+/// page is noted first.
 #[cold]
 #[inline(never)]
-fn note_and_step(m: &mut Machine, memo: &mut Memo) -> Result<(), Raised>
+pub fn step_with_memo(m: &mut Machine, memo: &mut Memo) -> Result<(), Raised>
     ensures { Follows m.old m.new result (client_step m.old) }
 {
     m.warm(SegReg::Cs, m.registers().eip);
+    let key = m.first_byte(SegReg::Cs).wrapping_add(m.registers().eip);
     match m.code_words() {
-        Some(words) => learn_and_step(m, memo, words, has_big_code(m)),
+        Some(words) => step_of_words(m, memo, key, words, has_big_code(m)),
         None => decode_and_step(m),
     }
 }
 
-/// Makes the client's next instruction as `step` does, with a memo of the instructions that were decoded before, and the event in one word.
+/// The same of an instruction that is known to lie in a window of code, at that start of it. The window stays one of the machine's while CS
+/// holds what it held.
 #[inline(always)]
-#[tactic(auto, using(crate::proofs::KnownSteps::known_step))]
-pub fn step_with_memo(m: &mut Machine, memo: &mut Memo) -> Result<(), Raised>
-    ensures { Follows m.old m.new result (client_step m.old) }
+#[tactic(auto, unfolding(crate::specs::Step::has_big_code))]
+pub fn step_in_window(
+    m: &mut Machine,
+    memo: &mut Memo,
+    window: &CodeWindow,
+    from: u32,
+) -> Result<(), Raised>
+    requires window { IsWindow m.old window.now }
+    requires start { from < window.now.starts }
+    requires here { window.now.first + from ≡ m.old.world.regs.eip }
+    ensures step { Follows m.old m.new result (client_step m.old) }
+    ensures window { OnOk result (m.new.world.regs.cs ≡ window.now.cs → IsWindow m.new window.now) }
 {
-    match m.code_words() {
-        None => note_and_step(m, memo),
-        Some(words) => {
-            let big = has_big_code(m);
-            match memo.known(code_key(m), words, big) {
-                Some(entry) => execute(m, &entry.insn, entry.len),
-                None => learn_and_step(m, memo, words, big),
-            }
-        }
-    }
+    m.holds_world();
+    let words = m.words_in(window, from);
+    let key = window.address.wrapping_add(from);
+    step_of_words(m, memo, key, words, window.big)
 }

@@ -1,6 +1,7 @@
 //! Worked rows of the processor: its arithmetic, the opcode map, decoding, and steps.
-//! It holds nothing but tests, over the public calls of `cpu_alu`, `insn_forms`, `insn_decode`, `exec_core` and `cpu_step`: a crate with tests
-//! of its own is proved once more with them.
+//! It holds nothing but tests, over the public calls of `cpu_alu`, `insn_forms`, `insn_decode`, `exec_core` and `cpu_step`. They stand
+//! apart because a crate with tests of its own is proved once more with them.
+//! A row may be added or put in plainer words; its values are the manual's. One is dropped only where another shows the same.
 #![tactic(auto)]
 
 #[cfg(test)]

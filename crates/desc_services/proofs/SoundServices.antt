@@ -19,7 +19,7 @@ use Rattle.desc_table.specs.Unpacked.{kind_of}
 use Rattle.guest_space.specs.Far.{far_bytes}
 use Rattle.service_rows.specs.FreeRun.{first_free_run}
 use Rattle.service_rows.specs.Reasons.{Service, first_reason, unsupported}
-use Rattle.desc_services.specs.Rows.{with_new_alias, alias_of, descriptor_function, free_descriptor, fresh, get_segment_base, get_descriptor, is_freeable_origin, is_freeable_row, limited, with_new_run, allocate_descriptors, create_alias, allocate_specific, segment_to_descriptor, packed_of, redescribed, with_segment, segment_index, with_new_segment, descriptor_service, set_segment_base, set_segment_limit, set_descriptor, set_access_rights, selector_increment, with_base, with_desc, with_limit, with_rights, with_row, with_run}
+use Rattle.desc_services.specs.Rows.{with_new_alias, alias_of, descriptor_function, free_descriptor, fresh, get_segment_base, get_descriptor, is_freeable_origin, is_freeable_row, desc_with_limit, with_new_run, allocate_descriptors, create_alias, allocate_specific, segment_to_descriptor, packed_of, row_with_desc, with_segment, segment_index, with_new_segment, descriptor_service, set_segment_base, set_segment_limit, set_descriptor, set_access_rights, selector_increment, with_base, with_desc, with_limit, with_rights, with_row, with_run}
 use Rattle.service_rows.specs.Rows.{data_at}
 use Rattle.service_rows.proofs.AnswerLaws.{no_reason, of_answer, sound_ax}
 use Rattle.guest_space.proofs.FarPuts.{sound_far_put}
@@ -52,7 +52,7 @@ changeable_row (Some r) e = (r, refl, e)
 
 redescribed_sound : (w : World) (sel : ℕ) (row : Desc × Origin) (o : Option Desc) → IsSound w → row_of_selector w.descriptors sel ≡ Some row →
     is_changeable_origin row.1 ≡ true → ((d : Desc) → o ≡ Some d → FitsDescriptor d) →
-    IsSound (record w { descriptors = slice_set w.descriptors (index_of sel) (redescribed (Some row) o) })
+    IsSound (record w { descriptors = slice_set w.descriptors (index_of sel) (row_with_desc (Some row) o) })
 redescribed_sound w sel row None s e c fits =
     let at = row_of_held w.descriptors sel row e in
     (may_change w (index_of sel) row (Some row) s at (changeable_plain row.1 c) (subst FitsRow at (s.descriptors.fits (index_of sel)))
@@ -63,7 +63,7 @@ described_sound : (w : World) (sel : ℕ) (o : Option Desc) → IsSound w → no
     ((d : Desc) → o ≡ Some d → FitsDescriptor d) → IsSound (with_desc w sel o)
 described_sound w sel o s e fits =
     let c = changeable_row (desc_of w sel) (not-false (is_changeable w sel) e) in
-    subst (λ (r : Row). IsSound (record w { descriptors = slice_set w.descriptors (index_of sel) (redescribed r o) })) (sym c.1)
+    subst (λ (r : Row). IsSound (record w { descriptors = slice_set w.descriptors (index_of sel) (row_with_desc r o) })) (sym c.1)
     (redescribed_sound w sel c.0 o s c.1 c.2 fits)
 
 -- the row of a selector fits
@@ -82,7 +82,7 @@ base_fits (Some row) base d fits small e =
     subst FitsDescriptor same (record { base = small; limit = fits.limit })
 
 limited_fits : (d : Desc) (limit : ℕ) (long : Bool) → FitsDescriptor d → nat_lt 0xFFFFF limit ≡ long → limit < 2 ^ 32 →
-    FitsDescriptor (limited d limit)
+    FitsDescriptor (desc_with_limit d limit)
 limited_fits d limit true fits e small = rw e (record { base = fits.base; limit = omega arith })
 limited_fits d limit false fits e small =
     let low = ltb-false 0xFFFFF limit e in
@@ -91,7 +91,7 @@ limited_fits d limit false fits e small =
 limit_fits : (row : Row) (limit : ℕ) (d : Desc) → FitsRow row → limit < 2 ^ 32 → with_limit row limit ≡ Some d → FitsDescriptor d
 limit_fits None limit d fits small e = absurd cc
 limit_fits (Some row) limit d fits small e =
-    let same : limited row.0 limit ≡ d = cc in
+    let same : desc_with_limit row.0 limit ≡ d = cc in
     subst FitsDescriptor same (limited_fits row.0 limit (nat_lt 0xFFFFF limit) fits refl small)
 
 rights_fit : (row : Row) (access flags : ℕ) (d : Desc) → FitsRow row → with_rights row access flags ≡ Some d → FitsDescriptor d

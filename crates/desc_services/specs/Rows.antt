@@ -12,7 +12,7 @@ use Rattle.client_world.specs.Selector.{Row, index_of, is_local, row_at_index, s
 use Rattle.client_world.specs.Services.{Served, bx, cx, dx, desc_of, es_di, is_changeable, is_held, two_words}
 use Rattle.client_world.specs.World.{World}
 use Rattle.desc_table.specs.Unpacked.{is_access_byte, is_packed, kind_of, unpacked}
-use Rattle.guest_space.specs.Far.{far_bytes, far_put}
+use Rattle.guest_space.specs.Far.{far_bytes, world_after_far_write}
 use Rattle.service_rows.specs.declared.refusal.Refusal.TheVariants.{InvalidSelector, InvalidValue, InvalidAddress, DescriptorUnavailable}
 use Rattle.service_rows.specs.FirstIndex.{first_index}
 use Rattle.service_rows.specs.FreeRun.{first_free_run}
@@ -114,14 +114,14 @@ row_base None = 0
 row_base (Some row) = row.0.base
 
 -- the row with another descriptor
-abbrev pub redescribed : Row → Option Desc → Row
-redescribed None d = None
-redescribed (Some row) None = Some row
-redescribed (Some row) (Some d) = Some (d, row.1)
+abbrev pub row_with_desc : Row → Option Desc → Row
+row_with_desc None d = None
+row_with_desc (Some row) None = Some row
+row_with_desc (Some row) (Some d) = Some (d, row.1)
 
 -- the world with another descriptor of a selector
 abbrev pub with_desc : World → ℕ → Option Desc → World
-with_desc w sel d = record w { descriptors = slice_set w.descriptors (index_of sel) (redescribed (desc_of w sel) d) }
+with_desc w sel d = record w { descriptors = slice_set w.descriptors (index_of sel) (row_with_desc (desc_of w sel) d) }
 
 -- 0006h (get segment base address): CX:DX is the base of BX
 unfoldable pub get_segment_base : World → Service
@@ -148,14 +148,14 @@ set_segment_base w = record {
 }
 
 -- a descriptor with a limit in bytes: one above FFFFFh counts pages
-abbrev pub limited : Desc → ℕ → Desc
-limited d limit =
+abbrev pub desc_with_limit : Desc → ℕ → Desc
+desc_with_limit d limit =
     if nat_lt 0xFFFFF limit then record d { limit = limit / 0x1000; gran = true }
     else record d { limit = limit; gran = false }
 
 abbrev pub with_limit : Row → ℕ → Option Desc
 with_limit None limit = None
-with_limit (Some row) limit = Some (limited row.0 limit)
+with_limit (Some row) limit = Some (desc_with_limit row.0 limit)
 
 -- the limit would need pages, and doesn't end one
 abbrev pub is_no_limit : ℕ → Bool
@@ -224,7 +224,7 @@ get_descriptor w = record {
   reasons =
       (InvalidSelector, not (is_held w (bx w))) ∷
       (InvalidAddress, not (is_reachable w (es_di w) 8 true)) ∷ [];
-  after = far_put w (es_di w) 8 (packed_of (desc_of w (bx w)));
+  after = world_after_far_write w (es_di w) 8 (packed_of (desc_of w (bx w)));
 }
 
 -- 000Ch (set descriptor): reads the descriptor of BX from ES:(E)DI

@@ -3,7 +3,7 @@ ghost use Rattle.std.specs.Prelude.{◌≡◌, ◌<◌, ◌^◌};
 ghost use Rattle.client_world.specs.Registers.{has_bit};
 ghost use Rattle.desc_table.specs.Unpacked.{is_access_byte, kind_of};
 ghost use Rattle.service_rows.specs.Reasons.{Does};
-ghost use Rattle.desc_services.specs.Rows.{is_no_limit, limited, set_segment_limit, set_access_rights};
+ghost use Rattle.desc_services.specs.Rows.{is_no_limit, desc_with_limit, set_segment_limit, set_access_rights};
 
 use crate::selector::{change, changeable};
 use client_world::{Desc, Kind, high_byte, low_byte, low_half, two_words};
@@ -18,8 +18,8 @@ fn is_no_limit(limit: u32) -> bool
 }
 
 // A descriptor with a limit in bytes.
-fn limited(d: Desc, limit: u32) -> Desc
-    ensures fields { result ≡ limited d limit }
+fn desc_with_limit(d: Desc, limit: u32) -> Desc
+    ensures fields { result ≡ desc_with_limit d limit }
     ensures fits { result.limit < 2 ^ 20 }
 {
     let mut d = d;
@@ -45,7 +45,7 @@ pub(crate) fn set_segment_limit(m: &mut Machine) -> Result<(), Refusal>
     if is_no_limit(limit) {
         return Err(Refusal::InvalidValue);
     }
-    change(m, sel, origin, limited(d, limit));
+    change(m, sel, origin, desc_with_limit(d, limit));
     Ok(())
 }
 

@@ -7,7 +7,7 @@ ghost use Rattle.client_world.specs.Descriptor.{byte_limit};
 ghost use Rattle.client_world.specs.Selector.{row_at_index};
 ghost use Rattle.client_world.specs.Soundness.{HasOrigin, IsSound};
 ghost use Rattle.client_world.specs.World.{World};
-ghost use Rattle.desc_services.specs.Rows.{is_no_limit, limited, segment_index, descriptor_service};
+ghost use Rattle.desc_services.specs.Rows.{is_no_limit, desc_with_limit, segment_index, descriptor_service};
 
 /// A service leads from a sound world of protected mode to a sound one.
 pub fn every_descriptor_service_is_sound()
@@ -26,7 +26,7 @@ pub fn every_descriptor_service_keeps_the_rest()
 
 /// A limit that function 0008h takes is the last byte that the segment then allows.
 pub fn a_limit_that_is_set_is_the_limit()
-    ensures { (d : Desc) (limit : ℕ) → is_no_limit limit ≡ false → byte_limit (limited d limit) ≡ limit }
+    ensures { (d : Desc) (limit : ℕ) → is_no_limit limit ≡ false → byte_limit (desc_with_limit d limit) ≡ limit }
 {}
 
 /// Function 0002h finds the descriptor of a real segment wherever it is: a sound world has one at most.

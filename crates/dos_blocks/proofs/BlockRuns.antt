@@ -15,7 +15,7 @@ use Rattle.guest_space.specs.DosRuns.{CanPutRun, with_entries_and_run}
 use Rattle.service_rows.specs.FreeRun.{first_free_run}
 use Rattle.service_rows.proofs.IndexLaws.{is_first}
 use Rattle.service_rows.proofs.RunLaws.{free_run_of, run_of_test}
-use Rattle.dos_blocks.specs.Blocks.{CanAllocate, CanResize, nowhere, block_state, descriptor_of_block, entry_of_place, first_descriptor, first_fit, free_before, free_behind, has_room_to_grow, index_or_zero, is_of_segment, joined, new_descriptor, place_of_block, possible, run_of_block, segment_of_row, split, with_block}
+use Rattle.dos_blocks.specs.Blocks.{CanAllocate, CanResize, missing_entry, block_state, descriptor_of_block, entry_of_place, first_descriptor, first_fit, free_before, free_entries_after, has_room_to_grow, index_or_zero, is_of_segment, joined_entry, new_descriptor, place_of_block, greatest_size, run_of_block, segment_of_row, split, with_block}
 use Rattle.dos_blocks.specs.Puts.{CanPut, CanPutBlock}
 use Rattle.dos_blocks.specs.Services.{segment_of_selector}
 use Rattle.dos_blocks.proofs.CallLaws.{can_free, can_give, can_resize}
@@ -49,7 +49,7 @@ pub block_run : (w : World) (segment place : ℕ) → IsSound w → HasBlock tru
     HasBlockRun w (first_descriptor true w.descriptors segment) place
 block_run w segment place s block =
     let entry = entry_of_place w.arena place in
-    let h : HasRun w.descriptors entry = s.runs.runs place entry (slice_get-get_or w.arena place nowhere block.small) block.kind in
+    let h : HasRun w.descriptors entry = s.runs.runs place entry (slice_get-get_or w.arena place missing_entry block.small) block.kind in
     let paras = h.some in
     let size = s.descriptors.indices in
     let run : IsRunOf w.descriptors (Dos segment) h.first (descriptors_for entry.paras) =
@@ -93,15 +93,15 @@ can_give_block w true n place s can e =
 
 pub can_free_block : (w : World) (for_dpmi : Bool) (segment place : ℕ) → IsSound w → (for_dpmi ≡ true → w.width ≢ None) →
     Some place ≡ place_of_block for_dpmi w.arena segment 0 →
-    CanPutBlock for_dpmi w (place - free_before w.arena place) (free_before w.arena place + (1 + free_behind w.arena place)) (joined w.arena place ∷ [])
+    CanPutBlock for_dpmi w (place - free_before w.arena place) (free_before w.arena place + (1 + free_entries_after w.arena place)) (joined_entry w.arena place ∷ [])
     (run_of_block (entry_of_place w.arena place) (first_descriptor for_dpmi w.descriptors segment) (entry_of_place w.arena place).paras 0)
 can_free_block w false segment place s can e = can_free w.arena false segment place refl s.arena (found_block false w.arena segment place e)
 can_free_block w true segment place s can e =
     can_free_run w (first_descriptor true w.descriptors segment) place s (can refl) (block_run w segment place s (found_block true w.arena segment place e))
 
 pub can_resize_block : (w : World) (for_dpmi : Bool) (n segment place : ℕ) → IsSound w → (for_dpmi ≡ true → CanResize w segment n) →
-    Some place ≡ place_of_block for_dpmi w.arena segment 0 → n ≤ possible w.arena place →
-    CanPutBlock for_dpmi w place (1 + free_behind w.arena place) (split (block_state for_dpmi) (entry_of_place w.arena place).at n (possible w.arena place))
+    Some place ≡ place_of_block for_dpmi w.arena segment 0 → n ≤ greatest_size w.arena place →
+    CanPutBlock for_dpmi w place (1 + free_entries_after w.arena place) (split (block_state for_dpmi) (entry_of_place w.arena place).at n (greatest_size w.arena place))
     (run_of_block (entry_of_place w.arena place) (first_descriptor for_dpmi w.descriptors segment) (entry_of_place w.arena place).paras n)
 can_resize_block w false n segment place s can e room =
     can_resize w.arena false n segment place refl s.arena (found_block false w.arena segment place e) room

@@ -4,8 +4,8 @@ use Rattle.std.proofs.lemmas.Bool.{false≢true}
 use Rattle.client_world.specs.declared.dos_memory.DosEntry.{DosEntry}
 use Rattle.client_world.specs.declared.memory_map.TheConstants.{ARENA_END}
 use Rattle.client_world.specs.DosMemory.{is_free, is_dpmi, Fills, IsArena}
-use Rattle.guest_space.specs.Arena.{spliced}
-use Rattle.dos_blocks.specs.Blocks.{nowhere, entry_of_place, block_state, split, is_of_kind, free_behind, possible, free_before, room_before, joined}
+use Rattle.guest_space.specs.Arena.{with_replaced_entries}
+use Rattle.dos_blocks.specs.Blocks.{missing_entry, entry_of_place, block_state, split, is_of_kind, free_entries_after, greatest_size, free_before, room_before, joined_entry}
 use Rattle.dos_blocks.specs.Puts.{CanPut}
 use Rattle.dos_blocks.proofs.Founds.{HasFit, HasBlock}
 use Rattle.dos_blocks.proofs.NeighbourLaws.{free_plain, used_plain, take_one, behind_within, behind_fills, behind_plain, behind_right, possible_ends, is_before}
@@ -15,7 +15,7 @@ use Rattle.dos_blocks.proofs.Splits.{fills-split, joined-split, some-split, star
 -- they leave an arena, whatever they are
 pub record CanSplice (es : List DosEntry) (place old : ℕ) (new : List DosEntry) : Type 0 where
   pub within : place + old ≤ length es
-  pub sound : IsArena (spliced es place old new)
+  pub sound : IsArena (with_replaced_entries es place old new)
 
 -- a block isn't free
 pub held_state : (for_dpmi : Bool) → is_free (block_state for_dpmi) ≡ false
@@ -41,14 +41,14 @@ splice_give es for_dpmi n place arena fit =
     let paras = (entry_of_place es place).paras in
     record {
       within = omega arith;
-      sound = arena-spliced es place 1 (split state at n paras) nowhere arena (omega arith)
+      sound = arena-spliced es place 1 (split state at n paras) missing_entry arena (omega arith)
           (λ from to f. (let one : Fills from (entry_of_place es place ∷ []) to = rw (take_one es place small) at f in
           fills-split state at n paras from to fit.room one.0 one.1))
           (joined-split state at n paras (held_state for_dpmi))
           (record {
             some = some-split state at n paras;
             left = λ j next free. starts-split state at n paras (held_state for_dpmi);
-            right = λ inside. joined_next es place nowhere arena.joined inside fit.free;
+            right = λ inside. joined_next es place missing_entry arena.joined inside fit.free;
           });
     }
 
@@ -65,15 +65,15 @@ can_give es for_dpmi n place dos arena fit =
 
 -- a block is resized
 
-pub splice_resize : (es : List DosEntry) (for_dpmi : Bool) (n place : ℕ) → IsArena es → place < length es → n ≤ possible es place →
-    CanSplice es place (1 + free_behind es place) (split (block_state for_dpmi) (entry_of_place es place).at n (possible es place))
+pub splice_resize : (es : List DosEntry) (for_dpmi : Bool) (n place : ℕ) → IsArena es → place < length es → n ≤ greatest_size es place →
+    CanSplice es place (1 + free_entries_after es place) (split (block_state for_dpmi) (entry_of_place es place).at n (greatest_size es place))
 splice_resize es for_dpmi n place arena small room =
     let state = block_state for_dpmi in
     let at = (entry_of_place es place).at in
-    let paras = possible es place in
+    let paras = greatest_size es place in
     record {
       within = behind_within es place small;
-      sound = arena-spliced es place (1 + free_behind es place) (split state at n paras) nowhere arena (behind_within es place small)
+      sound = arena-spliced es place (1 + free_entries_after es place) (split state at n paras) missing_entry arena (behind_within es place small)
           (λ from to f. (let filled = behind_fills es place from to small f in
           fills-split state at n paras from to room filled.starts filled.ends))
           (joined-split state at n paras (held_state for_dpmi))
@@ -85,30 +85,30 @@ splice_resize es for_dpmi n place arena small room =
     }
 
 pub can_resize : (es : List DosEntry) (for_dpmi : Bool) (n segment place : ℕ) → for_dpmi ≡ false → IsArena es → HasBlock for_dpmi es segment place →
-    n ≤ possible es place → CanPut es place (1 + free_behind es place) (split (block_state for_dpmi) (entry_of_place es place).at n (possible es place))
+    n ≤ greatest_size es place → CanPut es place (1 + free_entries_after es place) (split (block_state for_dpmi) (entry_of_place es place).at n (greatest_size es place))
 can_resize es for_dpmi n segment place dos arena block room =
     let can = splice_resize es for_dpmi n place arena block.small room in
     record {
       within = can.within;
       old_plain = behind_plain es place block.small (plain_kind for_dpmi (entry_of_place es place) dos block.kind);
-      new_plain = plain-split (block_state for_dpmi) (entry_of_place es place).at n (possible es place) (plain_state for_dpmi dos);
+      new_plain = plain-split (block_state for_dpmi) (entry_of_place es place).at n (greatest_size es place) (plain_state for_dpmi dos);
       sound = can.sound;
     }
 
 -- a block is freed
 
 pub splice_free : (es : List DosEntry) (place : ℕ) → IsArena es → place < length es →
-    CanSplice es (place - free_before es place) (free_before es place + (1 + free_behind es place)) (joined es place ∷ [])
+    CanSplice es (place - free_before es place) (free_before es place + (1 + free_entries_after es place)) (joined_entry es place ∷ [])
 splice_free es place arena small =
     let front = is_before es place arena small in
     let behind = behind_within es place small in
     let in_front = front.within in
-    let end : place - free_before es place + (free_before es place + (1 + free_behind es place)) ≡ place + (1 + free_behind es place) = omega arith in
+    let end : place - free_before es place + (free_before es place + (1 + free_entries_after es place)) ≡ place + (1 + free_entries_after es place) = omega arith in
     record {
       within = omega arith;
-      sound = arena-spliced es (place - free_before es place) (free_before es place + (1 + free_behind es place)) (joined es place ∷ []) nowhere arena
+      sound = arena-spliced es (place - free_before es place) (free_before es place + (1 + free_entries_after es place)) (joined_entry es place ∷ []) missing_entry arena
           (omega arith)
-          (λ from to f. (let filled = behind_fills es place (from + room_before es place) to small (front.fills (1 + free_behind es place) from to f) in
+          (λ from to f. (let filled = behind_fills es place (from + room_before es place) to small (front.fills (1 + free_entries_after es place) from to f) in
           let starts = filled.starts in
           let ends = filled.ends in
           (omega arith, omega arith)))
@@ -121,12 +121,12 @@ splice_free es place arena small =
     }
 
 pub can_free : (es : List DosEntry) (for_dpmi : Bool) (segment place : ℕ) → for_dpmi ≡ false → IsArena es → HasBlock for_dpmi es segment place →
-    CanPut es (place - free_before es place) (free_before es place + (1 + free_behind es place)) (joined es place ∷ [])
+    CanPut es (place - free_before es place) (free_before es place + (1 + free_entries_after es place)) (joined_entry es place ∷ [])
 can_free es for_dpmi segment place dos arena block =
     let can = splice_free es place arena block.small in
     record {
       within = can.within;
-      old_plain = (is_before es place arena block.small).plain (1 + free_behind es place)
+      old_plain = (is_before es place arena block.small).plain (1 + free_entries_after es place)
           (behind_plain es place block.small (plain_kind for_dpmi (entry_of_place es place) dos block.kind));
       new_plain = (refl, tt);
       sound = can.sound;
@@ -135,7 +135,7 @@ can_free es for_dpmi segment place dos arena block =
 -- the numbers of what is free around a block
 pub record HasRoom (es : List DosEntry) (place : ℕ) : Type 0 where
   pub before : room_before es place ≤ (entry_of_place es place).at
-  pub behind : (entry_of_place es place).at + 1 + possible es place ≤ ARENA_END
+  pub behind : (entry_of_place es place).at + 1 + greatest_size es place ≤ ARENA_END
 
 pub has_room : (es : List DosEntry) (place : ℕ) → IsArena es → place < length es → HasRoom es place
 has_room es place arena small = record { before = (is_before es place arena small).fits; behind = possible_ends es place arena small }

@@ -14,12 +14,12 @@ use Rattle.client_world.specs.Selector.{Row, index_of, is_local, row_at_index, s
 use Rattle.client_world.specs.Services.{ax, bx, dx}
 use Rattle.client_world.specs.Soundness.{IsSound, HasOrigin, HasRun, IsRunOf, descriptors_for}
 use Rattle.client_world.specs.World.{World}
-use Rattle.guest_space.specs.Arena.{spliced, with_entries}
+use Rattle.guest_space.specs.Arena.{with_replaced_entries, with_entries}
 use Rattle.guest_space.specs.DosRuns.{dos_row, with_dos_rows}
 use Rattle.guest_space.proofs.DosRows.{dos_row_has, row_inside, row_outside}
 use Rattle.service_rows.specs.FreeRun.{first_free_run}
 use Rattle.service_rows.proofs.RunLaws.{free_run_of}
-use Rattle.dos_blocks.specs.Blocks.{Done, nowhere, entry_of_place, first_fit, is_of_segment, place_of_block, run_of_block, segment_of_row, split, starts_at}
+use Rattle.dos_blocks.specs.Blocks.{Done, missing_entry, entry_of_place, first_fit, is_of_segment, place_of_block, run_of_block, segment_of_row, split, starts_at}
 use Rattle.dos_blocks.specs.Named.{HasNewBlock, LosesDescriptors, NamesBlock}
 use Rattle.dos_blocks.specs.Services.{allocate_dos_block, first_of_segment, free_dos_block, place_of_segment, place_of_selector, segment_of_selector}
 use Rattle.dos_blocks.proofs.Founds.{HasFit, and_right, found_fit, number}
@@ -47,7 +47,7 @@ block_at_place : (w : World) (place : ℕ) → IsSound w → place < length w.ar
 block_at_place w place s small made =
     let segment = block_segment (entry_of_place w.arena place) in
     block_here w.arena segment 0 place small (and_from _ _ made (eq-eqb segment segment refl)) (λ j below.
-    false_from_ne_true _ (λ starts. (let later = later_after w.arena ARENA_START ARENA_END j place nowhere s.arena.fills below small in
+    false_from_ne_true _ (λ starts. (let later = later_after w.arena ARENA_START ARENA_END j place missing_entry s.arena.fills below small in
     let same = eqb-true (block_segment (entry_of_place w.arena j)) segment (and_right (is_dpmi (entry_of_place w.arena j).state) _ starts) in omega arith)))
     ∙ ap (λ (n : ℕ). Some n) (let same : 0 + place ≡ place = omega arith in same)
 
@@ -65,7 +65,7 @@ first_here (Some own) before segment e first =
 
 run_of_entry : (w : World) (place : ℕ) → IsSound w → place < length w.arena → is_dpmi (entry_of_place w.arena place).state ≡ true →
     HasRun w.descriptors (entry_of_place w.arena place)
-run_of_entry w place s small made = s.runs.runs place (entry_of_place w.arena place) (slice_get-get_or w.arena place nowhere small) made
+run_of_entry w place s small made = s.runs.runs place (entry_of_place w.arena place) (slice_get-get_or w.arena place missing_entry small) made
 
 segment_named : (w : World) (sel place : ℕ) → IsSound w → NamesBlock w sel place →
     segment_of_selector w.descriptors sel ≡ Some (block_segment (entry_of_place w.arena place))
@@ -212,7 +212,7 @@ new_given w n (Some place) (Some first) s some small fits free e =
     let freed = free_run_of w.descriptors (descriptors_for n) first free in
     let last = freed.1.within in
     let begins = split_begins entry.at n entry.paras (drop (place + 1) es) in
-    let arena : spliced es place 1 (split Dpmi entry.at n entry.paras) ≡ take place es ++ (made_entry entry.at n ∷ begins.tail) =
+    let arena : with_replaced_entries es place 1 (split Dpmi entry.at n entry.paras) ≡ take place es ++ (made_entry entry.at n ∷ begins.tail) =
     ap (λ (xs : List DosEntry). take place es ++ xs) begins.is in
     put_named w (given_at n (Some place) (Some first) w).world place first n (made_entry entry.at n)
     (subst (λ (xs : List DosEntry). place < length xs) (sym arena) (seam_within es begins.tail place (made_entry entry.at n) (omega (arith, fit.small))))

@@ -17,7 +17,7 @@ use Rattle.client_world.specs.Soundness.{IsSound, HasOrigin, descriptors_for}
 use Rattle.client_world.specs.World.{World}
 use Rattle.guest_space.specs.DosRuns.{CanPutRun, block_alone, made_blocks}
 use Rattle.guest_space.proofs.Fills.{fills_at}
-use Rattle.dos_blocks.specs.Blocks.{nowhere, entry_of_place, free_before, free_behind, joined, possible, run_of_block, split}
+use Rattle.dos_blocks.specs.Blocks.{missing_entry, entry_of_place, free_before, free_entries_after, joined_entry, greatest_size, run_of_block, split}
 use Rattle.dos_blocks.proofs.CallLaws.{splice_give, splice_resize, splice_free}
 use Rattle.dos_blocks.proofs.Founds.{HasFit}
 use Rattle.dos_blocks.proofs.NeighbourLaws.{behind_made, free_plain, is_before, take_one}
@@ -51,9 +51,9 @@ no_descriptor w place index s small free has =
     let other = s.runs.entries index (block_segment (entry_of_place w.arena place)) has in
     let starts = other.starts in
     let inside = inside_of w.arena other.place other.entry other.there in
-    let there : entry_of_place w.arena other.place ≡ other.entry = get_or_from_slice_get w.arena other.place other.entry nowhere other.there in
+    let there : entry_of_place w.arena other.place ≡ other.entry = get_or_from_slice_get w.arena other.place other.entry missing_entry other.there in
     let at = ap (λ (e : DosEntry). e.at) there in
-    let same = one_place w.arena ARENA_START ARENA_END other.place place nowhere s.arena.fills inside small (omega arith) in
+    let same = one_place w.arena ARENA_START ARENA_END other.place place missing_entry s.arena.fills inside small (omega arith) in
     false≢true (sym (free_plain (entry_of_place w.arena place).state free)
     ∙ ap (λ (n : ℕ). is_dpmi (entry_of_place w.arena n).state) (sym same) ∙ ap (λ (e : DosEntry). is_dpmi e.state) there ∙ other.made)
   where
@@ -117,7 +117,7 @@ run_within w first place s block =
     omega arith
 
 pub can_free_run : (w : World) (first place : ℕ) → IsSound w → w.width ≢ None → HasBlockRun w first place →
-    CanPutRun w (place - free_before w.arena place) (free_before w.arena place + (1 + free_behind w.arena place)) (joined w.arena place ∷ [])
+    CanPutRun w (place - free_before w.arena place) (free_before w.arena place + (1 + free_entries_after w.arena place)) (joined_entry w.arena place ∷ [])
     (run_of_block (entry_of_place w.arena place) first (entry_of_place w.arena place).paras 0)
 can_free_run w first place s width block =
     let can = splice_free w.arena place s.arena block.small in
@@ -125,7 +125,7 @@ can_free_run w first place s width block =
       width = width;
       within = can.within;
       arena = can.sound;
-      old_block = (is_before w.arena place s.arena block.small).made (1 + free_behind w.arena place) ∙ behind_made w.arena place block.small
+      old_block = (is_before w.arena place s.arena block.small).made (1 + free_entries_after w.arena place) ∙ behind_made w.arena place block.small
           ∙ made_one (entry_of_place w.arena place) block.made block.some;
       new_block = refl;
       from = block.from;
@@ -135,10 +135,10 @@ can_free_run w first place s width block =
 
 -- ---- 0102h
 
-pub can_resize_run : (w : World) (n first place : ℕ) → IsSound w → w.width ≢ None → HasBlockRun w first place → n ≢ 0 → n ≤ possible w.arena place →
+pub can_resize_run : (w : World) (n first place : ℕ) → IsSound w → w.width ≢ None → HasBlockRun w first place → n ≢ 0 → n ≤ greatest_size w.arena place →
     IsFreeRunOf w.descriptors (first + descriptors_for (entry_of_place w.arena place).paras)
     (descriptors_for n - descriptors_for (entry_of_place w.arena place).paras) →
-    CanPutRun w place (1 + free_behind w.arena place) (split Dpmi (entry_of_place w.arena place).at n (possible w.arena place))
+    CanPutRun w place (1 + free_entries_after w.arena place) (split Dpmi (entry_of_place w.arena place).at n (greatest_size w.arena place))
     (run_of_block (entry_of_place w.arena place) first (entry_of_place w.arena place).paras n)
 can_resize_run w n first place s width block some room added =
     let can = splice_resize w.arena true n place s.arena block.small room in
@@ -147,7 +147,7 @@ can_resize_run w n first place s width block some room added =
       within = can.within;
       arena = can.sound;
       old_block = behind_made w.arena place block.small ∙ made_one (entry_of_place w.arena place) block.made block.some;
-      new_block = made_split (entry_of_place w.arena place).at n (possible w.arena place) some;
+      new_block = made_split (entry_of_place w.arena place).at n (greatest_size w.arena place) some;
       from = block.from;
       old_run = block.run;
       added = added;

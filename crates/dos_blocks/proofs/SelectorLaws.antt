@@ -11,7 +11,7 @@ use Rattle.client_world.specs.Selector.{Row, index_of, is_local, row_at_index}
 use Rattle.client_world.specs.Soundness.{IsSound, HasOrigin, HasRun, IsRunOf, descriptors_for}
 use Rattle.client_world.specs.World.{World}
 use Rattle.service_rows.specs.FreeRun.{are_free, is_free_run}
-use Rattle.dos_blocks.specs.Blocks.{nowhere, entry_of_place, is_of_segment, segment_of_origin, segment_of_row}
+use Rattle.dos_blocks.specs.Blocks.{missing_entry, entry_of_place, is_of_segment, segment_of_origin, segment_of_row}
 use Rattle.dos_blocks.specs.Services.{first_of_segment, place_of_segment, place_of_selector, segment_of_selector}
 use Rattle.dos_blocks.proofs.Founds.{HasBlock, found_block, number}
 
@@ -85,7 +85,7 @@ pub block_of_segment : (w : World) (sel place segment : ℕ) → IsSound w → s
     HasBlockRun w (index_of sel) place
 block_of_segment w sel place segment s found block =
     let entry = entry_of_place w.arena place in
-    let h : HasRun w.descriptors entry = s.runs.runs place entry (slice_get-get_or w.arena place nowhere block.small) block.kind in
+    let h : HasRun w.descriptors entry = s.runs.runs place entry (slice_get-get_or w.arena place missing_entry block.small) block.kind in
     let is : IsFirst w.descriptors (index_of sel) (block_segment entry) =
     subst (λ (n : ℕ). IsFirst w.descriptors (index_of sel) n) (sym block.starts) (is_first w.descriptors sel segment (is_local sel) refl found) in
     let same = run_begins w.descriptors (block_segment entry) (index_of sel) h.first (descriptors_for entry.paras) is h.run in

@@ -17,8 +17,8 @@ use Rattle.guest_space.proofs.DosRunsSound.{IsSound-run}
 use Rattle.service_rows.specs.FreeRun.{first_free_run}
 use Rattle.service_rows.proofs.RunLaws.{free_run_of, run_of_test}
 use Rattle.service_rows.proofs.WidthLaws.{protected_width}
-use Rattle.dos_blocks.specs.Blocks.{Done, entry_of_place, first_fit, freed, freed_at, place_of_block, possible, resized, resized_at, run_of_block}
-use Rattle.dos_blocks.specs.Services.{allocate_dos_block, reported, can_have, dos_service, free_dos_block, freed_named, place_of_selector, resize_dos_block, resized_from, resized_named, segment_of_selector, with_refusal}
+use Rattle.dos_blocks.specs.Blocks.{Done, entry_of_place, first_fit, free_result, free_result_at, place_of_block, greatest_size, resize_result, resize_result_at, run_of_block}
+use Rattle.dos_blocks.specs.Services.{allocate_dos_block, served_result, can_have, dos_service, free_dos_block, free_result_of_segment, place_of_selector, resize_dos_block, resize_result_of_segment, resize_result_of_place, segment_of_selector, with_refusal}
 use Rattle.dos_blocks.proofs.Founds.{found_fit}
 use Rattle.dos_blocks.proofs.NeighbourLaws.{entry_within}
 use Rattle.dos_blocks.proofs.RunPuts.{can_free_run, can_give_run, can_resize_run}
@@ -32,13 +32,13 @@ of_choice P true one other chosen left = chosen refl
 of_choice P false one other chosen left = left refl
 
 of_reported : (P : World → Type 0) (answer : Result (Unit {0}) DosRefusal) (w : World) → P w → ((refusal : DosRefusal) → P (with_refusal refusal w)) →
-    P (reported (record { answer = answer; world = w })).world
-unfolding reported
+    P (served_result (record { answer = answer; world = w })).world
+unfolding served_result
 of_reported P (Ok v) w here refused = here
 of_reported P (Err refusal) w here refused = refused refusal
 
-of_each_service : (P : World → Type 0) (ax : ℕ) (w : World) → P w → P (reported (allocate_dos_block w)).world → P (reported (free_dos_block w)).world →
-    P (reported (resize_dos_block w)).world → P (dos_service ax w).world
+of_each_service : (P : World → Type 0) (ax : ℕ) (w : World) → P w → P (served_result (allocate_dos_block w)).world → P (served_result (free_dos_block w)).world →
+    P (served_result (resize_dos_block w)).world → P (dos_service ax w).world
 unfolding dos_service
 of_each_service P ax w same given freed resized =
     let Q : Served → Type 0 = λ (s : Served). P s.world in
@@ -62,7 +62,7 @@ sound_refusal : (w : World) (refusal : DosRefusal) → IsSound w → IsSound (wi
 sound_refusal w (NoMemory most) s = sound_registers w _ _ w.regs.edx s
 sound_refusal w WrongBlock s = sound_registers w _ w.regs.ebx w.regs.edx s
 
-sound_reported : (done : Done (Unit {0})) → IsSound done.world → IsSound (reported done).world
+sound_reported : (done : Done (Unit {0})) → IsSound done.world → IsSound (served_result done).world
 sound_reported done s = of_reported IsSound done.answer done.world s (λ refusal. sound_refusal done.world refusal s)
 
 sound_put : (w : World) (place at old first before after : ℕ) (new : List DosEntry) → IsSound w → place < length w.arena → after < 0x10000 →
@@ -112,10 +112,10 @@ sound_resized w n sel (Some place) s width small e =
     of_choice (λ (d : Done (Unit {0})). IsSound d.world) (can_have w n (index_of sel) place) _ _
     (λ can. (let block = selector_block w sel place s (sym e) in
     let parts = and_parts (nat_lt 0 n) _ can in
-    let rest = and_parts (nat_le n (possible w.arena place)) _ parts.1 in
+    let rest = and_parts (nat_le n (greatest_size w.arena place)) _ parts.1 in
     let some = ltb-true 0 n parts.0 in
     sound_put w place place _ (index_of sel) _ n _ s block.small small
-    (can_resize_run w n (index_of sel) place s width block (λ none. omega arith) (leb-true n (possible w.arena place) rest.0)
+    (can_resize_run w n (index_of sel) place s width block (λ none. omega arith) (leb-true n (greatest_size w.arena place) rest.0)
     (run_of_test w.descriptors _ _ rest.1))))
     (λ left. s)
 
@@ -140,7 +140,7 @@ kept_refusal : (w v : World) (refusal : DosRefusal) → Kept w v → Kept w (wit
 kept_refusal w v (NoMemory most) k = ap (λ (x : World). with_refusal (NoMemory most) x) k
 kept_refusal w v WrongBlock k = ap (λ (x : World). with_refusal WrongBlock x) k
 
-kept_reported : (w : World) (done : Done (Unit {0})) → Kept w done.world → Kept w (reported done).world
+kept_reported : (w : World) (done : Done (Unit {0})) → Kept w done.world → Kept w (served_result done).world
 kept_reported w done k = of_reported (Kept w) done.answer done.world k (λ refusal. kept_refusal w done.world refusal k)
 
 kept_put : (w : World) (place old : ℕ) (new : List DosEntry) (run : DosRun) → Kept w (with_entries_and_run w place old new run)
@@ -160,12 +160,12 @@ kept_allocate w = of_choice (λ (d : Done (Unit {0})). Kept w d.world) (nat_eq (
     (sym (given_is w (bx w) (first_fit w.arena (bx w) 0) (first_free_run w.descriptors (descriptors_for (bx w))) refl refl))
     (kept_given w (bx w) (first_fit w.arena (bx w) 0) (first_free_run w.descriptors (descriptors_for (bx w)))))
 
-kept_freed : (w : World) (segment : ℕ) (o : Option ℕ) → Kept w (freed_at w true segment o).world
+kept_freed : (w : World) (segment : ℕ) (o : Option ℕ) → Kept w (free_result_at w true segment o).world
 kept_freed w segment None = refl
 kept_freed w segment (Some place) = kept_put w _ _ _ _
 
-kept_freed_named : (w : World) (o : Option ℕ) → Kept w (freed_named o w).world
-unfolding freed
+kept_freed_named : (w : World) (o : Option ℕ) → Kept w (free_result_of_segment o w).world
+unfolding free_result
 kept_freed_named w None = refl
 kept_freed_named w (Some segment) = kept_freed w segment (place_of_block true w.arena segment 0)
 
@@ -173,19 +173,19 @@ kept_free : (w : World) → Kept w (free_dos_block w).world
 unfolding free_dos_block
 kept_free w = kept_freed_named w (segment_of_selector w.descriptors (dx w))
 
-kept_resized_at : (w : World) (segment n : ℕ) (o : Option ℕ) → Kept w (resized_at w true segment n o).world
+kept_resized_at : (w : World) (segment n : ℕ) (o : Option ℕ) → Kept w (resize_result_at w true segment n o).world
 kept_resized_at w segment n None = refl
 kept_resized_at w segment n (Some place) =
-    of_choice (λ (d : Done (Unit {0})). Kept w d.world) (nat_le n (possible w.arena place)) _ _ (λ can. kept_put w _ _ _ _) (λ left. refl)
+    of_choice (λ (d : Done (Unit {0})). Kept w d.world) (nat_le n (greatest_size w.arena place)) _ _ (λ can. kept_put w _ _ _ _) (λ left. refl)
 
-kept_resized : (w : World) (n first segment : ℕ) (o : Option ℕ) → Kept w (resized_named n first segment o w).world
-unfolding resized
+kept_resized : (w : World) (n first segment : ℕ) (o : Option ℕ) → Kept w (resize_result_of_place n first segment o w).world
+unfolding resize_result
 kept_resized w n first segment None = refl
 kept_resized w n first segment (Some place) =
     of_choice (λ (d : Done (Unit {0})). Kept w d.world) (can_have w n first place) _ _
     (λ can. kept_resized_at w segment n (place_of_block true w.arena segment 0)) (λ left. refl)
 
-kept_resized_from : (w : World) (n first : ℕ) (o : Option ℕ) → Kept w (resized_from n first o w).world
+kept_resized_from : (w : World) (n first : ℕ) (o : Option ℕ) → Kept w (resize_result_of_segment n first o w).world
 kept_resized_from w n first None = refl
 kept_resized_from w n first (Some segment) = kept_resized w n first segment (place_of_block true w.arena segment 0)
 

@@ -7,7 +7,7 @@ use Rattle.client_world.specs.Soundness.{IsSound}
 use Rattle.client_world.specs.World.{World}
 use Rattle.guest_space.specs.Arena.{with_entries}
 use Rattle.guest_space.proofs.ArenaWrites.{IsSound-entries}
-use Rattle.dos_blocks.specs.Blocks.{Done, first_fit, place_of_block, entry_of_place, block_state, split, free_behind, possible, allocated_at, allocated, resized_at, resized, freed_at, freed}
+use Rattle.dos_blocks.specs.Blocks.{Done, first_fit, place_of_block, entry_of_place, block_state, split, free_entries_after, greatest_size, allocation_result_at, allocation_result, resize_result_at, resize_result, free_result_at, free_result}
 use Rattle.dos_blocks.specs.Puts.{CanPut}
 use Rattle.dos_blocks.proofs.CallLaws.{can_give, can_resize, can_free}
 use Rattle.dos_blocks.proofs.Founds.{found_fit, found_block}
@@ -17,13 +17,13 @@ sound_put w place old new s can = IsSound-entries w place old new s can.old_plai
 
 -- a block is given
 
-sound_given : (w : World) (n : ℕ) (o : Option ℕ) → first_fit w.arena n 0 ≡ o → IsSound w → IsSound (allocated_at w false n o).world
+sound_given : (w : World) (n : ℕ) (o : Option ℕ) → first_fit w.arena n 0 ≡ o → IsSound w → IsSound (allocation_result_at w false n o).world
 sound_given w n None e s = s
 sound_given w n (Some place) e s =
     sound_put w place 1 _ s (can_give w.arena false n place refl s.arena (found_fit w.arena n place (sym e)))
 
-pub sound_allocated : (w : World) (n : ℕ) → IsSound w → IsSound (allocated w false n).world
-unfolding allocated
+pub sound_allocated : (w : World) (n : ℕ) → IsSound w → IsSound (allocation_result w false n).world
+unfolding allocation_result
 sound_allocated w n s = sound_given w n (first_fit w.arena n 0) refl s
 
 -- resized
@@ -32,27 +32,27 @@ sound_if : (c : Bool) (one other : Done (Unit {0})) → (c ≡ true → IsSound 
 sound_if true one other s t = s refl
 sound_if false one other s t = t
 
-sound_where_found : (w : World) (segment n : ℕ) (o : Option ℕ) → place_of_block false w.arena segment 0 ≡ o → IsSound w → IsSound (resized_at w false segment n o).world
+sound_where_found : (w : World) (segment n : ℕ) (o : Option ℕ) → place_of_block false w.arena segment 0 ≡ o → IsSound w → IsSound (resize_result_at w false segment n o).world
 sound_where_found w segment n None e s = s
 sound_where_found w segment n (Some place) e s =
     let es = w.arena in
-    sound_if (nat_le n (possible es place))
-    (record { answer = Ok tt; world = with_entries w place (1 + free_behind es place) (split (block_state false) (entry_of_place es place).at n (possible es place)) })
-    (record { answer = Err (NoMemory (possible es place)); world = w })
-    (λ room. sound_put w place (1 + free_behind es place) _ s
-    (can_resize es false n segment place refl s.arena (found_block false es segment place (sym e)) (leb-true n (possible es place) room))) s
+    sound_if (nat_le n (greatest_size es place))
+    (record { answer = Ok tt; world = with_entries w place (1 + free_entries_after es place) (split (block_state false) (entry_of_place es place).at n (greatest_size es place)) })
+    (record { answer = Err (NoMemory (greatest_size es place)); world = w })
+    (λ room. sound_put w place (1 + free_entries_after es place) _ s
+    (can_resize es false n segment place refl s.arena (found_block false es segment place (sym e)) (leb-true n (greatest_size es place) room))) s
 
-pub sound_resized : (w : World) (segment n : ℕ) → IsSound w → IsSound (resized w false segment n).world
-unfolding resized
+pub sound_resized : (w : World) (segment n : ℕ) → IsSound w → IsSound (resize_result w false segment n).world
+unfolding resize_result
 sound_resized w segment n s = sound_where_found w segment n (place_of_block false w.arena segment 0) refl s
 
 -- freed
 
-sound_where_freed : (w : World) (segment : ℕ) (o : Option ℕ) → place_of_block false w.arena segment 0 ≡ o → IsSound w → IsSound (freed_at w false segment o).world
+sound_where_freed : (w : World) (segment : ℕ) (o : Option ℕ) → place_of_block false w.arena segment 0 ≡ o → IsSound w → IsSound (free_result_at w false segment o).world
 sound_where_freed w segment None e s = s
 sound_where_freed w segment (Some place) e s =
     sound_put w _ _ _ s (can_free w.arena false segment place refl s.arena (found_block false w.arena segment place (sym e)))
 
-pub sound_freed : (w : World) (segment : ℕ) → IsSound w → IsSound (freed w false segment).world
-unfolding freed
+pub sound_freed : (w : World) (segment : ℕ) → IsSound w → IsSound (free_result w false segment).world
+unfolding free_result
 sound_freed w segment s = sound_where_freed w segment (place_of_block false w.arena segment 0) refl s

@@ -5,7 +5,7 @@ use Rattle.std.proofs.lemmas.Bool.{cases_lt}
 use Rattle.client_world.specs.declared.dos_memory.DosEntry.{DosEntry}
 use Rattle.client_world.specs.declared.memory_map.TheConstants.{ARENA_START, ARENA_END}
 use Rattle.client_world.specs.DosMemory.{is_free, Fills, IsJoined, starts_free, IsArena}
-use Rattle.guest_space.specs.Arena.{spliced}
+use Rattle.guest_space.specs.Arena.{with_replaced_entries}
 use Rattle.dos_blocks.proofs.Searches.{dropped, none_left}
 
 -- lists that fill paragraphs one after another fill them together, and the other way round
@@ -30,7 +30,7 @@ abbrev pub FillsAlike : List DosEntry → List DosEntry → Type 0
 FillsAlike xs ys = (from to : ℕ) → Fills from xs to → Fills from ys to
 
 fills-spliced : (es : List DosEntry) (from to place old : ℕ) (new : List DosEntry) → Fills from es to → place + old ≤ length es →
-    FillsAlike (take old (drop place es)) new → Fills from (spliced es place old new) to
+    FillsAlike (take old (drop place es)) new → Fills from (with_replaced_entries es place old new) to
 fills-spliced es from to zero old new f within alike =
     let both = fills_both (take old es) (drop old es) from to (subst (λ (xs : List DosEntry). Fills from xs to) (sym (take-append-drop old es)) f) in
     subst (λ (n : ℕ). Fills from (new ++ drop n es) to) (sym (zero-add old))
@@ -85,12 +85,12 @@ starts_drop es place d h = elim (cases_lt place (length es)) [
 ]
 
 starts-spliced : (es : List DosEntry) (place old : ℕ) (new : List DosEntry) → suc place + old ≤ length es →
-    starts_free (spliced es (suc place) old new) ≡ starts_free es
+    starts_free (with_replaced_entries es (suc place) old new) ≡ starts_free es
 starts-spliced [] place old new within = absurd (omega arith)
 starts-spliced (e ∷ es) place old new within = refl
 
 joined-spliced : (es : List DosEntry) (place old : ℕ) (new : List DosEntry) (d : DosEntry) → IsJoined es → place + old ≤ length es → IsJoined new →
-    FitsBetween es place old new d → IsJoined (spliced es place old new)
+    FitsBetween es place old new d → IsJoined (with_replaced_entries es place old new)
 joined-spliced es zero old new d j within joined seams =
     let right : old < length es → is_free (get_or es old d).state ≡ false =
     λ small. ap (λ (n : ℕ). is_free (get_or es n d).state) (sym (zero-add old)) ∙ seams.right (omega arith) in
@@ -114,7 +114,7 @@ joined-spliced (e ∷ es) (suc place) old new d j within joined seams =
     front (suc place) within seams free = starts-spliced es place old new within ∙ j.0 free
 
 pub arena-spliced : (es : List DosEntry) (place old : ℕ) (new : List DosEntry) (d : DosEntry) → IsArena es → place + old ≤ length es →
-    FillsAlike (take old (drop place es)) new → IsJoined new → FitsBetween es place old new d → IsArena (spliced es place old new)
+    FillsAlike (take old (drop place es)) new → IsJoined new → FitsBetween es place old new d → IsArena (with_replaced_entries es place old new)
 arena-spliced es place old new d arena within alike joined seams = record {
   fills = fills-spliced es ARENA_START ARENA_END place old new arena.fills within alike;
   joined = joined-spliced es place old new d arena.joined within joined seams;

@@ -28,11 +28,11 @@ pub record Done (A : Type 0) : Type 0 where
   pub world : World
 
 -- the entry at a place; where there is none it counts as one that isn't free
-abbrev pub nowhere : DosEntry
-nowhere = record { at = 0; paras = 0; state = Used }
+abbrev pub missing_entry : DosEntry
+missing_entry = record { at = 0; paras = 0; state = Used }
 
 abbrev pub entry_of_place : List DosEntry → ℕ → DosEntry
-entry_of_place entries place = slice_index_or entries place nowhere
+entry_of_place entries place = slice_index_or entries place missing_entry
 
 -- the state of a block that a DOS call makes, or INT 31h function 0100h
 abbrev pub block_state : Bool → DosState
@@ -112,9 +112,9 @@ split state at n paras =
     if nat_eq n paras then record { at = at; paras = n; state = state } ∷ [] else
     record { at = at; paras = n; state = state } ∷ record { at = at + n + 1; paras = paras - n - 1; state = Free } ∷ []
 
-abbrev pub allocated_at : World → Bool → ℕ → Option ℕ → Done ℕ
-allocated_at w for_dpmi n None = record { answer = Err (NoMemory (largest w.arena)); world = w }
-allocated_at w for_dpmi n (Some place) = record {
+abbrev pub allocation_result_at : World → Bool → ℕ → Option ℕ → Done ℕ
+allocation_result_at w for_dpmi n None = record { answer = Err (NoMemory (largest w.arena)); world = w }
+allocation_result_at w for_dpmi n (Some place) = record {
   answer = Ok (block_segment (entry_of_place w.arena place));
   world = with_block for_dpmi w place 1
       (split (block_state for_dpmi) (entry_of_place w.arena place).at n (entry_of_place w.arena place).paras)
@@ -122,8 +122,8 @@ allocated_at w for_dpmi n (Some place) = record {
 }
 
 -- n paragraphs are given: the first entry that fits, and the segment of its block is returned
-unfoldable pub allocated : World → Bool → ℕ → Done ℕ
-allocated w for_dpmi n = allocated_at w for_dpmi n (first_fit w.arena n 0)
+unfoldable pub allocation_result : World → Bool → ℕ → Done ℕ
+allocation_result w for_dpmi n = allocation_result_at w for_dpmi n (first_fit w.arena n 0)
 
 -- ---- blocks
 
@@ -147,16 +147,16 @@ place_of_block for_dpmi (entry ∷ entries) segment place =
     if starts_at for_dpmi entry segment then Some place else place_of_block for_dpmi entries segment (place + 1)
 
 -- how many free entries follow a place, one at most, and their paragraphs with the header's
-abbrev pub free_behind : List DosEntry → ℕ → ℕ
-free_behind entries place = if is_free (entry_of_place entries (place + 1)).state then 1 else 0
+abbrev pub free_entries_after : List DosEntry → ℕ → ℕ
+free_entries_after entries place = if is_free (entry_of_place entries (place + 1)).state then 1 else 0
 
-abbrev pub room_behind : List DosEntry → ℕ → ℕ
-room_behind entries place =
+abbrev pub room_after : List DosEntry → ℕ → ℕ
+room_after entries place =
     if is_free (entry_of_place entries (place + 1)).state then 1 + (entry_of_place entries (place + 1)).paras else 0
 
 -- the most paragraphs that the block at a place can have
-abbrev pub possible : List DosEntry → ℕ → ℕ
-possible entries place = (entry_of_place entries place).paras + room_behind entries place
+abbrev pub greatest_size : List DosEntry → ℕ → ℕ
+greatest_size entries place = (entry_of_place entries place).paras + room_after entries place
 
 -- ---- resizing
 
@@ -165,20 +165,20 @@ abbrev pub has_room_to_grow : List Row → DosRun → Bool
 has_room_to_grow rows run =
     is_free_run rows (run.first + descriptors_for run.before) (descriptors_for run.after - descriptors_for run.before)
 
-abbrev pub resized_at : World → Bool → ℕ → ℕ → Option ℕ → Done (Unit {0})
-resized_at w for_dpmi segment n None = record { answer = Err WrongBlock; world = w }
-resized_at w for_dpmi segment n (Some place) =
-    if nat_le n (possible w.arena place) then record {
+abbrev pub resize_result_at : World → Bool → ℕ → ℕ → Option ℕ → Done (Unit {0})
+resize_result_at w for_dpmi segment n None = record { answer = Err WrongBlock; world = w }
+resize_result_at w for_dpmi segment n (Some place) =
+    if nat_le n (greatest_size w.arena place) then record {
       answer = Ok tt;
-      world = with_block for_dpmi w place (1 + free_behind w.arena place)
-          (split (block_state for_dpmi) (entry_of_place w.arena place).at n (possible w.arena place))
+      world = with_block for_dpmi w place (1 + free_entries_after w.arena place)
+          (split (block_state for_dpmi) (entry_of_place w.arena place).at n (greatest_size w.arena place))
           (run_of_block (entry_of_place w.arena place) (first_descriptor for_dpmi w.descriptors segment) (entry_of_place w.arena place).paras n);
     }
-    else record { answer = Err (NoMemory (possible w.arena place)); world = w }
+    else record { answer = Err (NoMemory (greatest_size w.arena place)); world = w }
 
 -- the block gets n paragraphs where it is. This writes the headers also where it has as many already
-unfoldable pub resized : World → Bool → ℕ → ℕ → Done (Unit {0})
-resized w for_dpmi segment n = resized_at w for_dpmi segment n (place_of_block for_dpmi w.arena segment 0)
+unfoldable pub resize_result : World → Bool → ℕ → ℕ → Done (Unit {0})
+resize_result w for_dpmi segment n = resize_result_at w for_dpmi segment n (place_of_block for_dpmi w.arena segment 0)
 
 -- ---- freeing
 
@@ -191,25 +191,25 @@ room_before entries place =
     if nat_le 1 place && is_free (entry_of_place entries (place - 1)).state then 1 + (entry_of_place entries (place - 1)).paras else 0
 
 -- the block at a place and the free entries beside it as one free entry
-abbrev pub joined : List DosEntry → ℕ → DosEntry
-joined entries place = record {
+abbrev pub joined_entry : List DosEntry → ℕ → DosEntry
+joined_entry entries place = record {
   at = (entry_of_place entries place).at - room_before entries place;
-  paras = room_before entries place + possible entries place;
+  paras = room_before entries place + greatest_size entries place;
   state = Free;
 }
 
-abbrev pub freed_at : World → Bool → ℕ → Option ℕ → Done (Unit {0})
-freed_at w for_dpmi segment None = record { answer = Err WrongBlock; world = w }
-freed_at w for_dpmi segment (Some place) = record {
+abbrev pub free_result_at : World → Bool → ℕ → Option ℕ → Done (Unit {0})
+free_result_at w for_dpmi segment None = record { answer = Err WrongBlock; world = w }
+free_result_at w for_dpmi segment (Some place) = record {
   answer = Ok tt;
   world = with_block for_dpmi w (place - free_before w.arena place)
-      (free_before w.arena place + (1 + free_behind w.arena place)) (joined w.arena place ∷ [])
+      (free_before w.arena place + (1 + free_entries_after w.arena place)) (joined_entry w.arena place ∷ [])
       (run_of_block (entry_of_place w.arena place) (first_descriptor for_dpmi w.descriptors segment) (entry_of_place w.arena place).paras 0);
 }
 
 -- the block becomes free
-unfoldable pub freed : World → Bool → ℕ → Done (Unit {0})
-freed w for_dpmi segment = freed_at w for_dpmi segment (place_of_block for_dpmi w.arena segment 0)
+unfoldable pub free_result : World → Bool → ℕ → Done (Unit {0})
+free_result w for_dpmi segment = free_result_at w for_dpmi segment (place_of_block for_dpmi w.arena segment 0)
 
 -- ---- what the calls ask of a block of function 0100h
 
@@ -223,6 +223,6 @@ pub record CanAllocate (w : World) (n : ℕ) : Type 0 where
 pub record CanResize (w : World) (segment n : ℕ) : Type 0 where
   pub width : w.width ≢ None
   pub some : n ≢ 0
-  pub free : (place : ℕ) → place_of_block true w.arena segment 0 ≡ Some place → n ≤ possible w.arena place →
+  pub free : (place : ℕ) → place_of_block true w.arena segment 0 ≡ Some place → n ≤ greatest_size w.arena place →
       has_room_to_grow w.descriptors (run_of_block (entry_of_place w.arena place) (first_descriptor true w.descriptors segment) (entry_of_place w.arena place).paras n)
       ≡ true

@@ -4,7 +4,7 @@ use Rattle.client_world.specs.declared.dos_memory.DosEntry.{DosEntry}
 use Rattle.client_world.specs.declared.dos_memory.DosRun.{DosRun}
 use Rattle.client_world.specs.DosMemory.{IsArena}
 use Rattle.client_world.specs.World.{World}
-use Rattle.guest_space.specs.Arena.{NoneMade, spliced}
+use Rattle.guest_space.specs.Arena.{NoneMade, with_replaced_entries}
 use Rattle.guest_space.specs.DosRuns.{CanPutRun}
 
 -- what `arena_put` asks of entries in place of others
@@ -12,7 +12,7 @@ pub record CanPut (es : List DosEntry) (place old : ℕ) (new : List DosEntry) :
   pub within : place + old ≤ length es
   pub old_plain : NoneMade (take old (drop place es))
   pub new_plain : NoneMade new
-  pub sound : IsArena (spliced es place old new)
+  pub sound : IsArena (with_replaced_entries es place old new)
 
 -- the same of a block with its run of descriptors, where it has them
 abbrev pub CanPutBlock : Bool → World → ℕ → ℕ → List DosEntry → DosRun → Type 0

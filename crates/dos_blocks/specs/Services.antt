@@ -14,7 +14,7 @@ use Rattle.client_world.specs.Soundness.{descriptors_for}
 use Rattle.client_world.specs.World.{World}
 use Rattle.service_rows.specs.Rows.{with_ax}
 use Rattle.service_rows.specs.FreeRun.{first_free_run}
-use Rattle.dos_blocks.specs.Blocks.{Done, allocated, entry_of_place, freed, has_room_to_grow, is_of_segment, largest, place_of_block, possible, resized, run_of_block, segment_of_row}
+use Rattle.dos_blocks.specs.Blocks.{Done, allocation_result, entry_of_place, free_result, has_room_to_grow, is_of_segment, largest, place_of_block, greatest_size, resize_result, run_of_block, segment_of_row}
 
 abbrev pub with_bx : ℕ → World → World
 with_bx v w = record w { regs = record w.regs { ebx = with_low_half w.regs.ebx v } }
@@ -25,21 +25,21 @@ with_dx v w = record w { regs = record w.regs { edx = with_low_half w.regs.edx v
 -- ---- 0100h
 
 -- the block that the call made, with its segment in AX and the selector of its first descriptor in DX
-abbrev pub with_selector : ℕ → Done ℕ → Done (Unit {0})
-with_selector first done = elim done.answer [
+abbrev pub with_first_selector : ℕ → Done ℕ → Done (Unit {0})
+with_first_selector first done = elim done.answer [
   | Ok segment ↦ record { answer = Ok tt; world = with_dx (selector_of first) (with_ax segment done.world) }
   | Err refusal ↦ record { answer = Err refusal; world = done.world }
 ]
 
-abbrev pub given_from : ℕ → Option ℕ → World → Done (Unit {0})
-given_from n None w = record { answer = Err (NoMemory (largest w.arena)); world = w }
-given_from n (Some first) w = with_selector first (allocated w true n)
+abbrev pub allocation_result_from : ℕ → Option ℕ → World → Done (Unit {0})
+allocation_result_from n None w = record { answer = Err (NoMemory (largest w.arena)); world = w }
+allocation_result_from n (Some first) w = with_first_selector first (allocation_result w true n)
 
 -- 0100h (allocate DOS memory block): a block of BX paragraphs; AX is its segment, and DX the first of its descriptors' selectors
 unfoldable pub allocate_dos_block : World → Done (Unit {0})
 allocate_dos_block w =
     if nat_eq (bx w) 0 then record { answer = Err (NoMemory (largest w.arena)); world = w } else
-    given_from (bx w) (first_free_run w.descriptors (descriptors_for (bx w))) w
+    allocation_result_from (bx w) (first_free_run w.descriptors (descriptors_for (bx w))) w
 
 -- ---- the block of a selector
 
@@ -64,34 +64,34 @@ place_of_selector w sel = place_of_segment w.arena (segment_of_selector w.descri
 
 -- ---- 0101h
 
-abbrev pub freed_named : Option ℕ → World → Done (Unit {0})
-freed_named None w = record { answer = Err WrongBlock; world = w }
-freed_named (Some segment) w = freed w true segment
+abbrev pub free_result_of_segment : Option ℕ → World → Done (Unit {0})
+free_result_of_segment None w = record { answer = Err WrongBlock; world = w }
+free_result_of_segment (Some segment) w = free_result w true segment
 
 -- 0101h (free DOS memory block): frees the block of DX and its descriptors
 unfoldable pub free_dos_block : World → Done (Unit {0})
-free_dos_block w = freed_named (segment_of_selector w.descriptors (dx w)) w
+free_dos_block w = free_result_of_segment (segment_of_selector w.descriptors (dx w)) w
 
 -- ---- 0102h
 
 -- the block at a place can have n paragraphs, and their descriptors
 abbrev pub can_have : World → ℕ → ℕ → ℕ → Bool
-can_have w n first place = nat_lt 0 n && (nat_le n (possible w.arena place)
+can_have w n first place = nat_lt 0 n && (nat_le n (greatest_size w.arena place)
     && has_room_to_grow w.descriptors (run_of_block (entry_of_place w.arena place) first (entry_of_place w.arena place).paras n))
 
-abbrev pub resized_named : ℕ → ℕ → ℕ → Option ℕ → World → Done (Unit {0})
-resized_named n first segment None w = record { answer = Err WrongBlock; world = w }
-resized_named n first segment (Some place) w =
-    if can_have w n first place then resized w true segment n
-    else record { answer = Err (NoMemory (possible w.arena place)); world = w }
+abbrev pub resize_result_of_place : ℕ → ℕ → ℕ → Option ℕ → World → Done (Unit {0})
+resize_result_of_place n first segment None w = record { answer = Err WrongBlock; world = w }
+resize_result_of_place n first segment (Some place) w =
+    if can_have w n first place then resize_result w true segment n
+    else record { answer = Err (NoMemory (greatest_size w.arena place)); world = w }
 
-abbrev pub resized_from : ℕ → ℕ → Option ℕ → World → Done (Unit {0})
-resized_from n first None w = record { answer = Err WrongBlock; world = w }
-resized_from n first (Some segment) w = resized_named n first segment (place_of_block true w.arena segment 0) w
+abbrev pub resize_result_of_segment : ℕ → ℕ → Option ℕ → World → Done (Unit {0})
+resize_result_of_segment n first None w = record { answer = Err WrongBlock; world = w }
+resize_result_of_segment n first (Some segment) w = resize_result_of_place n first segment (place_of_block true w.arena segment 0) w
 
 -- 0102h (resize DOS memory block): the block of DX gets BX paragraphs where it is, and the descriptors of as many
 unfoldable pub resize_dos_block : World → Done (Unit {0})
-resize_dos_block w = resized_from (bx w) (index_of (dx w)) (segment_of_selector w.descriptors (dx w)) w
+resize_dos_block w = resize_result_of_segment (bx w) (index_of (dx w)) (segment_of_selector w.descriptors (dx w)) w
 
 -- ---- what each function returns
 
@@ -100,8 +100,8 @@ abbrev pub with_refusal : DosRefusal → World → World
 with_refusal (NoMemory most) w = with_ax 8 (with_bx most w)
 with_refusal WrongBlock w = with_ax 9 w
 
-unfoldable pub reported : Done (Unit {0}) → Served
-reported done = elim done.answer [
+unfoldable pub served_result : Done (Unit {0}) → Served
+served_result done = elim done.answer [
   | Ok v ↦ record { carry = Clear; world = done.world }
   | Err refusal ↦ record { carry = Set; world = with_refusal refusal done.world }
 ]
@@ -109,7 +109,7 @@ reported done = elim done.answer [
 -- the carry, and the world after the function of a number; other functions are refused, and change nothing
 unfoldable pub dos_service : ℕ → World → Served
 dos_service ax w =
-    if nat_eq ax 0x0100 then reported (allocate_dos_block w) else
-    if nat_eq ax 0x0101 then reported (free_dos_block w) else
-    if nat_eq ax 0x0102 then reported (resize_dos_block w) else
+    if nat_eq ax 0x0100 then served_result (allocate_dos_block w) else
+    if nat_eq ax 0x0101 then served_result (free_dos_block w) else
+    if nat_eq ax 0x0102 then served_result (resize_dos_block w) else
     record { carry = Set; world = w }

@@ -1,7 +1,7 @@
 // A block is given.
 ghost use Rattle.std.specs.Prelude.{◌≡◌, ◌≤◌, ◌+◌, true, OnErr};
 ghost use Rattle.client_world.specs.declared.memory_map.TheConstants.{ARENA_END};
-ghost use Rattle.dos_blocks.specs.Blocks.{CanAllocate, block_state, split, allocated};
+ghost use Rattle.dos_blocks.specs.Blocks.{CanAllocate, block_state, split, allocation_result};
 
 use crate::finding::{first_fit, largest};
 use crate::putting::{new_descriptor, put_block};
@@ -44,11 +44,11 @@ pub(crate) fn split(for_dpmi: bool, at: u16, n: u16, paras: u16) -> ArrayVec<Dos
 
 /// Allocates a block of `paras` paragraphs and returns its segment, or `NoMemory` with the largest free size where no entry has room; then
 /// nothing changes. With `for_dpmi` the block gets descriptors too, in the first free run. Source: MS-DOS function 48h, INT 31h function 0100h.
-#[tactic(auto, unfolding(crate::specs::Blocks::allocated))]
+#[tactic(auto, unfolding(crate::specs::Blocks::allocation_result))]
 pub fn dos_alloc(m: &mut Machine, paras: u16, for_dpmi: bool) -> Result<u16, DosRefusal>
     requires { for_dpmi ≡ true → CanAllocate m.old.world paras }
-    ensures answer { result ≡ (allocated m.old.world for_dpmi paras).answer }
-    ensures world { m.new.world ≡ (allocated m.old.world for_dpmi paras).world }
+    ensures answer { result ≡ (allocation_result m.old.world for_dpmi paras).answer }
+    ensures world { m.new.world ≡ (allocation_result m.old.world for_dpmi paras).world }
     ensures refused { OnErr result (m.new ≡ m.old) }
 {
     m.soundness();

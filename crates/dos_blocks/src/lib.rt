@@ -1,7 +1,8 @@
 //! Blocks of DOS memory: given, resized and freed, by DOS calls and by INT 31h functions 0100h to 0102h.
-//! It promises that each call returns what its definition says and changes the arena as it says, and for a block of function 0100h the descriptors;
-//! a call that is refused changes nothing, and a service that is refused AX and BX alone.
-//! It uses `guest_space` and the search for free descriptors of `service_rows`; the DOS calls use it.
+//! It promises that each call returns what its definition says and changes the arena as it says, and for a block of function 0100h the
+//! descriptors; a call that is refused changes nothing, and a service that is refused AX and BX alone. It uses `guest_space` and the
+//! search for free descriptors of `service_rows`; the DOS calls use it.
+//! The search and the order of the writes are free. Which block is taken is fixed by `specs/Blocks`: a client sees it.
 #![tactic(auto)]
 
 mod allocating;

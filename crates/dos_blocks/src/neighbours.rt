@@ -1,7 +1,7 @@
 // What is free beside a block.
 ghost use Rattle.std.specs.Prelude.{◌≡◌, ◌≤◌, ◌<◌, length};
 ghost use Rattle.client_world.specs.declared.memory_map.TheConstants.{ARENA_END};
-ghost use Rattle.dos_blocks.specs.Blocks.{entry_of_place, free_behind, room_behind, free_before, room_before};
+ghost use Rattle.dos_blocks.specs.Blocks.{entry_of_place, free_entries_after, room_after, free_before, room_before};
 
 use crate::finding::is_free;
 use client_world::{DosEntry, DosState};
@@ -25,9 +25,9 @@ fn entry_of_place(m: &Machine, place: u16) -> DosEntry
 }
 
 /// How many free entries follow a place, one at most.
-pub(crate) fn free_behind(m: &Machine, place: u16) -> u16
+pub(crate) fn free_entries_after(m: &Machine, place: u16) -> u16
     requires { place < length m.now.world.arena }
-    ensures { result ≡ free_behind m.now.world.arena place }
+    ensures { result ≡ free_entries_after m.now.world.arena place }
 {
     let _count = m.arena_len();
     if is_free(entry_of_place(m, place + 1).state) {
@@ -38,9 +38,9 @@ pub(crate) fn free_behind(m: &Machine, place: u16) -> u16
 }
 
 /// Their paragraphs, with the header's.
-pub(crate) fn room_behind(m: &Machine, place: u16) -> u16
+pub(crate) fn room_after(m: &Machine, place: u16) -> u16
     requires { place < length m.now.world.arena }
-    ensures { result ≡ room_behind m.now.world.arena place }
+    ensures { result ≡ room_after m.now.world.arena place }
 {
     let _count = m.arena_len();
     let entry = entry_of_place(m, place + 1);

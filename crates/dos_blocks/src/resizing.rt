@@ -1,10 +1,10 @@
 // A block is resized.
 ghost use Rattle.std.specs.Prelude.{◌≡◌, true, OnErr};
-ghost use Rattle.dos_blocks.specs.Blocks.{CanResize, resized};
+ghost use Rattle.dos_blocks.specs.Blocks.{CanResize, resize_result};
 
 use crate::allocating::split;
 use crate::finding::place_of_block;
-use crate::neighbours::{free_behind, room_behind};
+use crate::neighbours::{free_entries_after, room_after};
 use crate::putting::{first_descriptor, put_block};
 use client_world::{DosRefusal, DosRun};
 use guest_space::Machine;
@@ -12,11 +12,11 @@ use guest_space::Machine;
 /// Resizes the block at a segment to `paras` paragraphs in place, and with `for_dpmi` gives it the descriptors of that size. `WrongBlock` where
 /// no block of that kind starts there, `NoMemory` with the largest size where it can't have that many; then nothing changes.
 /// Source: MS-DOS function 4Ah, INT 31h function 0102h.
-#[tactic(auto, unfolding(crate::specs::Blocks::resized))]
+#[tactic(auto, unfolding(crate::specs::Blocks::resize_result))]
 pub fn dos_resize(m: &mut Machine, seg: u16, paras: u16, for_dpmi: bool) -> Result<(), DosRefusal>
     requires { for_dpmi ≡ true → CanResize m.old.world seg paras }
-    ensures answer { result ≡ (resized m.old.world for_dpmi seg paras).answer }
-    ensures world { m.new.world ≡ (resized m.old.world for_dpmi seg paras).world }
+    ensures answer { result ≡ (resize_result m.old.world for_dpmi seg paras).answer }
+    ensures world { m.new.world ≡ (resize_result m.old.world for_dpmi seg paras).world }
     ensures refused { OnErr result (m.new ≡ m.old) }
 {
     m.soundness();
@@ -24,7 +24,7 @@ pub fn dos_resize(m: &mut Machine, seg: u16, paras: u16, for_dpmi: bool) -> Resu
         return Err(DosRefusal::WrongBlock);
     };
     let entry = m.arena(place);
-    let possible = entry.paras + room_behind(m, place);
+    let possible = entry.paras + room_after(m, place);
     if paras > possible {
         return Err(DosRefusal::NoMemory { largest: possible });
     }
@@ -34,7 +34,7 @@ pub fn dos_resize(m: &mut Machine, seg: u16, paras: u16, for_dpmi: bool) -> Resu
         before: entry.paras,
         after: paras,
     };
-    let old = 1 + free_behind(m, place);
+    let old = 1 + free_entries_after(m, place);
     let entries = split(for_dpmi, entry.at, paras, possible);
     put_block(m, for_dpmi, place, old, &entries, run);
     Ok(())

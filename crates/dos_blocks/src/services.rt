@@ -3,12 +3,12 @@ ghost use Rattle.std.specs.Prelude.{◌≡◌, ◌≢◌, ◌+◌, None, OnErr, 
 ghost use Rattle.client_world.specs.declared.registers.Mode.TheVariants.{Protected as protected};
 ghost use Rattle.client_world.specs.declared.services.Carry.TheVariants.{Clear, Set};
 ghost use Rattle.dos_blocks.specs.Blocks.{has_room_to_grow};
-ghost use Rattle.dos_blocks.specs.Services.{allocate_dos_block, reported, dos_service, free_dos_block, resize_dos_block, with_bx, with_dx};
+ghost use Rattle.dos_blocks.specs.Services.{allocate_dos_block, served_result, dos_service, free_dos_block, resize_dos_block, with_bx, with_dx};
 
 use crate::allocating::dos_alloc;
 use crate::finding::{largest, place_of_block};
 use crate::freeing::dos_free;
-use crate::neighbours::room_behind;
+use crate::neighbours::room_after;
 use crate::resizing::dos_resize;
 use crate::selectors::{first_free, is_free_run, segment_of_selector};
 use client_world::selectors::{index_of, selector_of};
@@ -104,7 +104,7 @@ fn resize_dos_block(m: &mut Machine) -> Result<(), DosRefusal>
         return Err(DosRefusal::WrongBlock);
     };
     let entry = m.arena(place);
-    let possible = entry.paras + room_behind(m, place);
+    let possible = entry.paras + room_after(m, place);
     let run = DosRun {
         seg: entry.at + 1,
         first: index_of(sel),
@@ -118,9 +118,9 @@ fn resize_dos_block(m: &mut Machine) -> Result<(), DosRefusal>
 }
 
 // Reports what a service did: a refusal by its number in AX, and in BX the most paragraphs that there could be.
-#[tactic(auto, unfolding(crate::specs::Services::reported))]
+#[tactic(auto, unfolding(crate::specs::Services::served_result))]
 fn report(m: &mut Machine, done: Result<(), DosRefusal>) -> Carry
-    ensures answer { record { carry = result; world = m.new.world } ≡ reported (record { answer = done; world = m.old.world }) }
+    ensures answer { record { carry = result; world = m.new.world } ≡ served_result (record { answer = done; world = m.old.world }) }
     ensures bytes { m.new.bytes ≡ m.old.bytes }
     ensures clear { OnOk done (result ≡ Clear) }
 {

@@ -5,18 +5,18 @@ use Rattle.std.proofs.lemmas.Bool.{le-leb, lt-leb, leb-true}
 use borrow.Author.Tests.{ltb-true, ltb-false}
 use Rattle.std.proofs.lemmas.List.{take_all}
 use Rattle.client_world.specs.declared.limits.TheConstants.{CONSOLE_ROOM}
-use Rattle.dos_calls.specs.Answering.{added}
+use Rattle.dos_calls.specs.Answering.{console_with}
 use Rattle.dos_calls.specs.Calls.{has_room}
 
 -- what is left to add leads to the same end as all of it at the start
 pub record Adds (console bytes now rest : List ℕ) : Type 0 where
   pub room : has_room now rest ≡ has_room console bytes
-  pub items : added now rest ≡ added console bytes
+  pub items : console_with now rest ≡ console_with console bytes
 
 pub nothing_added : (console bytes rest : List ℕ) → rest ≡ bytes → Adds console bytes console rest
 nothing_added console bytes rest same = record {
   room = ap (λ (xs : List ℕ). has_room console xs) same;
-  items = ap (λ (xs : List ℕ). added console xs) same;
+  items = ap (λ (xs : List ℕ). console_with console xs) same;
 }
 
 -- in both cases it is as many as fit
@@ -27,7 +27,7 @@ front console bytes room true is =
     ap (λ (xs : List ℕ). console ++ xs) (sym (take_all (room - length console) bytes (omega arith)))
 front console bytes room false is = refl
 
-added_is : (console bytes : List ℕ) → added console bytes ≡ console ++ take (CONSOLE_ROOM - length console) bytes
+added_is : (console bytes : List ℕ) → console_with console bytes ≡ console ++ take (CONSOLE_ROOM - length console) bytes
 added_is console bytes = front console bytes CONSOLE_ROOM (has_room console bytes) refl
 
 next_front : (console rest : List ℕ) (byte room : ℕ) → length console < room →
@@ -63,7 +63,7 @@ byte_added console bytes now left rest new byte false is adds test result held =
 -- one for which there is none
 pub byte_refused : (console bytes now left rest new : List ℕ) (byte : ℕ) (room : Bool) → left ≡ byte ∷ rest → Adds console bytes now left →
     room ≡ nat_lt (length now) CONSOLE_ROOM → new ≡ (if room then now ++ byte ∷ [] else now) → room ≡ false →
-    (false ≡ has_room console bytes) × (new ≡ added console bytes)
+    (false ≡ has_room console bytes) × (new ≡ console_with console bytes)
 byte_refused console bytes now left rest new byte true is adds test result held = absurd (let other = held in cc)
 byte_refused console bytes now left rest new byte false is adds test result held =
     let here = rw is at adds in
@@ -76,7 +76,7 @@ byte_refused console bytes now left rest new byte false is adds test result held
 
 -- none is left
 pub all_added : (console bytes now left : List ℕ) → left ≡ [] → Adds console bytes now left → length now ≤ CONSOLE_ROOM →
-    (true ≡ has_room console bytes) × (now ≡ added console bytes)
+    (true ≡ has_room console bytes) × (now ≡ console_with console bytes)
 all_added console bytes now left is adds few =
     let here = rw is at adds in
     (sym (le-leb (length now + 0) CONSOLE_ROOM (omega arith)) ∙ here.room, sym (none_more now) ∙ here.items)
@@ -85,5 +85,5 @@ all_added console bytes now left is adds few =
     taken xs zero = append-nil xs
     taken xs (suc n) = append-nil xs
 
-    none_more : (xs : List ℕ) → added xs [] ≡ xs
+    none_more : (xs : List ℕ) → console_with xs [] ≡ xs
     none_more xs = added_is xs [] ∙ taken xs (CONSOLE_ROOM - length xs)

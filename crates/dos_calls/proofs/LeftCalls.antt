@@ -12,9 +12,9 @@ use Rattle.client_world.specs.declared.services.DosDone.TheVariants.{Ended}
 use Rattle.client_world.specs.Registers.{low_byte, high_byte, low_half}
 use Rattle.client_world.specs.World.{World}
 use Rattle.guest_space.specs.Arena.{with_entries}
-use Rattle.dos_blocks.specs.Blocks.{Done, first_fit, place_of_block, possible, allocated_at, allocated, resized_at, resized, freed_at, freed}
+use Rattle.dos_blocks.specs.Blocks.{Done, first_fit, place_of_block, greatest_size, allocation_result_at, allocation_result, resize_result_at, resize_result, free_result_at, free_result}
 use Rattle.dos_calls.specs.Calls as calls
-use Rattle.dos_calls.specs.Calls.{CallResult, CallState, served, ended, printed, poll_key, line_read, line_of, keys_read, memory_refused, memory_given, memory_changed, dos_call}
+use Rattle.dos_calls.specs.Calls.{CallResult, CallState, served_call, ended_call, print_result, poll_key, line_result, line_of, keys_result, with_memory_error, after_allocate_call, after_block_call, dos_call}
 use Rattle.dos_calls.specs.DosBytes.{byte_at}
 use Rattle.dos_calls.specs.Multiplex.{multiplex_call, with_entry}
 use Rattle.dos_calls.specs.Kept.{HasOtherDosMemory, HasSameStack}
@@ -51,7 +51,7 @@ leaves_if : (s : CallState) (c : Bool) (r q : CallResult) → Leaves s r → Lea
 leaves_if s true r q one other = one
 leaves_if s false r q one other = other
 
-leaves_served : (s : CallState) (w : World) (keys : List ℕ) → rest_of w ≡ rest_of s.world → Leaves s (served s w keys)
+leaves_served : (s : CallState) (w : World) (keys : List ℕ) → rest_of w ≡ rest_of s.world → Leaves s (served_call s w keys)
 leaves_served s w keys e = record {
   rest = e;
   console = extends_itself s.console;
@@ -59,7 +59,7 @@ leaves_served s w keys e = record {
   outside = λ exit other full. cc;
 }
 
-leaves_ended : (s : CallState) (exit : Exit) → Leaves s (ended s exit)
+leaves_ended : (s : CallState) (exit : Exit) → Leaves s (ended_call s exit)
 leaves_ended s exit = record {
   rest = refl;
   console = extends_itself s.console;
@@ -67,8 +67,8 @@ leaves_ended s exit = record {
   outside = λ same e full. (refl, refl);
 }
 
-leaves_printed : (s : CallState) (xs : List ℕ) (w : World) (keys : List ℕ) → rest_of w ≡ rest_of s.world → Leaves s (printed s xs w keys)
-unfolding printed
+leaves_printed : (s : CallState) (xs : List ℕ) (w : World) (keys : List ℕ) → rest_of w ≡ rest_of s.world → Leaves s (print_result s xs w keys)
+unfolding print_result
 leaves_printed s xs w keys e =
     leaves_if s (nat_le (length s.console + length xs) CONSOLE_ROOM) _ _
     (record { rest = e; console = (xs, refl); machine = λ exit other. cc; outside = λ exit other full. cc })
@@ -77,7 +77,7 @@ leaves_printed s xs w keys e =
 -- ---- characters
 
 by_key : (s : CallState) (rest : ℕ → List ℕ → CallResult) (keys : List ℕ) → ((key : ℕ) (left : List ℕ) → Leaves s (rest key left)) →
-    Leaves s (elim keys [ [] ↦ ended s NoKeys | key ∷ left ↦ rest key left ])
+    Leaves s (elim keys [ [] ↦ ended_call s NoKeys | key ∷ left ↦ rest key left ])
 by_key s rest [] leaves = leaves_ended s NoKeys
 by_key s rest (key ∷ keys) leaves = leaves key keys
 
@@ -107,7 +107,7 @@ leaves_write_text : (s : CallState) → Leaves s (calls.write_text s)
 unfolding calls.write_text
 leaves_write_text s = leaves_printed s _ s.world s.keys refl
 
-leaves_line : (s : CallState) (n : ℕ) (o : Option (List ℕ × List ℕ)) → Leaves s (line_read s n o)
+leaves_line : (s : CallState) (n : ℕ) (o : Option (List ℕ × List ℕ)) → Leaves s (line_result s n o)
 leaves_line s n None = leaves_ended s NoKeys
 leaves_line s n (Some line) = leaves_printed s _ _ line.1 refl
 
@@ -144,7 +144,7 @@ leaves_get_prefix s = leaves_served s _ s.keys refl
 leaves_read_file : (s : CallState) → Leaves s (calls.read_file s)
 unfolding calls.read_file
 leaves_read_file s =
-    leaves_if s (nat_eq (low_half s.world.regs.ebx) 0) (keys_read s (take (low_half s.world.regs.ecx) s.keys)) _
+    leaves_if s (nat_eq (low_half s.world.regs.ebx) 0) (keys_result s (take (low_half s.world.regs.ecx) s.keys)) _
     (leaves_served s _ _ refl) (leaves_served s _ s.keys refl)
 
 leaves_write_file : (s : CallState) → Leaves s (calls.write_file s)
@@ -166,52 +166,52 @@ rest_if_done : (w : World) (c : Bool) (one other : Done (Unit {0})) → rest_of 
 rest_if_done w true one other d e = d
 rest_if_done w false one other d e = e
 
-rest_allocated : (w : World) (n : ℕ) (o : Option ℕ) → rest_of (allocated_at w false n o).world ≡ rest_of w
+rest_allocated : (w : World) (n : ℕ) (o : Option ℕ) → rest_of (allocation_result_at w false n o).world ≡ rest_of w
 rest_allocated w n None = refl
 rest_allocated w n (Some place) = rest_entries w place 1 _
 
-rest_resized : (w : World) (segment n : ℕ) (o : Option ℕ) → rest_of (resized_at w false segment n o).world ≡ rest_of w
+rest_resized : (w : World) (segment n : ℕ) (o : Option ℕ) → rest_of (resize_result_at w false segment n o).world ≡ rest_of w
 rest_resized w segment n None = refl
-rest_resized w segment n (Some place) = rest_if_done w (nat_le n (possible w.arena place)) _ _ (rest_entries w place _ _) refl
+rest_resized w segment n (Some place) = rest_if_done w (nat_le n (greatest_size w.arena place)) _ _ (rest_entries w place _ _) refl
 
-rest_freed : (w : World) (segment : ℕ) (o : Option ℕ) → rest_of (freed_at w false segment o).world ≡ rest_of w
+rest_freed : (w : World) (segment : ℕ) (o : Option ℕ) → rest_of (free_result_at w false segment o).world ≡ rest_of w
 rest_freed w segment None = refl
 rest_freed w segment (Some place) = rest_entries w _ _ _
 
-rest_refused : (refusal : DosRefusal) (w : World) → rest_of (memory_refused refusal w) ≡ rest_of w
+rest_refused : (refusal : DosRefusal) (w : World) → rest_of (with_memory_error refusal w) ≡ rest_of w
 rest_refused (NoMemory largest) w = refl
 rest_refused WrongBlock w = refl
 
-rest_given : (answer : Result ℕ DosRefusal) (w : World) → rest_of (memory_given (record { answer = answer; world = w })) ≡ rest_of w
+rest_given : (answer : Result ℕ DosRefusal) (w : World) → rest_of (after_allocate_call (record { answer = answer; world = w })) ≡ rest_of w
 rest_given (Ok segment) w = refl
 rest_given (Err refusal) w = rest_refused refusal w
 
-rest_changed : (answer : Result (Unit {0}) DosRefusal) (w : World) → rest_of (memory_changed (record { answer = answer; world = w })) ≡ rest_of w
+rest_changed : (answer : Result (Unit {0}) DosRefusal) (w : World) → rest_of (after_block_call (record { answer = answer; world = w })) ≡ rest_of w
 rest_changed (Ok done) w = refl
 rest_changed (Err refusal) w = rest_refused refusal w
 
 leaves_allocate : (s : CallState) → Leaves s (calls.allocate s)
-unfolding calls.allocate allocated
+unfolding calls.allocate allocation_result
 leaves_allocate s =
     let n = low_half s.world.regs.ebx in
     let o = first_fit s.world.arena n 0 in
-    let d = allocated_at s.world false n o in
-    leaves_served s (memory_given d) s.keys (rest_given d.answer d.world ∙ rest_allocated s.world n o)
+    let d = allocation_result_at s.world false n o in
+    leaves_served s (after_allocate_call d) s.keys (rest_given d.answer d.world ∙ rest_allocated s.world n o)
 
 leaves_free : (s : CallState) → Leaves s (calls.free s)
-unfolding calls.free freed
+unfolding calls.free free_result
 leaves_free s =
     let o = place_of_block false s.world.arena s.world.regs.es 0 in
-    let d = freed_at s.world false s.world.regs.es o in
-    leaves_served s (memory_changed d) s.keys (rest_changed d.answer d.world ∙ rest_freed s.world s.world.regs.es o)
+    let d = free_result_at s.world false s.world.regs.es o in
+    leaves_served s (after_block_call d) s.keys (rest_changed d.answer d.world ∙ rest_freed s.world s.world.regs.es o)
 
 leaves_resize : (s : CallState) → Leaves s (calls.resize s)
-unfolding calls.resize resized
+unfolding calls.resize resize_result
 leaves_resize s =
     let n = low_half s.world.regs.ebx in
     let o = place_of_block false s.world.arena s.world.regs.es 0 in
-    let d = resized_at s.world false s.world.regs.es n o in
-    leaves_served s (memory_changed d) s.keys (rest_changed d.answer d.world ∙ rest_resized s.world s.world.regs.es n o)
+    let d = resize_result_at s.world false s.world.regs.es n o in
+    leaves_served s (after_block_call d) s.keys (rest_changed d.answer d.world ∙ rest_resized s.world s.world.regs.es n o)
 
 -- ---- all of them
 
@@ -219,8 +219,8 @@ leaves_terminate : (s : CallState) → Leaves s (calls.terminate s)
 unfolding calls.terminate
 leaves_terminate s = leaves_ended s _
 
-leaves_unknown : (s : CallState) → Leaves s (calls.unknown s)
-unfolding calls.unknown
+leaves_unknown : (s : CallState) → Leaves s (calls.unknown_function s)
+unfolding calls.unknown_function
 leaves_unknown s = leaves_served s _ s.keys refl
 
 pub call_leaves : (s : CallState) → Leaves s (dos_call s)

@@ -11,13 +11,13 @@ use Rattle.client_world.specs.Soundness.{IsSound}
 use Rattle.client_world.specs.World.{World}
 use Rattle.client_world.proofs.SoundWrites.{IsSound-dos}
 use Rattle.service_rows.specs.Rows.{with_ax}
-use Rattle.dos_blocks.specs.Blocks.{allocated, freed, resized}
+use Rattle.dos_blocks.specs.Blocks.{allocation_result, free_result, resize_result}
 use Rattle.dos_blocks.specs.Services.{with_bx}
 use Rattle.dos_blocks.proofs.SoundBlocks.{sound_allocated, sound_freed, sound_resized}
 use Rattle.guest_ram.specs.Bytes.{AreBytes, word_of}
 use Rattle.host_memory.specs.Vectors.{word_bytes}
 use Rattle.dos_calls.specs.Calls as calls
-use Rattle.dos_calls.specs.Calls.{CallResult, CallState, served, ended, printed, with_al, with_error, without_carry, poll_key, with_line, line_read, line_of, keys_read, bad_handle, memory_refused, memory_given, memory_changed, no_memory, wrong_block, bad_function, dos_call}
+use Rattle.dos_calls.specs.Calls.{CallResult, CallState, served_call, ended_call, print_result, with_al, with_error, without_carry, poll_key, with_line, line_result, line_of, keys_result, bad_handle, with_memory_error, after_allocate_call, after_block_call, no_memory, wrong_block, bad_function, dos_call}
 use Rattle.dos_calls.specs.DosBytes.{byte_at, address_at, with_dos_bytes_at}
 use Rattle.dos_calls.specs.Multiplex.{with_entry, multiplex_call}
 use Rattle.dos_calls.proofs.ByteLists.{no_bytes, more_bytes, bytes_behind, bytes_append, bytes_take, bytes_drop, length-taken, bytes_word, bytes_read, bytes_text, LineOfBytes, bytes_line}
@@ -41,14 +41,14 @@ keeps_if : (s : CallState) (c : Bool) (r q : CallResult) → Keeps s r → Keeps
 keeps_if s true r q one other = one
 keeps_if s false r q one other = other
 
-keeps_served : (s : CallState) (w : World) (keys : List ℕ) → IsSound w → AreBytes keys → Keeps s (served s w keys)
+keeps_served : (s : CallState) (w : World) (keys : List ℕ) → IsSound w → AreBytes keys → Keeps s (served_call s w keys)
 keeps_served s w keys sound bytes = record { world = sound; keys = bytes; console = λ console. console }
 
-keeps_ended : (s : CallState) (exit : Exit) → Seen s → Keeps s (ended s exit)
+keeps_ended : (s : CallState) (exit : Exit) → Seen s → Keeps s (ended_call s exit)
 keeps_ended s exit seen = record { world = seen.world; keys = seen.keys; console = λ console. console }
 
-keeps_printed : (s : CallState) (xs : List ℕ) (w : World) (keys : List ℕ) → Seen s → AreBytes xs → IsSound w → AreBytes keys → Keeps s (printed s xs w keys)
-unfolding printed
+keeps_printed : (s : CallState) (xs : List ℕ) (w : World) (keys : List ℕ) → Seen s → AreBytes xs → IsSound w → AreBytes keys → Keeps s (print_result s xs w keys)
+unfolding print_result
 keeps_printed s xs w keys seen bytes sound left =
     keeps_if s (nat_le (length s.console + length xs) CONSOLE_ROOM) _ _
     (record { world = sound; keys = left; console = λ console. bytes_append s.console xs console bytes })
@@ -63,7 +63,7 @@ keeps_printed s xs w keys seen bytes sound left =
 
 by_key : (s : CallState) (rest : ℕ → List ℕ → CallResult) (keys : List ℕ) → Seen s → AreBytes keys →
     ((key : ℕ) (left : List ℕ) → key < 0x100 → AreBytes left → Keeps s (rest key left)) →
-    Keeps s (elim keys [ [] ↦ ended s NoKeys | key ∷ left ↦ rest key left ])
+    Keeps s (elim keys [ [] ↦ ended_call s NoKeys | key ∷ left ↦ rest key left ])
 by_key s rest [] seen bytes keeps = keeps_ended s _ seen
 by_key s rest (key ∷ keys) seen bytes keeps = keeps key keys (bytes 0) (bytes_behind key keys bytes)
 
@@ -111,7 +111,7 @@ sound_line w line s bytes short = IsSound-dos w _ s
     (bytes_append line (0x0D ∷ []) bytes (one_byte 0x0D (omega arith))))
     (one_byte (length line) short))
 
-keeps_line : (s : CallState) (n : ℕ) (o : Option (List ℕ × List ℕ)) → n < 0x100 → Seen s → LineOfBytes o → Keeps s (line_read s n o)
+keeps_line : (s : CallState) (n : ℕ) (o : Option (List ℕ × List ℕ)) → n < 0x100 → Seen s → LineOfBytes o → Keeps s (line_result s n o)
 keeps_line s n None small seen line = keeps_ended s _ seen
 keeps_line s n (Some whole) small seen line =
     let taken = take (n - 1) whole.0 in
@@ -124,7 +124,7 @@ keeps_read_line : (s : CallState) → Seen s → Keeps s (calls.read_line s)
 unfolding calls.read_line
 keeps_read_line s seen =
     let n = byte_at s.world.dos s.world.regs.ds (low_half s.world.regs.edx) in
-    keeps_if s (nat_eq n 0) (served s s.world s.keys) (line_read s n (line_of s.keys))
+    keeps_if s (nat_eq n 0) (served_call s s.world s.keys) (line_result s n (line_of s.keys))
     (keeps_served s s.world s.keys seen.world seen.keys)
     (keeps_line s n (line_of s.keys) (seen.world.megabyte.bytes (address_at s.world.regs.ds (low_half s.world.regs.edx))) seen
     (bytes_line s.keys seen.keys))
@@ -169,10 +169,10 @@ keeps_get_prefix s seen = keeps_served s (with_bx PSP_SEGMENT s.world) s.keys (s
 
 -- ---- files
 
-keeps_error : (s : CallState) (code : ℕ) → Seen s → Keeps s (served s (with_error code s.world) s.keys)
+keeps_error : (s : CallState) (code : ℕ) → Seen s → Keeps s (served_call s (with_error code s.world) s.keys)
 keeps_error s code seen = keeps_served s (with_error code s.world) s.keys (sound_error s.world code seen.world) seen.keys
 
-keeps_keys_read : (s : CallState) (keys : List ℕ) → Seen s → AreBytes keys → Keeps s (keys_read s keys)
+keeps_keys_read : (s : CallState) (keys : List ℕ) → Seen s → AreBytes keys → Keeps s (keys_result s keys)
 keeps_keys_read s keys seen bytes =
     let w = s.world in
     let put = record w { dos = with_dos_bytes_at w.dos w.regs.ds (low_half w.regs.edx) keys } in
@@ -200,15 +200,15 @@ keeps_write_file s seen =
 
 -- ---- memory
 
-sound_refused : (refusal : DosRefusal) (w : World) → IsSound w → IsSound (memory_refused refusal w)
+sound_refused : (refusal : DosRefusal) (w : World) → IsSound w → IsSound (with_memory_error refusal w)
 sound_refused (NoMemory largest) w s = sound_error (with_bx largest w) no_memory (sound_bx w largest s)
 sound_refused WrongBlock w s = sound_error w wrong_block s
 
-sound_given : (answer : Result ℕ DosRefusal) (w : World) → IsSound w → IsSound (memory_given (record { answer = answer; world = w }))
+sound_given : (answer : Result ℕ DosRefusal) (w : World) → IsSound w → IsSound (after_allocate_call (record { answer = answer; world = w }))
 sound_given (Ok segment) w s = sound_carry (with_ax segment w) false (sound_ax w segment s)
 sound_given (Err refusal) w s = sound_refused refusal w s
 
-sound_changed : (answer : Result (Unit {0}) DosRefusal) (w : World) → IsSound w → IsSound (memory_changed (record { answer = answer; world = w }))
+sound_changed : (answer : Result (Unit {0}) DosRefusal) (w : World) → IsSound w → IsSound (after_block_call (record { answer = answer; world = w }))
 sound_changed (Ok done) w s = sound_carry w false s
 sound_changed (Err refusal) w s = sound_refused refusal w s
 
@@ -216,23 +216,23 @@ keeps_allocate : (s : CallState) → Seen s → Keeps s (calls.allocate s)
 unfolding calls.allocate
 keeps_allocate s seen =
     let n = low_half s.world.regs.ebx in
-    let d = allocated s.world false n in
-    keeps_served s (memory_given d) s.keys (sound_given d.answer d.world (sound_allocated s.world n seen.world)) seen.keys
+    let d = allocation_result s.world false n in
+    keeps_served s (after_allocate_call d) s.keys (sound_given d.answer d.world (sound_allocated s.world n seen.world)) seen.keys
 
 keeps_free : (s : CallState) → Seen s → Keeps s (calls.free s)
 unfolding calls.free
 keeps_free s seen =
     let segment = s.world.regs.es in
-    let d = freed s.world false segment in
-    keeps_served s (memory_changed d) s.keys (sound_changed d.answer d.world (sound_freed s.world segment seen.world)) seen.keys
+    let d = free_result s.world false segment in
+    keeps_served s (after_block_call d) s.keys (sound_changed d.answer d.world (sound_freed s.world segment seen.world)) seen.keys
 
 keeps_resize : (s : CallState) → Seen s → Keeps s (calls.resize s)
 unfolding calls.resize
 keeps_resize s seen =
     let segment = s.world.regs.es in
     let n = low_half s.world.regs.ebx in
-    let d = resized s.world false segment n in
-    keeps_served s (memory_changed d) s.keys (sound_changed d.answer d.world (sound_resized s.world segment n seen.world)) seen.keys
+    let d = resize_result s.world false segment n in
+    keeps_served s (after_block_call d) s.keys (sound_changed d.answer d.world (sound_resized s.world segment n seen.world)) seen.keys
 
 -- ---- all of them
 
@@ -240,8 +240,8 @@ keeps_terminate : (s : CallState) → Seen s → Keeps s (calls.terminate s)
 unfolding calls.terminate
 keeps_terminate s seen = keeps_ended s _ seen
 
-keeps_unknown : (s : CallState) → Seen s → Keeps s (calls.unknown s)
-unfolding calls.unknown
+keeps_unknown : (s : CallState) → Seen s → Keeps s (calls.unknown_function s)
+unfolding calls.unknown_function
 keeps_unknown s seen = keeps_error s bad_function seen
 
 pub call_keeps : (s : CallState) → Seen s → Keeps s (dos_call s)

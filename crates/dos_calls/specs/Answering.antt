@@ -8,8 +8,8 @@ use Rattle.client_world.specs.World.{World}
 use Rattle.dos_calls.specs.Calls.{CallResult, CallState, has_room}
 
 -- the console with the bytes after it, or with as many as fit
-abbrev pub added : List ℕ → List ℕ → List ℕ
-added console bytes =
+abbrev pub console_with : List ℕ → List ℕ → List ℕ
+console_with console bytes =
     if has_room console bytes then console ++ bytes else console ++ take (CONSOLE_ROOM - length console) bytes
 
 -- whether a key is left

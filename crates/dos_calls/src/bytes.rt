@@ -3,7 +3,7 @@ ghost use Rattle.std.specs.Prelude.{◌≡◌, ◌≤◌, ◌<◌, ◌+◌, leng
 ghost use Rattle.client_world.specs.declared.memory_map.TheConstants.{DOS_SIZE};
 ghost use Rattle.guest_space.specs.Dos.{with_dos_byte};
 ghost use Rattle.dos_calls.specs.DosBytes.{address_at, byte_at, with_dos_bytes_at, bytes_from, text_from};
-ghost use Rattle.dos_calls.specs.Answering.{added};
+ghost use Rattle.dos_calls.specs.Answering.{console_with};
 ghost use Rattle.dos_calls.specs.Calls.{has_room};
 
 use crate::console::Console;
@@ -62,7 +62,7 @@ pub(crate) fn print_bytes(
     count: u16,
 ) -> bool
     ensures room { result ≡ has_room console.old (bytes_from m.now.world.dos segment offset count) }
-    ensures bytes { console.new ≡ added console.old (bytes_from m.now.world.dos segment offset count) }
+    ensures bytes { console.new ≡ console_with console.old (bytes_from m.now.world.dos segment offset count) }
 {
     for n in 0..count as u32 {
         if !console.add(byte_at(m, segment, offset as u32 + n)) {
@@ -76,7 +76,7 @@ pub(crate) fn print_bytes(
 /// Adds the text at segment:offset up to its `$` to the console, as many bytes as fit, and returns whether all did.
 pub(crate) fn print_text(m: &Machine, console: &mut Console, segment: u16, offset: u16) -> bool
     ensures room { result ≡ has_room console.old (text_from m.now.world.dos segment offset SEGMENT_SIZE) }
-    ensures bytes { console.new ≡ added console.old (text_from m.now.world.dos segment offset SEGMENT_SIZE) }
+    ensures bytes { console.new ≡ console_with console.old (text_from m.now.world.dos segment offset SEGMENT_SIZE) }
 {
     for n in 0..SEGMENT_SIZE {
         let byte = byte_at(m, segment, offset as u32 + n);

@@ -11,7 +11,7 @@ use client_world::{DosDone, Exit, low_byte, low_half};
 use guest_space::Machine;
 
 /// Function 01h: a key into AL, and to the console.
-#[tactic(auto, unfolding(crate::specs::Calls::read_echo, crate::specs::Calls::printed))]
+#[tactic(auto, unfolding(crate::specs::Calls::read_echo, crate::specs::Calls::print_result))]
 pub(crate) fn read_echo(m: &mut Machine, keys: &mut Keys, console: &mut Console) -> DosDone
     ensures call { read_echo (record { world = m.old.world; keys = keys.old; console = console.old })
         ≡ record { done = result; world = m.new.world; keys = keys.new; console = console.new } }
@@ -28,7 +28,7 @@ pub(crate) fn read_echo(m: &mut Machine, keys: &mut Keys, console: &mut Console)
 }
 
 /// Function 02h: DL to the console.
-#[tactic(auto, unfolding(crate::specs::Calls::write_character, crate::specs::Calls::printed))]
+#[tactic(auto, unfolding(crate::specs::Calls::write_character, crate::specs::Calls::print_result))]
 pub(crate) fn write_character(m: &Machine, console: &mut Console) -> DosDone
     ensures { (keys : List ℕ) → write_character (record { world = m.now.world; keys = keys; console = console.old })
         ≡ record { done = result; world = m.now.world; keys = keys; console = console.new } }
@@ -88,7 +88,7 @@ pub(crate) fn read_key(m: &mut Machine, keys: &mut Keys) -> DosDone
 }
 
 /// Function 09h: the text at DS:DX up to its `$`.
-#[tactic(auto, unfolding(crate::specs::Calls::write_text, crate::specs::Calls::printed))]
+#[tactic(auto, unfolding(crate::specs::Calls::write_text, crate::specs::Calls::print_result))]
 pub(crate) fn write_text(m: &Machine, console: &mut Console) -> DosDone
     ensures { (keys : List ℕ) → write_text (record { world = m.now.world; keys = keys; console = console.old })
         ≡ record { done = result; world = m.now.world; keys = keys; console = console.new } }

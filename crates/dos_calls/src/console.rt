@@ -1,7 +1,7 @@
 // What the client wrote.
 ghost use Rattle.std.specs.Prelude.{◌≡◌, ◌≤◌, ℕ, List, [], ◌∷◌, ◌++◌, length, nat_lt, if◌then◌else◌, IfOk, vec_capacity};
 ghost use Rattle.client_world.specs.declared.limits.TheConstants.{CONSOLE_ROOM};
-ghost use Rattle.dos_calls.specs.Answering.{added};
+ghost use Rattle.dos_calls.specs.Answering.{console_with};
 ghost use Rattle.dos_calls.specs.Calls.{has_room};
 
 use client_world::limits::CONSOLE_ROOM;
@@ -61,7 +61,7 @@ impl Console {
     /// Adds bytes, as many as fit, and returns whether all did.
     pub(crate) fn print(&mut self, bytes: &[u8]) -> bool
         ensures room { result ≡ has_room self.old bytes.now }
-        ensures bytes { self.new ≡ added self.old bytes.now }
+        ensures bytes { self.new ≡ console_with self.old bytes.now }
     {
         for byte in bytes {
             if !self.add(*byte) {

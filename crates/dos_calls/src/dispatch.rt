@@ -11,7 +11,7 @@ use crate::files::{read_file, write_file};
 use crate::keys::Keys;
 use crate::line::read_line;
 use crate::memory::{allocate, free, resize};
-use crate::vectors::{get_prefix, get_vector, set_vector, terminate, unknown, version};
+use crate::vectors::{get_prefix, get_vector, set_vector, terminate, unknown_function, version};
 use client_world::{DosDone, high_byte};
 use guest_space::Machine;
 
@@ -41,7 +41,7 @@ pub fn int21(m: &mut Machine, keys: &mut Keys, console: &mut Console) -> DosDone
         0x4A => resize(m),
         0x4C => return terminate(m),
         0x62 => get_prefix(m),
-        _ => unknown(m),
+        _ => unknown_function(m),
     }
     DosDone::Served
 }

@@ -1,7 +1,7 @@
 // The calls on files: 0 is the keys, 1 and 2 are the console.
 ghost use Rattle.std.specs.Prelude.{◌≡◌, List, ℕ, take};
 ghost use Rattle.client_world.specs.Registers.{low_half};
-ghost use Rattle.dos_calls.specs.Calls.{read_file, write_file, keys_read};
+ghost use Rattle.dos_calls.specs.Calls.{read_file, write_file, keys_result};
 ghost use Rattle.dos_calls.specs.Answering.{IfEnded};
 
 use crate::bytes::{print_bytes, put_bytes};
@@ -18,7 +18,7 @@ const BAD_HANDLE: u16 = 6;
 // Moves the first CX keys, or all that are left, to DS:DX, and returns their number.
 fn read_keys(m: &mut Machine, keys: &mut Keys)
     ensures { (console : List ℕ) →
-        keys_read (record { world = m.old.world; keys = keys.old; console = console }) (take (low_half m.old.world.regs.ecx) keys.old)
+        keys_result (record { world = m.old.world; keys = keys.old; console = console }) (take (low_half m.old.world.regs.ecx) keys.old)
         ≡ record { done = DosDone.Served; world = m.new.world; keys = keys.new; console = console } }
 {
     let r = m.regs();
@@ -44,7 +44,7 @@ pub(crate) fn read_file(m: &mut Machine, keys: &mut Keys)
 }
 
 /// Function 40h: CX bytes from DS:DX on go to file 1 or 2, and AX is their number.
-#[tactic(auto, unfolding(crate::specs::Calls::write_file, crate::specs::Calls::printed))]
+#[tactic(auto, unfolding(crate::specs::Calls::write_file, crate::specs::Calls::print_result))]
 pub(crate) fn write_file(m: &mut Machine, console: &mut Console) -> DosDone
     ensures call { (keys : List ℕ) → write_file (record { world = m.old.world; keys = keys; console = console.old })
         ≡ record { done = result; world = m.new.world; keys = keys; console = console.new } }

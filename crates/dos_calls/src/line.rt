@@ -1,7 +1,7 @@
 // The call that takes a line of keys.
 ghost use Rattle.std.specs.Prelude.{◌≡◌, ◌<◌, ◌+◌, ◌-◌, [], ◌∷◌, ◌++◌, Some, take, drop, length};
-ghost use Rattle.dos_calls.specs.Calls.{has_room, with_line, line_of, line_read, read_line};
-ghost use Rattle.dos_calls.specs.Answering.{added, IfEnded};
+ghost use Rattle.dos_calls.specs.Calls.{has_room, with_line, line_of, line_result, read_line};
+ghost use Rattle.dos_calls.specs.Answering.{console_with, IfEnded};
 
 use crate::bytes::{byte_at, put_bytes};
 use crate::console::Console;
@@ -15,7 +15,7 @@ const RETURN: u8 = 0x0D;
 // Adds a line and its return to the console, as many bytes as fit, and returns whether all did.
 fn print_line(console: &mut Console, line: &[u8]) -> bool
     ensures room { result ≡ has_room console.old (line.now ++ 0x0D ∷ []) }
-    ensures bytes { console.new ≡ added console.old (line.now ++ 0x0D ∷ []) }
+    ensures bytes { console.new ≡ console_with console.old (line.now ++ 0x0D ∷ []) }
 {
     console.print(line) && console.print(&[RETURN])
 }
@@ -45,7 +45,7 @@ fn take_line(
     requires some { 0 < room }
     requires line { line_of keys.old ≡ Some (take count keys.old, drop (count + 1) keys.old) }
     requires there { count < length keys.old }
-    ensures call { line_read (record { world = m.old.world; keys = keys.old; console = console.old }) room (line_of keys.old)
+    ensures call { line_result (record { world = m.old.world; keys = keys.old; console = console.old }) room (line_of keys.old)
         ≡ record { done = result; world = m.new.world; keys = keys.new; console = console.new } }
     ensures ended { IfEnded result (m.new ≡ m.old) }
 {

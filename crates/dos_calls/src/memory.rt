@@ -1,6 +1,6 @@
 // The calls on blocks of DOS memory.
 ghost use Rattle.std.specs.Prelude.{◌≡◌};
-ghost use Rattle.dos_calls.specs.Calls.{allocate, free, memory_refused, resize};
+ghost use Rattle.dos_calls.specs.Calls.{allocate, free, with_memory_error, resize};
 ghost use Rattle.dos_calls.specs.Answering.{Serves};
 
 use crate::registers::{refuse, set_bx, set_carry};
@@ -16,7 +16,7 @@ const WRONG_BLOCK: u16 = 9;
 
 // Answers a refusal: where there is no room BX is the most paragraphs that there could be.
 fn refuse_memory(m: &mut Machine, refusal: DosRefusal)
-    ensures { m.new.world ≡ memory_refused refusal m.old.world }
+    ensures { m.new.world ≡ with_memory_error refusal m.old.world }
 {
     match refusal {
         DosRefusal::NoMemory { largest } => {

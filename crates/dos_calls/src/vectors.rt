@@ -1,6 +1,6 @@
 // The calls on vectors, the version, the prefix, and the end of the client.
 ghost use Rattle.std.specs.Prelude.{◌≡◌, List, ℕ};
-ghost use Rattle.dos_calls.specs.Calls.{set_vector, dos_version, get_vector, get_prefix, terminate, unknown};
+ghost use Rattle.dos_calls.specs.Calls.{set_vector, dos_version, get_vector, get_prefix, terminate, unknown_function};
 ghost use Rattle.dos_calls.specs.Answering.{Serves};
 
 use crate::bytes::put_bytes;
@@ -70,9 +70,9 @@ pub(crate) fn terminate(m: &Machine) -> DosDone
 }
 
 /// Every other function is refused.
-#[tactic(auto, unfolding(crate::specs::Calls::unknown))]
-pub(crate) fn unknown(m: &mut Machine)
-    ensures { Serves unknown m.old.world m.new.world }
+#[tactic(auto, unfolding(crate::specs::Calls::unknown_function))]
+pub(crate) fn unknown_function(m: &mut Machine)
+    ensures { Serves unknown_function m.old.world m.new.world }
 {
     refuse(m, BAD_FUNCTION);
 }

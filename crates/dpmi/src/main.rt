@@ -1,4 +1,5 @@
 //! The program: the system's words, files and output, and `dpmi_cli`, which does all the rest.
+//! `main` has no contract of its own: what is to be promised belongs into `dpmi_cli`. It uses the shelf and the sink of `dpmi_io`.
 #![tactic(auto)]
 
 use dpmi_cli::{dpmi, status};

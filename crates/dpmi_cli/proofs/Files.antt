@@ -13,11 +13,11 @@ use Rattle.guest_ram.specs.Bytes.{AreBytes}
 use Rattle.client_maker.specs.Made.{made}
 use Rattle.host_memory.specs.Blank.{blank_world}
 use Rattle.mz_loader.specs.Refusal.{refusal}
-use Rattle.host_run.specs.Start.{started_host, blank, IsBlank}
+use Rattle.host_run.specs.Start.{host_at_start, blank, IsBlank}
 use Rattle.dpmi_words.specs.Meaning.{Pressed, Stored, RunMeaning, Meaning, Runs, meaning}
 use Rattle.dpmi_io.specs.Content.{Files, Lacks, Starts as Opens}
 use Rattle.dpmi_cli.specs.declared.prepare.Reason.TheVariants.{Words, FileTooLong, Load}
-use Rattle.dpmi_cli.specs.Answer.{Verdict, Refuses, StartsMade, answer_to, file_verdict, keys_from, keys_verdict, limited, made_verdict, run_verdict, verdict_of}
+use Rattle.dpmi_cli.specs.Answer.{Verdict, Refuses, StartsMade, answer_to, file_verdict, keys_from, keys_verdict, bytes_within, made_verdict, run_verdict, verdict_of}
 use Rattle.dpmi_cli.specs.Causes.{HasVerdict, IsAbsent, NamedFailed, OfFiles}
 use Rattle.dpmi_cli.specs.Load.{FailsAt, HasFile, HasFront, HasKeysVerdict, HasPressed, HasRunVerdict, IsReady, KeysFail, LacksFile, LacksKeys, RunFails}
 use Rattle.dpmi_cli.specs.Words.{key_file_names, names_in}
@@ -44,11 +44,11 @@ is_blank pages keys keep w is =
     subst (λ (v : HostWorld). IsBlank v) (sym is) at
 
 pub is_started : (pages : ℕ) (keys : List ℕ) (keep : ℕ) (file : List ℕ) (before w : HostWorld) → before ≡ blank pages keys keep →
-    w ≡ started_host before.machine.budget before.keys before.keep file → w ≡ started_host pages keys keep file
+    w ≡ host_at_start before.machine.budget before.keys before.keep file → w ≡ host_at_start pages keys keep file
 is_started pages keys keep file before w new is =
-    is ∙ ap (λ (v : HostWorld). started_host v.machine.budget v.keys v.keep file) new ∙ ap (λ n. started_host n keys keep file) (blank_budget pages)
+    is ∙ ap (λ (v : HostWorld). host_at_start v.machine.budget v.keys v.keep file) new ∙ ap (λ n. host_at_start n keys keep file) (blank_budget pages)
 
-pub is_ready : (pages : ℕ) (keys : List ℕ) (keep : ℕ) (file : List ℕ) (w : HostWorld) → w ≡ started_host pages keys keep file →
+pub is_ready : (pages : ℕ) (keys : List ℕ) (keep : ℕ) (file : List ℕ) (w : HostWorld) → w ≡ host_at_start pages keys keep file →
     IsSound w.machine → AreBytes keys → IsReady w
 is_ready pages keys keep file w is sound bytes = record {
   no_exit = ap (λ (v : HostWorld). v.exit) is;
@@ -60,14 +60,14 @@ is_ready pages keys keep file w is sound bytes = record {
 
 -- the limits
 
-pub limited_short : (most : ℕ) (bytes : List ℕ) → length bytes ≤ most → limited most bytes ≡ Some bytes
+pub limited_short : (most : ℕ) (bytes : List ℕ) → length bytes ≤ most → bytes_within most bytes ≡ Some bytes
 limited_short most bytes short = rw (le-ltb most (length bytes) short) refl
 
-pub limited_long : (most : ℕ) (bytes : List ℕ) → most < length bytes → limited most bytes ≡ None
+pub limited_long : (most : ℕ) (bytes : List ℕ) → most < length bytes → bytes_within most bytes ≡ None
 limited_long most bytes long = rw (lt-ltb most (length bytes) long) refl
 
 -- the first bytes of a file, one more than the limit, are all of it or too many
-front_short : (most n : ℕ) (buf file : List ℕ) → n ≤ length buf → n ≤ most → take n buf ≡ take (most + 1) file → limited most file ≡ Some (take n buf)
+front_short : (most n : ℕ) (buf file : List ℕ) → n ≤ length buf → n ≤ most → take n buf ≡ take (most + 1) file → bytes_within most file ≡ Some (take n buf)
 front_short most n buf file fits few front = elim (leb_tells (length file) most) [
   | inl short ↦ limited_short most file short.1 ∙ ap Some (sym (front ∙ take_all (most + 1) file (omega (arith, short.1))))
   | inr long ↦
@@ -76,7 +76,7 @@ front_short most n buf file fits few front = elim (leb_tells (length file) most)
       absurd (omega (arith, size, own, length-take-le n buf fits))
 ]
 
-front_long : (most n : ℕ) (buf file : List ℕ) → n ≤ length buf → most < n → take n buf ≡ take (most + 1) file → limited most file ≡ None
+front_long : (most n : ℕ) (buf file : List ℕ) → n ≤ length buf → most < n → take n buf ≡ take (most + 1) file → bytes_within most file ≡ None
 front_long most n buf file fits many front = elim (leb_tells (length file) most) [
   | inl short ↦
       let all : take n buf ≡ file = front ∙ take_all (most + 1) file (omega (arith, short.1)) in
@@ -86,7 +86,7 @@ front_long most n buf file fits many front = elim (leb_tells (length file) most)
 ]
 
 of_front : (found : Option (List ℕ)) (most size : ℕ) (bytes : List ℕ) (read : Option (List ℕ)) → IsSomeAnd found (λ file. bytes ≡ take size file) →
-    ((file : List ℕ) → bytes ≡ take size file → limited most file ≡ read) → option_map (limited most) found ≡ Some read
+    ((file : List ℕ) → bytes ≡ take size file → bytes_within most file ≡ read) → option_map (bytes_within most) found ≡ Some read
 of_front None most size bytes read has each = absurd has
 of_front (Some file) most size bytes read has each = ap Some (each file has)
 
@@ -94,14 +94,14 @@ pub file_short : (files : Option Files) (name : List ℕ) (most size n : ℕ) (b
     HasFront size files name (take n buf) → HasFile most files name (Some (take n buf))
 file_short files name most size n buf is fits few has =
     of_files_map files (λ fs. IsSomeAnd (fs name) (λ file. take n buf ≡ take size file))
-    (λ fs. option_map (limited most) (fs name) ≡ Some (Some (take n buf)))
+    (λ fs. option_map (bytes_within most) (fs name) ≡ Some (Some (take n buf)))
     has (λ fs front. of_front (fs name) most size (take n buf) (Some (take n buf)) front
     (λ file e. front_short most n buf file fits few (e ∙ ap (λ k. take k file) is)))
 
 pub file_long : (files : Option Files) (name : List ℕ) (most size n : ℕ) (buf : List ℕ) → size ≡ most + 1 → n ≤ length buf → most < n →
     HasFront size files name (take n buf) → HasFile most files name None
 file_long files name most size n buf is fits many has =
-    of_files_map files (λ fs. IsSomeAnd (fs name) (λ file. take n buf ≡ take size file)) (λ fs. option_map (limited most) (fs name) ≡ Some None)
+    of_files_map files (λ fs. IsSomeAnd (fs name) (λ file. take n buf ≡ take size file)) (λ fs. option_map (bytes_within most) (fs name) ≡ Some None)
     has (λ fs front. of_front (fs name) most size (take n buf) None front
     (λ file e. front_long most n buf file fits many (e ∙ ap (λ k. take k file) is)))
 
@@ -122,10 +122,10 @@ front_of_read (Some files) name left buf n m opens few size read = by_read (file
 
 -- the keystrokes
 
-pub pressed_is : (files : Option Files) (bytes : List ℕ) (read : Option (List ℕ)) → read ≡ limited MAX_KEYS bytes →
+pub pressed_is : (files : Option Files) (bytes : List ℕ) (read : Option (List ℕ)) → read ≡ bytes_within MAX_KEYS bytes →
     HasPressed files (Pressed bytes) read
 pressed_is files bytes read is =
-    of_files_each files (λ fs. option_map (limited MAX_KEYS) (keys_from (Pressed bytes) fs) ≡ Some read) (λ fs. ap Some (sym is))
+    of_files_each files (λ fs. option_map (bytes_within MAX_KEYS) (keys_from (Pressed bytes) fs) ≡ Some read) (λ fs. ap Some (sym is))
 
 lacks_stored : (files : Option Files) (name : List ℕ) → Lacks files name → LacksKeys files (Stored name)
 lacks_stored None name lacks = lacks
@@ -147,33 +147,33 @@ stored_fails files name before now blamed (inr lacks) = inr (lacks_stored files 
 -- the verdict on the keystrokes that were read
 
 of_pressed : (found : Option (List ℕ)) (r : RunMeaning) (file : List ℕ) (read : Option (List ℕ)) (v : Verdict) →
-    option_map (limited MAX_KEYS) found ≡ Some read →
-    keys_verdict r file read ≡ v → option_map (λ keys. keys_verdict r file (limited MAX_KEYS keys)) found ≡ Some v
+    option_map (bytes_within MAX_KEYS) found ≡ Some read →
+    keys_verdict r file read ≡ v → option_map (λ keys. keys_verdict r file (bytes_within MAX_KEYS keys)) found ≡ Some v
 of_pressed None r file read v has is = absurd cc
 of_pressed (Some keys) r file read v has is =
-    let same : limited MAX_KEYS keys ≡ read = cc in
+    let same : bytes_within MAX_KEYS keys ≡ read = cc in
     ap (λ k. Some (keys_verdict r file k)) same ∙ ap Some is
 
 pub keys_come : (files : Option Files) (r : RunMeaning) (file : List ℕ) (read : Option (List ℕ)) (v : Verdict) → HasPressed files r.keys read →
     keys_verdict r file read ≡ v → HasKeysVerdict files r file v
 keys_come files r file read v has is =
-    of_files_map files (λ fs. option_map (limited MAX_KEYS) (keys_from r.keys fs) ≡ Some read) (λ fs. file_verdict r fs (Some file) ≡ Some v)
+    of_files_map files (λ fs. option_map (bytes_within MAX_KEYS) (keys_from r.keys fs) ≡ Some read) (λ fs. file_verdict r fs (Some file) ≡ Some v)
     has (λ fs p. of_pressed (keys_from r.keys fs) r file read v p is)
 
 -- the verdict on the file that was read
 
 of_file : (found : Option (List ℕ)) (r : RunMeaning) (second : Files) (read : Option (List ℕ)) (v : Verdict) →
-    option_map (limited MAX_FILE) found ≡ Some read →
-    file_verdict r second read ≡ Some v → option_and_then (λ file. file_verdict r second (limited MAX_FILE file)) found ≡ Some v
+    option_map (bytes_within MAX_FILE) found ≡ Some read →
+    file_verdict r second read ≡ Some v → option_and_then (λ file. file_verdict r second (bytes_within MAX_FILE file)) found ≡ Some v
 of_file None r second read v has is = absurd cc
 of_file (Some file) r second read v has is =
-    let same : limited MAX_FILE file ≡ read = cc in
+    let same : bytes_within MAX_FILE file ≡ read = cc in
     ap (λ k. file_verdict r second k) same ∙ is
 
 pub file_comes : (files : Option Files) (r : RunMeaning) (read : Option (List ℕ)) (v : Verdict) → HasFile MAX_FILE files r.file read →
     OfFiles files (λ second. file_verdict r second read ≡ Some v) → HasRunVerdict files r v
 file_comes files r read v has next =
-    of_files_map files (λ fs. option_map (limited MAX_FILE) (fs r.file) ≡ Some read)
+    of_files_map files (λ fs. option_map (bytes_within MAX_FILE) (fs r.file) ≡ Some read)
     (λ first. OfFiles files (λ second. run_verdict r first second ≡ Some v)) has
     (λ first p. of_files_map files (λ second. file_verdict r second read ≡ Some v) (λ second. run_verdict r first second ≡ Some v) next
     (λ second q. of_file (first r.file) r second read v p q))
@@ -187,7 +187,7 @@ file_too_long files r has =
 
 no_file : (files : Option Files) (r : RunMeaning) → Lacks files r.file → LacksFile files r
 no_file None r lacks = lacks
-no_file (Some fs) r lacks = ap (λ o. option_and_then (λ file. file_verdict r fs (limited MAX_FILE file)) o) lacks
+no_file (Some fs) r lacks = ap (λ o. option_and_then (λ file. file_verdict r fs (bytes_within MAX_FILE file)) o) lacks
 
 pub file_fails : (files : Option Files) (r : RunMeaning) (before now : ℕ) (blamed : Option (List ℕ)) → FailsAt files r.file before now blamed →
     RunFails files r before now blamed
@@ -202,13 +202,13 @@ pub blames_later : (blamed : Option (List ℕ)) (name : List ℕ) (rest : List (
 blames_later None name rest h = h
 blames_later (Some b) name rest h = later name rest b h
 
-without_keys : (fs : Files) (r : RunMeaning) (read : List ℕ) (found : Option (List ℕ)) → option_map (limited MAX_FILE) found ≡ Some (Some read) →
+without_keys : (fs : Files) (r : RunMeaning) (read : List ℕ) (found : Option (List ℕ)) → option_map (bytes_within MAX_FILE) found ≡ Some (Some read) →
     keys_from r.keys fs ≡ None →
-    option_and_then (λ file. file_verdict r fs (limited MAX_FILE file)) found ≡ None
+    option_and_then (λ file. file_verdict r fs (bytes_within MAX_FILE file)) found ≡ None
 without_keys fs r read None has none = absurd cc
 without_keys fs r read (Some file) has none =
-    let same : limited MAX_FILE file ≡ Some read = cc in
-    ap (λ k. file_verdict r fs k) same ∙ ap (λ o. option_map (λ keys. keys_verdict r read (limited MAX_KEYS keys)) o) none
+    let same : bytes_within MAX_FILE file ≡ Some read = cc in
+    ap (λ k. file_verdict r fs k) same ∙ ap (λ o. option_map (λ keys. keys_verdict r read (bytes_within MAX_KEYS keys)) o) none
 
 no_keys : (files : Option Files) (r : RunMeaning) (read : List ℕ) → HasFile MAX_FILE files r.file (Some read) → LacksKeys files r.keys →
     LacksFile files r
@@ -263,15 +263,15 @@ run_fails words files r before now blamed is (inr lacks) = inr (absent_run words
 
 abbrev by_refusal : ℕ → Option LoadFault → Verdict
 by_refusal number refused = elim refused [
-  | None ↦ StartsMade number (started_host DEFAULT_PAGES [] MAX_TRACE (made number))
+  | None ↦ StartsMade number (host_at_start DEFAULT_PAGES [] MAX_TRACE (made number))
   | Some fault ↦ Refuses (Load fault)
 ]
 
 pub made_taken : (number : ℕ) (file : List ℕ) (w : HostWorld) → file ≡ made number → refusal file ≡ None →
-    w ≡ started_host DEFAULT_PAGES [] MAX_TRACE file → StartsMade number w ≡ made_verdict number
+    w ≡ host_at_start DEFAULT_PAGES [] MAX_TRACE file → StartsMade number w ≡ made_verdict number
 made_taken number file w is taken started =
     let none : refusal (made number) ≡ None = ap refusal (sym is) ∙ taken in
-    let at : w ≡ started_host DEFAULT_PAGES [] MAX_TRACE (made number) = started ∙ ap (started_host DEFAULT_PAGES [] MAX_TRACE) is in
+    let at : w ≡ host_at_start DEFAULT_PAGES [] MAX_TRACE (made number) = started ∙ ap (host_at_start DEFAULT_PAGES [] MAX_TRACE) is in
     ap (StartsMade number) at ∙ sym (ap (by_refusal number) none)
 
 pub made_refused : (number : ℕ) (file : List ℕ) (fault : LoadFault) → file ≡ made number → refusal file ≡ Some fault →

@@ -5,20 +5,20 @@ use Rattle.std.specs.declared.option.Option.{Option}
 use Rattle.client_world.specs.declared.outcome.Exit.{Exit}
 use Rattle.client_world.specs.declared.outcome.Exit.TheVariants.{Bound}
 use Rattle.client_world.specs.World.{HostWorld}
-use Rattle.host_run.specs.Run.{bounded}
+use Rattle.host_run.specs.Run.{with_bound_exit}
 use Rattle.dpmi_io.specs.Causes.{Rose}
 use Rattle.dpmi_io.specs.Content.{Shown, Gains, GainsPart}
 use Rattle.dpmi_io.proofs.Output.{gains_then, part_longer, part_then}
 use Rattle.pair_run.specs.declared.lines.Letter.TheVariants.{A, B}
 use Rattle.pair_run.specs.Slices.{OwnRun, own_run, slices_text}
 use Rattle.pair_run.specs.Run.{IsFirst, closed_by, run_of, turns_of}
-use Rattle.client_world.specs.WatchWorld.{WatchWorld, Watching, no_watches, unwatched}
+use Rattle.client_world.specs.WatchWorld.{WatchWorld, Watching, no_watches, host_without_watches}
 use Rattle.pair_run.proofs.OwnRuns.{client_of, over, turns_more}
 use Rattle.dpmi_cli.specs.Answer.{StartsPair, pair_status, run_status}
 use Rattle.dpmi_cli.specs.Causes.{Answers}
 use Rattle.dpmi_cli.specs.Laws.{RunKeepsTheLaws}
 use Rattle.dpmi_cli.specs.Load.{IsReady}
-use Rattle.dpmi_cli.specs.Pairs.{client_part, host_closed, host_console, host_exit, host_steps, pair_text, sliced}
+use Rattle.dpmi_cli.specs.Pairs.{client_part, host_with_bound_exit, host_console, host_exit, host_steps, pair_text, sliced}
 use Rattle.watch_run.specs.Turn.{run_with_watchpoints, turn_with_watchpoints, turns_with_watchpoints, watched_run}
 use Rattle.watch_run.proofs.WatchedTurns.{counts, extends, stays}
 use Rattle.dpmi_cli.proofs.RunAnswers.{cut, whole}
@@ -35,35 +35,35 @@ client_turns w (suc n) = ap turn_with_watchpoints (client_turns w n)
 abbrev with_host : WatchWorld → HostWorld → WatchWorld
 with_host w h = record w { host = h }
 
-closed_is : (w : WatchWorld) → w.host.exit ≡ None → closed_by host_closed host_exit w ≡ host_closed w
-closed_is w none = ap (λ (o : Option Exit). elim o as (λ _. WatchWorld) [ None ↦ host_closed w | Some _ ↦ w ]) none
+closed_is : (w : WatchWorld) → w.host.exit ≡ None → closed_by host_with_bound_exit host_exit w ≡ host_with_bound_exit w
+closed_is w none = ap (λ (o : Option Exit). elim o as (λ _. WatchWorld) [ None ↦ host_with_bound_exit w | Some _ ↦ w ]) none
 
-ended_is : (w : HostWorld) → w.exit ≡ None → bounded w ≡ record w { exit = Some Bound }
+ended_is : (w : HostWorld) → w.exit ≡ None → with_bound_exit w ≡ record w { exit = Some Bound }
 ended_is w none = ap (λ (o : Option Exit). elim o as (λ _. HostWorld) [ Some _ ↦ w | None ↦ record w { exit = Some Bound } ]) none
 
-bounded_by : (w : WatchWorld) (o : Option Exit) → w.host.exit ≡ o → closed_by host_closed host_exit w ≡ with_host w (bounded w.host)
+bounded_by : (w : WatchWorld) (o : Option Exit) → w.host.exit ≡ o → closed_by host_with_bound_exit host_exit w ≡ with_host w (with_bound_exit w.host)
 bounded_by w None none = closed_is w none ∙ sym (ap (with_host w) (ended_is w.host none))
 bounded_by w (Some exit) some =
-    let closed : closed_by host_closed host_exit w ≡ w =
-    ap (λ (o : Option Exit). elim o as (λ _. WatchWorld) [ None ↦ host_closed w | Some _ ↦ w ]) some in
-    let ends : bounded w.host ≡ w.host =
+    let closed : closed_by host_with_bound_exit host_exit w ≡ w =
+    ap (λ (o : Option Exit). elim o as (λ _. WatchWorld) [ None ↦ host_with_bound_exit w | Some _ ↦ w ]) some in
+    let ends : with_bound_exit w.host ≡ w.host =
     ap (λ (o : Option Exit). elim o as (λ _. HostWorld) [ Some _ ↦ w.host | None ↦ record w.host { exit = Some Bound } ]) some in
     closed ∙ sym (ap (with_host w) ends)
 
 -- and so is its run
-client_run : (w : WatchWorld) (n : ℕ) → run_of turn_with_watchpoints host_closed host_exit n w ≡ run_with_watchpoints w n
+client_run : (w : WatchWorld) (n : ℕ) → run_of turn_with_watchpoints host_with_bound_exit host_exit n w ≡ run_with_watchpoints w n
 client_run w n =
-    ap (closed_by host_closed host_exit) (client_turns w n) ∙ bounded_by (turns_with_watchpoints w n) (turns_with_watchpoints w n).host.exit refl
+    ap (closed_by host_with_bound_exit host_exit) (client_turns w n) ∙ bounded_by (turns_with_watchpoints w n) (turns_with_watchpoints w n).host.exit refl
 
 -- the run of a host whose client has set no watchpoint ended so
 pub run_ended : (w : HostWorld) (s : Watching) (after : WatchWorld) (n : ℕ) → s ≡ no_watches →
-    after ≡ run_of turn_with_watchpoints host_closed host_exit n (record { host = w; watching = s }) → after.host ≡ watched_run w n
+    after ≡ run_of turn_with_watchpoints host_with_bound_exit host_exit n (record { host = w; watching = s }) → after.host ≡ watched_run w n
 unfolding watched_run
 run_ended w s after n none is =
-    let from : run_of turn_with_watchpoints host_closed host_exit n (record { host = w; watching = s })
-    ≡ run_of turn_with_watchpoints host_closed host_exit n (unwatched w) =
-    ap (λ (x : Watching). run_of turn_with_watchpoints host_closed host_exit n (record { host = w; watching = x })) none in
-    ap (λ (v : WatchWorld). v.host) (is ∙ from ∙ client_run (unwatched w) n)
+    let from : run_of turn_with_watchpoints host_with_bound_exit host_exit n (record { host = w; watching = s })
+    ≡ run_of turn_with_watchpoints host_with_bound_exit host_exit n (host_without_watches w) =
+    ap (λ (x : Watching). run_of turn_with_watchpoints host_with_bound_exit host_exit n (record { host = w; watching = x })) none in
+    ap (λ (v : WatchWorld). v.host) (is ∙ from ∙ client_run (host_without_watches w) n)
 
 -- what a client is after its next turn
 pub next_turn : (first now after : WatchWorld) (n : ℕ) → now ≡ turns_of turn_with_watchpoints n first → after ≡ turn_with_watchpoints now →
@@ -76,7 +76,7 @@ pub all_turns : (first after : WatchWorld) (n bound : ℕ) → after ≡ turns_o
 all_turns first after n bound is le ended = is ∙ sym (over (client_of stays counts extends) first after n bound is le ended)
 
 -- a host whose run ends at once is closed
-pub close_is : (w : WatchWorld) → w.host.exit ≡ None → record w { host = bounded w.host } ≡ host_closed w
+pub close_is : (w : WatchWorld) → w.host.exit ≡ None → record w { host = with_bound_exit w.host } ≡ host_with_bound_exit w
 close_is w none = ap (with_host w) (ended_is w.host none)
 
 pub first : (w : HostWorld) (s : Watching) → IsReady w → IsFirst host_console host_exit host_steps (record { host = w; watching = s })

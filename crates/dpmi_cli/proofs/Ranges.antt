@@ -7,7 +7,8 @@ use Rattle.std.proofs.lemmas.Bool.{and_parts, cases_Bool, leb-true}
 use Rattle.client_world.specs.declared.limits.TheConstants.{MAX_STEPS, DEFAULT_BOUND, MAX_PAGES, MAX_PAIR_PAGES, DEFAULT_PAGES, MAX_TRACE, DEFAULT_TRACE, DEFAULT_SLICE, GREATEST_TIMER, MAX_SLICE}
 use Rattle.dpmi_words.specs.Meaning.{Keys, PairMeaning, RunMeaning, Runs, Soaks, Pairs, pair_meaning, pair_of_values, pair_with, run_with, run_of_values, run_meaning, soak_meaning, meaning}
 use Rattle.dpmi_words.specs.Numbers.{number_if_given, is_between, is_decimal, number_in_text, number_or}
-use Rattle.dpmi_words.specs.Reading.{Text, given_by, one_operand, pair_operands, pair_options, run_options, value_given}
+use Rattle.dpmi_words.specs.Options.{pair_options, run_options}
+use Rattle.dpmi_words.specs.Reading.{Text, given_by, one_operand, pair_operands, value_given}
 use Rattle.dpmi_cli.specs.Load.{CanTick, HasPairRanges, HasRanges}
 
 in_text : (digits least most n : ℕ) (text : Text) → number_in_text digits least most text ≡ Some n → (least ≤ n) × (n ≤ most)

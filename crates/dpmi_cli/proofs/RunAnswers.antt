@@ -13,14 +13,15 @@ use Rattle.host_run.specs.RealCalls.{InterruptSource}
 use Rattle.watch_run.specs.Turn.{watched_run}
 use Rattle.dpmi_io.specs.Causes.{Rose}
 use Rattle.dpmi_io.specs.Content.{Shown, Gains, GainsPart}
+use Rattle.dpmi_report.specs.Exits.{exit_status}
 use Rattle.dpmi_report.specs.Summary.{summary, summary_at}
 use Rattle.dpmi_report.specs.Text.{text}
 use Rattle.dpmi_cli.specs.declared.prepare.Reason.{Reason}
-use Rattle.dpmi_cli.specs.Answer.{Verdict, Refuses, Starts, StartsMade, answer_to, exit_status, run_status}
+use Rattle.dpmi_cli.specs.Answer.{Verdict, Refuses, Starts, StartsMade, answer_to, run_status}
 use Rattle.dpmi_cli.specs.Causes.{Answers}
 use Rattle.dpmi_cli.specs.Laws.{OfItsRun, KeepsTheLaws, NestsByOneRecord, ReturnsInOrder, RunKeepsTheLaws, RunSeen, TouchesWhatIsHeld}
 use Rattle.dpmi_cli.specs.Runs.{host_at_end}
-use Rattle.dpmi_cli.specs.Text.{refused}
+use Rattle.dpmi_cli.specs.Text.{line_of_refusal}
 use Rattle.dpmi_cli.proofs.SmallStatus.{run_status-small}
 
 -- the whole is a part
@@ -35,10 +36,10 @@ summary_is number w e is = rw (is, summary) refl
 
 -- a refusal, whose line the output may not take
 pub gives_refusal : {A B : Type 0} (r : Result A B) (reason : Reason) (before now : Shown) (m n : ℕ) →
-    OnOk r (Gains before now (refused reason)) → OnErr r (GainsPart before now (refused reason)) → OnErr r (Rose m n) →
+    OnOk r (Gains before now (line_of_refusal reason)) → OnErr r (GainsPart before now (line_of_refusal reason)) → OnErr r (Rose m n) →
     Answers (Refuses reason) before now m n 2
 gives_refusal (Ok x) reason before now m n whole part rose = record {
-  writes_the_answer = part_whole before now (refused reason) whole;
+  writes_the_answer = part_whole before now (line_of_refusal reason) whole;
   status_of_the_answer = inl refl;
   whole_text = λ small. absurd (omega arith);
   whole_line = λ _. inl whole;

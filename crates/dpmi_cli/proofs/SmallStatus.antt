@@ -2,22 +2,15 @@
 use Rattle.std.proofs.Common.{arith, ◌<◌}
 use Rattle.std.specs.Prelude.{None, Some}
 use Rattle.client_world.specs.declared.outcome.Exit.{Exit}
-use Rattle.client_world.specs.declared.outcome.Exit.TheVariants.{Exited, Fault, Bound, NoKeys, ConsoleFull, Deep, Stray, LostStructure, BadFrame, BadSwitch}
+use Rattle.client_world.specs.declared.outcome.Exit.TheVariants.{Exited}
 use Rattle.client_world.specs.World.{HostWorld}
-use Rattle.dpmi_cli.specs.Answer.{exit_status, pair_status, run_status}
+use Rattle.dpmi_report.specs.Exits.{exit_status}
+use Rattle.dpmi_cli.specs.Answer.{pair_status, run_status}
 
 -- the status of an exit is 0 or 1
 pub exit_status-small : (e : Exit) → exit_status e < 2
 exit_status-small (Exited code) = omega arith
-exit_status-small (Fault number code) = omega arith
-exit_status-small Bound = omega arith
-exit_status-small NoKeys = omega arith
-exit_status-small ConsoleFull = omega arith
-exit_status-small Deep = omega arith
-exit_status-small Stray = omega arith
-exit_status-small LostStructure = omega arith
-exit_status-small BadFrame = omega arith
-exit_status-small BadSwitch = omega arith
+exit_status-small other = omega arith
 
 -- the status of a run is 0 or 1
 pub run_status-small : (w : HostWorld) → run_status w < 2

@@ -3,7 +3,7 @@ use Rattle.std.specs.Prelude.{◌+◌, ◌≤◌, ℕ, List, All, None, Some, �
 use Rattle.std.specs.declared.option.Option.{Option}
 use Rattle.client_world.specs.declared.place.Place.{Place}
 use Rattle.client_world.specs.Access.{IsHeld}
-use Rattle.client_world.specs.WatchWorld.{unwatched}
+use Rattle.client_world.specs.WatchWorld.{host_without_watches}
 use Rattle.client_world.specs.World.{HostWorld}
 use Rattle.host_run.specs.HandOver.{HandsOver}
 use Rattle.host_run.specs.Nested.{IsHandedOver, LastPush, Matched, Stacked, host_depth}
@@ -54,7 +54,7 @@ pub record KeepsTheLaws (source : InterruptSource) (r : RunSeen) : Type 0 where
 
 -- the run from a host, in which the client's interrupts alone are reflected
 abbrev pub seen_run : HostWorld → RunSeen
-seen_run w = record { host = watched_turns w; touched = λ n. touched_by_watch_turn (turns_with_watchpoints (unwatched w) n) }
+seen_run w = record { host = watched_turns w; touched = λ n. touched_by_watch_turn (turns_with_watchpoints (host_without_watches w) n) }
 
 -- the same of a run with a timer, whose interrupts are reflected too
 abbrev pub seen_timed_run : ℕ → HostWorld → RunSeen

@@ -13,7 +13,7 @@ use Rattle.dpmi_cli.specs.declared.prepare.Prepared.{Prepared}
 use Rattle.dpmi_cli.specs.declared.prepare.Prepared.TheVariants as prepared
 use Rattle.dpmi_cli.specs.declared.prepare.Stop.{Stop}
 use Rattle.dpmi_cli.specs.declared.prepare.Stop.TheVariants.{Memory, Shelf}
-use Rattle.dpmi_cli.specs.Answer.{Verdict, Refuses, Starts, StartsMade, StartsPair, file_verdict, first_verdict, keys_from, limited, pair_verdict, run_verdict}
+use Rattle.dpmi_cli.specs.Answer.{Verdict, Refuses, Starts, StartsMade, StartsPair, file_verdict, first_verdict, keys_from, bytes_within, pair_verdict, run_verdict}
 use Rattle.dpmi_cli.specs.Causes.{OfFiles}
 use Rattle.dpmi_cli.specs.Words.{key_file_names}
 
@@ -23,11 +23,11 @@ HasFront size files name bytes = OfFiles files (λ fs. IsSomeAnd (fs name) (λ f
 
 -- the file of that name has these bytes, or is longer than the limit
 abbrev pub HasFile : ℕ → Option Files → List ℕ → Option (List ℕ) → Type 0
-HasFile most files name read = OfFiles files (λ fs. option_map (limited most) (fs name) ≡ Some read)
+HasFile most files name read = OfFiles files (λ fs. option_map (bytes_within most) (fs name) ≡ Some read)
 
 -- the keystrokes are these, or more than there may be
 abbrev pub HasPressed : Option Files → Keys → Option (List ℕ) → Type 0
-HasPressed files keys read = OfFiles files (λ fs. option_map (limited MAX_KEYS) (keys_from keys fs) ≡ Some read)
+HasPressed files keys read = OfFiles files (λ fs. option_map (bytes_within MAX_KEYS) (keys_from keys fs) ≡ Some read)
 
 -- the file of that name failed in this call and is blamed, or the files are known and have none of that name
 abbrev pub FailsAt : Option Files → List ℕ → ℕ → ℕ → Option (List ℕ) → Type 0

@@ -10,11 +10,11 @@ use Rattle.dpmi_report.specs.Text.{text}
 use Rattle.pair_run.specs.declared.lines.Letter.{Letter}
 use Rattle.pair_run.specs.declared.lines.Letter.TheVariants.{A, B}
 use Rattle.pair_run.specs.Slices.{OwnRun, letter_text, own_run, slices_text}
-use Rattle.client_world.specs.WatchWorld.{WatchWorld, unwatched}
+use Rattle.client_world.specs.WatchWorld.{WatchWorld, host_without_watches}
 
 -- the run ends at its bound
-abbrev pub host_closed : WatchWorld → WatchWorld
-host_closed w = record w { host = record w.host { exit = Some Bound } }
+abbrev pub host_with_bound_exit : WatchWorld → WatchWorld
+host_with_bound_exit w = record w { host = record w.host { exit = Some Bound } }
 
 abbrev pub host_console : WatchWorld → List ℕ
 host_console w = w.host.console
@@ -27,7 +27,7 @@ host_steps w = w.host.steps
 
 -- the run from a host's world up to a bound, as far as its slices show it
 abbrev pub sliced : ℕ → HostWorld → OwnRun
-sliced bound w = own_run turn_with_watchpoints host_console host_steps bound (unwatched w)
+sliced bound w = own_run turn_with_watchpoints host_console host_steps bound (host_without_watches w)
 
 -- the line before the text of a client
 abbrev pub client_line : Letter → List ℕ

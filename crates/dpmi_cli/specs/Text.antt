@@ -36,5 +36,5 @@ client_text (FileTooLongOf client) = letter_text client ++ codes " "
 client_text (LoadOf client fault) = letter_text client ++ codes " "
 
 -- the line of a refusal
-abbrev pub refused : Reason → List ℕ
-refused reason = codes "refused " ++ client_text reason ++ reason_text reason ++ line_end
+abbrev pub line_of_refusal : Reason → List ℕ
+line_of_refusal reason = codes "refused " ++ client_text reason ++ reason_text reason ++ line_end

@@ -4,7 +4,7 @@ ghost use Rattle.client_world.specs.WatchWorld.{no_watches};
 ghost use Rattle.dpmi_words.specs.Meaning.{meaning};
 ghost use Rattle.dpmi_io.specs.Causes.{Rose};
 ghost use Rattle.dpmi_io.specs.Content.{Gains};
-ghost use Rattle.dpmi_cli.specs.Answer.{answer, exit_status, run_status};
+ghost use Rattle.dpmi_cli.specs.Answer.{answer, run_status};
 ghost use Rattle.dpmi_cli.specs.Answer.Verdict.{Refuses, Starts, StartsMade, StartsPair};
 ghost use Rattle.dpmi_cli.specs.Causes.{NamedFailed, IsAbsent, HasVerdict, Answers};
 ghost use Rattle.dpmi_cli.specs.Load.{IsNew};
@@ -14,12 +14,11 @@ use crate::pairs::write_turns;
 use crate::prepare::{Prepared, Reason, Stop, prepare};
 use crate::report::write_refusal;
 use crate::runs::run_to_end;
-use crate::status::{ENDED_OTHERWISE, EXITED, FILE_FAILED, NO_MEMORY, OUTPUT_FAILED, REFUSED};
+use crate::status::{ENDED_OTHERWISE, FILE_FAILED, NO_MEMORY, OUTPUT_FAILED, REFUSED};
 use crate::watched_host::WatchedHost;
-use client_world::Exit;
 use client_world::limits::DEFAULT_BOUND;
 use dpmi_io::{Shelf, Sink};
-use dpmi_report::{write_all_of, write_summary};
+use dpmi_report::{exit_status, write_all_of, write_summary};
 use host_run::Host;
 use pair_run::{
     a_slice_adds_its_gain, an_ended_client_is_silent, each_client_writes_its_own_lines,
@@ -37,16 +36,6 @@ fn refuse<O: Sink>(reason: Reason, out: &mut O) -> u8
     REFUSED
 }
 
-// The status of an exit.
-fn status_of(exit: Exit) -> u8
-    ensures { result ≡ exit_status exit }
-{
-    match exit {
-        Exit::Exited(_) => EXITED,
-        _ => ENDED_OTHERWISE,
-    }
-}
-
 // Runs a client that is loaded up to a bound, and writes its text.
 fn run_client<O: Sink>(host: &mut Host, timer: Option<u32>, bound: u32, out: &mut O) -> u8
     requires { IsNew (Starts host.old.world timer bound) }
@@ -58,7 +47,7 @@ fn run_client<O: Sink>(host: &mut Host, timer: Option<u32>, bound: u32, out: &mu
     every_run_keeps_the_laws();
     let exit = run_to_end(host, timer, bound);
     match write_all_of(host, out) {
-        Ok(()) => status_of(exit),
+        Ok(()) => exit_status(exit),
         Err(_) => OUTPUT_FAILED,
     }
 }
@@ -74,7 +63,7 @@ fn run_made_client<O: Sink>(host: &mut Host, number: u64, out: &mut O) -> u8
     every_run_keeps_the_laws();
     let exit = watched_run(host, DEFAULT_BOUND);
     match write_summary(number, host, exit, out) {
-        Ok(()) => status_of(exit),
+        Ok(()) => exit_status(exit),
         Err(_) => OUTPUT_FAILED,
     }
 }
@@ -84,7 +73,7 @@ fn status_of_run(host: &Host) -> u8
     ensures { result ≡ run_status host.now.world }
 {
     match host.exit() {
-        Some(exit) => status_of(exit),
+        Some(exit) => exit_status(exit),
         None => ENDED_OTHERWISE,
     }
 }
@@ -163,8 +152,7 @@ fn answer_words<F: Shelf, O: Sink>(
 /// All that the program does, with the words after its name, the files and the output. Returns the status: 0 and 1
 /// for a run by its exit, for a pair by both exits, 2 for a refusal, 3 where a file that the words name failed or isn't there, 4 where the
 /// output failed, 5 where memory ran out. With 3 and 5 nothing is written. All memory is taken before the load.
-/// The words are `run FILE` with `--keys HEX`, `--keys-file NAME`, `--bound N`, `--pages N`, `--trace N` and `--timer N`; `soak N`; or
-/// `pair A B` with `--slice N`, `--bound N`, `--pages-a N` and `--pages-b N`.
+/// The words are `run FILE`, `soak N` or `pair A B`, each with the options that `dpmi_words` lists.
 /// Source: own.
 pub fn dpmi<F: Shelf, O: Sink>(alloc: Global, words: &[String], shelf: &mut F, out: &mut O) -> u8
     ensures answers { result ≢ FILE_FAILED → result ≢ NO_MEMORY →

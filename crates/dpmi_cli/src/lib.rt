@@ -1,8 +1,9 @@
 //! A DPMI host that runs one client, or two in turns: the words of the command line in, the clients' text and a status out.
-//! It promises that what it writes is the model's text, whole or cut off where the output failed, that each failure that it reports has its
-//! cause, and that each run that it answers keeps its client to its memory, and nests and hands over as the laws of `host_run` say.
-//! It uses `dpmi_words` for the words, `client_maker` for made clients, `host_run` for a client's host, `watch_run`, `timer_run` and `pair_run`
-//! for the runs, `dpmi_report` for the text, and `dpmi_io`. The program `dpmi` calls it with the system's files and output.
+//! It promises that what it writes is the model's text, whole or cut off where the output failed, that each failure that it reports has
+//! its cause, and that each run that it answers keeps its client to its memory, and nests and hands over as the laws of `host_run` say.
+//! It uses what makes, runs and shows clients; the program `dpmi` calls it.
+//! How the parts are joined is free. `specs/Answer`, `specs/Causes` and the statuses aren't: they are what a user of the command is
+//! promised.
 #![tactic(auto)]
 
 mod command;

@@ -4,6 +4,7 @@ ghost use Rattle.dpmi_io.specs.Causes.{Rose};
 ghost use Rattle.dpmi_io.specs.Content.{Gains, GainsPart};
 ghost use Rattle.client_world.specs.WatchWorld.{no_watches};
 ghost use Rattle.watch_run.specs.Turn.{watched_run};
+ghost use Rattle.dpmi_report.specs.Puts.{Puts};
 ghost use Rattle.dpmi_cli.specs.Answer.Verdict.{StartsPair};
 ghost use Rattle.dpmi_cli.specs.Load.{IsNew};
 ghost use Rattle.dpmi_cli.specs.Pairs.{client_line, client_part, pair_text};
@@ -30,10 +31,7 @@ fn client_line_of(client: Letter) -> Line
 
 // Puts the line before the text of a client.
 fn put_client_line<O: Sink>(client: Letter, out: &mut O) -> Result<(), SinkFail>
-    ensures whole { OnOk result (Gains (O.taken out.old) (O.taken out.new) (client_line client)) }
-    ensures part { OnErr result (GainsPart (O.taken out.old) (O.taken out.new) (client_line client)) }
-    ensures quiet { OnOk result (O.faults out.new ≡ O.faults out.old) }
-    ensures failed { OnErr result (Rose (O.faults out.old) (O.faults out.new)) }
+    ensures { Puts result O.taken O.faults out.old out.new (client_line client) }
 {
     let line = client_line_of(client);
     put_all(out, line.as_slice())
@@ -42,19 +40,10 @@ fn put_client_line<O: Sink>(client: Letter, out: &mut O) -> Result<(), SinkFail>
 // Writes the text of a client whose run has ended.
 fn write_client<O: Sink>(client: Letter, host: &Host, out: &mut O) -> Result<(), SinkFail>
     requires { IsSome host.now.world.exit }
-    ensures whole { OnOk result (Gains (O.taken out.old) (O.taken out.new) (client_part client host.now.world)) }
-    ensures part { OnErr result (GainsPart (O.taken out.old) (O.taken out.new) (client_part client host.now.world)) }
-    ensures quiet { OnOk result (O.faults out.new ≡ O.faults out.old) }
-    ensures failed { OnErr result (Rose (O.faults out.old) (O.faults out.new)) }
+    ensures { Puts result O.taken O.faults out.old out.new (client_part client host.now.world) }
 {
-    match put_client_line(client, out) {
-        Ok(()) => {}
-        Err(fail) => return Err(fail),
-    }
-    match write_all_of(host, out) {
-        Ok(()) => Ok(()),
-        Err(fail) => Err(fail),
-    }
+    put_client_line(client, out)?;
+    write_all_of(host, out)
 }
 
 /// Runs two clients that are loaded in turns, and writes what they wrote slice by slice and then the text of each. Where it fails a prefix of it

@@ -22,9 +22,9 @@ ghost use Rattle.client_world.specs.declared.limits.TheConstants.{DEFAULT_TRACE,
 ghost use Rattle.client_maker.specs.Made.{made};
 ghost use Rattle.dpmi_words.specs.Meaning.{keys_in, pair_in, run_in};
 ghost use Rattle.guest_ram.specs.Bytes.{AreBytes};
-ghost use Rattle.host_run.specs.Start.{blank, started_host};
+ghost use Rattle.host_run.specs.Start.{blank, host_at_start};
 ghost use Rattle.mz_loader.specs.Refusal.{refusal};
-ghost use Rattle.dpmi_cli.specs.Answer.{first_load, limited, load_verdict, made_verdict, second_load};
+ghost use Rattle.dpmi_cli.specs.Answer.{first_load, bytes_within, load_verdict, made_verdict, second_load};
 ghost use Rattle.dpmi_cli.specs.Causes.{NamedFailed, IsAbsent, HasVerdict};
 ghost use Rattle.dpmi_cli.specs.Load.{
   HasFront,
@@ -109,13 +109,8 @@ fn read_front<F: Shelf>(shelf: &mut F, name: String, buf: &mut [u8]) -> Result<u
     ensures failed { OnErr result
         (FailsAt (F.files shelf.old) (string_bytes name) (F.faults shelf.old) (F.faults shelf.new) (F.blamed shelf.new)) }
 {
-    match shelf.open(name) {
-        Ok(()) => match read_whole(shelf, buf) {
-            Ok(n) => Ok(n),
-            Err(fail) => Err(fail),
-        },
-        Err(fail) => Err(fail),
-    }
+    shelf.open(name)?;
+    read_whole(shelf, buf)
 }
 
 // Reads a file of at most so many bytes. Returns None where it is longer, after one byte more.
@@ -148,7 +143,7 @@ fn read_file<F: Shelf>(
 
 // The keystrokes of the words, where they aren't too many.
 fn take_pressed(alloc: Global, bytes: &[u8]) -> Result<Option<Vec<u8>>, AllocError>
-    ensures { IfOk result (λ read. option_map (λ v. v.items) read ≡ limited MAX_KEYS bytes.now) }
+    ensures { IfOk result (λ read. option_map (λ v. v.items) read ≡ bytes_within MAX_KEYS bytes.now) }
 {
     if bytes.len() > MAX_KEYS as usize {
         return Ok(None);
@@ -190,7 +185,7 @@ fn start_host(
     requires trace { trace ≤ MAX_TRACE }
     ensures refused { IfOk result (λ r. IfErr r (λ fault. refusal file.now ≡ Some fault)) }
     ensures taken { IfOk result (λ r. OnOk r (refusal file.now ≡ None)) }
-    ensures started { IfOk result (λ r. IfOk r (λ host. host.world ≡ started_host pages keys.now trace file.now)) }
+    ensures started { IfOk result (λ r. IfOk r (λ host. host.world ≡ host_at_start pages keys.now trace file.now)) }
     ensures ready { IfOk result (λ r. IfOk r (λ host. IsReady host.world)) }
 {
     all_bytes_fit(keys);
@@ -228,10 +223,9 @@ fn prepare_keys<F: Shelf>(
     ensures failed { IsErrOf result Stop.Shelf →
         KeysFail (F.files shelf.old) (keys_in run.now.keys) (F.faults shelf.old) (F.faults shelf.new) (F.blamed shelf.new) }
 {
-    match read_keys(alloc, &run.keys, shelf) {
-        Ok(Some(keys)) => Ok(load_run(alloc, run, file, keys.as_slice())?),
-        Ok(None) => Ok(Prepared::Refused(Reason::KeysTooLong)),
-        Err(stop) => Err(stop),
+    match read_keys(alloc, &run.keys, shelf)? {
+        Some(keys) => Ok(load_run(alloc, run, file, keys.as_slice())?),
+        None => Ok(Prepared::Refused(Reason::KeysTooLong)),
     }
 }
 
@@ -244,13 +238,9 @@ fn prepare_run<F: Shelf>(alloc: Global, run: &Run<'_>, shelf: &mut F) -> Result<
     ensures failed { IsErrOf result Stop.Shelf →
         RunFails (F.files shelf.old) (run_in run.now) (F.faults shelf.old) (F.faults shelf.new) (F.blamed shelf.new) }
 {
-    match read_file(alloc, run.file, MAX_FILE, shelf) {
-        Ok(Some(file)) => match prepare_keys(alloc, run, file.as_slice(), shelf) {
-            Ok(prepared) => Ok(prepared),
-            Err(stop) => Err(stop),
-        },
-        Ok(None) => Ok(Prepared::Refused(Reason::FileTooLong)),
-        Err(stop) => Err(stop),
+    match read_file(alloc, run.file, MAX_FILE, shelf)? {
+        Some(file) => prepare_keys(alloc, run, file.as_slice(), shelf),
+        None => Ok(Prepared::Refused(Reason::FileTooLong)),
     }
 }
 
@@ -303,10 +293,9 @@ fn prepare_second<F: Shelf>(
     ensures failed { IsErrOf result Stop.Shelf →
         FailsAt (F.files shelf.old) pair.now.second.now (F.faults shelf.old) (F.faults shelf.new) (F.blamed shelf.new) }
 {
-    match read_file(alloc, pair.second, MAX_FILE, shelf) {
-        Ok(Some(second)) => Ok(load_pair(alloc, pair, first, second.as_slice())?),
-        Ok(None) => Ok(Prepared::Refused(Reason::FileTooLongOf(Letter::B))),
-        Err(stop) => Err(stop),
+    match read_file(alloc, pair.second, MAX_FILE, shelf)? {
+        Some(second) => Ok(load_pair(alloc, pair, first, second.as_slice())?),
+        None => Ok(Prepared::Refused(Reason::FileTooLongOf(Letter::B))),
     }
 }
 
@@ -319,13 +308,9 @@ fn prepare_pair<F: Shelf>(alloc: Global, pair: &Pair<'_>, shelf: &mut F) -> Resu
     ensures failed { IsErrOf result Stop.Shelf →
         PairFails (F.files shelf.old) (pair_in pair.now) (F.faults shelf.old) (F.faults shelf.new) (F.blamed shelf.new) }
 {
-    match read_file(alloc, pair.first, MAX_FILE, shelf) {
-        Ok(Some(first)) => match prepare_second(alloc, pair, first.as_slice(), shelf) {
-            Ok(prepared) => Ok(prepared),
-            Err(stop) => Err(stop),
-        },
-        Ok(None) => Ok(Prepared::Refused(Reason::FileTooLongOf(Letter::A))),
-        Err(stop) => Err(stop),
+    match read_file(alloc, pair.first, MAX_FILE, shelf)? {
+        Some(first) => prepare_second(alloc, pair, first.as_slice(), shelf),
+        None => Ok(Prepared::Refused(Reason::FileTooLongOf(Letter::A))),
     }
 }
 
@@ -353,15 +338,9 @@ pub fn prepare<F: Shelf>(alloc: Global, words: &[String], shelf: &mut F) -> Resu
         ⊎ IsAbsent (map string_bytes words.now) (F.files shelf.old) }
 {
     match read_words(alloc, words)? {
-        Some(Words::Run(run)) => match prepare_run(alloc, &run, shelf) {
-            Ok(prepared) => Ok(prepared),
-            Err(stop) => Err(stop),
-        },
+        Some(Words::Run(run)) => prepare_run(alloc, &run, shelf),
         Some(Words::Soak(number)) => Ok(prepare_soak(alloc, number)?),
-        Some(Words::Pair(pair)) => match prepare_pair(alloc, &pair, shelf) {
-            Ok(prepared) => Ok(prepared),
-            Err(stop) => Err(stop),
-        },
+        Some(Words::Pair(pair)) => prepare_pair(alloc, &pair, shelf),
         None => Ok(Prepared::Refused(Reason::Words)),
     }
 }

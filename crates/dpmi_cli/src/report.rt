@@ -1,8 +1,7 @@
 // The line of a refusal.
-ghost use Rattle.std.specs.Prelude.{◌≡◌, ◌≤◌, OnOk, OnErr, length};
-ghost use Rattle.dpmi_io.specs.Causes.{Rose};
-ghost use Rattle.dpmi_io.specs.Content.{Gains, GainsPart};
-ghost use Rattle.dpmi_cli.specs.Text.{client_text, fault_text, refused, reason_text};
+ghost use Rattle.std.specs.Prelude.{◌≡◌, ◌≤◌, length};
+ghost use Rattle.dpmi_report.specs.Puts.{Puts};
+ghost use Rattle.dpmi_cli.specs.Text.{client_text, fault_text, line_of_refusal, reason_text};
 
 use crate::prepare::Reason;
 use client_world::LoadFault;
@@ -52,7 +51,7 @@ fn client_name(reason: Reason) -> &'static [u8]
 
 // The line of a refusal.
 fn refusal_line(reason: Reason) -> Line
-    ensures { result.items ≡ refused reason }
+    ensures { result.items ≡ line_of_refusal reason }
 {
     let mut line = Line::new();
     add(&mut line, b"refused ");
@@ -64,9 +63,7 @@ fn refusal_line(reason: Reason) -> Line
 
 /// Writes the line of a refusal. It takes no memory.
 pub fn write_refusal<O: Sink>(reason: Reason, out: &mut O) -> Result<(), SinkFail>
-    ensures whole { OnOk result (Gains (O.taken out.old) (O.taken out.new) (refused reason)) }
-    ensures part { OnErr result (GainsPart (O.taken out.old) (O.taken out.new) (refused reason)) }
-    ensures failed { OnErr result (Rose (O.faults out.old) (O.faults out.new)) }
+    ensures { Puts result O.taken O.faults out.old out.new (line_of_refusal reason) }
 {
     let line = refusal_line(reason);
     put_all(out, line.as_slice())

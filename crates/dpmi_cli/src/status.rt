@@ -1,10 +1,7 @@
 //! The statuses of the command. Source: own.
 
-/// The client ended itself, whatever its code.
-pub const EXITED: u8 = 0;
-
-/// The run ended in another way.
-pub const ENDED_OTHERWISE: u8 = 1;
+// The statuses of exits.
+pub use dpmi_report::{ENDED_OTHERWISE, EXITED};
 
 /// The words or the file were refused.
 pub const REFUSED: u8 = 2;

@@ -31,13 +31,13 @@ impl Turns for WatchedHost {
     ghost use Rattle.std.proofs.Common.{refl};
     ghost use Rattle.watch_run.specs.Turn.{turn_with_watchpoints};
     ghost use Rattle.watch_run.proofs.WatchedTurns.{counts, extends, stays};
-    ghost use Rattle.dpmi_cli.specs.Pairs.{host_closed, host_console, host_exit, host_steps};
+    ghost use Rattle.dpmi_cli.specs.Pairs.{host_with_bound_exit, host_console, host_exit, host_steps};
 
     ghost world = { λ c. record { host = c.host.world; watching = c.watches } };
 
     ghost turn = { turn_with_watchpoints };
 
-    ghost closed = { host_closed };
+    ghost closed = { host_with_bound_exit };
 
     ghost console_of = { host_console };
 

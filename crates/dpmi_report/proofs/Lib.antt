@@ -1,4 +1,5 @@
 mod BlockBytes
 mod Counts
 mod Pieces
+pub mod Putting
 mod Sequence

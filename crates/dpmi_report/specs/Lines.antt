@@ -9,7 +9,6 @@ use Rattle.client_world.specs.declared.descriptors.Desc.{Desc}
 use Rattle.client_world.specs.declared.descriptors.Origin.{Origin}
 use Rattle.client_world.specs.declared.descriptors.Origin.TheVariants.{Own, Low, Entry, Psp, Segment, Dos, Host}
 use Rattle.client_world.specs.declared.outcome.Exit.{Exit}
-use Rattle.client_world.specs.declared.outcome.Exit.TheVariants.{Exited, Fault, Bound, NoKeys, ConsoleFull, Deep, Stray, LostStructure, BadFrame, BadSwitch}
 use Rattle.client_world.specs.declared.registers.Mode.{Mode}
 use Rattle.client_world.specs.declared.registers.Mode.TheVariants.{Real, Protected}
 use Rattle.client_world.specs.declared.registers.Regs.{Regs}
@@ -18,23 +17,11 @@ use Rattle.client_world.specs.Registers.{flags_image}
 use Rattle.client_world.specs.Selector.{Row, row_at_index, selector_of}
 use Rattle.client_world.specs.World.{MemoryBlock, block_at}
 use Rattle.dpmi_report.specs.Digits.{hex_digit, hex_byte, hex_word, hex_doubleword}
+use Rattle.dpmi_report.specs.Exits.{exit_text}
 
 -- the end of a line
 abbrev pub line_end : List ℕ
 line_end = 0x0A ∷ []
-
--- how an exit is written
-abbrev pub exit_text : Exit → List ℕ
-exit_text (Exited code) = codes "exited " ++ decimal code
-exit_text (Fault number code) = codes "fault " ++ hex_byte number ++ codes " code=" ++ hex_doubleword code
-exit_text Bound = codes "bound"
-exit_text NoKeys = codes "nokeys"
-exit_text ConsoleFull = codes "consolefull"
-exit_text Deep = codes "deep"
-exit_text Stray = codes "stray"
-exit_text LostStructure = codes "loststructure"
-exit_text BadFrame = codes "badframe"
-exit_text BadSwitch = codes "badswitch"
 
 -- the lines of how a run ended, and after how many turns
 abbrev pub exit_part : Exit → ℕ → List ℕ

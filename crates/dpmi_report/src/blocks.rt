@@ -1,11 +1,10 @@
 // The part of the memory blocks. It takes no memory; where it fails, a first part of its text was put, and the count of faults rose.
-ghost use Rattle.std.specs.Prelude.{◌≡◌, ◌<◌, ◌+◌, OnOk, OnErr, Some, None, count_by, is_some, nat_lt, slice_index, slice_index_or};
+ghost use Rattle.std.specs.Prelude.{◌≡◌, ◌<◌, ◌+◌, Some, None, count_by, is_some, nat_lt, slice_index, slice_index_or};
 ghost use Rattle.client_world.specs.declared.limits.TheConstants.{MAX_BLOCKS};
 ghost use Rattle.client_world.specs.World.{block_at};
 ghost use Rattle.block_memory.specs.BlockSizes.{locks_of_block, row_seen};
-ghost use Rattle.dpmi_io.specs.Causes.{Rose};
-ghost use Rattle.dpmi_io.specs.Content.{Gains, GainsPart};
 ghost use Rattle.dpmi_report.specs.Lines.{block_text, block_row};
+ghost use Rattle.dpmi_report.specs.Puts.{Puts};
 ghost use Rattle.dpmi_report.specs.Rows.{up_to};
 ghost use Rattle.dpmi_report.specs.Text.{blocks_head, blocks_part};
 
@@ -55,10 +54,7 @@ fn block_line_of(machine: &Machine, handle: u16, row: BlockRow) -> Line
 // Puts the line of the memory block of a place, where there is one.
 fn put_block<O: Sink>(machine: &Machine, place: u16, out: &mut O) -> Result<(), SinkFail>
     requires { place < MAX_BLOCKS }
-    ensures whole { OnOk result (Gains (O.taken out.old) (O.taken out.new) (block_row machine.now.world.blocks place)) }
-    ensures part { OnErr result (GainsPart (O.taken out.old) (O.taken out.new) (block_row machine.now.world.blocks place)) }
-    ensures quiet { OnOk result (O.faults out.new ≡ O.faults out.old) }
-    ensures failed { OnErr result (Rose (O.faults out.old) (O.faults out.new)) }
+    ensures { Puts result O.taken O.faults out.old out.new (block_row machine.now.world.blocks place) }
 {
     let handle = place + 1;
     match machine.block(handle) {
@@ -72,16 +68,10 @@ fn put_block<O: Sink>(machine: &Machine, place: u16, out: &mut O) -> Result<(), 
 
 // Puts the lines of the memory blocks.
 fn put_block_rows<O: Sink>(machine: &Machine, out: &mut O) -> Result<(), SinkFail>
-    ensures whole { OnOk result (Gains (O.taken out.old) (O.taken out.new) (up_to (block_row machine.now.world.blocks) MAX_BLOCKS)) }
-    ensures part { OnErr result (GainsPart (O.taken out.old) (O.taken out.new) (up_to (block_row machine.now.world.blocks) MAX_BLOCKS)) }
-    ensures quiet { OnOk result (O.faults out.new ≡ O.faults out.old) }
-    ensures failed { OnErr result (Rose (O.faults out.old) (O.faults out.new)) }
+    ensures { Puts result O.taken O.faults out.old out.new (up_to (block_row machine.now.world.blocks) MAX_BLOCKS) }
 {
     for place in 0..MAX_BLOCKS as u16 {
-        match put_block(machine, place, out) {
-            Ok(()) => {}
-            Err(fail) => return Err(fail),
-        }
+        put_block(machine, place, out)?;
     }
     Ok(())
 }
@@ -117,10 +107,7 @@ fn blocks_line_of(machine: &Machine) -> Line
 
 // Puts the line before the memory blocks.
 fn put_blocks_head<O: Sink>(machine: &Machine, out: &mut O) -> Result<(), SinkFail>
-    ensures whole { OnOk result (Gains (O.taken out.old) (O.taken out.new) (blocks_head (count_by is_some machine.now.world.blocks))) }
-    ensures part { OnErr result (GainsPart (O.taken out.old) (O.taken out.new) (blocks_head (count_by is_some machine.now.world.blocks))) }
-    ensures quiet { OnOk result (O.faults out.new ≡ O.faults out.old) }
-    ensures failed { OnErr result (Rose (O.faults out.old) (O.faults out.new)) }
+    ensures { Puts result O.taken O.faults out.old out.new (blocks_head (count_by is_some machine.now.world.blocks)) }
 {
     let line = blocks_line_of(machine);
     put_all(out, line.as_slice())
@@ -128,17 +115,8 @@ fn put_blocks_head<O: Sink>(machine: &Machine, out: &mut O) -> Result<(), SinkFa
 
 /// Puts the memory blocks' part.
 pub fn put_blocks<O: Sink>(machine: &Machine, out: &mut O) -> Result<(), SinkFail>
-    ensures whole { OnOk result (Gains (O.taken out.old) (O.taken out.new) (blocks_part machine.now.world)) }
-    ensures part { OnErr result (GainsPart (O.taken out.old) (O.taken out.new) (blocks_part machine.now.world)) }
-    ensures quiet { OnOk result (O.faults out.new ≡ O.faults out.old) }
-    ensures failed { OnErr result (Rose (O.faults out.old) (O.faults out.new)) }
+    ensures { Puts result O.taken O.faults out.old out.new (blocks_part machine.now.world) }
 {
-    match put_blocks_head(machine, out) {
-        Ok(()) => {}
-        Err(fail) => return Err(fail),
-    }
-    match put_block_rows(machine, out) {
-        Ok(()) => Ok(()),
-        Err(fail) => Err(fail),
-    }
+    put_blocks_head(machine, out)?;
+    put_block_rows(machine, out)
 }

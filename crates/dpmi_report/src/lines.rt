@@ -2,50 +2,15 @@
 ghost use Rattle.std.specs.Prelude.{◌≡◌, ◌≤◌, ◌<◌, ◌+◌, ◌/◌, ◌++◌, ◌^◌, length};
 ghost use Rattle.client_world.specs.Descriptor.{access_byte, flags_byte};
 ghost use Rattle.dpmi_report.specs.Digits.{hex_word, hex_doubleword};
-ghost use Rattle.dpmi_report.specs.Lines.{exit_text, exit_part, mode_text, wide_text, narrow_text, regs_text, origin_text, desc_line, digest_line, block_line_with};
+ghost use Rattle.dpmi_report.specs.Lines.{exit_part, mode_text, wide_text, narrow_text, regs_text, origin_text, desc_line, digest_line, block_line_with};
 ghost use Rattle.dpmi_report.specs.Text.{console_head, trace_head, end_part, processor_text, descs_head, blocks_head};
 ghost use Rattle.dpmi_report.specs.Summary.{soak_head, services_text, console_digest_text};
 
 use crate::digits::{add_digest, add_hex_byte, add_hex_digit, add_hex_doubleword, add_hex_word};
+use crate::exits::add_exit;
 use client_world::{Desc, Exit, Mode, Origin, Regs};
 use desc_table::pack;
 use dpmi_io::{Line, add, add_decimal};
-
-// Adds a fault's number and code.
-fn add_fault(line: &mut Line, number: u8, code: u32)
-    requires { length line.old.items ≤ 100 }
-    ensures added { line.new.items ≡ line.old.items ++ exit_text (Exit.Fault number code) }
-    ensures short { length line.new.items ≤ length line.old.items + 22 }
-{
-    add(line, b"fault ");
-    add_hex_byte(line, number);
-    add(line, b" code=");
-    add_hex_doubleword(line, code);
-}
-
-// Adds how a run ended.
-#[tactic(auto, using(dpmi_io::proofs::Decimal::decimal_byte))]
-fn add_exit(line: &mut Line, exit: Exit)
-    requires { length line.old.items ≤ 100 }
-    ensures added { line.new.items ≡ line.old.items ++ exit_text exit }
-    ensures short { length line.new.items ≤ length line.old.items + 22 }
-{
-    match exit {
-        Exit::Exited(code) => {
-            add(line, b"exited ");
-            add_decimal(line, u64::from(code));
-        }
-        Exit::Fault(number, code) => add_fault(line, number, code),
-        Exit::Bound => add(line, b"bound"),
-        Exit::NoKeys => add(line, b"nokeys"),
-        Exit::ConsoleFull => add(line, b"consolefull"),
-        Exit::Deep => add(line, b"deep"),
-        Exit::Stray => add(line, b"stray"),
-        Exit::LostStructure => add(line, b"loststructure"),
-        Exit::BadFrame => add(line, b"badframe"),
-        Exit::BadSwitch => add(line, b"badswitch"),
-    }
-}
 
 /// The line before the console's bytes.
 #[tactic(auto, using(dpmi_io::proofs::Decimal::decimal_short))]

@@ -1,9 +1,8 @@
 // The parts of the text. None takes memory; where one fails, a first part of its text was put, and the count of faults rose.
-ghost use Rattle.std.specs.Prelude.{◌≡◌, ◌≤◌, ◌<◌, ◌+◌, ◌++◌, OnOk, OnErr, Some, length, count_by, is_some};
+ghost use Rattle.std.specs.Prelude.{◌≡◌, ◌≤◌, ◌<◌, ◌+◌, ◌++◌, Some, length, count_by, is_some};
 ghost use Rattle.client_world.specs.declared.host_frames.TheConstants.{DESCRIPTORS};
-ghost use Rattle.dpmi_io.specs.Causes.{Rose};
-ghost use Rattle.dpmi_io.specs.Content.{Gains, GainsPart};
 ghost use Rattle.dpmi_report.specs.Lines.{line_end, exit_part, desc_row, dos_line};
+ghost use Rattle.dpmi_report.specs.Puts.{Puts};
 ghost use Rattle.dpmi_report.specs.Rows.{up_to};
 ghost use Rattle.dpmi_report.specs.Text.{console_head, console_part, trace_head, trace_part, end_part, processor_text, processor_part, descs_head, descs_part};
 ghost use Rattle.dpmi_report.specs.Trace.{trace_row};
@@ -31,10 +30,7 @@ fn console_line_of(host: &Host) -> Line
 
 // Puts the line before the console's bytes.
 fn put_console_head<O: Sink>(host: &Host, out: &mut O) -> Result<(), SinkFail>
-    ensures whole { OnOk result (Gains (O.taken out.old) (O.taken out.new) (console_head (length host.now.world.console))) }
-    ensures part { OnErr result (GainsPart (O.taken out.old) (O.taken out.new) (console_head (length host.now.world.console))) }
-    ensures quiet { OnOk result (O.faults out.new ≡ O.faults out.old) }
-    ensures failed { OnErr result (Rose (O.faults out.old) (O.faults out.new)) }
+    ensures { Puts result O.taken O.faults out.old out.new (console_head (length host.now.world.console)) }
 {
     let line = console_line_of(host);
     put_all(out, line.as_slice())
@@ -42,20 +38,14 @@ fn put_console_head<O: Sink>(host: &Host, out: &mut O) -> Result<(), SinkFail>
 
 // Puts the end of a line.
 fn put_line_end<O: Sink>(out: &mut O) -> Result<(), SinkFail>
-    ensures whole { OnOk result (Gains (O.taken out.old) (O.taken out.new) (line_end)) }
-    ensures part { OnErr result (GainsPart (O.taken out.old) (O.taken out.new) (line_end)) }
-    ensures quiet { OnOk result (O.faults out.new ≡ O.faults out.old) }
-    ensures failed { OnErr result (Rose (O.faults out.old) (O.faults out.new)) }
+    ensures { Puts result O.taken O.faults out.old out.new line_end }
 {
     put_all(out, b"\n".as_slice())
 }
 
 // Puts the console's bytes.
 fn put_console_bytes<O: Sink>(host: &Host, out: &mut O) -> Result<(), SinkFail>
-    ensures whole { OnOk result (Gains (O.taken out.old) (O.taken out.new) (host.now.world.console)) }
-    ensures part { OnErr result (GainsPart (O.taken out.old) (O.taken out.new) (host.now.world.console)) }
-    ensures quiet { OnOk result (O.faults out.new ≡ O.faults out.old) }
-    ensures failed { OnErr result (Rose (O.faults out.old) (O.faults out.new)) }
+    ensures { Puts result O.taken O.faults out.old out.new host.now.world.console }
 {
     let console = host.console();
     put_all(out, console)
@@ -64,23 +54,11 @@ fn put_console_bytes<O: Sink>(host: &Host, out: &mut O) -> Result<(), SinkFail>
 /// Puts the console's part: the number of its bytes, those bytes, and the end of a line. Where it fails a first part was put, and the
 /// output's count of faults rose. Source: own.
 pub fn put_console<O: Sink>(host: &Host, out: &mut O) -> Result<(), SinkFail>
-    ensures whole { OnOk result (Gains (O.taken out.old) (O.taken out.new) (console_part host.now.world)) }
-    ensures part { OnErr result (GainsPart (O.taken out.old) (O.taken out.new) (console_part host.now.world)) }
-    ensures quiet { OnOk result (O.faults out.new ≡ O.faults out.old) }
-    ensures failed { OnErr result (Rose (O.faults out.old) (O.faults out.new)) }
+    ensures { Puts result O.taken O.faults out.old out.new (console_part host.now.world) }
 {
-    match put_console_head(host, out) {
-        Ok(()) => {}
-        Err(fail) => return Err(fail),
-    }
-    match put_console_bytes(host, out) {
-        Ok(()) => {}
-        Err(fail) => return Err(fail),
-    }
-    match put_line_end(out) {
-        Ok(()) => Ok(()),
-        Err(fail) => Err(fail),
-    }
+    put_console_head(host, out)?;
+    put_console_bytes(host, out)?;
+    put_line_end(out)
 }
 
 // The line before the trace.
@@ -92,10 +70,7 @@ fn trace_line_of(host: &Host) -> Line
 
 // Puts the line before the trace.
 fn put_trace_head<O: Sink>(host: &Host, out: &mut O) -> Result<(), SinkFail>
-    ensures whole { OnOk result (Gains (O.taken out.old) (O.taken out.new) (trace_head (length host.now.world.kept) host.now.world.lines)) }
-    ensures part { OnErr result (GainsPart (O.taken out.old) (O.taken out.new) (trace_head (length host.now.world.kept) host.now.world.lines)) }
-    ensures quiet { OnOk result (O.faults out.new ≡ O.faults out.old) }
-    ensures failed { OnErr result (Rose (O.faults out.old) (O.faults out.new)) }
+    ensures { Puts result O.taken O.faults out.old out.new (trace_head (length host.now.world.kept) host.now.world.lines) }
 {
     let line = trace_line_of(host);
     put_all(out, line.as_slice())
@@ -103,10 +78,7 @@ fn put_trace_head<O: Sink>(host: &Host, out: &mut O) -> Result<(), SinkFail>
 
 // Puts the line of the trace of that number.
 fn put_event<O: Sink>(host: &Host, i: u32, out: &mut O) -> Result<(), SinkFail>
-    ensures whole { OnOk result (Gains (O.taken out.old) (O.taken out.new) (trace_row host.now.world.kept i)) }
-    ensures part { OnErr result (GainsPart (O.taken out.old) (O.taken out.new) (trace_row host.now.world.kept i)) }
-    ensures quiet { OnOk result (O.faults out.new ≡ O.faults out.old) }
-    ensures failed { OnErr result (Rose (O.faults out.old) (O.faults out.new)) }
+    ensures { Puts result O.taken O.faults out.old out.new (trace_row host.now.world.kept i) }
 {
     match host.line(i) {
         Some(event) => {
@@ -119,45 +91,27 @@ fn put_event<O: Sink>(host: &Host, i: u32, out: &mut O) -> Result<(), SinkFail>
 
 // Puts the first lines of the trace.
 fn put_first_events<O: Sink>(host: &Host, kept: u32, out: &mut O) -> Result<(), SinkFail>
-    ensures whole { OnOk result (Gains (O.taken out.old) (O.taken out.new) (up_to (trace_row host.now.world.kept) kept)) }
-    ensures part { OnErr result (GainsPart (O.taken out.old) (O.taken out.new) (up_to (trace_row host.now.world.kept) kept)) }
-    ensures quiet { OnOk result (O.faults out.new ≡ O.faults out.old) }
-    ensures failed { OnErr result (Rose (O.faults out.old) (O.faults out.new)) }
+    ensures { Puts result O.taken O.faults out.old out.new (up_to (trace_row host.now.world.kept) kept) }
 {
     for i in 0..kept {
-        match put_event(host, i, out) {
-            Ok(()) => {}
-            Err(fail) => return Err(fail),
-        }
+        put_event(host, i, out)?;
     }
     Ok(())
 }
 
 // Puts the lines of the trace that are kept.
 fn put_events<O: Sink>(host: &Host, out: &mut O) -> Result<(), SinkFail>
-    ensures whole { OnOk result (Gains (O.taken out.old) (O.taken out.new) (up_to (trace_row host.now.world.kept) (length host.now.world.kept))) }
-    ensures part { OnErr result (GainsPart (O.taken out.old) (O.taken out.new) (up_to (trace_row host.now.world.kept) (length host.now.world.kept))) }
-    ensures quiet { OnOk result (O.faults out.new ≡ O.faults out.old) }
-    ensures failed { OnErr result (Rose (O.faults out.old) (O.faults out.new)) }
+    ensures { Puts result O.taken O.faults out.old out.new (up_to (trace_row host.now.world.kept) (length host.now.world.kept)) }
 {
     put_first_events(host, host.kept(), out)
 }
 
 /// Puts the trace's part.
 pub fn put_trace<O: Sink>(host: &Host, out: &mut O) -> Result<(), SinkFail>
-    ensures whole { OnOk result (Gains (O.taken out.old) (O.taken out.new) (trace_part host.now.world)) }
-    ensures part { OnErr result (GainsPart (O.taken out.old) (O.taken out.new) (trace_part host.now.world)) }
-    ensures quiet { OnOk result (O.faults out.new ≡ O.faults out.old) }
-    ensures failed { OnErr result (Rose (O.faults out.old) (O.faults out.new)) }
+    ensures { Puts result O.taken O.faults out.old out.new (trace_part host.now.world) }
 {
-    match put_trace_head(host, out) {
-        Ok(()) => {}
-        Err(fail) => return Err(fail),
-    }
-    match put_events(host, out) {
-        Ok(()) => Ok(()),
-        Err(fail) => Err(fail),
-    }
+    put_trace_head(host, out)?;
+    put_events(host, out)
 }
 
 // The lines of the exit and of the turns.
@@ -170,10 +124,7 @@ fn exit_lines_of(host: &Host, exit: Exit) -> Line
 /// Puts how a run ended, and after how many turns: two lines. Where it fails a first part of them was put, and the
 /// output's count of faults rose. Source: own.
 pub fn put_exit<O: Sink>(host: &Host, exit: Exit, out: &mut O) -> Result<(), SinkFail>
-    ensures whole { OnOk result (Gains (O.taken out.old) (O.taken out.new) (exit_part exit host.now.world.steps)) }
-    ensures part { OnErr result (GainsPart (O.taken out.old) (O.taken out.new) (exit_part exit host.now.world.steps)) }
-    ensures quiet { OnOk result (O.faults out.new ≡ O.faults out.old) }
-    ensures failed { OnErr result (Rose (O.faults out.old) (O.faults out.new)) }
+    ensures { Puts result O.taken O.faults out.old out.new (exit_part exit host.now.world.steps) }
 {
     let lines = exit_lines_of(host, exit);
     put_all(out, lines.as_slice())
@@ -188,10 +139,7 @@ fn end_lines_of(host: &Host, exit: Exit) -> Line
 
 /// Puts how the run ended, and after how many turns.
 pub fn put_end<O: Sink>(host: &Host, exit: Exit, out: &mut O) -> Result<(), SinkFail>
-    ensures whole { OnOk result (Gains (O.taken out.old) (O.taken out.new) (end_part exit host.now.world.steps)) }
-    ensures part { OnErr result (GainsPart (O.taken out.old) (O.taken out.new) (end_part exit host.now.world.steps)) }
-    ensures quiet { OnOk result (O.faults out.new ≡ O.faults out.old) }
-    ensures failed { OnErr result (Rose (O.faults out.old) (O.faults out.new)) }
+    ensures { Puts result O.taken O.faults out.old out.new (end_part exit host.now.world.steps) }
 {
     let lines = end_lines_of(host, exit);
     put_all(out, lines.as_slice())
@@ -207,10 +155,7 @@ fn processor_lines_of(machine: &Machine) -> Line
 
 /// Puts the mode, the depth and the registers.
 pub fn put_processor<O: Sink>(machine: &Machine, out: &mut O) -> Result<(), SinkFail>
-    ensures whole { OnOk result (Gains (O.taken out.old) (O.taken out.new) (processor_part machine.now.world)) }
-    ensures part { OnErr result (GainsPart (O.taken out.old) (O.taken out.new) (processor_part machine.now.world)) }
-    ensures quiet { OnOk result (O.faults out.new ≡ O.faults out.old) }
-    ensures failed { OnErr result (Rose (O.faults out.old) (O.faults out.new)) }
+    ensures { Puts result O.taken O.faults out.old out.new (processor_part machine.now.world) }
 {
     let lines = processor_lines_of(machine);
     put_all(out, lines.as_slice())
@@ -239,10 +184,7 @@ fn descriptors_line_of(machine: &Machine) -> Line
 
 // Puts the line before the descriptors.
 fn put_descriptors_head<O: Sink>(machine: &Machine, out: &mut O) -> Result<(), SinkFail>
-    ensures whole { OnOk result (Gains (O.taken out.old) (O.taken out.new) (descs_head (count_by is_some machine.now.world.descriptors))) }
-    ensures part { OnErr result (GainsPart (O.taken out.old) (O.taken out.new) (descs_head (count_by is_some machine.now.world.descriptors))) }
-    ensures quiet { OnOk result (O.faults out.new ≡ O.faults out.old) }
-    ensures failed { OnErr result (Rose (O.faults out.old) (O.faults out.new)) }
+    ensures { Puts result O.taken O.faults out.old out.new (descs_head (count_by is_some machine.now.world.descriptors)) }
 {
     let line = descriptors_line_of(machine);
     put_all(out, line.as_slice())
@@ -251,10 +193,7 @@ fn put_descriptors_head<O: Sink>(machine: &Machine, out: &mut O) -> Result<(), S
 // Puts the line of a row, where it holds a descriptor.
 fn put_row<O: Sink>(machine: &Machine, index: u16, out: &mut O) -> Result<(), SinkFail>
     requires { index < DESCRIPTORS }
-    ensures whole { OnOk result (Gains (O.taken out.old) (O.taken out.new) (desc_row machine.now.world.descriptors index)) }
-    ensures part { OnErr result (GainsPart (O.taken out.old) (O.taken out.new) (desc_row machine.now.world.descriptors index)) }
-    ensures quiet { OnOk result (O.faults out.new ≡ O.faults out.old) }
-    ensures failed { OnErr result (Rose (O.faults out.old) (O.faults out.new)) }
+    ensures { Puts result O.taken O.faults out.old out.new (desc_row machine.now.world.descriptors index) }
 {
     match machine.desc(index) {
         Some((desc, origin)) => {
@@ -267,35 +206,20 @@ fn put_row<O: Sink>(machine: &Machine, index: u16, out: &mut O) -> Result<(), Si
 
 // Puts the lines of the descriptors.
 fn put_rows<O: Sink>(machine: &Machine, out: &mut O) -> Result<(), SinkFail>
-    ensures whole { OnOk result (Gains (O.taken out.old) (O.taken out.new) (up_to (desc_row machine.now.world.descriptors) DESCRIPTORS)) }
-    ensures part { OnErr result (GainsPart (O.taken out.old) (O.taken out.new) (up_to (desc_row machine.now.world.descriptors) DESCRIPTORS)) }
-    ensures quiet { OnOk result (O.faults out.new ≡ O.faults out.old) }
-    ensures failed { OnErr result (Rose (O.faults out.old) (O.faults out.new)) }
+    ensures { Puts result O.taken O.faults out.old out.new (up_to (desc_row machine.now.world.descriptors) DESCRIPTORS) }
 {
     for index in 0..DESCRIPTORS as u16 {
-        match put_row(machine, index, out) {
-            Ok(()) => {}
-            Err(fail) => return Err(fail),
-        }
+        put_row(machine, index, out)?;
     }
     Ok(())
 }
 
 /// Puts the descriptors' part.
 pub fn put_descriptors<O: Sink>(machine: &Machine, out: &mut O) -> Result<(), SinkFail>
-    ensures whole { OnOk result (Gains (O.taken out.old) (O.taken out.new) (descs_part machine.now.world)) }
-    ensures part { OnErr result (GainsPart (O.taken out.old) (O.taken out.new) (descs_part machine.now.world)) }
-    ensures quiet { OnOk result (O.faults out.new ≡ O.faults out.old) }
-    ensures failed { OnErr result (Rose (O.faults out.old) (O.faults out.new)) }
+    ensures { Puts result O.taken O.faults out.old out.new (descs_part machine.now.world) }
 {
-    match put_descriptors_head(machine, out) {
-        Ok(()) => {}
-        Err(fail) => return Err(fail),
-    }
-    match put_rows(machine, out) {
-        Ok(()) => Ok(()),
-        Err(fail) => Err(fail),
-    }
+    put_descriptors_head(machine, out)?;
+    put_rows(machine, out)
 }
 
 // The line of the DOS megabyte.
@@ -307,10 +231,7 @@ fn dos_line_of(machine: &Machine) -> Line
 
 /// Puts the line of the DOS megabyte.
 pub fn put_dos<O: Sink>(machine: &Machine, out: &mut O) -> Result<(), SinkFail>
-    ensures whole { OnOk result (Gains (O.taken out.old) (O.taken out.new) (dos_line machine.now.world.dos)) }
-    ensures part { OnErr result (GainsPart (O.taken out.old) (O.taken out.new) (dos_line machine.now.world.dos)) }
-    ensures quiet { OnOk result (O.faults out.new ≡ O.faults out.old) }
-    ensures failed { OnErr result (Rose (O.faults out.old) (O.faults out.new)) }
+    ensures { Puts result O.taken O.faults out.old out.new (dos_line machine.now.world.dos) }
 {
     let line = dos_line_of(machine);
     put_all(out, line.as_slice())

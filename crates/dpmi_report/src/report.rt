@@ -1,7 +1,6 @@
 // The text, put in its order.
-ghost use Rattle.std.specs.Prelude.{◌≡◌, ◌++◌, OnOk, OnErr, Some, IsSome};
-ghost use Rattle.dpmi_io.specs.Causes.{Rose};
-ghost use Rattle.dpmi_io.specs.Content.{Gains, GainsPart};
+ghost use Rattle.std.specs.Prelude.{◌≡◌, ◌++◌, Some, IsSome};
+ghost use Rattle.dpmi_report.specs.Puts.{Puts};
 ghost use Rattle.dpmi_report.specs.Text.{memory_part, run_part, state_part, text, text_at};
 
 use crate::blocks::put_blocks;
@@ -15,77 +14,41 @@ use host_run::Host;
 /// Where it fails a first part of the text was written, and the output's count of faults rose. Source: own.
 pub fn write_run<O: Sink>(host: &Host, exit: Exit, out: &mut O) -> Result<(), SinkFail>
     requires { host.now.world.exit ≡ Some exit }
-    ensures whole { OnOk result (Gains (O.taken out.old) (O.taken out.new) (run_part host.now.world exit)) }
-    ensures part { OnErr result (GainsPart (O.taken out.old) (O.taken out.new) (run_part host.now.world exit)) }
-    ensures quiet { OnOk result (O.faults out.new ≡ O.faults out.old) }
-    ensures failed { OnErr result (Rose (O.faults out.old) (O.faults out.new)) }
+    ensures { Puts result O.taken O.faults out.old out.new (run_part host.now.world exit) }
 {
-    match put_console(host, out) {
-        Ok(()) => {}
-        Err(fail) => return Err(fail),
-    }
-    match put_trace(host, out) {
-        Ok(()) => {}
-        Err(fail) => return Err(fail),
-    }
-    match put_end(host, exit, out) {
-        Ok(()) => Ok(()),
-        Err(fail) => Err(fail),
-    }
+    put_console(host, out)?;
+    put_trace(host, out)?;
+    put_end(host, exit, out)
 }
 
 /// Writes the state of the processor and the descriptors. It takes no memory.
 /// Where it fails a first part of the text was written, and the output's count of faults rose. Source: own.
 pub fn write_state<O: Sink>(machine: &Machine, out: &mut O) -> Result<(), SinkFail>
-    ensures whole { OnOk result (Gains (O.taken out.old) (O.taken out.new) (state_part machine.now.world)) }
-    ensures part { OnErr result (GainsPart (O.taken out.old) (O.taken out.new) (state_part machine.now.world)) }
-    ensures quiet { OnOk result (O.faults out.new ≡ O.faults out.old) }
-    ensures failed { OnErr result (Rose (O.faults out.old) (O.faults out.new)) }
+    ensures { Puts result O.taken O.faults out.old out.new (state_part machine.now.world) }
 {
-    match put_processor(machine, out) {
-        Ok(()) => {}
-        Err(fail) => return Err(fail),
-    }
-    match put_descriptors(machine, out) {
-        Ok(()) => Ok(()),
-        Err(fail) => Err(fail),
-    }
+    put_processor(machine, out)?;
+    put_descriptors(machine, out)
 }
 
 /// Writes the memory blocks and the digest of the DOS megabyte. It takes no memory.
 /// Where it fails a first part of the text was written, and the output's count of faults rose. Source: own.
 pub fn write_memory<O: Sink>(machine: &Machine, out: &mut O) -> Result<(), SinkFail>
-    ensures whole { OnOk result (Gains (O.taken out.old) (O.taken out.new) (memory_part machine.now.world)) }
-    ensures part { OnErr result (GainsPart (O.taken out.old) (O.taken out.new) (memory_part machine.now.world)) }
-    ensures quiet { OnOk result (O.faults out.new ≡ O.faults out.old) }
-    ensures failed { OnErr result (Rose (O.faults out.old) (O.faults out.new)) }
+    ensures { Puts result O.taken O.faults out.old out.new (memory_part machine.now.world) }
 {
-    match put_blocks(machine, out) {
-        Ok(()) => {}
-        Err(fail) => return Err(fail),
-    }
-    match put_dos(machine, out) {
-        Ok(()) => Ok(()),
-        Err(fail) => Err(fail),
-    }
+    put_blocks(machine, out)?;
+    put_dos(machine, out)
 }
 
 // Writes the state that a run left.
 fn write_state_of<O: Sink>(host: &Host, out: &mut O) -> Result<(), SinkFail>
-    ensures whole { OnOk result (Gains (O.taken out.old) (O.taken out.new) (state_part host.now.world.machine)) }
-    ensures part { OnErr result (GainsPart (O.taken out.old) (O.taken out.new) (state_part host.now.world.machine)) }
-    ensures quiet { OnOk result (O.faults out.new ≡ O.faults out.old) }
-    ensures failed { OnErr result (Rose (O.faults out.old) (O.faults out.new)) }
+    ensures { Puts result O.taken O.faults out.old out.new (state_part host.now.world.machine) }
 {
     write_state(host.machine(), out)
 }
 
 // Writes the memory that a run left.
 fn write_memory_of<O: Sink>(host: &Host, out: &mut O) -> Result<(), SinkFail>
-    ensures whole { OnOk result (Gains (O.taken out.old) (O.taken out.new) (memory_part host.now.world.machine)) }
-    ensures part { OnErr result (GainsPart (O.taken out.old) (O.taken out.new) (memory_part host.now.world.machine)) }
-    ensures quiet { OnOk result (O.faults out.new ≡ O.faults out.old) }
-    ensures failed { OnErr result (Rose (O.faults out.old) (O.faults out.new)) }
+    ensures { Puts result O.taken O.faults out.old out.new (memory_part host.now.world.machine) }
 {
     write_memory(host.machine(), out)
 }
@@ -93,33 +56,18 @@ fn write_memory_of<O: Sink>(host: &Host, out: &mut O) -> Result<(), SinkFail>
 // Writes the text of a run that ended so.
 fn write_all_at<O: Sink>(host: &Host, exit: Exit, out: &mut O) -> Result<(), SinkFail>
     requires { host.now.world.exit ≡ Some exit }
-    ensures whole { OnOk result (Gains (O.taken out.old) (O.taken out.new) (text_at host.now.world exit)) }
-    ensures part { OnErr result (GainsPart (O.taken out.old) (O.taken out.new) (text_at host.now.world exit)) }
-    ensures quiet { OnOk result (O.faults out.new ≡ O.faults out.old) }
-    ensures failed { OnErr result (Rose (O.faults out.old) (O.faults out.new)) }
+    ensures { Puts result O.taken O.faults out.old out.new (text_at host.now.world exit) }
 {
-    match write_run(host, exit, out) {
-        Ok(()) => {}
-        Err(fail) => return Err(fail),
-    }
-    match write_state_of(host, out) {
-        Ok(()) => {}
-        Err(fail) => return Err(fail),
-    }
-    match write_memory_of(host, out) {
-        Ok(()) => Ok(()),
-        Err(fail) => Err(fail),
-    }
+    write_run(host, exit, out)?;
+    write_state_of(host, out)?;
+    write_memory_of(host, out)
 }
 
 /// Writes the text of a run that has ended: the console, the trace and the report. It takes no memory.
 /// Where it fails a first part of the text was written, and the output's count of faults rose. Source: own.
 pub fn write_all_of<O: Sink>(host: &Host, out: &mut O) -> Result<(), SinkFail>
     requires { IsSome host.now.world.exit }
-    ensures whole { OnOk result (Gains (O.taken out.old) (O.taken out.new) (text host.now.world)) }
-    ensures part { OnErr result (GainsPart (O.taken out.old) (O.taken out.new) (text host.now.world)) }
-    ensures quiet { OnOk result (O.faults out.new ≡ O.faults out.old) }
-    ensures failed { OnErr result (Rose (O.faults out.old) (O.faults out.new)) }
+    ensures { Puts result O.taken O.faults out.old out.new (text host.now.world) }
 {
     match host.exit() {
         Some(exit) => write_all_at(host, exit, out),

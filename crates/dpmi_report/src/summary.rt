@@ -1,9 +1,8 @@
 // The text of the run of a made client.
-ghost use Rattle.std.specs.Prelude.{◌≡◌, ◌≤◌, ◌++◌, OnOk, OnErr, IfSome, Some, cond, length, count_by, slice_get};
-ghost use Rattle.dpmi_io.specs.Causes.{Rose};
-ghost use Rattle.dpmi_io.specs.Content.{Gains, GainsPart};
+ghost use Rattle.std.specs.Prelude.{◌≡◌, ◌≤◌, ◌++◌, IfSome, Some, cond, length, count_by, slice_get};
 ghost use Rattle.sha2.specs.Sha256.{sha256};
 ghost use Rattle.dpmi_report.specs.Lines.{exit_part, dos_line};
+ghost use Rattle.dpmi_report.specs.Puts.{Puts};
 ghost use Rattle.dpmi_report.specs.Summary.{soak_head, is_service, is_refusal, services_line, console_line, summary_at};
 
 use crate::lines::{console_digest_line, services_line, soak_line};
@@ -92,10 +91,7 @@ fn console_line_of(host: &Host) -> Line
 
 // Puts the line of the number.
 fn put_soak<O: Sink>(number: u64, out: &mut O) -> Result<(), SinkFail>
-    ensures whole { OnOk result (Gains (O.taken out.old) (O.taken out.new) (soak_head number)) }
-    ensures part { OnErr result (GainsPart (O.taken out.old) (O.taken out.new) (soak_head number)) }
-    ensures quiet { OnOk result (O.faults out.new ≡ O.faults out.old) }
-    ensures failed { OnErr result (Rose (O.faults out.old) (O.faults out.new)) }
+    ensures { Puts result O.taken O.faults out.old out.new (soak_head number) }
 {
     let line = soak_line(number);
     put_all(out, line.as_slice())
@@ -103,10 +99,7 @@ fn put_soak<O: Sink>(number: u64, out: &mut O) -> Result<(), SinkFail>
 
 // Puts the line of the services.
 fn put_services<O: Sink>(host: &Host, out: &mut O) -> Result<(), SinkFail>
-    ensures whole { OnOk result (Gains (O.taken out.old) (O.taken out.new) (services_line host.now.world.kept)) }
-    ensures part { OnErr result (GainsPart (O.taken out.old) (O.taken out.new) (services_line host.now.world.kept)) }
-    ensures quiet { OnOk result (O.faults out.new ≡ O.faults out.old) }
-    ensures failed { OnErr result (Rose (O.faults out.old) (O.faults out.new)) }
+    ensures { Puts result O.taken O.faults out.old out.new (services_line host.now.world.kept) }
 {
     let line = services_line_of(host);
     put_all(out, line.as_slice())
@@ -114,10 +107,7 @@ fn put_services<O: Sink>(host: &Host, out: &mut O) -> Result<(), SinkFail>
 
 // Puts the line of the console.
 fn put_console_digest<O: Sink>(host: &Host, out: &mut O) -> Result<(), SinkFail>
-    ensures whole { OnOk result (Gains (O.taken out.old) (O.taken out.new) (console_line host.now.world.console)) }
-    ensures part { OnErr result (GainsPart (O.taken out.old) (O.taken out.new) (console_line host.now.world.console)) }
-    ensures quiet { OnOk result (O.faults out.new ≡ O.faults out.old) }
-    ensures failed { OnErr result (Rose (O.faults out.old) (O.faults out.new)) }
+    ensures { Puts result O.taken O.faults out.old out.new (console_line host.now.world.console) }
 {
     let line = console_line_of(host);
     put_all(out, line.as_slice())
@@ -125,50 +115,26 @@ fn put_console_digest<O: Sink>(host: &Host, out: &mut O) -> Result<(), SinkFail>
 
 // Puts the first three parts.
 fn put_counts<O: Sink>(number: u64, host: &Host, exit: Exit, out: &mut O) -> Result<(), SinkFail>
-    ensures whole { OnOk result (Gains (O.taken out.old) (O.taken out.new) ((soak_head number ++ exit_part exit host.now.world.steps) ++ services_line host.now.world.kept)) }
-    ensures part { OnErr result (GainsPart (O.taken out.old) (O.taken out.new) ((soak_head number ++ exit_part exit host.now.world.steps) ++ services_line host.now.world.kept)) }
-    ensures quiet { OnOk result (O.faults out.new ≡ O.faults out.old) }
-    ensures failed { OnErr result (Rose (O.faults out.old) (O.faults out.new)) }
+    ensures { Puts result O.taken O.faults out.old out.new ((soak_head number ++ exit_part exit host.now.world.steps) ++ services_line host.now.world.kept) }
 {
-    match put_soak(number, out) {
-        Ok(()) => {}
-        Err(fail) => return Err(fail),
-    }
-    match put_exit(host, exit, out) {
-        Ok(()) => {}
-        Err(fail) => return Err(fail),
-    }
-    match put_services(host, out) {
-        Ok(()) => Ok(()),
-        Err(fail) => Err(fail),
-    }
+    put_soak(number, out)?;
+    put_exit(host, exit, out)?;
+    put_services(host, out)
 }
 
 // Puts the line of the DOS megabyte.
 fn put_dos_of<O: Sink>(host: &Host, out: &mut O) -> Result<(), SinkFail>
-    ensures whole { OnOk result (Gains (O.taken out.old) (O.taken out.new) (dos_line host.now.world.machine.dos)) }
-    ensures part { OnErr result (GainsPart (O.taken out.old) (O.taken out.new) (dos_line host.now.world.machine.dos)) }
-    ensures quiet { OnOk result (O.faults out.new ≡ O.faults out.old) }
-    ensures failed { OnErr result (Rose (O.faults out.old) (O.faults out.new)) }
+    ensures { Puts result O.taken O.faults out.old out.new (dos_line host.now.world.machine.dos) }
 {
     put_dos(host.machine(), out)
 }
 
 // Puts the last two.
 fn put_digests<O: Sink>(host: &Host, out: &mut O) -> Result<(), SinkFail>
-    ensures whole { OnOk result (Gains (O.taken out.old) (O.taken out.new) (console_line host.now.world.console ++ dos_line host.now.world.machine.dos)) }
-    ensures part { OnErr result (GainsPart (O.taken out.old) (O.taken out.new) (console_line host.now.world.console ++ dos_line host.now.world.machine.dos)) }
-    ensures quiet { OnOk result (O.faults out.new ≡ O.faults out.old) }
-    ensures failed { OnErr result (Rose (O.faults out.old) (O.faults out.new)) }
+    ensures { Puts result O.taken O.faults out.old out.new (console_line host.now.world.console ++ dos_line host.now.world.machine.dos) }
 {
-    match put_console_digest(host, out) {
-        Ok(()) => {}
-        Err(fail) => return Err(fail),
-    }
-    match put_dos_of(host, out) {
-        Ok(()) => Ok(()),
-        Err(fail) => Err(fail),
-    }
+    put_console_digest(host, out)?;
+    put_dos_of(host, out)
 }
 
 /// Writes the summary of the run of the client that was made from a number, and that ended so. It takes no memory.
@@ -180,17 +146,8 @@ pub fn write_summary<O: Sink>(
     out: &mut O,
 ) -> Result<(), SinkFail>
     requires { host.now.world.exit ≡ Some exit }
-    ensures whole { OnOk result (Gains (O.taken out.old) (O.taken out.new) (summary_at number host.now.world exit)) }
-    ensures part { OnErr result (GainsPart (O.taken out.old) (O.taken out.new) (summary_at number host.now.world exit)) }
-    ensures quiet { OnOk result (O.faults out.new ≡ O.faults out.old) }
-    ensures failed { OnErr result (Rose (O.faults out.old) (O.faults out.new)) }
+    ensures { Puts result O.taken O.faults out.old out.new (summary_at number host.now.world exit) }
 {
-    match put_counts(number, host, exit, out) {
-        Ok(()) => {}
-        Err(fail) => return Err(fail),
-    }
-    match put_digests(host, out) {
-        Ok(()) => Ok(()),
-        Err(fail) => Err(fail),
-    }
+    put_counts(number, host, exit, out)?;
+    put_digests(host, out)
 }

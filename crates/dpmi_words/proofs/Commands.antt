@@ -1,21 +1,24 @@
 -- The command of some words takes the words that break no rule, and assigns the values that they give.
 use Rattle.std.proofs.Common.{◌≡◌, ◌∙◌, ◌||◌, Bool, cond, true, false, ℕ, refl, ap, List, [], ◌∷◌, map, true≢false, sym, inl, inr, subst}
-use Rattle.std.specs.Prelude.{IfSome, option_and_then, option_map, slice_get, find, Some, None, ◌⊎◌}
+use Rattle.std.specs.Prelude.{IfSome, option_and_then, option_map, slice_get, find, is_some, Some, None, ◌⊎◌}
 use Rattle.std.specs.declared.option.Option.{Option}
 use Rattle.std.specs.List.{fold, AllByRecursion}
 use Rattle.std.specs.Str.{bytes_eq}
 use Rattle.std.proofs.lemmas.Slice.Eq.{bytes_eq-Decides}
+use Rattle.std.proofs.Math.Path.{fun_ext}
+use Rattle.clap.specs.Matches.{first_value}
 use Rattle.clap.specs.Simple.{App, built, is_simple, matches_of}
 use Rattle.clap.specs.Takes.{takes, level_passes, walk_passes}
-use Rattle.clap.specs.Walk.{Rule, Row, Walk, Held, nothing_held, walk, walk_from, with_default, first_of, idle, has_row, rows_of}
+use Rattle.clap.specs.Walk.{Rule, Row, Walk, Held, arg_by_id, arg_by_long, nothing_held, walk, walk_from, with_default, first_of, idle, has_row, rows_of}
 use Rattle.clap.specs.Walk.{finished as rows_finished}
 use Rattle.clap.proofs.OnLiterals.{clap_on_literals}
 use Rattle.clap.proofs.TakesLemmas.{leaf_takes}
 use Rattle.clap.specs.declared.parser.matches.Found.{Found}
 use Rattle.clap.proofs.WalkLemmas.{first_value-rows}
-use Rattle.dpmi_words.specs.Reading.{Text, Reading, nothing_read, is_option_name, one_operand, pair_operands, reads, finished, finished_by, given_by, value_given, pair_options, run_options, soak_options}
+use Rattle.dpmi_words.specs.Options.{pair_options, run_options, soak_options}
+use Rattle.dpmi_words.specs.Reading.{Text, Reading, nothing_read, is_option_name, one_operand, pair_operands, reads, finished, finished_by, given_by, value_given}
 use Rattle.dpmi_words.specs.Command.{pair_app, run_app, soak_app, Assigns}
-use Rattle.dpmi_words.proofs.Walks.{Rules, Operands, Tied, Idle, row, walk_at, all_steps}
+use Rattle.dpmi_words.proofs.Walks.{Rules, built_option, Operands, Tied, Idle, row, walk_at, all_steps}
 
 -- ---- the command of `run`
 
@@ -31,15 +34,25 @@ each_name P (x ∷ xs) all n h = elim (or_true (bytes_eq x n) (is_option_name xs
   | inr later ↦ each_name P xs all.1 n later
 ]
 
+-- two lists that are equal member by member
+equal_each : {A B : Type 0} (f g : A → B) (xs : List A) → map f xs ≡ map g xs → AllByRecursion (λ x. f x ≡ g x) xs
+equal_each f g [] e = tt
+equal_each f g (x ∷ xs) e = let first : f x ≡ g x = cc in let rest : map f xs ≡ map g xs = cc in (first, equal_each f g xs rest)
+
+-- the rules of a command have each option's name
+has_rules : (names : List Text) (c : List Rule) → map (arg_by_long c) names ≡ map (λ n. Some (built_option n)) names →
+    map (arg_by_id c) names ≡ map (λ n. Some (built_option n)) names → Rules names c
+has_rules names c long by_id = record {
+  long = each_name _ names (equal_each (arg_by_long c) (λ n. Some (built_option n)) names long);
+  by_id = each_name _ names (equal_each (arg_by_id c) (λ n. Some (built_option n)) names by_id);
+}
+
 pub run_simple : is_simple run_app ≡ true
 unfolding clap_on_literals
 run_simple = refl
 
 run_rules : Rules run_options (built run_app).top.rules
-run_rules = record {
-  long = each_name _ run_options (refl, (refl, (refl, (refl, (refl, (refl, tt))))));
-  by_id = each_name _ run_options (refl, (refl, (refl, (refl, (refl, (refl, tt))))));
-}
+run_rules = has_rules run_options (built run_app).top.rules refl refl
 
 run_operands : Operands (built run_app).top.rules 1 one_operand
 run_operands = (refl, refl, tt)
@@ -51,10 +64,7 @@ unfolding clap_on_literals
 soak_simple = refl
 
 soak_rules : Rules soak_options (built soak_app).top.rules
-soak_rules = record {
-  long = each_name _ soak_options tt;
-  by_id = each_name _ soak_options tt;
-}
+soak_rules = has_rules soak_options (built soak_app).top.rules refl refl
 
 soak_operands : Operands (built soak_app).top.rules 1 one_operand
 soak_operands = (refl, refl, tt)
@@ -66,10 +76,7 @@ unfolding clap_on_literals
 pair_simple = refl
 
 pair_rules : Rules pair_options (built pair_app).top.rules
-pair_rules = record {
-  long = each_name _ pair_options (refl, (refl, (refl, (refl, tt))));
-  by_id = each_name _ pair_options (refl, (refl, (refl, (refl, tt))));
-}
+pair_rules = has_rules pair_options (built pair_app).top.rules refl refl
 
 pair_both : Operands (built pair_app).top.rules 1 pair_operands
 pair_both = (refl, refl, (refl, refl, tt))
@@ -94,9 +101,12 @@ no_default rows a none = rw none (same (has_row a.id rows))
     same true = refl
     same false = refl
 
-no_defaults : (c : List Rule) (rows : List Row) → AllByRecursion (λ a. a.defaults ≡ []) c → fold with_default rows c ≡ rows
+no_defaults : (c : List Rule) (rows : List Row) → map (λ a. a.defaults) c ≡ map (λ a. []) c → fold with_default rows c ≡ rows
 no_defaults [] rows none = refl
-no_defaults (a ∷ rest) rows none = rw (no_default rows a none.0) (no_defaults rest rows none.1)
+no_defaults (a ∷ rest) rows none =
+    let first : a.defaults ≡ [] = cc in
+    let others : map (λ (x : Rule). x.defaults) rest ≡ map (λ (x : Rule). []) rest = cc in
+    rw (no_default rows a first) (no_defaults rest rows others)
 
 -- where the walk over the words ends
 record Ends (app : App) (words : List Text) (given : List (Text × Text)) : Type 0 where
@@ -133,7 +143,7 @@ pub run_matches : (words : List Text) (given : List (Text × Text)) → given_by
 run_matches words given e =
     let ends = walk_ends run_options one_operand run_app run_rules run_operands refl words given e in
     ap (λ (w : Walk). rows_finished (built run_app).top.rules w.held) ends.is
-    ∙ no_defaults (built run_app).top.rules _ (refl, (refl, (refl, (refl, (refl, (refl, (refl, tt)))))))
+    ∙ no_defaults (built run_app).top.rules _ refl
     ∙ ends.idle_now.rows
 
 pub soak_takes : (words : List Text) (given : List (Text × Text)) → given_by soak_options one_operand words ≡ Some given → takes soak_app words ≡ true
@@ -146,7 +156,7 @@ pub soak_matches : (words : List Text) (given : List (Text × Text)) → given_b
 soak_matches words given e =
     let ends = walk_ends soak_options one_operand soak_app soak_rules soak_operands refl words given e in
     ap (λ (w : Walk). rows_finished (built soak_app).top.rules w.held) ends.is
-    ∙ no_defaults (built soak_app).top.rules _ (refl, tt)
+    ∙ no_defaults (built soak_app).top.rules _ refl
     ∙ ends.idle_now.rows
 
 pub pair_takes : (words : List Text) (given : List (Text × Text)) → given_by pair_options pair_operands words ≡ Some given → takes pair_app words ≡ true
@@ -159,7 +169,7 @@ pub pair_matches : (words : List Text) (given : List (Text × Text)) → given_b
 pair_matches words given e =
     let ends = walk_ends pair_options pair_operands pair_app pair_rules pair_both refl words given e in
     ap (λ (w : Walk). rows_finished (built pair_app).top.rules w.held) ends.is
-    ∙ no_defaults (built pair_app).top.rules _ (refl, (refl, (refl, (refl, (refl, (refl, tt))))))
+    ∙ no_defaults (built pair_app).top.rules _ refl
     ∙ ends.idle_now.rows
 
 -- the first value of a name in the rows
@@ -172,6 +182,13 @@ first_given name (p ∷ ps) = go (bytes_eq p.0 name) (first_given name ps)
         ≡ option_map (λ (q : Text × Text). q.1) (cond b (Some p) (find (λ (q : Text × Text). bytes_eq q.0 name) ps))
     go true h = refl
     go false h = h
+
+-- what is made of the values that were assigned is made of those that the words give
+pub of_assigned : {M : Type 0} (of_values : (Text → Option Text) → Option M) (o : Option (List (Text × Text))) (found : Found) →
+    is_some o ≡ true → IfSome o (λ given. Assigns given found) →
+    of_values (first_value found) ≡ option_and_then (λ given. of_values (λ name. value_given name given)) o
+of_assigned of_values None found some h = absurd (true≢false (sym some))
+of_assigned of_values (Some given) found some h = ap of_values (fun_ext h)
 
 -- each value that is given
 pub if_given : (o : Option (List (Text × Text))) (P : List (Text × Text) → Type 0) → ((given : List (Text × Text)) → o ≡ Some given → P given) → IfSome o P

@@ -1,6 +1,6 @@
 pub mod Commands
 pub mod EitherWay
+pub mod Hyphens
 pub mod InTurn
 pub mod Numbers
-pub mod Options
 pub mod Walks

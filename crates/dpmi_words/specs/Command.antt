@@ -5,7 +5,8 @@ use Rattle.clap.specs.Walk.{Rule}
 use Rattle.clap.specs.Matches.{first_value}
 use Rattle.clap.specs.declared.parser.matches.Found.{Found}
 use Rattle.clap.specs.Simple.{App, new_rule, new_shape, with_rule}
-use Rattle.dpmi_words.specs.Reading.{Text, one_operand, pair_operands, pair_options, run_options, soak_options, value_given}
+use Rattle.dpmi_words.specs.Options.{pair_options, run_options, soak_options}
+use Rattle.dpmi_words.specs.Reading.{Text, one_operand, pair_operands, value_given}
 
 -- an option with a value
 abbrev pub option_rule : Text → Rule

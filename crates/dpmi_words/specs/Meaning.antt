@@ -3,8 +3,9 @@ use Rattle.std.specs.Prelude.{ℕ, ◌-◌, ◌^◌, List, [], ◌∷◌, codes,
 use Rattle.std.specs.declared.option.Option.{Option}
 use Rattle.std.specs.Str.{bytes_eq}
 use Rattle.hex.specs.Hex.{decode_of}
-use Rattle.client_world.specs.declared.limits.TheConstants.{MAX_STEPS, DEFAULT_BOUND, MAX_PAGES, MAX_PAIR_PAGES, DEFAULT_PAGES, MAX_TRACE, DEFAULT_TRACE, MAX_SLICE, DEFAULT_SLICE, GREATEST_TIMER}
-use Rattle.dpmi_words.specs.Reading.{Text, operand_name, first_name, second_name, given_by, one_operand, pair_operands, pair_options, run_options, soak_options, value_given}
+use Rattle.dpmi_words.specs.Reading.{Text, operand_name, first_name, second_name, given_by, one_operand, pair_operands, value_given}
+use Rattle.dpmi_words.specs.Options as option
+use Rattle.dpmi_words.specs.Options.{OptionRow, pair_options, run_options, soak_options}
 use Rattle.dpmi_words.specs.Numbers.{number_if_given, number_in_text, number_or}
 use Rattle.dpmi_words.specs.declared.meaning.KeySource.{KeySource}
 use Rattle.dpmi_words.specs.declared.meaning.KeySource.TheVariants as source
@@ -12,6 +13,8 @@ use Rattle.dpmi_words.specs.declared.meaning.Pair.{Pair}
 use Rattle.dpmi_words.specs.declared.meaning.Run.{Run}
 use Rattle.dpmi_words.specs.declared.meaning.Words.{Words}
 use Rattle.dpmi_words.specs.declared.meaning.Words.TheVariants as words
+use Rattle.dpmi_words.specs.declared.options.ValueKind.{ValueKind}
+use Rattle.dpmi_words.specs.declared.options.ValueKind.TheVariants as kind
 
 -- where a run's keystrokes come from: these bytes, or the file of this name
 pub data Keys : Type 0 where
@@ -55,6 +58,23 @@ keys_of None (Some name) = Some (Stored name)
 keys_of (Some digits) None = pressed (decode_of digits)
 keys_of (Some digits) (Some name) = None
 
+-- the number of a text by the kind of its option: a number in the range, and the usual one where there is no text
+abbrev pub number_by : ValueKind → Option Text → Option ℕ
+number_by (kind.Number least most usual) text = number_or usual least most text
+number_by other text = None
+
+-- the same where the number may be left out
+abbrev pub optional_number_by : ValueKind → Option Text → Option (Option ℕ)
+optional_number_by (kind.OptionalNumber least most) text = number_if_given least most text
+optional_number_by other text = None
+
+-- the number of an option, by the value of each name
+abbrev pub number_of : OptionRow → (Text → Option Text) → Option ℕ
+number_of row value = number_by row.kind (value row.name)
+
+abbrev pub optional_number_of : OptionRow → (Text → Option Text) → Option (Option ℕ)
+optional_number_of row value = optional_number_by row.kind (value row.name)
+
 -- the run of these values
 abbrev pub run_with : Option Text → Option Keys → Option ℕ → Option ℕ → Option ℕ → Option (Option ℕ) → Option RunMeaning
 run_with file keys bound pages trace timer =
@@ -62,15 +82,14 @@ run_with file keys bound pages trace timer =
     option_and_then (λ t. option_map (λ every. record { file = f; keys = k; bound = b; pages = p; trace = t; timer = every }) timer) trace) pages) bound)
     keys) file
 
--- the run of the value of each name, each number in its range
+-- the run of a file and keystrokes, with the numbers of its options
+abbrev pub run_of_numbers : Option Text → Option Keys → (Text → Option Text) → Option RunMeaning
+run_of_numbers file keys value =
+    run_with file keys (number_of option.bound value) (number_of option.pages value) (number_of option.trace value) (optional_number_of option.timer value)
+
+-- the run of the value of each name
 abbrev pub run_of_values : (Text → Option Text) → Option RunMeaning
-run_of_values value = run_with
-    (value operand_name)
-    (keys_of (value (codes "keys")) (value (codes "keys-file")))
-    (number_or DEFAULT_BOUND 1 MAX_STEPS (value (codes "bound")))
-    (number_or DEFAULT_PAGES 1 MAX_PAGES (value (codes "pages")))
-    (number_or DEFAULT_TRACE 0 MAX_TRACE (value (codes "trace")))
-    (number_if_given 1 GREATEST_TIMER (value (codes "timer")))
+run_of_values value = run_of_numbers (value operand_name) (keys_of (value option.keys.name) (value option.keys_file.name)) value
 
 -- the number of the made client: any number of 64 bits
 abbrev pub soak_of_values : (Text → Option Text) → Option ℕ
@@ -82,15 +101,15 @@ pair_with first second slice bound pages_a pages_b =
     option_and_then (λ f. option_and_then (λ g. option_and_then (λ s. option_and_then (λ b. option_and_then (λ p.
     option_map (λ q. record { first = f; second = g; slice = s; bound = b; pages_a = p; pages_b = q }) pages_b) pages_a) bound) slice) second) first
 
--- the pair of the value of each name, each number in its range
+-- the pair of the value of each name
 abbrev pub pair_of_values : (Text → Option Text) → Option PairMeaning
 pair_of_values value = pair_with
     (value first_name)
     (value second_name)
-    (number_or DEFAULT_SLICE 1 MAX_SLICE (value (codes "slice")))
-    (number_or DEFAULT_BOUND 1 MAX_STEPS (value (codes "bound")))
-    (number_or DEFAULT_PAGES 1 MAX_PAIR_PAGES (value (codes "pages-a")))
-    (number_or DEFAULT_PAGES 1 MAX_PAIR_PAGES (value (codes "pages-b")))
+    (number_of option.slice value)
+    (number_of option.bound value)
+    (number_of option.pages_a value)
+    (number_of option.pages_b value)
 
 -- the words after `run`, after `soak` and after `pair`
 abbrev pub run_meaning : List Text → Option RunMeaning

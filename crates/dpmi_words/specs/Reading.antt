@@ -20,6 +20,13 @@ first_name = codes "first"
 abbrev pub second_name : Text
 second_name = codes "second"
 
+-- `run` and `soak` have one operand, and `pair` has two
+abbrev pub one_operand : List Text
+one_operand = operand_name ∷ []
+
+abbrev pub pair_operands : List Text
+pair_operands = first_name ∷ second_name ∷ []
+
 -- what the words so far gave: the option that waits for its value, the operands that are still to come, and each value with its name
 pub record Reading : Type 0 where
   pub waiting : Option Text
@@ -125,22 +132,3 @@ given_by names operands words = option_and_then finished (reads names words (not
 -- the value of a name
 abbrev pub value_given : Text → List (Text × Text) → Option Text
 value_given name given = option_map (λ p. p.1) (find (λ p. bytes_eq p.0 name) given)
-
--- the options of `run`
-abbrev pub run_options : List Text
-run_options = codes "keys" ∷ codes "keys-file" ∷ codes "bound" ∷ codes "pages" ∷ codes "trace" ∷ codes "timer" ∷ []
-
--- `soak` has none
-abbrev pub soak_options : List Text
-soak_options = []
-
--- each has one operand
-abbrev pub one_operand : List Text
-one_operand = operand_name ∷ []
-
--- the options and the operands of `pair`
-abbrev pub pair_options : List Text
-pair_options = codes "slice" ∷ codes "bound" ∷ codes "pages-a" ∷ codes "pages-b" ∷ []
-
-abbrev pub pair_operands : List Text
-pair_operands = first_name ∷ second_name ∷ []

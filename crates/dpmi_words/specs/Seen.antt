@@ -4,6 +4,7 @@ use Rattle.std.specs.Borrow.{Bor}
 use Rattle.dpmi_words.specs.Reading.{Reading, Text}
 use Rattle.dpmi_words.specs.declared.check.Given.{Given}
 use Rattle.dpmi_words.specs.declared.check.Seen.{Seen}
+use Rattle.dpmi_words.specs.declared.options.CommandOption.{CommandOption}
 
 -- the values with their names
 abbrev pub pairs : List Given → List (Text × Text)
@@ -12,6 +13,10 @@ pairs = map (λ g. (g.name.now, g.value.now))
 -- the texts that are lent
 abbrev pub texts : List (Bor Text) → List Text
 texts = map (λ s. s.now)
+
+-- the names of the options
+abbrev pub names_of : List CommandOption → List Text
+names_of = map (λ o. o.name.now)
 
 -- the reading
 abbrev pub reading_of : Seen → Reading

@@ -15,8 +15,9 @@ ghost use Rattle.dpmi_words.specs.Reading.{
   finished,
   given_by,
 };
-ghost use Rattle.dpmi_words.specs.Seen.{pairs, reading_of, texts};
+ghost use Rattle.dpmi_words.specs.Seen.{names_of, pairs, reading_of, texts};
 
+use crate::options::CommandOption;
 use std::alloc::{AllocError, Global};
 
 /// The name under which the operand of `run` and `soak`, FILE or N, is kept.
@@ -27,12 +28,6 @@ pub const ONE_OPERAND: [&str; 1] = [OPERAND];
 
 /// The operands of `pair`.
 pub const PAIR_OPERANDS: [&str; 2] = ["first", "second"];
-
-/// The options of `run`.
-pub const RUN_OPTIONS: [&str; 6] = ["keys", "keys-file", "bound", "pages", "trace", "timer"];
-
-/// The options of `pair`.
-pub const PAIR_OPTIONS: [&str; 4] = ["slice", "bound", "pages-a", "pages-b"];
 
 /// A value with its name.
 #[derive(Drop)]
@@ -61,12 +56,12 @@ fn has(given: &[Given<'_>], name: &str) -> bool
     false
 }
 
-// Whether the name is one of these.
-fn is_option_name(names: &[&str], name: &str) -> bool
-    ensures { result ≡ is_option_name (texts names.now) name.now }
+// Whether the name is that of one of these options.
+fn is_option_name(options: &[CommandOption], name: &str) -> bool
+    ensures { result ≡ is_option_name (names_of options.now) name.now }
 {
-    for n in names {
-        if *n == name {
+    for option in options {
+        if option.name == name {
             return true;
         }
     }
@@ -122,14 +117,18 @@ fn give<'a>(seen: &mut Seen<'a>, name: &'a str, value: &'a str) -> Result<bool, 
 }
 
 // Takes an option, with its value or without. Returns whether it did.
-fn take_option<'a>(seen: &mut Seen<'a>, names: &[&str], word: &'a str) -> Result<bool, AllocError>
+fn take_option<'a>(
+    seen: &mut Seen<'a>,
+    options: &[CommandOption],
+    word: &'a str,
+) -> Result<bool, AllocError>
     ensures { IfOk result (λ is_taken.
-        option_word (texts names.now) (option_of word.now) (reading_of seen.old) ≡ cond is_taken (Some (reading_of seen.new)) None) }
+        option_word (names_of options.now) (option_of word.now) (reading_of seen.old) ≡ cond is_taken (Some (reading_of seen.new)) None) }
 {
     let Some((name, value)) = split_option(word) else {
         return Ok(false);
     };
-    if !is_option_name(names, name) || has(seen.given.as_slice(), name) {
+    if !is_option_name(options, name) || has(seen.given.as_slice(), name) {
         return Ok(false);
     }
     match value {
@@ -154,9 +153,13 @@ fn take_operand<'a>(seen: &mut Seen<'a>, word: &'a str) -> Result<bool, AllocErr
 }
 
 // Takes one word. Returns whether it did.
-fn take_word<'a>(seen: &mut Seen<'a>, names: &[&str], word: &'a str) -> Result<bool, AllocError>
+fn take_word<'a>(
+    seen: &mut Seen<'a>,
+    options: &[CommandOption],
+    word: &'a str,
+) -> Result<bool, AllocError>
     ensures { IfOk result (λ is_taken.
-        step (texts names.now) word.now (reading_of seen.old) ≡ cond is_taken (Some (reading_of seen.new)) None) }
+        step (names_of options.now) word.now (reading_of seen.old) ≡ cond is_taken (Some (reading_of seen.new)) None) }
 {
     let is_option = begins_with_hyphen(word);
     match seen.waiting {
@@ -168,7 +171,7 @@ fn take_word<'a>(seen: &mut Seen<'a>, names: &[&str], word: &'a str) -> Result<b
         }
         None => {
             if is_option {
-                return take_option(seen, names, word);
+                return take_option(seen, options, word);
             }
             take_operand(seen, word)
         }
@@ -182,16 +185,16 @@ fn is_finished(seen: &Seen<'_>) -> bool
     seen.waiting.is_none() && seen.left.is_empty()
 }
 
-/// Whether the words give values as the rules ask, where the options and the operands have these names.
+/// Whether the words give values as the rules ask, where these are the options, and the operands have these names.
 /// Fails where memory is out.
 #[tactic(auto, using(crate::proofs::InTurn::reads_none, crate::proofs::InTurn::reads_more))]
 pub fn passes<'a>(
     alloc: Global,
-    names: &[&str],
+    options: &[CommandOption],
     operands: &'a [&'a str],
     words: &'a [String],
 ) -> Result<bool, AllocError>
-    ensures { IfOk result (λ passes. passes ≡ is_some (given_by (texts names.now) (texts operands.now) (map string_bytes words.now))) }
+    ensures { IfOk result (λ passes. passes ≡ is_some (given_by (names_of options.now) (texts operands.now) (map string_bytes words.now))) }
 {
     let mut seen = Seen {
         waiting: None,
@@ -199,7 +202,7 @@ pub fn passes<'a>(
         given: Vec::new(alloc),
     };
     for word in words {
-        if !take_word(&mut seen, names, word.as_str())? {
+        if !take_word(&mut seen, options, word.as_str())? {
             return Ok(false);
         }
     }

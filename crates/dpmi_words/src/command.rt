@@ -5,11 +5,13 @@ ghost use Rattle.clap.specs.Simple.{app_of, new_rule, with_rule};
 ghost use Rattle.clap.specs.Walk.{rule_of};
 ghost use Rattle.clap.specs.Values.{kind_of};
 ghost use Rattle.clap.specs.Matches.{found_of};
-ghost use Rattle.dpmi_words.specs.Reading.{given_by, one_operand, pair_operands, pair_options, run_options, soak_options};
+ghost use Rattle.dpmi_words.specs.Options.{pair_options, run_options, soak_options};
+ghost use Rattle.dpmi_words.specs.Reading.{given_by, one_operand, pair_operands};
 ghost use Rattle.dpmi_words.specs.Command.{command_app, quiet_app, option_rule, Assigns};
-ghost use Rattle.dpmi_words.specs.Seen.{texts};
+ghost use Rattle.dpmi_words.specs.Seen.{names_of, texts};
 
-use crate::check::{ONE_OPERAND, PAIR_OPERANDS, PAIR_OPTIONS, RUN_OPTIONS};
+use crate::check::{ONE_OPERAND, PAIR_OPERANDS};
+use crate::options::{CommandOption, pair_options, run_options, soak_options};
 use clap::error::ErrorKind;
 use clap::{Arg, ArgMatches, Command, Error};
 use std::alloc::{AllocError, Global};
@@ -51,14 +53,14 @@ fn with<'a>(command: Command<'a>, arg: Arg<'a>) -> Result<Command<'a>, AllocErro
 fn command_of<'a>(
     alloc: Global,
     name: &'a str,
-    options: &[&'a str],
+    options: &[CommandOption],
     operands: &[&'a str],
 ) -> Result<Command<'a>, AllocError>
-    ensures { IfOk result (λ command. app_of command ≡ command_app name.now (texts options.now) (texts operands.now)) }
+    ensures { IfOk result (λ command. app_of command ≡ command_app name.now (names_of options.now) (texts operands.now)) }
 {
     let mut command = quiet(alloc, name);
-    for option_name in options {
-        command = with(command, option(alloc, *option_name))?;
+    for row in options {
+        command = with(command, option(alloc, row.name))?;
     }
     for operand_name in operands {
         command = with(command, positional(alloc, *operand_name))?;
@@ -73,7 +75,7 @@ pub fn assign_run<'a>(alloc: Global, words: &'a [String]) -> Result<ArgMatches<'
     ensures memory { IfSome (given_by run_options one_operand (map string_bytes words.now)) (λ given.
         IfErr result (λ e. kind_of e ≡ ErrorKind.OutOfMemory)) }
 {
-    let command = command_of(alloc, "run", &RUN_OPTIONS, &ONE_OPERAND)?;
+    let command = command_of(alloc, "run", &run_options(), &ONE_OPERAND)?;
     command.try_get_matches_from(words)
 }
 
@@ -84,7 +86,7 @@ pub fn assign_soak<'a>(alloc: Global, words: &'a [String]) -> Result<ArgMatches<
     ensures memory { IfSome (given_by soak_options one_operand (map string_bytes words.now)) (λ given.
         IfErr result (λ e. kind_of e ≡ ErrorKind.OutOfMemory)) }
 {
-    let command = command_of(alloc, "soak", &[], &ONE_OPERAND)?;
+    let command = command_of(alloc, "soak", &soak_options(), &ONE_OPERAND)?;
     command.try_get_matches_from(words)
 }
 
@@ -95,6 +97,6 @@ pub fn assign_pair<'a>(alloc: Global, words: &'a [String]) -> Result<ArgMatches<
     ensures memory { IfSome (given_by pair_options pair_operands (map string_bytes words.now)) (λ given.
         IfErr result (λ e. kind_of e ≡ ErrorKind.OutOfMemory)) }
 {
-    let command = command_of(alloc, "pair", &PAIR_OPTIONS, &PAIR_OPERANDS)?;
+    let command = command_of(alloc, "pair", &pair_options(), &PAIR_OPERANDS)?;
     command.try_get_matches_from(words)
 }

@@ -1,10 +1,13 @@
 // What the words after the program's name mean.
-ghost use Rattle.std.specs.Prelude.{◌≡◌, IfOk, map, option_map};
+ghost use Rattle.std.specs.Prelude.{◌≡◌, IfOk, map, option_map, Some};
 ghost use Rattle.std.specs.String.{string_bytes};
 ghost use Rattle.clap.specs.Matches.{found_of, first_value};
 ghost use Rattle.dpmi_words.specs.Meaning.{
   keys_of,
   keys_in,
+  number_of,
+  optional_number_of,
+  run_of_numbers,
   run_of_values,
   soak_of_values,
   pair_of_values,
@@ -16,15 +19,16 @@ ghost use Rattle.dpmi_words.specs.Meaning.{
   meaning,
   meaning_in,
 };
+ghost use Rattle.dpmi_words.specs.Options.{row_of};
 
-use crate::check::{ONE_OPERAND, OPERAND, PAIR_OPERANDS, PAIR_OPTIONS, RUN_OPTIONS, passes};
+use crate::check::{ONE_OPERAND, OPERAND, PAIR_OPERANDS, passes};
 use crate::command::{assign_pair, assign_run, assign_soak};
 use crate::number::{number_if_given, optional_number, seed};
-use clap::ArgMatches;
-use client_world::limits::{
-    DEFAULT_BOUND, DEFAULT_PAGES, DEFAULT_SLICE, DEFAULT_TRACE, GREATEST_TIMER, MAX_PAGES,
-    MAX_PAIR_PAGES, MAX_SLICE, MAX_STEPS, MAX_TRACE,
+use crate::options::{
+    BOUND, CommandOption, KEYS, KEYS_FILE, PAGES, PAGES_A, PAGES_B, SLICE, TIMER, TRACE, ValueKind,
+    pair_options, run_options, soak_options,
 };
+use clap::ArgMatches;
 use hex::FromHexError;
 use std::alloc::{AllocError, Global};
 
@@ -103,6 +107,42 @@ fn read_keys<'a>(
     }
 }
 
+// The number of an option, by the values that were assigned.
+fn number_of(values: &ArgMatches<'_>, option: CommandOption) -> Option<u32>
+    ensures { result ≡ number_of (row_of option) (first_value (found_of values.now)) }
+{
+    let text = values.get_str(option.name);
+    match option.kind {
+        ValueKind::Number(least, most, usual) => optional_number(text, usual, least, most),
+        _ => None,
+    }
+}
+
+// The number of an option that may be left out.
+fn optional_number_of(values: &ArgMatches<'_>, option: CommandOption) -> Option<Option<u32>>
+    ensures { result ≡ optional_number_of (row_of option) (first_value (found_of values.now)) }
+{
+    let text = values.get_str(option.name);
+    match option.kind {
+        ValueKind::OptionalNumber(least, most) => number_if_given(text, least, most),
+        _ => None,
+    }
+}
+
+// The run of a file with these keystrokes, and the numbers that were assigned.
+fn run_with<'a>(values: &ArgMatches<'a>, file: &'a str, keys: KeySource<'a>) -> Option<Run<'a>>
+    ensures { option_map run_in result ≡ run_of_numbers (Some file.now) (Some (keys_in keys.entry)) (first_value (found_of values.now)) }
+{
+    Some(Run {
+        file,
+        keys,
+        bound: number_of(values, BOUND)?,
+        pages: number_of(values, PAGES)?,
+        trace: number_of(values, TRACE)?,
+        timer: optional_number_of(values, TIMER)?,
+    })
+}
+
 // The run of the values that were assigned.
 fn run_of<'a>(alloc: Global, values: &ArgMatches<'a>) -> Result<Option<Run<'a>>, AllocError>
     ensures { IfOk result (λ r. option_map run_in r ≡ run_of_values (first_value (found_of values.now))) }
@@ -110,29 +150,11 @@ fn run_of<'a>(alloc: Global, values: &ArgMatches<'a>) -> Result<Option<Run<'a>>,
     let Some(file) = values.get_str(OPERAND) else {
         return Ok(None);
     };
-    let Some(keys) = read_keys(alloc, values.get_str("keys"), values.get_str("keys-file"))? else {
+    let (hex, name) = (values.get_str(KEYS.name), values.get_str(KEYS_FILE.name));
+    let Some(keys) = read_keys(alloc, hex, name)? else {
         return Ok(None);
     };
-    let Some(bound) = optional_number(values.get_str("bound"), DEFAULT_BOUND, 1, MAX_STEPS) else {
-        return Ok(None);
-    };
-    let Some(pages) = optional_number(values.get_str("pages"), DEFAULT_PAGES, 1, MAX_PAGES) else {
-        return Ok(None);
-    };
-    let Some(trace) = optional_number(values.get_str("trace"), DEFAULT_TRACE, 0, MAX_TRACE) else {
-        return Ok(None);
-    };
-    let Some(timer) = number_if_given(values.get_str("timer"), 1, GREATEST_TIMER) else {
-        return Ok(None);
-    };
-    Ok(Some(Run {
-        file,
-        keys,
-        bound,
-        pages,
-        trace,
-        timer,
-    }))
+    Ok(run_with(values, file, keys))
 }
 
 // The number of the values that were assigned.
@@ -153,10 +175,10 @@ fn pair_of<'a>(values: &ArgMatches<'a>) -> Option<Pair<'a>>
     Some(Pair {
         first: values.get_str(first_name)?,
         second: values.get_str(second_name)?,
-        slice: optional_number(values.get_str("slice"), DEFAULT_SLICE, 1, MAX_SLICE)?,
-        bound: optional_number(values.get_str("bound"), DEFAULT_BOUND, 1, MAX_STEPS)?,
-        pages_a: optional_number(values.get_str("pages-a"), DEFAULT_PAGES, 1, MAX_PAIR_PAGES)?,
-        pages_b: optional_number(values.get_str("pages-b"), DEFAULT_PAGES, 1, MAX_PAIR_PAGES)?,
+        slice: number_of(values, SLICE)?,
+        bound: number_of(values, BOUND)?,
+        pages_a: number_of(values, PAGES_A)?,
+        pages_b: number_of(values, PAGES_B)?,
     })
 }
 
@@ -164,7 +186,7 @@ fn pair_of<'a>(values: &ArgMatches<'a>) -> Option<Pair<'a>>
 fn read_run<'a>(alloc: Global, words: &'a [String]) -> Result<Option<Run<'a>>, AllocError>
     ensures { IfOk result (λ r. option_map run_in r ≡ run_meaning (map string_bytes words.now)) }
 {
-    if !passes(alloc, &RUN_OPTIONS, &ONE_OPERAND, words)? {
+    if !passes(alloc, &run_options(), &ONE_OPERAND, words)? {
         return Ok(None);
     }
     match assign_run(alloc, words) {
@@ -177,7 +199,7 @@ fn read_run<'a>(alloc: Global, words: &'a [String]) -> Result<Option<Run<'a>>, A
 fn read_soak(alloc: Global, words: &[String]) -> Result<Option<u64>, AllocError>
     ensures { IfOk result (λ r. r ≡ soak_meaning (map string_bytes words.now)) }
 {
-    if !passes(alloc, &[], &ONE_OPERAND, words)? {
+    if !passes(alloc, &soak_options(), &ONE_OPERAND, words)? {
         return Ok(None);
     }
     match assign_soak(alloc, words) {
@@ -190,7 +212,7 @@ fn read_soak(alloc: Global, words: &[String]) -> Result<Option<u64>, AllocError>
 fn read_pair<'a>(alloc: Global, words: &'a [String]) -> Result<Option<Pair<'a>>, AllocError>
     ensures { IfOk result (λ r. option_map pair_in r ≡ pair_meaning (map string_bytes words.now)) }
 {
-    if !passes(alloc, &PAIR_OPTIONS, &PAIR_OPERANDS, words)? {
+    if !passes(alloc, &pair_options(), &PAIR_OPERANDS, words)? {
         return Ok(None);
     }
     match assign_pair(alloc, words) {
@@ -199,9 +221,8 @@ fn read_pair<'a>(alloc: Global, words: &'a [String]) -> Result<Option<Pair<'a>>,
     }
 }
 
-/// Reads the words after the program's name: `run FILE` with `--keys HEX`, `--keys-file NAME`, `--bound N`, `--pages N`, `--trace N` and
-/// `--timer N`; `soak N`; or `pair A B` with `--slice N`, `--bound N`, `--pages-a N` and `--pages-b N`. Returns `None` exactly where they mean
-/// nothing.
+/// Reads the words after the program's name: `run FILE`, `soak N` or `pair A B`, each with its options (`src/options.rt`). Returns `None`
+/// exactly where they mean nothing.
 /// Fails where memory is out. Source: own.
 pub fn read_words<'a>(alloc: Global, words: &'a [String]) -> Result<Option<Words<'a>>, AllocError>
     ensures { IfOk result (λ r. option_map meaning_in r ≡ meaning (map string_bytes words.now)) }

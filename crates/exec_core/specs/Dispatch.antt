@@ -1,5 +1,5 @@
 -- The operations of this crate, and what each of them does.
-use Rattle.std.specs.Prelude.{◌≡◌, ℕ, Bool, true, false, ◌&&◌}
+use Rattle.std.specs.Prelude.{◌≡◌, ℕ, Bool, true}
 use Rattle.client_world.specs.World.{World}
 use Rattle.cpu_alu.specs.Sums.{add_of, adc_of, sub_of, sbb_of, inc_of, dec_of, neg_of}
 use Rattle.cpu_alu.specs.Logic.{and_of, or_of, xor_of, not_of}
@@ -12,7 +12,7 @@ use Rattle.insn_forms.specs.declared.insn.Insn.{Insn}
 use Rattle.insn_forms.specs.declared.insn.Op.{Op}
 use Rattle.insn_forms.specs.declared.insn.Op.TheVariants as ops
 use Rattle.insn_forms.specs.declared.insn.Operand.{Operand}
-use Rattle.insn_forms.specs.declared.insn.Operand.TheVariants.{Seg}
+use Rattle.insn_forms.specs.Kinds.{is_of_core, operation}
 use Rattle.insn_plan.specs.Act.{Act, done, unchanged}
 use Rattle.exec_core.specs.Arithmetic.{binary, compare, unary}
 use Rattle.exec_core.specs.Bits.{setcc, bit_test, bit_change, bit_set, bit_reset, bit_complement, bit_scan, lowest_bit, highest_bit}
@@ -24,78 +24,10 @@ use Rattle.exec_core.specs.Shifts.{shift, shift_in}
 use Rattle.exec_core.specs.Stacks.{push, pop, pusha, popa}
 use Rattle.exec_core.specs.Strings.{movs, cmps, stos, lods, scas}
 
--- the operand isn't a segment register: those are loaded and stored by exec_flow
-abbrev pub is_no_segment : Operand → Bool
-is_no_segment (Seg seg) = false
-is_no_segment _ = true
-
--- the instruction is one of this crate
+-- the instruction is one of this crate, by the table of operations
 unfoldable pub is_core : Op → Operand → Operand → Bool
-is_core ops.Add first second = true
-is_core ops.Or first second = true
-is_core ops.Adc first second = true
-is_core ops.Sbb first second = true
-is_core ops.And first second = true
-is_core ops.Sub first second = true
-is_core ops.Xor first second = true
-is_core ops.Cmp first second = true
-is_core ops.Test first second = true
-is_core ops.Inc first second = true
-is_core ops.Dec first second = true
-is_core ops.Not first second = true
-is_core ops.Neg first second = true
-is_core ops.Mul first second = true
-is_core ops.Imul first second = true
-is_core ops.Div first second = true
-is_core ops.Idiv first second = true
-is_core ops.Daa first second = true
-is_core ops.Das first second = true
-is_core ops.Aaa first second = true
-is_core ops.Aas first second = true
-is_core ops.Aam first second = true
-is_core ops.Aad first second = true
-is_core ops.Rol first second = true
-is_core ops.Ror first second = true
-is_core ops.Rcl first second = true
-is_core ops.Rcr first second = true
-is_core ops.Shl first second = true
-is_core ops.Shr first second = true
-is_core ops.Sar first second = true
-is_core ops.Shld first second = true
-is_core ops.Shrd first second = true
-is_core ops.Bt first second = true
-is_core ops.Bts first second = true
-is_core ops.Btr first second = true
-is_core ops.Btc first second = true
-is_core ops.Bsf first second = true
-is_core ops.Bsr first second = true
-is_core (ops.Setcc n) first second = true
-is_core ops.Mov first second = is_no_segment first && is_no_segment second
-is_core (ops.Movzx n) first second = true
-is_core (ops.Movsx n) first second = true
-is_core ops.Xchg first second = true
-is_core ops.Lea first second = true
-is_core ops.Xlat first second = true
-is_core ops.Cbw first second = true
-is_core ops.Cwd first second = true
-is_core ops.Lahf first second = true
-is_core ops.Sahf first second = true
-is_core ops.Push first second = is_no_segment first
-is_core ops.Pop first second = is_no_segment first
-is_core ops.Pusha first second = true
-is_core ops.Popa first second = true
-is_core ops.Movs first second = true
-is_core ops.Cmps first second = true
-is_core ops.Stos first second = true
-is_core ops.Lods first second = true
-is_core ops.Scas first second = true
-is_core ops.Clc first second = true
-is_core ops.Stc first second = true
-is_core ops.Cmc first second = true
-is_core ops.Cld first second = true
-is_core ops.Std first second = true
-is_core ops.Wait first second = true
-is_core _ first second = false
+unfolding operation
+is_core op first second = is_of_core (operation op).owner first second
 
 abbrev pub IsCore : Insn → Type 0
 IsCore i = is_core i.op i.first i.second ≡ true

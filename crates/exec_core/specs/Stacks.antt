@@ -6,30 +6,30 @@ use Rattle.insn_forms.specs.declared.insn.Insn.{Insn}
 use Rattle.insn_plan.specs.Act.{Act, ◌>>=◌, Pending, done, unchanged, with_regs}
 use Rattle.insn_plan.specs.Operands.{source, put_operand}
 use Rattle.insn_plan.specs.Registers.{register, with_register}
-use Rattle.insn_plan.specs.Stack.{pushed, stack_item, items_popped}
+use Rattle.insn_plan.specs.Stack.{with_pushed_number, stack_item, regs_after_pops}
 
 -- PUSH: the operand's value, (E)SP's from before
 unfoldable pub push : World → Insn → Act
 push w i = do
   v ← source w.regs i.addr32 i.width i.first
-  done (pushed w i.width v (unchanged w))
+  done (with_pushed_number w i.width v (unchanged w))
 
 -- POP: the address of a destination in memory is taken after the stack pointer went up
 unfoldable pub pop : World → Insn → Act
 pop w i = do
   v ← stack_item w i.width 0
-  let r = items_popped w i.width 1 w.regs
+  let r = regs_after_pops w i.width 1 w.regs
   done (put_operand r i.addr32 i.width i.first v (with_regs r (unchanged w)))
 
 -- a general register pushed, with the value from before
-abbrev pub register_pushed : World → ℕ → ℕ → Pending → Pending
-register_pushed w width n p = pushed w width (register w.regs width n) p
+abbrev pub with_pushed_register : World → ℕ → ℕ → Pending → Pending
+with_pushed_register w width n p = with_pushed_number w width (register w.regs width n) p
 
 -- PUSHA: (E)AX first, (E)DI last
 unfoldable pub pusha : World → Insn → Act
 pusha w i = done
-    (register_pushed w i.width 7 (register_pushed w i.width 6 (register_pushed w i.width 5 (register_pushed w i.width 4
-    (register_pushed w i.width 3 (register_pushed w i.width 2 (register_pushed w i.width 1 (register_pushed w i.width 0
+    (with_pushed_register w i.width 7 (with_pushed_register w i.width 6 (with_pushed_register w i.width 5 (with_pushed_register w i.width 4
+    (with_pushed_register w i.width 3 (with_pushed_register w i.width 2 (with_pushed_register w i.width 1 (with_pushed_register w i.width 0
     (unchanged w)))))))))
 
 -- POPA: (E)DI first, (E)AX last; the item of (E)SP is passed over
@@ -44,6 +44,6 @@ popa w i = do
   ax ← stack_item w i.width 7
   done (with_regs
       (with_register (with_register (with_register (with_register (with_register (with_register (with_register
-      (items_popped w i.width 8 w.regs)
+      (regs_after_pops w i.width 8 w.regs)
       i.width 7 di) i.width 6 si) i.width 5 bp) i.width 3 bx) i.width 2 dx) i.width 1 cx) i.width 0 ax)
       (unchanged w))

@@ -16,7 +16,7 @@ use cpu_alu::sub;
 use cpu_values::cut;
 use guest_space::Machine;
 use insn_forms::{Insn, MemForm, Operand};
-use insn_plan::{Raised, offset_of, put_register, source, write_number};
+use insn_plan::{Raised, at_hand, offset_of, put_register, source, write_number};
 
 // A function of an operation, at a width of 8, 16 or 32 bits.
 macro_rules! at_width {
@@ -69,10 +69,10 @@ fn write_binary<const W: u8, O: BinaryAt<W>>(
     Ok(())
 }
 
-/// ADD, OR, ADC, SBB, AND, SUB, XOR. Source: 80386 Programmer's Reference Manual, ch. 17.
+// ADD, OR, ADC, SBB, AND, SUB, XOR of operands of any kind.
 #[inline(never)]
-#[tactic(auto, unfolding(crate::specs::Arithmetic::binary, insn_plan::specs::Operands::put_operand, insn_plan::specs::Plan::carried_out, insn_plan::specs::Plan::after_commit, guest_space::specs::Pending::first_refusal, guest_space::specs::Pending::all_written))]
-pub(crate) fn binary<O: Binary>(m: &mut Machine, i: &Insn) -> Result<(), Raised>
+#[tactic(auto, unfolding(crate::specs::Arithmetic::binary, insn_plan::specs::Operands::put_operand, insn_plan::specs::Plan::after_plan, insn_plan::specs::Plan::after_commit, guest_space::specs::Pending::first_write_fault, guest_space::specs::Pending::after_writes))]
+fn binary_in_general<O: Binary>(m: &mut Machine, i: &Insn) -> Result<(), Raised>
     requires { IsTrue (is_width i.now.width) }
     ensures { CarriesOut m.old m.new result (binary O.formula m.old.world i.now) }
 {
@@ -90,10 +90,30 @@ pub(crate) fn binary<O: Binary>(m: &mut Machine, i: &Insn) -> Result<(), Raised>
     }
 }
 
-/// CMP and TEST. Source: as above.
+/// ADD, OR, ADC, SBB, AND, SUB, XOR. Source: 80386 Programmer's Reference Manual, ch. 17.
 #[inline(never)]
-#[tactic(auto, unfolding(crate::specs::Arithmetic::compare, insn_plan::specs::Plan::carried_out, insn_plan::specs::Plan::after_commit, guest_space::specs::Pending::first_refusal, guest_space::specs::Pending::all_written))]
-pub(crate) fn compare<O: Binary>(m: &mut Machine, i: &Insn) -> Result<(), Raised>
+#[tactic(auto, unfolding(crate::specs::Arithmetic::binary, insn_plan::specs::Operands::put_operand, insn_plan::specs::Plan::after_plan, insn_plan::specs::Plan::after_commit, guest_space::specs::Pending::first_write_fault, guest_space::specs::Pending::after_writes))]
+pub(crate) fn binary<O: Binary>(m: &mut Machine, i: &Insn) -> Result<(), Raised>
+    requires { IsTrue (is_width i.now.width) }
+    ensures { CarriesOut m.old m.new result (binary O.formula m.old.world i.now) }
+{
+    // Where nothing can fault no register needs to be saved.
+    if let Operand::Reg { width, number } = &i.first {
+        if let Some(a) = at_hand(m, i.addr32, i.width, &i.first) {
+            if let Some(b) = at_hand(m, i.addr32, i.width, &i.second) {
+                let v = at_width!(i.width, set_binary_flags, O, m, a, b);
+                put_register(m, *width, *number, v);
+                return Ok(());
+            }
+        }
+    }
+    binary_in_general::<O>(m, i)
+}
+
+// CMP and TEST of operands of any kind.
+#[inline(never)]
+#[tactic(auto, unfolding(crate::specs::Arithmetic::compare, insn_plan::specs::Plan::after_plan, insn_plan::specs::Plan::after_commit, guest_space::specs::Pending::first_write_fault, guest_space::specs::Pending::after_writes))]
+fn compare_in_general<O: Binary>(m: &mut Machine, i: &Insn) -> Result<(), Raised>
     requires { IsTrue (is_width i.now.width) }
     ensures { CarriesOut m.old m.new result (compare O.formula m.old.world i.now) }
 {
@@ -101,6 +121,22 @@ pub(crate) fn compare<O: Binary>(m: &mut Machine, i: &Insn) -> Result<(), Raised
     let b = source(m, i.addr32, i.width, &i.second)?;
     let _ = at_width!(i.width, set_binary_flags, O, m, a, b);
     Ok(())
+}
+
+/// CMP and TEST. Source: as above.
+#[inline(never)]
+#[tactic(auto, unfolding(crate::specs::Arithmetic::compare, insn_plan::specs::Plan::after_plan, insn_plan::specs::Plan::after_commit, guest_space::specs::Pending::first_write_fault, guest_space::specs::Pending::after_writes))]
+pub(crate) fn compare<O: Binary>(m: &mut Machine, i: &Insn) -> Result<(), Raised>
+    requires { IsTrue (is_width i.now.width) }
+    ensures { CarriesOut m.old m.new result (compare O.formula m.old.world i.now) }
+{
+    if let Some(a) = at_hand(m, i.addr32, i.width, &i.first) {
+        if let Some(b) = at_hand(m, i.addr32, i.width, &i.second) {
+            let _ = at_width!(i.width, set_binary_flags, O, m, a, b);
+            return Ok(());
+        }
+    }
+    compare_in_general::<O>(m, i)
 }
 
 /// The flags of a comparison of two numbers at a width.
@@ -151,10 +187,10 @@ fn write_unary<const W: u8, O: UnaryAt<W>>(
     Ok(())
 }
 
-/// INC, DEC, NEG, NOT. Source: as above.
+// INC, DEC, NEG, NOT of an operand of any kind.
 #[inline(never)]
-#[tactic(auto, unfolding(crate::specs::Arithmetic::unary, insn_plan::specs::Operands::put_operand, insn_plan::specs::Plan::carried_out, insn_plan::specs::Plan::after_commit, guest_space::specs::Pending::first_refusal, guest_space::specs::Pending::all_written))]
-pub(crate) fn unary<O: Unary>(m: &mut Machine, i: &Insn) -> Result<(), Raised>
+#[tactic(auto, unfolding(crate::specs::Arithmetic::unary, insn_plan::specs::Operands::put_operand, insn_plan::specs::Plan::after_plan, insn_plan::specs::Plan::after_commit, guest_space::specs::Pending::first_write_fault, guest_space::specs::Pending::after_writes))]
+fn unary_in_general<O: Unary>(m: &mut Machine, i: &Insn) -> Result<(), Raised>
     requires { IsTrue (is_width i.now.width) }
     ensures { CarriesOut m.old m.new result (unary O.formula m.old.world i.now) }
 {
@@ -169,4 +205,21 @@ pub(crate) fn unary<O: Unary>(m: &mut Machine, i: &Insn) -> Result<(), Raised>
             Ok(())
         }
     }
+}
+
+/// INC, DEC, NEG, NOT. Source: as above.
+#[inline(never)]
+#[tactic(auto, unfolding(crate::specs::Arithmetic::unary, insn_plan::specs::Operands::put_operand, insn_plan::specs::Plan::after_plan, insn_plan::specs::Plan::after_commit, guest_space::specs::Pending::first_write_fault, guest_space::specs::Pending::after_writes))]
+pub(crate) fn unary<O: Unary>(m: &mut Machine, i: &Insn) -> Result<(), Raised>
+    requires { IsTrue (is_width i.now.width) }
+    ensures { CarriesOut m.old m.new result (unary O.formula m.old.world i.now) }
+{
+    if let Operand::Reg { width, number } = &i.first {
+        if let Some(a) = at_hand(m, i.addr32, i.width, &i.first) {
+            let v = at_width!(i.width, set_unary_flags, O, m, a);
+            put_register(m, *width, *number, v);
+            return Ok(());
+        }
+    }
+    unary_in_general::<O>(m, i)
 }

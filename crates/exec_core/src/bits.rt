@@ -25,7 +25,7 @@ use insn_plan::{Raised, condition, put_operand, put_with_flags, source};
 
 /// SETcc. Source: 80386 Programmer's Reference Manual, ch. 17.
 #[inline(never)]
-#[tactic(auto, unfolding(crate::specs::Bits::setcc, insn_plan::specs::Plan::carried_out))]
+#[tactic(auto, unfolding(crate::specs::Bits::setcc, insn_plan::specs::Plan::after_plan))]
 pub(crate) fn setcc(m: &mut Machine, i: &Insn, n: u8) -> Result<(), Raised>
     ensures { CarriesOut m.old m.new result (setcc m.old.world i.now n) }
 {
@@ -84,7 +84,7 @@ fn bit_at(v: u32, n: u8) -> bool
 
 /// BT. Source: as above.
 #[inline(never)]
-#[tactic(auto, unfolding(crate::specs::Bits::bit_test, insn_plan::specs::Plan::carried_out, insn_plan::specs::Plan::after_commit, guest_space::specs::Pending::first_refusal, guest_space::specs::Pending::all_written))]
+#[tactic(auto, unfolding(crate::specs::Bits::bit_test, insn_plan::specs::Plan::after_plan, insn_plan::specs::Plan::after_commit, guest_space::specs::Pending::first_write_fault, guest_space::specs::Pending::after_writes))]
 pub(crate) fn bit_test(m: &mut Machine, i: &Insn) -> Result<(), Raised>
     requires { IsTrue (is_width i.now.width) }
     ensures { CarriesOut m.old m.new result (bit_test m.old.world i.now) }
@@ -150,7 +150,7 @@ impl BitChange for Toggle {
 
 /// BTS, BTR, BTC. Source: as above.
 #[inline(never)]
-#[tactic(auto, unfolding(crate::specs::Bits::bit_change, insn_plan::specs::Plan::carried_out))]
+#[tactic(auto, unfolding(crate::specs::Bits::bit_change, insn_plan::specs::Plan::after_plan))]
 pub(crate) fn bit_change<C: BitChange>(m: &mut Machine, i: &Insn) -> Result<(), Raised>
     requires { IsTrue (is_width i.now.width) }
     ensures { CarriesOut m.old m.new result (bit_change C.formula m.old.world i.now) }
@@ -194,7 +194,7 @@ fn highest_bit(mut v: u32, width: u8) -> u32
 
 /// BSF. Source: as above.
 #[inline(never)]
-#[tactic(auto, unfolding(crate::specs::Bits::bit_scan, insn_plan::specs::Plan::carried_out, insn_plan::specs::Plan::after_commit, guest_space::specs::Pending::first_refusal, guest_space::specs::Pending::all_written))]
+#[tactic(auto, unfolding(crate::specs::Bits::bit_scan, insn_plan::specs::Plan::after_plan, insn_plan::specs::Plan::after_commit, guest_space::specs::Pending::first_write_fault, guest_space::specs::Pending::after_writes))]
 pub(crate) fn bit_scan_forward(m: &mut Machine, i: &Insn) -> Result<(), Raised>
     requires { IsTrue (is_width i.now.width) }
     ensures { CarriesOut m.old m.new result (bit_scan lowest_bit m.old.world i.now) }
@@ -214,7 +214,7 @@ pub(crate) fn bit_scan_forward(m: &mut Machine, i: &Insn) -> Result<(), Raised>
 
 /// BSR. Source: as above.
 #[inline(never)]
-#[tactic(auto, unfolding(crate::specs::Bits::bit_scan, insn_plan::specs::Plan::carried_out, insn_plan::specs::Plan::after_commit, guest_space::specs::Pending::first_refusal, guest_space::specs::Pending::all_written))]
+#[tactic(auto, unfolding(crate::specs::Bits::bit_scan, insn_plan::specs::Plan::after_plan, insn_plan::specs::Plan::after_commit, guest_space::specs::Pending::first_write_fault, guest_space::specs::Pending::after_writes))]
 pub(crate) fn bit_scan_reverse(m: &mut Machine, i: &Insn) -> Result<(), Raised>
     requires { IsTrue (is_width i.now.width) }
     ensures { CarriesOut m.old m.new result (bit_scan highest_bit m.old.world i.now) }

@@ -1,7 +1,7 @@
 // The operations of this crate, and what each of them does.
-ghost use Rattle.std.specs.Prelude.{◌≡◌, IfNone, IfSome, IsTrue, false, true};
-ghost use Rattle.exec_core.specs.Dispatch.{is_core, is_no_segment, core_row, IsCore};
-ghost use Rattle.insn_forms.specs.Kinds.{is_width, has_good_number};
+ghost use Rattle.std.specs.Prelude.{◌≡◌, IfNone, IfSome, IsTrue, false, not, true};
+ghost use Rattle.exec_core.specs.Dispatch.{is_core, core_row, IsCore};
+ghost use Rattle.insn_forms.specs.Kinds.{is_segment, is_width, has_good_number, operand_kind};
 ghost use Rattle.insn_plan.specs.Plan.{CarriesOut};
 
 use crate::arithmetic::{binary, compare, unary};
@@ -28,12 +28,12 @@ use crate::stacks::{pop, popa, push, pusha};
 use crate::strings::{cmps, lods, movs, scas, stos};
 use client_world::Event;
 use guest_space::Machine;
-use insn_forms::{Insn, Op, Operand};
+use insn_forms::{Insn, Op, Operand, Owner};
 use insn_plan::Raised;
 
 // Whether an operand isn't a segment register.
 fn is_no_segment(operand: &Operand) -> bool
-    ensures { result ≡ is_no_segment operand.now }
+    ensures { result ≡ not (is_segment (operand_kind operand.now)) }
 {
     !matches!(operand, Operand::Seg(_))
 }
@@ -43,30 +43,11 @@ fn is_no_segment(operand: &Operand) -> bool
 pub fn is_core(i: &Insn) -> bool
     ensures { result ≡ is_core i.now.op i.now.first i.now.second }
 {
-    match i.op {
-        Op::Mov => is_no_segment(&i.first) && is_no_segment(&i.second),
-        Op::Push | Op::Pop => is_no_segment(&i.first),
-        Op::Add | Op::Or | Op::Adc | Op::Sbb | Op::And | Op::Sub | Op::Xor | Op::Cmp | Op::Test =>
-            true,
-        Op::Inc | Op::Dec | Op::Not | Op::Neg | Op::Mul | Op::Imul | Op::Div | Op::Idiv => true,
-        Op::Daa | Op::Das | Op::Aaa | Op::Aas | Op::Aam | Op::Aad => true,
-        Op::Rol | Op::Ror | Op::Rcl | Op::Rcr | Op::Shl | Op::Shr | Op::Sar | Op::Shld | Op::Shrd =>
-            true,
-        Op::Bt | Op::Bts | Op::Btr | Op::Btc | Op::Bsf | Op::Bsr | Op::Setcc(_) => true,
-        Op::Movzx(_) | Op::Movsx(_) | Op::Xchg | Op::Lea | Op::Xlat | Op::Cbw | Op::Cwd => true,
-        Op::Lahf | Op::Sahf | Op::Pusha | Op::Popa => true,
-        Op::Movs | Op::Cmps | Op::Stos | Op::Lods | Op::Scas => true,
-        Op::Clc | Op::Stc | Op::Cmc | Op::Cld | Op::Std | Op::Wait => true,
-        Op::Pushf | Op::Popf | Op::Jcc(_) | Op::Jcxz | Op::Loop | Op::Loope | Op::Loopne => false,
-        Op::Jmp | Op::JmpFar | Op::Call | Op::CallFar | Op::Ret | Op::Retf | Op::Iret => false,
-        Op::Int | Op::Int3 | Op::Into | Op::Bound | Op::Enter | Op::Leave => false,
-        Op::Cli | Op::Sti | Op::Hlt | Op::In | Op::Out | Op::Ins | Op::Outs => false,
-        Op::Les | Op::Lds | Op::Lss | Op::Lfs | Op::Lgs => false,
-        Op::Lar | Op::Lsl | Op::Verr | Op::Verw | Op::Arpl => false,
-        Op::Sldt | Op::Str | Op::Lldt | Op::Ltr | Op::Sgdt | Op::Sidt | Op::Lgdt | Op::Lidt =>
-            false,
-        Op::Smsw | Op::Lmsw | Op::Clts | Op::MovControl | Op::MovDebug | Op::MovTest | Op::Esc =>
-            false,
+    match i.op.traits().owner {
+        Owner::Core => true,
+        Owner::Flow => false,
+        Owner::ByFirst => is_no_segment(&i.first),
+        Owner::ByOperands => is_no_segment(&i.first) && is_no_segment(&i.second),
     }
 }
 
@@ -148,16 +129,9 @@ pub fn carry_out_core(m: &mut Machine, insn: &Insn, len: u8) -> Option<Result<()
         Op::Cld => Some(cld(m)),
         Op::Std => Some(std(m)),
         Op::Wait => Some(wait(m)),
+        // With a segment register they are exec_flow's, and so are all others.
         Op::Mov | Op::Push | Op::Pop => None,
-        Op::Pushf | Op::Popf | Op::Jcc(_) | Op::Jcxz | Op::Loop | Op::Loope | Op::Loopne => None,
-        Op::Jmp | Op::JmpFar | Op::Call | Op::CallFar | Op::Ret | Op::Retf | Op::Iret => None,
-        Op::Int | Op::Int3 | Op::Into | Op::Bound | Op::Enter | Op::Leave => None,
-        Op::Cli | Op::Sti | Op::Hlt | Op::In | Op::Out | Op::Ins | Op::Outs => None,
-        Op::Les | Op::Lds | Op::Lss | Op::Lfs | Op::Lgs => None,
-        Op::Lar | Op::Lsl | Op::Verr | Op::Verw | Op::Arpl => None,
-        Op::Sldt | Op::Str | Op::Lldt | Op::Ltr | Op::Sgdt | Op::Sidt | Op::Lgdt | Op::Lidt => None,
-        Op::Smsw | Op::Lmsw | Op::Clts | Op::MovControl | Op::MovDebug | Op::MovTest | Op::Esc =>
-            None,
+        _ => None,
     }
 }
 

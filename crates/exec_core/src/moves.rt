@@ -22,7 +22,8 @@ use client_world::general::{EAX, EDX};
 use guest_space::Machine;
 use insn_forms::{Insn, Operand};
 use insn_plan::{
-    Next, Raised, cut_address, offset_of, put_operand, put_register, read_width, register, source,
+    Next, Raised, at_hand, cut_address, offset_of, put_operand, put_register, read_width, register,
+    source,
 };
 
 /// A number cut to a width of 8, 16 or 32 bits.
@@ -39,19 +40,34 @@ pub(crate) fn cut(width: u8, v: u32) -> u32
     }
 }
 
-/// MOV. Source: 80386 Programmer's Reference Manual, ch. 17.
+// MOV of operands of any kind.
 #[inline(never)]
-#[tactic(auto, unfolding(crate::specs::Moves::mov, insn_plan::specs::Plan::carried_out))]
-pub(crate) fn mov(m: &mut Machine, i: &Insn) -> Result<(), Raised>
+#[tactic(auto, unfolding(crate::specs::Moves::mov, insn_plan::specs::Plan::after_plan))]
+fn mov_in_general(m: &mut Machine, i: &Insn) -> Result<(), Raised>
     ensures { CarriesOut m.old m.new result (mov m.old.world i.now) }
 {
     let v = source(m, i.addr32, i.width, &i.second)?;
     put_operand(m, i.addr32, i.width, &i.first, v)
 }
 
+/// MOV. Source: 80386 Programmer's Reference Manual, ch. 17.
+#[inline(never)]
+#[tactic(auto, unfolding(crate::specs::Moves::mov, insn_plan::specs::Operands::put_operand, insn_plan::specs::Plan::after_plan, insn_plan::specs::Plan::after_commit, guest_space::specs::Pending::first_write_fault, guest_space::specs::Pending::after_writes))]
+pub(crate) fn mov(m: &mut Machine, i: &Insn) -> Result<(), Raised>
+    ensures { CarriesOut m.old m.new result (mov m.old.world i.now) }
+{
+    if let Operand::Reg { width, number } = &i.first {
+        if let Some(v) = at_hand(m, i.addr32, i.width, &i.second) {
+            put_register(m, *width, *number, v);
+            return Ok(());
+        }
+    }
+    mov_in_general(m, i)
+}
+
 /// MOVZX. Source: as above.
 #[inline(never)]
-#[tactic(auto, unfolding(crate::specs::Moves::movzx, insn_plan::specs::Plan::carried_out))]
+#[tactic(auto, unfolding(crate::specs::Moves::movzx, insn_plan::specs::Plan::after_plan))]
 pub(crate) fn movzx(m: &mut Machine, i: &Insn, from: u8) -> Result<(), Raised>
     requires { IsTrue (is_width from) }
     ensures { CarriesOut m.old m.new result (movzx m.old.world i.now from) }
@@ -78,7 +94,7 @@ fn sign_extended(from: u8, width: u8, v: u32) -> u32
 
 /// MOVSX. Source: as above.
 #[inline(never)]
-#[tactic(auto, unfolding(crate::specs::Moves::movsx, insn_plan::specs::Plan::carried_out))]
+#[tactic(auto, unfolding(crate::specs::Moves::movsx, insn_plan::specs::Plan::after_plan))]
 pub(crate) fn movsx(m: &mut Machine, i: &Insn, from: u8) -> Result<(), Raised>
     requires from { IsTrue (is_width from) }
     requires width { IsTrue (is_width i.now.width) }
@@ -91,7 +107,7 @@ pub(crate) fn movsx(m: &mut Machine, i: &Insn, from: u8) -> Result<(), Raised>
 
 /// XCHG. Source: as above.
 #[inline(never)]
-#[tactic(auto, unfolding(crate::specs::Moves::xchg, insn_plan::specs::Plan::carried_out))]
+#[tactic(auto, unfolding(crate::specs::Moves::xchg, insn_plan::specs::Plan::after_plan))]
 pub(crate) fn xchg(m: &mut Machine, i: &Insn) -> Result<(), Raised>
     ensures { CarriesOut m.old m.new result (xchg m.old.world i.now) }
 {
@@ -116,7 +132,7 @@ fn operand_offset(m: &Machine, i: &Insn, operand: &Operand) -> u32
 
 /// LEA. Source: as above.
 #[inline(never)]
-#[tactic(auto, unfolding(crate::specs::Moves::lea, insn_plan::specs::Plan::carried_out))]
+#[tactic(auto, unfolding(crate::specs::Moves::lea, insn_plan::specs::Plan::after_plan))]
 pub(crate) fn lea(m: &mut Machine, i: &Insn) -> Result<(), Raised>
     requires { IsTrue (is_width i.now.width) }
     ensures { CarriesOut m.old m.new result (lea m.old.world i.now) }
@@ -127,7 +143,7 @@ pub(crate) fn lea(m: &mut Machine, i: &Insn) -> Result<(), Raised>
 
 /// XLAT. Source: as above.
 #[inline(never)]
-#[tactic(auto, unfolding(crate::specs::Moves::xlat, insn_plan::specs::Plan::carried_out, insn_plan::specs::Plan::after_commit, guest_space::specs::Pending::first_refusal, guest_space::specs::Pending::all_written))]
+#[tactic(auto, unfolding(crate::specs::Moves::xlat, insn_plan::specs::Plan::after_plan, insn_plan::specs::Plan::after_commit, guest_space::specs::Pending::first_write_fault, guest_space::specs::Pending::after_writes))]
 pub(crate) fn xlat(m: &mut Machine, i: &Insn) -> Result<(), Raised>
     ensures { CarriesOut m.old m.new result (xlat m.old.world i.now) }
 {
@@ -148,7 +164,7 @@ fn half_width(width: u8) -> u8
 
 /// CBW and CWDE. Source: as above.
 #[inline(never)]
-#[tactic(auto, using(crate::proofs::Parts::half_fits), unfolding(crate::specs::Moves::cbw, insn_plan::specs::Plan::carried_out, insn_plan::specs::Plan::after_commit, guest_space::specs::Pending::first_refusal, guest_space::specs::Pending::all_written))]
+#[tactic(auto, using(crate::proofs::Parts::half_fits), unfolding(crate::specs::Moves::cbw, insn_plan::specs::Plan::after_plan, insn_plan::specs::Plan::after_commit, guest_space::specs::Pending::first_write_fault, guest_space::specs::Pending::after_writes))]
 pub(crate) fn cbw(m: &mut Machine, i: &Insn) -> Result<(), Raised>
     requires { IsTrue (is_width i.now.width) }
     ensures { CarriesOut m.old m.new result (cbw m.old.world i.now) }
@@ -173,7 +189,7 @@ fn sign_bits(width: u8, v: u32) -> u32
 
 /// CWD and CDQ. Source: as above.
 #[inline(never)]
-#[tactic(auto, unfolding(crate::specs::Moves::cwd, insn_plan::specs::Plan::carried_out, insn_plan::specs::Plan::after_commit, guest_space::specs::Pending::first_refusal, guest_space::specs::Pending::all_written))]
+#[tactic(auto, unfolding(crate::specs::Moves::cwd, insn_plan::specs::Plan::after_plan, insn_plan::specs::Plan::after_commit, guest_space::specs::Pending::first_write_fault, guest_space::specs::Pending::after_writes))]
 pub(crate) fn cwd(m: &mut Machine, i: &Insn) -> Result<(), Raised>
     requires { IsTrue (is_width i.now.width) }
     ensures { CarriesOut m.old m.new result (cwd m.old.world i.now) }

@@ -57,7 +57,7 @@ fn write_shift<const W: u8, O: ShiftAt<W>>(
 
 /// SHL, SHR, SAR, ROL, ROR, RCL, RCR. Source: 80386 Programmer's Reference Manual, ch. 17.
 #[inline(never)]
-#[tactic(auto, unfolding(crate::specs::Shifts::shift, insn_plan::specs::Operands::put_operand, insn_plan::specs::Plan::carried_out, insn_plan::specs::Plan::after_commit, guest_space::specs::Pending::first_refusal, guest_space::specs::Pending::all_written))]
+#[tactic(auto, unfolding(crate::specs::Shifts::shift, insn_plan::specs::Operands::put_operand, insn_plan::specs::Plan::after_plan, insn_plan::specs::Plan::after_commit, guest_space::specs::Pending::first_write_fault, guest_space::specs::Pending::after_writes))]
 pub(crate) fn shift<O: Shift>(m: &mut Machine, i: &Insn) -> Result<(), Raised>
     requires { IsTrue (is_width i.now.width) }
     ensures { CarriesOut m.old m.new result (shift O.formula m.old.world i.now) }
@@ -130,7 +130,7 @@ impl DoubleShift for ShiftRightDouble {
 
 /// SHLD, SHRD. Source: as above.
 #[inline(never)]
-#[tactic(auto, unfolding(crate::specs::Shifts::shift_in, insn_plan::specs::Plan::carried_out))]
+#[tactic(auto, unfolding(crate::specs::Shifts::shift_in, insn_plan::specs::Plan::after_plan))]
 pub(crate) fn shift_in<O: DoubleShift>(m: &mut Machine, i: &Insn) -> Result<(), Raised>
     requires { IsTrue (is_width i.now.width) }
     ensures { CarriesOut m.old m.new result (shift_in O.formula m.old.world i.now) }

@@ -3,8 +3,8 @@ ghost use Rattle.std.specs.Prelude.{◌≡◌, ◌≢◌, ◌<◌, ℕ, Ok, fals
 ghost use Rattle.exec_core.specs.Stacks.{push, pop, pusha, popa};
 ghost use Rattle.insn_plan.specs.Act.{done, unchanged, value_of, with_regs};
 ghost use Rattle.insn_plan.specs.Operands.{put_operand};
-ghost use Rattle.insn_plan.specs.Plan.{CarriesOut, Follows, after_commit, carried_out, planned};
-ghost use Rattle.insn_plan.specs.Stack.{has_big_stack, pushes_made, stack_item};
+ghost use Rattle.insn_plan.specs.Plan.{CarriesOut, Follows, after_commit, after_plan, plan_result};
+ghost use Rattle.insn_plan.specs.Stack.{has_big_stack, pending_of_pushes, stack_item};
 ghost use Rattle.insn_forms.specs.declared.insn.Insn.{Insn};
 ghost use Rattle.insn_forms.specs.declared.insn.Operand.TheVariants.{Mem};
 
@@ -13,19 +13,31 @@ use client_world::{Regs, SegReg};
 use guest_space::{Machine, Write, byte_count};
 use insn_forms::{Insn, MemForm, Operand};
 use insn_plan::{
-    Raised, cut_address, eight_items, esp_up, has_big_stack, item_pushed, offset_of, push_item,
-    put_register, read_width, register, settle_pushes, settle_quickly, source, stack_item,
-    write_number,
+    Raised, at_hand, cut_address, eight_items, esp_up, has_big_stack, item_pushed, offset_of,
+    push_item, put_register, read_width, register, settle_pushes, settle_quickly, source,
+    stack_item, write_number,
 };
 
-/// PUSH. Source: 80386 Programmer's Reference Manual, ch. 17.
+// PUSH of an operand of any kind.
 #[inline(never)]
-#[tactic(auto, unfolding(crate::specs::Stacks::push, insn_plan::specs::Plan::carried_out))]
-pub(crate) fn push(m: &mut Machine, i: &Insn) -> Result<(), Raised>
+#[tactic(auto, unfolding(crate::specs::Stacks::push, insn_plan::specs::Plan::after_plan))]
+fn push_in_general(m: &mut Machine, i: &Insn) -> Result<(), Raised>
     ensures { CarriesOut m.old m.new result (push m.old.world i.now) }
 {
     let v = source(m, i.addr32, i.width, &i.first)?;
     push_item(m, i.width, v)
+}
+
+/// PUSH. Source: 80386 Programmer's Reference Manual, ch. 17.
+#[inline(never)]
+#[tactic(auto, unfolding(crate::specs::Stacks::push, insn_plan::specs::Plan::after_plan))]
+pub(crate) fn push(m: &mut Machine, i: &Insn) -> Result<(), Raised>
+    ensures { CarriesOut m.old m.new result (push m.old.world i.now) }
+{
+    match at_hand(m, i.addr32, i.width, &i.first) {
+        Some(v) => push_item(m, i.width, v),
+        None => push_in_general(m, i),
+    }
 }
 
 // Puts a number that was popped into memory, at the address that ESP gives after the pop.
@@ -43,7 +55,7 @@ fn pop_into_memory(m: &mut Machine, i: &Insn, f: &MemForm, esp: u32, v: u32) -> 
 
 /// POP. Source: as above.
 #[inline(never)]
-#[tactic(auto, using(crate::proofs::TopItem::top_item), unfolding(crate::specs::Stacks::pop, insn_plan::specs::Stack::items_popped, insn_plan::specs::Operands::put_operand, insn_plan::specs::Plan::carried_out, insn_plan::specs::Plan::after_commit, guest_space::specs::Pending::first_refusal, guest_space::specs::Pending::all_written, client_world::specs::General::with_general))]
+#[tactic(auto, using(crate::proofs::TopItem::top_item), unfolding(crate::specs::Stacks::pop, insn_plan::specs::Stack::regs_after_pops, insn_plan::specs::Operands::put_operand, insn_plan::specs::Plan::after_plan, insn_plan::specs::Plan::after_commit, guest_space::specs::Pending::first_write_fault, guest_space::specs::Pending::after_writes, client_world::specs::General::with_general))]
 pub(crate) fn pop(m: &mut Machine, i: &Insn) -> Result<(), Raised>
     ensures { CarriesOut m.old m.new result (pop m.old.world i.now) }
 {
@@ -70,7 +82,7 @@ pub(crate) fn pop(m: &mut Machine, i: &Insn) -> Result<(), Raised>
 #[inline(always)]
 fn eight_pushes(m: &Machine, width: u8, big: bool) -> ([Write; 8], u32)
     requires { big ≡ has_big_stack m.now.world }
-    ensures { (i : Insn) → i.width ≡ width → pusha m.now.world i ≡ done (pushes_made m.now.world result.0 result.1) }
+    ensures { (i : Insn) → i.width ≡ width → pusha m.now.world i ≡ done (pending_of_pushes m.now.world result.0 result.1) }
 {
     let r = m.registers();
     let (ax, esp) = item_pushed(big, width, r.esp, register(r, width, EAX));
@@ -86,7 +98,7 @@ fn eight_pushes(m: &Machine, width: u8, big: bool) -> ([Write; 8], u32)
 
 // PUSHA at any width, on any stack.
 #[inline(never)]
-#[tactic(auto, unfolding(insn_plan::specs::Plan::carried_out))]
+#[tactic(auto, unfolding(insn_plan::specs::Plan::after_plan))]
 fn pusha_in_general(m: &mut Machine, i: &Insn) -> Result<(), Raised>
     ensures { CarriesOut m.old m.new result (pusha m.old.world i.now) }
 {
@@ -96,7 +108,7 @@ fn pusha_in_general(m: &mut Machine, i: &Insn) -> Result<(), Raised>
 
 // PUSHA at a width that is known, where the stack pointer is SP.
 #[inline(always)]
-#[tactic(auto, unfolding(insn_plan::specs::Plan::carried_out))]
+#[tactic(auto, unfolding(insn_plan::specs::Plan::after_plan))]
 fn pusha_of_width(m: &mut Machine, i: &Insn, width: u8) -> Result<(), Raised>
     requires width { width ≡ i.now.width }
     requires small { has_big_stack m.old.world ≡ false }
@@ -128,12 +140,12 @@ pub(crate) fn pusha(m: &mut Machine, i: &Insn) -> Result<(), Raised>
 
 // Sets the registers to the items that POPA reads, by their places on the stack, and ESP; the item at place 3 is passed over.
 #[inline(always)]
-#[tactic(auto, unfolding(crate::specs::Stacks::popa, insn_plan::specs::Stack::items_popped, insn_plan::specs::Plan::carried_out, insn_plan::specs::Plan::after_commit, guest_space::specs::Pending::first_refusal, guest_space::specs::Pending::all_written, client_world::specs::General::with_general))]
+#[tactic(auto, unfolding(crate::specs::Stacks::popa, insn_plan::specs::Stack::regs_after_pops, insn_plan::specs::Plan::after_plan, insn_plan::specs::Plan::after_commit, guest_space::specs::Pending::first_write_fault, guest_space::specs::Pending::after_writes, client_world::specs::General::with_general))]
 fn set_popped(m: &mut Machine, i: &Insn, width: u8, items: [u32; 8])
     requires width { width ≡ i.now.width }
     requires items { (k : ℕ) → k < 8 → k ≢ 3 →
         value_of m.old.world (stack_item m.old.world i.now.width k) ≡ Ok (slice_index items k) }
-    ensures { carried_out m.old (planned m.old.world (popa m.old.world i.now)) ≡ Ok m.new }
+    ensures { after_plan m.old (plan_result m.old.world (popa m.old.world i.now)) ≡ Ok m.new }
 {
     let bytes = 8 * u32::from(byte_count(width));
     let esp = esp_up(has_big_stack(m), bytes, m.registers().esp);
@@ -149,7 +161,7 @@ fn set_popped(m: &mut Machine, i: &Insn, width: u8, items: [u32; 8])
 
 // POPA, item by item.
 #[inline(never)]
-#[tactic(auto, unfolding(crate::specs::Stacks::popa, insn_plan::specs::Plan::carried_out))]
+#[tactic(auto, unfolding(crate::specs::Stacks::popa, insn_plan::specs::Plan::after_plan))]
 fn popa_by_items(m: &mut Machine, i: &Insn) -> Result<(), Raised>
     ensures { CarriesOut m.old m.new result (popa m.old.world i.now) }
 {

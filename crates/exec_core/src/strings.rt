@@ -184,7 +184,7 @@ pub(crate) fn movs(m: &mut Machine, i: &Insn, len: u8) -> Result<(), Raised>
 
 // MOVS at a width and an address size.
 #[inline(always)]
-#[tactic(auto, unfolding(crate::specs::Strings::movs, insn_plan::specs::Plan::carried_out, insn_plan::specs::Plan::after_commit, guest_space::specs::Pending::first_refusal, guest_space::specs::Pending::all_written))]
+#[tactic(auto, unfolding(crate::specs::Strings::movs, insn_plan::specs::Plan::after_plan, insn_plan::specs::Plan::after_commit, guest_space::specs::Pending::first_write_fault, guest_space::specs::Pending::after_writes))]
 fn movs_at(m: &mut Machine, i: &Insn, len: u8, width: u8, addr32: bool) -> Result<(), Raised>
     requires width { width ≡ i.now.width }
     requires size { addr32 ≡ i.now.addr32 }
@@ -208,7 +208,7 @@ fn movs_at(m: &mut Machine, i: &Insn, len: u8, width: u8, addr32: bool) -> Resul
 // The same, where the tables have to be asked.
 #[cold]
 #[inline(never)]
-#[tactic(auto, unfolding(crate::specs::Strings::movs, insn_plan::specs::Plan::carried_out, insn_plan::specs::Plan::after_commit, guest_space::specs::Pending::first_refusal, guest_space::specs::Pending::all_written))]
+#[tactic(auto, unfolding(crate::specs::Strings::movs, insn_plan::specs::Plan::after_plan, insn_plan::specs::Plan::after_commit, guest_space::specs::Pending::first_write_fault, guest_space::specs::Pending::after_writes))]
 fn movs_by_tables(m: &mut Machine, i: &Insn, len: u8) -> Result<(), Raised>
     requires { is_over m.old.world i.now ≡ false }
     ensures { CarriesOut m.old m.new result (movs m.old.world i.now len) }
@@ -234,7 +234,7 @@ pub(crate) fn cmps(m: &mut Machine, i: &Insn, len: u8) -> Result<(), Raised>
 
 // CMPS at a width and an address size.
 #[inline(always)]
-#[tactic(auto, unfolding(crate::specs::Strings::cmps, insn_plan::specs::Plan::carried_out, insn_plan::specs::Plan::after_commit, guest_space::specs::Pending::first_refusal, guest_space::specs::Pending::all_written))]
+#[tactic(auto, unfolding(crate::specs::Strings::cmps, insn_plan::specs::Plan::after_plan, insn_plan::specs::Plan::after_commit, guest_space::specs::Pending::first_write_fault, guest_space::specs::Pending::after_writes))]
 fn cmps_at(m: &mut Machine, i: &Insn, len: u8, width: u8, addr32: bool) -> Result<(), Raised>
     requires good { IsTrue (is_width i.now.width) }
     requires width { width ≡ i.now.width }
@@ -267,7 +267,7 @@ pub(crate) fn stos(m: &mut Machine, i: &Insn, len: u8) -> Result<(), Raised>
 
 // STOS at a width and an address size.
 #[inline(always)]
-#[tactic(auto, unfolding(crate::specs::Strings::stos, insn_plan::specs::Plan::carried_out, insn_plan::specs::Plan::after_commit, guest_space::specs::Pending::first_refusal, guest_space::specs::Pending::all_written))]
+#[tactic(auto, unfolding(crate::specs::Strings::stos, insn_plan::specs::Plan::after_plan, insn_plan::specs::Plan::after_commit, guest_space::specs::Pending::first_write_fault, guest_space::specs::Pending::after_writes))]
 fn stos_at(m: &mut Machine, i: &Insn, len: u8, width: u8, addr32: bool) -> Result<(), Raised>
     requires width { width ≡ i.now.width }
     requires size { addr32 ≡ i.now.addr32 }
@@ -296,7 +296,7 @@ pub(crate) fn lods(m: &mut Machine, i: &Insn, len: u8) -> Result<(), Raised>
 
 // LODS at a width and an address size.
 #[inline(always)]
-#[tactic(auto, unfolding(crate::specs::Strings::lods, insn_plan::specs::Plan::carried_out, insn_plan::specs::Plan::after_commit, guest_space::specs::Pending::first_refusal, guest_space::specs::Pending::all_written, client_world::specs::General::with_general, insn_plan::specs::Registers::with_register))]
+#[tactic(auto, unfolding(crate::specs::Strings::lods, insn_plan::specs::Plan::after_plan, insn_plan::specs::Plan::after_commit, guest_space::specs::Pending::first_write_fault, guest_space::specs::Pending::after_writes, client_world::specs::General::with_general, insn_plan::specs::Registers::with_register))]
 fn lods_at(m: &mut Machine, i: &Insn, len: u8, width: u8, addr32: bool) -> Result<(), Raised>
     requires width { width ≡ i.now.width }
     requires size { addr32 ≡ i.now.addr32 }
@@ -325,7 +325,7 @@ pub(crate) fn scas(m: &mut Machine, i: &Insn, len: u8) -> Result<(), Raised>
 
 // SCAS at a width and an address size.
 #[inline(always)]
-#[tactic(auto, unfolding(crate::specs::Strings::scas, insn_plan::specs::Plan::carried_out, insn_plan::specs::Plan::after_commit, guest_space::specs::Pending::first_refusal, guest_space::specs::Pending::all_written))]
+#[tactic(auto, unfolding(crate::specs::Strings::scas, insn_plan::specs::Plan::after_plan, insn_plan::specs::Plan::after_commit, guest_space::specs::Pending::first_write_fault, guest_space::specs::Pending::after_writes))]
 fn scas_at(m: &mut Machine, i: &Insn, len: u8, width: u8, addr32: bool) -> Result<(), Raised>
     requires good { IsTrue (is_width i.now.width) }
     requires width { width ≡ i.now.width }

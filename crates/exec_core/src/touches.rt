@@ -10,10 +10,10 @@ ghost use Rattle.exec_core.specs.Shifts.{DoubleFormula, shift, shift_in};
 ghost use Rattle.exec_core.specs.Stacks.{push, pop, pusha, popa};
 ghost use Rattle.exec_core.specs.Strings.{is_over, source_element, destination_element, movs, cmps, stos, lods, scas};
 ghost use Rattle.insn_forms.specs.Kinds.{is_width, has_good_number};
-ghost use Rattle.insn_plan.specs.Accesses.{Notes, and_read, moved, touches};
+ghost use Rattle.insn_plan.specs.Accesses.{Notes, and_read, with_next_eip, touches};
 ghost use Rattle.insn_plan.specs.Act.{value_of};
 ghost use Rattle.insn_plan.specs.Registers.{cut_address};
-ghost use Rattle.insn_plan.specs.Stack.{items_popped};
+ghost use Rattle.insn_plan.specs.Stack.{regs_after_pops};
 ghost use Rattle.guest_space.specs.Pending.{byte_count};
 ghost use Rattle.client_world.specs.declared.segments.SegReg.TheVariants.{Es};
 
@@ -267,9 +267,9 @@ fn push(a: &mut Accesses<'_>, i: &Insn) -> Result<(), Raised>
 }
 
 // The registers after an item of a width is popped.
-#[tactic(auto, unfolding(insn_plan::specs::Stack::items_popped))]
+#[tactic(auto, unfolding(insn_plan::specs::Stack::regs_after_pops))]
 fn popped(a: &Accesses<'_>, width: u8) -> Regs
-    ensures { result ≡ items_popped a.now.world width 1 a.now.world.regs }
+    ensures { result ≡ regs_after_pops a.now.world width 1 a.now.world.regs }
 {
     let r = a.regs();
     let esp = esp_up(a.has_big_stack(), u32::from(byte_count(width)), r.esp);
@@ -478,7 +478,7 @@ pub fn touches_core(m: &Machine, insn: &Insn, len: u8) -> Option<ArrayVec<Touch,
     requires core { IsCore insn.now }
     requires width { IsTrue (is_width insn.now.width) }
     requires number { IsTrue (has_good_number insn.now.op) }
-    ensures { let w = moved len m.now.world in let found = touches w (core_row insn.now.op w insn.now len) in
+    ensures { let w = with_next_eip len m.now.world in let found = touches w (core_row insn.now.op w insn.now len) in
         MatchOption result (found ≡ None) (λ list. found ≡ Some list.items) }
 {
     let mut a = Accesses::new(m, len);

@@ -11,10 +11,10 @@ use Rattle.insn_plan.specs.declared.accesses.Access.{Access}
 use Rattle.insn_plan.specs.Accesses.{accesses_after, and_read, and_push, and_writes, esp_down}
 use Rattle.insn_plan.specs.Act.{Act, Pending, done, unchanged, value_of}
 use Rattle.insn_plan.specs.Registers.{register}
-use Rattle.insn_plan.specs.Stack.{pushed, stack_pointer}
+use Rattle.insn_plan.specs.Stack.{with_pushed_number, stack_pointer}
 use Rattle.insn_plan.proofs.AccessLists.{pushed_accesses, pushed_esp}
 use Rattle.exec_flow.specs.EnterAccesses.{frame_input, frame_reads, and_pushes}
-use Rattle.exec_flow.specs.Frames.{frames_pushed, frame_made, enter}
+use Rattle.exec_flow.specs.Frames.{push_saved_frames, with_new_frame, enter}
 use Rattle.exec_flow.specs.Transfers.{immediate}
 
 -- ---- the loops
@@ -79,14 +79,14 @@ with_pushes w width n p (Some list) = Some (and_pushes w width n p.regs.esp (and
 
 -- the frame's own place is pushed, and the frame is there
 abbrev frame_end : World → Insn → ℕ → Pending → Act
-frame_end w i frame q = done (frame_made w i frame (pushed w i.width frame q))
+frame_end w i frame q = done (with_new_frame w i frame (with_pushed_number w i.width frame q))
 
 one_push : (w : World) (width v : ℕ) (p : Pending) (n : ℕ) (read : Option (List Access)) →
-    with_pushes w width n (pushed w width v p) read ≡ with_pushes w width (suc n) p read
+    with_pushes w width n (with_pushed_number w width v p) read ≡ with_pushes w width (suc n) p read
 unfolding and_pushes
 one_push w width v p n None = refl
 one_push w width v p n (Some list) =
-    ap (λ (esp : ℕ). Some (and_pushes w width n esp (and_writes list (pushed w width v p).writes))) (pushed_esp w width v p)
+    ap (λ (esp : ℕ). Some (and_pushes w width n esp (and_writes list (with_pushed_number w width v p).writes))) (pushed_esp w width v p)
     ∙ ap (λ (all : List Access). Some (and_pushes w width n (esp_down w width p.regs.esp) all)) (pushed_accesses list w width v p)
 
 by_value : (r : Result ℕ Event) (f : ℕ → Option (List Access)) (g : Option (List Access)) (h : Option (List Access) → Option (List Access)) →
@@ -95,24 +95,24 @@ by_value (Ok v) f g h none some = some v
 by_value (Err e) f g h none some = sym none
 
 frames_follow : (w : World) (i : Insn) (frame level n : ℕ) (p : Pending) (list : List Access) →
-    accesses_after w list (frames_pushed w i level n p (frame_end w i frame))
+    accesses_after w list (push_saved_frames w i level n p (frame_end w i frame))
     ≡ with_pushes w i.width (suc n) p (frame_reads w i level n list)
-unfolding accesses_after frames_pushed frame_reads frame_made and_pushes
+unfolding accesses_after push_saved_frames frame_reads with_new_frame and_pushes
 frames_follow w i frame level zero p list = ap (λ (all : List Access). Some all) (pushed_accesses list w i.width frame p)
 frames_follow w i frame level (suc n) p list =
     let input = frame_input w i level in
     let read = frame_reads w i (level + 1) n (and_read list input) in
     by_value (value_of w input)
-    (λ (v : ℕ). accesses_after w (and_read list input) (frames_pushed w i (level + 1) n (pushed w i.width v p) (frame_end w i frame)))
+    (λ (v : ℕ). accesses_after w (and_read list input) (push_saved_frames w i (level + 1) n (with_pushed_number w i.width v p) (frame_end w i frame)))
     read
     (with_pushes w i.width (suc (suc n)) p) refl
-    (λ (v : ℕ). frames_follow w i frame (level + 1) n (pushed w i.width v p) (and_read list input) ∙ one_push w i.width v p (suc n) read)
+    (λ (v : ℕ). frames_follow w i frame (level + 1) n (with_pushed_number w i.width v p) (and_read list input) ∙ one_push w i.width v p (suc n) read)
 
 -- ---- ENTER
 
 -- its first push
 abbrev base_pushed : World → Insn → Pending
-base_pushed w i = pushed w i.width (register w.regs i.width 5) (unchanged w)
+base_pushed w i = with_pushed_number w i.width (register w.regs i.width 5) (unchanged w)
 
 abbrev level_of : Insn → ℕ
 level_of i = immediate i.second % 32
@@ -132,7 +132,7 @@ base_pushes w i n read = one_push w i.width (register w.regs i.width 5) (unchang
 
 pub enter_plain : (w : World) (i : Insn) (list : List Access) → level_of i ≡ 0 →
     accesses_after w list (enter w i) ≡ Some (and_pushes w i.width 1 w.regs.esp list)
-unfolding accesses_after enter frame_made and_pushes
+unfolding accesses_after enter with_new_frame and_pushes
 enter_plain w i list e =
     ap (accesses_after w list) (by_level (nat_eq (level_of i) 0) _ _ (rw e refl))
     ∙ ap (λ (all : List Access). Some all) (pushed_accesses list w i.width (register w.regs i.width 5) (unchanged w))
@@ -144,7 +144,7 @@ enter_levels w i list n e =
     let frame = stack_pointer w (base_pushed w i).regs in
     let less : level_of i - 1 ≡ n = omega arith in
     ap (accesses_after w list) (by_no_level (nat_eq (level_of i) 0) _ _ (no_zero (level_of i) n e))
-    ∙ ap (λ (m : ℕ). accesses_after w list (frames_pushed w i 1 m (base_pushed w i) (frame_end w i frame))) less
+    ∙ ap (λ (m : ℕ). accesses_after w list (push_saved_frames w i 1 m (base_pushed w i) (frame_end w i frame))) less
     ∙ frames_follow w i frame 1 n (base_pushed w i) list
     ∙ base_pushes w i (suc n) (frame_reads w i 1 n list)
 

@@ -8,7 +8,7 @@ use Rattle.client_world.specs.declared.faults.Fault.{Fault}
 use Rattle.client_world.specs.declared.registers.Regs.{Regs}
 use Rattle.client_world.specs.declared.segments.SegReg.{SegReg}
 use Rattle.client_world.specs.Segments.{with_selector}
-use Rattle.guest_space.specs.Pending.{first_refusal, all_written}
+use Rattle.guest_space.specs.Pending.{first_write_fault, after_writes}
 use Rattle.guest_space.specs.Registers.{with_registers}
 use Rattle.host_memory.specs.View.{MachineView}
 use Rattle.insn_plan.proofs.Settled.{settled_with}
@@ -23,7 +23,7 @@ granted_regs (Some f) v u e = absurd cc
 -- the registers are those that are left
 settled_regs : (v u : MachineView) (p : Pending) → after_commit v p ≡ Ok u → p.regs ≡ u.world.regs
 unfolding after_commit
-settled_regs v u p e = granted_regs (first_refusal v.world p.writes) (with_state p.regs p.vif (all_written v p.writes)) u e
+settled_regs v u p e = granted_regs (first_write_fault v.world p.writes) (with_state p.regs p.vif (after_writes v p.writes)) u e
 
 pub settled_with_selector : (v u : MachineView) (p : Pending) (seg : SegReg) (sel : ℕ) → after_commit v p ≡ Ok u →
     after_commit v (with_regs (with_selector p.regs seg sel) p) ≡ Ok (with_registers (with_selector u.world.regs seg sel) u)

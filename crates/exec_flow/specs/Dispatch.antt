@@ -1,5 +1,5 @@
 -- The instructions of this crate, and what each of them does.
-use Rattle.std.specs.Prelude.{◌≡◌, ℕ, Bool, true, false, not, ◌||◌}
+use Rattle.std.specs.Prelude.{◌≡◌, ℕ, Bool, true, not}
 use Rattle.client_world.specs.declared.segments.SegReg.TheVariants as segs
 use Rattle.client_world.specs.Descriptor.{byte_limit}
 use Rattle.client_world.specs.World.{World}
@@ -7,85 +7,22 @@ use Rattle.insn_forms.specs.declared.insn.Insn.{Insn}
 use Rattle.insn_forms.specs.declared.insn.Op.{Op}
 use Rattle.insn_forms.specs.declared.insn.Op.TheVariants as ops
 use Rattle.insn_forms.specs.declared.insn.Operand.{Operand}
-use Rattle.insn_forms.specs.declared.insn.Operand.TheVariants.{Empty, Reg, Seg, Mem, Imm, Far}
+use Rattle.insn_forms.specs.Kinds.{is_of_core, operation}
 use Rattle.insn_plan.specs.Act.{Act, done, unchanged}
 use Rattle.exec_flow.specs.FarTransfers.{jump_far, call_far, retf, iret}
 use Rattle.exec_flow.specs.FlagImages.{pushf, popf, cli, sti}
 use Rattle.exec_flow.specs.Frames.{enter, leave, bound}
 use Rattle.exec_flow.specs.Interrupts.{int, int3, into}
 use Rattle.exec_flow.specs.Ports.{input, output}
-use Rattle.exec_flow.specs.Questions.{verify, tell, arpl, is_readable, is_writable_row, access_rights}
+use Rattle.exec_flow.specs.Questions.{verify, load_from_descriptor, arpl, is_readable, is_writable_row, access_rights}
 use Rattle.exec_flow.specs.Raising.{invalid_opcode, privileged, escape, load_table}
 use Rattle.exec_flow.specs.Segments.{mov_segment, push_segment, pop_segment, load_pointer}
 use Rattle.exec_flow.specs.Transfers.{jcc, jcxz, loop_while, jmp, call, ret}
 
--- the operand is a segment register
-abbrev pub is_segment_operand : Operand → Bool
-is_segment_operand Empty = false
-is_segment_operand (Reg own number) = false
-is_segment_operand (Seg seg) = true
-is_segment_operand (Mem f) = false
-is_segment_operand (Imm v) = false
-is_segment_operand (Far pointer) = false
-
--- the instruction is one of this crate
+-- the instruction is one of this crate, by the table of operations: it is none of exec_core
 unfoldable pub is_flow : Op → Operand → Operand → Bool
-is_flow ops.Mov first second = is_segment_operand first || is_segment_operand second
-is_flow ops.Push first second = is_segment_operand first
-is_flow ops.Pop first second = is_segment_operand first
-is_flow ops.Pushf first second = true
-is_flow ops.Popf first second = true
-is_flow (ops.Jcc n) first second = true
-is_flow ops.Jcxz first second = true
-is_flow ops.Loop first second = true
-is_flow ops.Loope first second = true
-is_flow ops.Loopne first second = true
-is_flow ops.Jmp first second = true
-is_flow ops.JmpFar first second = true
-is_flow ops.Call first second = true
-is_flow ops.CallFar first second = true
-is_flow ops.Ret first second = true
-is_flow ops.Retf first second = true
-is_flow ops.Int first second = true
-is_flow ops.Int3 first second = true
-is_flow ops.Into first second = true
-is_flow ops.Iret first second = true
-is_flow ops.Bound first second = true
-is_flow ops.Enter first second = true
-is_flow ops.Leave first second = true
-is_flow ops.Cli first second = true
-is_flow ops.Sti first second = true
-is_flow ops.Hlt first second = true
-is_flow ops.In first second = true
-is_flow ops.Out first second = true
-is_flow ops.Ins first second = true
-is_flow ops.Outs first second = true
-is_flow ops.Les first second = true
-is_flow ops.Lds first second = true
-is_flow ops.Lss first second = true
-is_flow ops.Lfs first second = true
-is_flow ops.Lgs first second = true
-is_flow ops.Lar first second = true
-is_flow ops.Lsl first second = true
-is_flow ops.Verr first second = true
-is_flow ops.Verw first second = true
-is_flow ops.Arpl first second = true
-is_flow ops.Sldt first second = true
-is_flow ops.Str first second = true
-is_flow ops.Lldt first second = true
-is_flow ops.Ltr first second = true
-is_flow ops.Sgdt first second = true
-is_flow ops.Sidt first second = true
-is_flow ops.Lgdt first second = true
-is_flow ops.Lidt first second = true
-is_flow ops.Smsw first second = true
-is_flow ops.Lmsw first second = true
-is_flow ops.Clts first second = true
-is_flow ops.MovControl first second = true
-is_flow ops.MovDebug first second = true
-is_flow ops.MovTest first second = true
-is_flow ops.Esc first second = true
-is_flow _ first second = false
+unfolding operation
+is_flow op first second = not (is_of_core (operation op).owner first second)
 
 abbrev pub IsFlow : Insn → Type 0
 IsFlow i = is_flow i.op i.first i.second ≡ true
@@ -127,8 +64,8 @@ flow_row ops.Lds w i len = load_pointer segs.Ds w i
 flow_row ops.Lss w i len = load_pointer segs.Ss w i
 flow_row ops.Lfs w i len = load_pointer segs.Fs w i
 flow_row ops.Lgs w i len = load_pointer segs.Gs w i
-flow_row ops.Lar w i len = tell access_rights w i
-flow_row ops.Lsl w i len = tell byte_limit w i
+flow_row ops.Lar w i len = load_from_descriptor access_rights w i
+flow_row ops.Lsl w i len = load_from_descriptor byte_limit w i
 flow_row ops.Verr w i len = verify is_readable w i
 flow_row ops.Verw w i len = verify is_writable_row w i
 flow_row ops.Arpl w i len = arpl w i

@@ -9,10 +9,10 @@ use Rattle.client_world.specs.Selector.{client_selector}
 use Rattle.client_world.specs.World.{World}
 use Rattle.insn_forms.specs.declared.insn.Insn.{Insn}
 use Rattle.insn_plan.specs.Act.{Act, ◌>>=◌, Pending, done, unchanged, unless_fault, with_regs}
-use Rattle.insn_plan.specs.Stack.{pushed, stack_item, items_popped}
-use Rattle.exec_flow.specs.FlagImages.{flags_popped}
+use Rattle.insn_plan.specs.Stack.{with_pushed_number, stack_item, regs_after_pops}
+use Rattle.exec_flow.specs.FlagImages.{with_popped_flags}
 use Rattle.exec_flow.specs.Pointers.{pointer, pointer_selector, pointer_offset}
-use Rattle.exec_flow.specs.Transfers.{immediate, released}
+use Rattle.exec_flow.specs.Transfers.{immediate, regs_after_drop}
 
 -- what CS holds after a transfer to a selector: in protected mode with privilege level 3
 unfoldable pub code_selector : World → ℕ → ℕ
@@ -34,33 +34,33 @@ unfoldable pub call_far : World → Insn → Act
 call_far w i = do
   p ← pointer w i i.first
   far_transfer w (pointer_selector i p) (pointer_offset i p) false
-      (pushed w i.width w.regs.eip (pushed w i.width w.regs.cs (unchanged w)))
+      (with_pushed_number w i.width w.regs.eip (with_pushed_number w i.width w.regs.cs (unchanged w)))
 
 -- a far return's frame popped, in items of that many bits: the instruction pointer and CS; and then that many bytes dropped
-unfoldable pub far_frame_popped : World → ℕ → ℕ → Act
-far_frame_popped w bits bytes = do
+unfoldable pub far_frame_pop : World → ℕ → ℕ → Act
+far_frame_pop w bits bytes = do
   ip ← stack_item w bits 0
   cs ← stack_item w bits 1
-  far_transfer w (low_half cs) ip true (with_regs (released w bytes (items_popped w bits 2 w.regs)) (unchanged w))
+  far_transfer w (low_half cs) ip true (with_regs (regs_after_drop w bytes (regs_after_pops w bits 2 w.regs)) (unchanged w))
 
 -- RETF drops the bytes of its operand
 unfoldable pub retf : World → Insn → Act
-retf w i = far_frame_popped w i.width (immediate i.first)
+retf w i = far_frame_pop w i.width (immediate i.first)
 
 -- a frame popped that an interrupt pushed, in items of that many bits: the instruction pointer, CS and the flags image
-unfoldable pub frame_popped : World → ℕ → Act
-frame_popped w bits = do
+unfoldable pub interrupt_frame_pop : World → ℕ → Act
+interrupt_frame_pop w bits = do
   ip ← stack_item w bits 0
   cs ← stack_item w bits 1
   image ← stack_item w bits 2
-  far_transfer w (low_half cs) ip true (flags_popped w image (with_regs (items_popped w bits 3 w.regs) (unchanged w)))
+  far_transfer w (low_half cs) ip true (with_popped_flags w image (with_regs (regs_after_pops w bits 3 w.regs) (unchanged w)))
 
 -- what a frame leaves when it is popped, by what its items hold
-abbrev pub frame_left : World → ℕ → ℕ → ℕ → ℕ → Pending
-frame_left w bits ip cs image =
-    let p = flags_popped w image (with_regs (items_popped w bits 3 w.regs) (unchanged w)) in
+abbrev pub pending_of_interrupt_frame : World → ℕ → ℕ → ℕ → ℕ → Pending
+pending_of_interrupt_frame w bits ip cs image =
+    let p = with_popped_flags w image (with_regs (regs_after_pops w bits 3 w.regs) (unchanged w)) in
     with_regs (record p.regs { cs = code_selector w cs; eip = ip }) p
 
 -- IRET
 unfoldable pub iret : World → Insn → Act
-iret w i = frame_popped w i.width
+iret w i = interrupt_frame_pop w i.width

@@ -14,7 +14,7 @@ use Rattle.insn_forms.specs.declared.insn.Insn.{Insn}
 use Rattle.insn_plan.specs.Act.{Act, ◌>>=◌, From, Pending, done, raise, unchanged, with_regs}
 use Rattle.insn_plan.specs.Operands.{source}
 use Rattle.insn_plan.specs.Registers.{register, with_register, cut_address}
-use Rattle.insn_plan.specs.Stack.{has_big_stack, pushed, items_popped, stack_pointer, with_stack_pointer}
+use Rattle.insn_plan.specs.Stack.{has_big_stack, with_pushed_number, regs_after_pops, stack_pointer, with_stack_pointer}
 use Rattle.exec_flow.specs.Pointers.{memory_bytes}
 use Rattle.exec_flow.specs.Transfers.{at_operand_size, immediate}
 
@@ -23,15 +23,15 @@ abbrev pub saved_frame : World → Insn → ℕ → ℕ
 saved_frame w i level = at_operand_size i (w.regs.ebp + 2 ^ 32 - level * byte_count i.width)
 
 -- n saved frame pointers, from that of a level on: each is read and pushed; then what follows
-unfoldable pub frames_pushed : World → Insn → ℕ → ℕ → Pending → (Pending → Act) → Act
-frames_pushed w i level zero p rest = rest p
-frames_pushed w i level (suc n) p rest = do
+unfoldable pub push_saved_frames : World → Insn → ℕ → ℕ → Pending → (Pending → Act) → Act
+push_saved_frames w i level zero p rest = rest p
+push_saved_frames w i level (suc n) p rest = do
   v ← From Ss (saved_frame w i level) (byte_count i.width)
-  frames_pushed w i (level + 1) n (pushed w i.width v p) rest
+  push_saved_frames w i (level + 1) n (with_pushed_number w i.width v p) rest
 
 -- (E)BP becomes the frame's place, and (E)SP goes down by the room for the procedure's variables
-unfoldable pub frame_made : World → Insn → ℕ → Pending → Pending
-frame_made w i frame p =
+unfoldable pub with_new_frame : World → Insn → ℕ → Pending → Pending
+with_new_frame w i frame p =
     let sp = cut_address (has_big_stack w) (stack_pointer w p.regs + 2 ^ 32 - low_half (immediate i.first)) in
     with_regs (with_register (with_stack_pointer w sp p.regs) i.width 5 frame) p
 
@@ -39,11 +39,11 @@ frame_made w i frame p =
 -- own place
 unfoldable pub enter : World → Insn → Act
 enter w i =
-    let p = pushed w i.width (register w.regs i.width 5) (unchanged w) in
+    let p = with_pushed_number w i.width (register w.regs i.width 5) (unchanged w) in
     let frame = stack_pointer w p.regs in
     let level = immediate i.second % 32 in
-    if nat_eq level 0 then done (frame_made w i frame p) else
-    frames_pushed w i 1 (level - 1) p (λ q. done (frame_made w i frame (pushed w i.width frame q)))
+    if nat_eq level 0 then done (with_new_frame w i frame p) else
+    push_saved_frames w i 1 (level - 1) p (λ q. done (with_new_frame w i frame (with_pushed_number w i.width frame q)))
 
 -- the registers with the stack pointer at the frame
 abbrev pub at_frame : World → Regs
@@ -53,7 +53,7 @@ at_frame w = with_stack_pointer w (cut_address (has_big_stack w) w.regs.ebp) w.r
 unfoldable pub leave : World → Insn → Act
 leave w i = do
   bp ← From Ss (cut_address (has_big_stack w) w.regs.ebp) (byte_count i.width)
-  done (with_regs (with_register (items_popped w i.width 1 (at_frame w)) i.width 5 bp) (unchanged w))
+  done (with_regs (with_register (regs_after_pops w i.width 1 (at_frame w)) i.width 5 bp) (unchanged w))
 
 -- a number of the operand size is less than another in two's complement
 abbrev pub is_less_signed : ℕ → ℕ → ℕ → Bool

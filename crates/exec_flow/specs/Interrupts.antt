@@ -10,7 +10,7 @@ use Rattle.client_world.specs.Registers.{flags_image, low_byte}
 use Rattle.client_world.specs.World.{World}
 use Rattle.insn_forms.specs.declared.insn.Insn.{Insn}
 use Rattle.insn_plan.specs.Act.{Act, End, Interrupt, Pending, done, unchanged}
-use Rattle.insn_plan.specs.Stack.{pushed}
+use Rattle.insn_plan.specs.Stack.{with_pushed_number}
 use Rattle.exec_flow.specs.Transfers.{immediate}
 
 -- INT
@@ -36,7 +36,7 @@ abbrev pub frame_bits : World → ℕ
 frame_bits w = elim w.mode [ Real ↦ 16 | Protected ↦ item_bits w.width ]
 
 -- what a software interrupt pushes: the flags image with the virtual interrupt flag, CS and EIP
-unfoldable pub interrupt_pushed : World → Pending
-interrupt_pushed w =
-    pushed w (frame_bits w) w.regs.eip (pushed w (frame_bits w) w.regs.cs
-    (pushed w (frame_bits w) (flags_image w.regs.flags w.vif) (unchanged w)))
+unfoldable pub interrupt_push : World → Pending
+interrupt_push w =
+    with_pushed_number w (frame_bits w) w.regs.eip (with_pushed_number w (frame_bits w) w.regs.cs
+    (with_pushed_number w (frame_bits w) (flags_image w.regs.flags w.vif) (unchanged w)))

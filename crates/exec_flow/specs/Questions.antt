@@ -43,8 +43,8 @@ descriptor_answer number w i (Some row) =
     done (put_operand w.regs i.addr32 i.width i.first (number row.0) (with_flags (with_zero w true) w))
 
 -- LAR and LSL: the access rights, or the byte limit
-unfoldable pub tell : (Desc → ℕ) → World → Insn → Act
-tell number w i = in_protected w (do
+unfoldable pub load_from_descriptor : (Desc → ℕ) → World → Insn → Act
+load_from_descriptor number w i = in_protected w (do
   sel ← source w.regs i.addr32 16 i.second
   descriptor_answer number w i (row_of_selector w.descriptors (low_half sel)))
 

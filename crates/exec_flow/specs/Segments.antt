@@ -11,18 +11,18 @@ use Rattle.insn_forms.specs.declared.insn.Insn.{Insn}
 use Rattle.insn_forms.specs.declared.insn.Operand.TheVariants.{Empty, Reg, Seg, Mem, Imm, Far}
 use Rattle.insn_plan.specs.Act.{Act, ◌>>=◌, Pending, done, unchanged, unless_fault, with_regs}
 use Rattle.insn_plan.specs.Operands.{source, put_operand}
-use Rattle.insn_plan.specs.Stack.{pushed, stack_item, items_popped}
+use Rattle.insn_plan.specs.Stack.{with_pushed_number, stack_item, regs_after_pops}
 use Rattle.exec_flow.specs.Pointers.{pointer, pointer_selector, pointer_offset}
 
 -- a segment register loaded, with what else the instruction leaves; in real mode every word loads
-unfoldable pub segment_loaded : World → SegReg → ℕ → Pending → Act
-segment_loaded w seg sel p = unless_fault (register_fault w seg sel) (done (with_regs (with_selector p.regs seg sel) p))
+unfoldable pub with_loaded_segment : World → SegReg → ℕ → Pending → Act
+with_loaded_segment w seg sel p = unless_fault (register_fault w seg sel) (done (with_regs (with_selector p.regs seg sel) p))
 
 -- MOV of a word into a segment register
 unfoldable pub mov_to_segment : World → Insn → SegReg → Act
 mov_to_segment w i seg = do
   v ← source w.regs i.addr32 16 i.second
-  segment_loaded w seg (low_half v) (unchanged w)
+  with_loaded_segment w seg (low_half v) (unchanged w)
 
 -- MOV from a segment register, which is a word in memory and the whole of a register
 unfoldable pub mov_from_segment : World → Insn → Act
@@ -45,13 +45,13 @@ mov_segment w i = elim i.first [
 unfoldable pub push_segment : World → Insn → Act
 push_segment w i = do
   v ← source w.regs i.addr32 i.width i.first
-  done (pushed w i.width v (unchanged w))
+  done (with_pushed_number w i.width v (unchanged w))
 
 -- POP of a segment register, the low word of an item
 unfoldable pub pop_into : World → Insn → SegReg → Act
 pop_into w i seg = do
   v ← stack_item w i.width 0
-  segment_loaded w seg (low_half v) (with_regs (items_popped w i.width 1 w.regs) (unchanged w))
+  with_loaded_segment w seg (low_half v) (with_regs (regs_after_pops w i.width 1 w.regs) (unchanged w))
 
 -- that of the first operand; without one there is nothing to do
 unfoldable pub pop_segment : World → Insn → Act
@@ -68,4 +68,4 @@ pop_segment w i = elim i.first [
 unfoldable pub load_pointer : SegReg → World → Insn → Act
 load_pointer seg w i = do
   p ← pointer w i i.second
-  segment_loaded w seg (pointer_selector i p) (put_operand w.regs i.addr32 i.width i.first (pointer_offset i p) (unchanged w))
+  with_loaded_segment w seg (pointer_selector i p) (put_operand w.regs i.addr32 i.width i.first (pointer_offset i p) (unchanged w))

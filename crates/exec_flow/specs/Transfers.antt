@@ -13,7 +13,7 @@ use Rattle.insn_plan.specs.Conditions.{condition}
 use Rattle.insn_plan.specs.Counter.{counter, with_address}
 use Rattle.insn_plan.specs.Operands.{source}
 use Rattle.insn_plan.specs.Registers.{cut_address}
-use Rattle.insn_plan.specs.Stack.{pushed, stack_item, items_popped, stack_pointer_up, with_stack_pointer}
+use Rattle.insn_plan.specs.Stack.{with_pushed_number, stack_item, regs_after_pops, stack_pointer_up, with_stack_pointer}
 
 -- the target of a near transfer, before it is cut: a distance from the next instruction, or the number of an operand
 unfoldable pub target : World → Insn → Operand → Input
@@ -49,14 +49,14 @@ jcxz w i = do
 abbrev pub count_down : World → Insn → ℕ
 count_down w i = cut_address i.addr32 (counter w i + 2 ^ 32 - 1)
 
-abbrev pub counted_down : World → Insn → Pending
-counted_down w i = with_regs (record w.regs { ecx = with_address i.addr32 w.regs.ecx (count_down w i) }) (unchanged w)
+abbrev pub with_next_count : World → Insn → Pending
+with_next_count w i = with_regs (record w.regs { ecx = with_address i.addr32 w.regs.ecx (count_down w i) }) (unchanged w)
 
 -- LOOP, and LOOPE and LOOPNE with their condition: the counter goes down, and the jump is taken while it isn't 0 and the condition holds
 unfoldable pub loop_while : Bool → World → Insn → Act
 loop_while holds w i = do
   ip ← target w i i.first
-  (if holds && not (nat_eq (count_down w i) 0) then near_transfer w i ip (counted_down w i) else done (counted_down w i))
+  (if holds && not (nat_eq (count_down w i) 0) then near_transfer w i ip (with_next_count w i) else done (with_next_count w i))
 
 -- JMP
 unfoldable pub jmp : World → Insn → Act
@@ -68,7 +68,7 @@ jmp w i = do
 unfoldable pub call : World → Insn → Act
 call w i = do
   ip ← target w i i.first
-  near_transfer w i ip (pushed w i.width w.regs.eip (unchanged w))
+  near_transfer w i ip (with_pushed_number w i.width w.regs.eip (unchanged w))
 
 -- the number of an immediate; another operand has none, which is 0
 abbrev pub immediate : Operand → ℕ
@@ -80,11 +80,11 @@ immediate (Imm v) = v
 immediate (Far pointer) = 0
 
 -- the registers with n bytes more dropped from the stack
-abbrev pub released : World → ℕ → Regs → Regs
-released w n r = with_stack_pointer w (stack_pointer_up w n r) r
+abbrev pub regs_after_drop : World → ℕ → Regs → Regs
+regs_after_drop w n r = with_stack_pointer w (stack_pointer_up w n r) r
 
 -- RET: the instruction pointer is popped, and then the bytes of the operand are dropped
 unfoldable pub ret : World → Insn → Act
 ret w i = do
   ip ← stack_item w i.width 0
-  near_transfer w i ip (with_regs (released w (immediate i.first) (items_popped w i.width 1 w.regs)) (unchanged w))
+  near_transfer w i ip (with_regs (regs_after_drop w (immediate i.first) (regs_after_pops w i.width 1 w.regs)) (unchanged w))

@@ -1,9 +1,9 @@
 // Far transfers.
 ghost use Rattle.std.specs.Prelude.{◌≡◌, MatchResult, OnOk, IfErr, None, Some, Ok, Err, is_ok};
 ghost use Rattle.client_world.specs.Loading.{transfer_fault};
-ghost use Rattle.exec_flow.specs.FarTransfers.{call_far, code_selector, far_frame_popped, frame_left, frame_popped, iret, jump_far, retf};
+ghost use Rattle.exec_flow.specs.FarTransfers.{call_far, code_selector, far_frame_pop, pending_of_interrupt_frame, interrupt_frame_pop, iret, jump_far, retf};
 ghost use Rattle.guest_space.specs.Registers.{with_registers};
-ghost use Rattle.insn_plan.specs.Plan.{CarriesOut, planned};
+ghost use Rattle.insn_plan.specs.Plan.{CarriesOut, plan_result};
 
 use crate::flag_images::set_popped_flags;
 use crate::pointers::{pointer, pointer_offset, pointer_selector};
@@ -55,7 +55,7 @@ fn far_transfer(m: &mut Machine, sel: u16, ip: u32, ret: bool) -> Result<(), Fau
 
 /// JMP far. Source: 80386 Programmer's Reference Manual, ch. 17.
 #[inline(never)]
-#[tactic(auto, unfolding(crate::specs::FarTransfers::jump_far, crate::specs::FarTransfers::far_transfer, insn_plan::specs::Plan::carried_out, insn_plan::specs::Plan::after_commit, guest_space::specs::Pending::first_refusal, guest_space::specs::Pending::all_written))]
+#[tactic(auto, unfolding(crate::specs::FarTransfers::jump_far, crate::specs::FarTransfers::far_transfer, insn_plan::specs::Plan::after_plan, insn_plan::specs::Plan::after_commit, guest_space::specs::Pending::first_write_fault, guest_space::specs::Pending::after_writes))]
 pub(crate) fn jump_far(m: &mut Machine, i: &Insn) -> Result<(), Raised>
     ensures { CarriesOut m.old m.new result (jump_far m.old.world i.now) }
 {
@@ -66,7 +66,7 @@ pub(crate) fn jump_far(m: &mut Machine, i: &Insn) -> Result<(), Raised>
 
 /// CALL far. Source: as above.
 #[inline(never)]
-#[tactic(auto, unfolding(crate::specs::FarTransfers::call_far, crate::specs::FarTransfers::far_transfer, insn_plan::specs::Plan::carried_out))]
+#[tactic(auto, unfolding(crate::specs::FarTransfers::call_far, crate::specs::FarTransfers::far_transfer, insn_plan::specs::Plan::after_plan))]
 pub(crate) fn call_far(m: &mut Machine, i: &Insn) -> Result<(), Raised>
     ensures { CarriesOut m.old m.new result (call_far m.old.world i.now) }
 {
@@ -88,9 +88,9 @@ pub(crate) fn call_far(m: &mut Machine, i: &Insn) -> Result<(), Raised>
 /// Pops the frame of a far return, in items of n bits: the instruction pointer and CS; and drops a number of bytes after it. Or gives the event,
 /// which changes nothing. Source: 80386 Programmer's Reference Manual, ch. 17, RET.
 #[inline(always)]
-#[tactic(auto, unfolding(crate::specs::FarTransfers::far_frame_popped, crate::specs::FarTransfers::far_transfer, insn_plan::specs::Plan::carried_out, insn_plan::specs::Plan::after_commit, guest_space::specs::Pending::first_refusal, guest_space::specs::Pending::all_written, client_world::specs::General::with_general, insn_plan::specs::Stack::items_popped))]
+#[tactic(auto, unfolding(crate::specs::FarTransfers::far_frame_pop, crate::specs::FarTransfers::far_transfer, insn_plan::specs::Plan::after_plan, insn_plan::specs::Plan::after_commit, guest_space::specs::Pending::first_write_fault, guest_space::specs::Pending::after_writes, client_world::specs::General::with_general, insn_plan::specs::Stack::regs_after_pops))]
 pub fn pop_far_frame(m: &mut Machine, bits: u8, bytes: u32) -> Result<(), Raised>
-    ensures { CarriesOut m.old m.new result (far_frame_popped m.old.world bits bytes) }
+    ensures { CarriesOut m.old m.new result (far_frame_pop m.old.world bits bytes) }
 {
     let ip = stack_item(m, bits, 0)?;
     let cs = stack_item(m, bits, 1)?;
@@ -119,12 +119,12 @@ struct Frame {
 
 // Reads the frame at the stack's top, in items of n bits, to which a return may be made; or gives the event.
 #[inline(always)]
-#[tactic(auto, unfolding(crate::specs::FarTransfers::frame_popped, crate::specs::FarTransfers::far_transfer))]
+#[tactic(auto, unfolding(crate::specs::FarTransfers::interrupt_frame_pop, crate::specs::FarTransfers::far_transfer))]
 fn frame_at_top(m: &Machine, bits: u8) -> Result<Frame, Raised>
     ensures { MatchResult result
-        (λ frame. planned m.now.world (frame_popped m.now.world bits)
-        ≡ Ok (frame_left m.now.world bits frame.ip frame.cs frame.image))
-        (λ event. planned m.now.world (frame_popped m.now.world bits) ≡ Err event) }
+        (λ frame. plan_result m.now.world (interrupt_frame_pop m.now.world bits)
+        ≡ Ok (pending_of_interrupt_frame m.now.world bits frame.ip frame.cs frame.image))
+        (λ event. plan_result m.now.world (interrupt_frame_pop m.now.world bits) ≡ Err event) }
 {
     let ip = stack_item(m, bits, 0)?;
     let cs = low_half(stack_item(m, bits, 1)?);
@@ -135,7 +135,7 @@ fn frame_at_top(m: &Machine, bits: u8) -> Result<Frame, Raised>
 
 /// Whether the frame at the stack's top, in items of n bits, can be popped. Source: 80386 Programmer's Reference Manual, ch. 17, IRET.
 pub fn can_pop_frame(m: &Machine, bits: u8) -> bool
-    ensures { result ≡ is_ok (planned m.now.world (frame_popped m.now.world bits)) }
+    ensures { result ≡ is_ok (plan_result m.now.world (interrupt_frame_pop m.now.world bits)) }
 {
     frame_at_top(m, bits).is_ok()
 }
@@ -145,7 +145,7 @@ pub fn can_pop_frame(m: &Machine, bits: u8) -> bool
 #[inline(always)]
 #[tactic(auto, using(insn_plan::proofs::Settled::carried_event))]
 pub fn pop_frame(m: &mut Machine, bits: u8) -> Result<(), Raised>
-    ensures { CarriesOut m.old m.new result (frame_popped m.old.world bits) }
+    ensures { CarriesOut m.old m.new result (interrupt_frame_pop m.old.world bits) }
 {
     let frame = frame_at_top(m, bits)?;
     let esp = popped_esp(m, bits, 3);

@@ -1,7 +1,7 @@
 // Flags images on the stack, and the virtual interrupt flag.
 ghost use Rattle.std.specs.Prelude.{◌≡◌};
 ghost use Rattle.client_world.specs.Registers.{flags_of_image, low_half};
-ghost use Rattle.exec_flow.specs.FlagImages.{cli, popf, popped_interrupt, pushf, shown_interrupt, sti};
+ghost use Rattle.exec_flow.specs.FlagImages.{cli, popf, vif_after_pop, pushf, visible_interrupt_flag, sti};
 ghost use Rattle.insn_plan.specs.Plan.{CarriesOut, with_state};
 
 use crate::stack_tops::popped_esp;
@@ -13,8 +13,8 @@ use insn_plan::{Raised, push_item, stack_item};
 
 // IF as PUSHF shows it.
 #[inline(always)]
-fn shown_interrupt(m: &Machine) -> bool
-    ensures { result ≡ shown_interrupt m.now.world }
+fn visible_interrupt_flag(m: &Machine) -> bool
+    ensures { result ≡ visible_interrupt_flag m.now.world }
 {
     match m.mode() {
         Mode::Real => m.vif(),
@@ -24,18 +24,18 @@ fn shown_interrupt(m: &Machine) -> bool
 
 /// PUSHF. Source: 80386 Programmer's Reference Manual, ch. 17; what IF shows is own.
 #[inline(never)]
-#[tactic(auto, unfolding(crate::specs::FlagImages::pushf, insn_plan::specs::Plan::carried_out))]
+#[tactic(auto, unfolding(crate::specs::FlagImages::pushf, insn_plan::specs::Plan::after_plan))]
 pub(crate) fn pushf(m: &mut Machine, i: &Insn) -> Result<(), Raised>
     ensures { CarriesOut m.old m.new result (pushf m.old.world i.now) }
 {
-    let image = m.registers().flags.image(shown_interrupt(m));
+    let image = m.registers().flags.image(visible_interrupt_flag(m));
     push_item(m, i.width, u32::from(image))
 }
 
 // The virtual flag after an image is popped.
 #[inline(always)]
-fn popped_interrupt(m: &Machine, image: u32) -> bool
-    ensures { result ≡ popped_interrupt m.now.world image }
+fn vif_after_pop(m: &Machine, image: u32) -> bool
+    ensures { result ≡ vif_after_pop m.now.world image }
 {
     match m.mode() {
         Mode::Real => is_interrupt_set(low_half(image)),
@@ -48,16 +48,16 @@ fn popped_interrupt(m: &Machine, image: u32) -> bool
 #[inline(always)]
 pub(crate) fn set_popped_flags(m: &mut Machine, image: u32)
     ensures { m.new ≡ with_state (record m.old.world.regs { flags = flags_of_image (low_half image) })
-        (popped_interrupt m.old.world image) m.old }
+        (vif_after_pop m.old.world image) m.old }
 {
-    let on = popped_interrupt(m, image);
+    let on = vif_after_pop(m, image);
     m.set_flags(Flags::from_image(low_half(image)));
     m.set_vif(on);
 }
 
 /// POPF. Source: as above.
 #[inline(never)]
-#[tactic(auto, unfolding(crate::specs::FlagImages::popf, crate::specs::FlagImages::flags_popped, insn_plan::specs::Plan::carried_out, insn_plan::specs::Plan::after_commit, guest_space::specs::Pending::first_refusal, guest_space::specs::Pending::all_written, client_world::specs::General::with_general, insn_plan::specs::Stack::items_popped))]
+#[tactic(auto, unfolding(crate::specs::FlagImages::popf, crate::specs::FlagImages::with_popped_flags, insn_plan::specs::Plan::after_plan, insn_plan::specs::Plan::after_commit, guest_space::specs::Pending::first_write_fault, guest_space::specs::Pending::after_writes, client_world::specs::General::with_general, insn_plan::specs::Stack::regs_after_pops))]
 pub(crate) fn popf(m: &mut Machine, i: &Insn) -> Result<(), Raised>
     ensures { CarriesOut m.old m.new result (popf m.old.world i.now) }
 {
@@ -69,7 +69,7 @@ pub(crate) fn popf(m: &mut Machine, i: &Insn) -> Result<(), Raised>
 
 /// CLI. Source: DPMI 0.9, "Interrupt State".
 #[inline(never)]
-#[tactic(auto, unfolding(crate::specs::FlagImages::cli, insn_plan::specs::Plan::carried_out, insn_plan::specs::Plan::after_commit, guest_space::specs::Pending::first_refusal, guest_space::specs::Pending::all_written))]
+#[tactic(auto, unfolding(crate::specs::FlagImages::cli, insn_plan::specs::Plan::after_plan, insn_plan::specs::Plan::after_commit, guest_space::specs::Pending::first_write_fault, guest_space::specs::Pending::after_writes))]
 pub(crate) fn cli(m: &mut Machine) -> Result<(), Raised>
     ensures { CarriesOut m.old m.new result (cli m.old.world) }
 {
@@ -79,7 +79,7 @@ pub(crate) fn cli(m: &mut Machine) -> Result<(), Raised>
 
 /// STI. Source: as above.
 #[inline(never)]
-#[tactic(auto, unfolding(crate::specs::FlagImages::sti, insn_plan::specs::Plan::carried_out, insn_plan::specs::Plan::after_commit, guest_space::specs::Pending::first_refusal, guest_space::specs::Pending::all_written))]
+#[tactic(auto, unfolding(crate::specs::FlagImages::sti, insn_plan::specs::Plan::after_plan, insn_plan::specs::Plan::after_commit, guest_space::specs::Pending::first_write_fault, guest_space::specs::Pending::after_writes))]
 pub(crate) fn sti(m: &mut Machine) -> Result<(), Raised>
     ensures { CarriesOut m.old m.new result (sti m.old.world) }
 {

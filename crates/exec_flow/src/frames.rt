@@ -3,8 +3,8 @@ ghost use Rattle.std.specs.Prelude.{◌≡◌, ◌+◌, ◌-◌, ◌*◌, ◌<�
 ghost use Rattle.cpu_values.specs.Word.{cut};
 ghost use Rattle.exec_flow.specs.Frames.{
   saved_frame,
-  frames_pushed,
-  frame_made,
+  push_saved_frames,
+  with_new_frame,
   enter,
   leave,
   is_less_signed,
@@ -15,7 +15,7 @@ ghost use Rattle.exec_flow.specs.Transfers.{at_operand_size};
 ghost use Rattle.guest_space.specs.Pending.{byte_count};
 ghost use Rattle.insn_forms.specs.Kinds.{is_width};
 ghost use Rattle.insn_plan.specs.Act.{Act, From, Pending, unchanged, value_of};
-ghost use Rattle.insn_plan.specs.Plan.{CarriesOut, Leaves, planned};
+ghost use Rattle.insn_plan.specs.Plan.{CarriesOut, Leaves, plan_result};
 ghost use Rattle.insn_plan.specs.declared.next.TheConstants.{MAX_WRITES};
 
 use crate::pointers::memory_bytes;
@@ -53,10 +53,10 @@ fn push_frames(m: &Machine, i: &Insn, n: u8, next: &mut Next) -> Result<(), Rais
     requires writes { length next.old.writes + n < MAX_WRITES }
     ensures pushed { MatchResult result
         (λ _. (rest : Pending → Act) →
-        planned m.now.world (frames_pushed m.now.world i.now 1 n next.old rest)
-        ≡ planned m.now.world (rest next.new))
+        plan_result m.now.world (push_saved_frames m.now.world i.now 1 n next.old rest)
+        ≡ plan_result m.now.world (rest next.new))
         (λ e. (rest : Pending → Act) →
-        planned m.now.world (frames_pushed m.now.world i.now 1 n next.old rest) ≡ Err e) }
+        plan_result m.now.world (push_saved_frames m.now.world i.now 1 n next.old rest) ≡ Err e) }
     ensures room { length next.new.writes ≤ length next.old.writes + n }
 {
     for k in 0..n {
@@ -67,9 +67,9 @@ fn push_frames(m: &Machine, i: &Insn, n: u8, next: &mut Next) -> Result<(), Rais
 }
 
 // Makes (E)BP the frame's place, and moves (E)SP down by the room for variables.
-#[tactic(auto, unfolding(crate::specs::Frames::frame_made))]
+#[tactic(auto, unfolding(crate::specs::Frames::with_new_frame))]
 fn make_frame(m: &Machine, i: &Insn, frame: u32, next: &mut Next)
-    ensures { next.new ≡ frame_made m.now.world i.now frame next.old }
+    ensures { next.new ≡ with_new_frame m.now.world i.now frame next.old }
 {
     let mut r = next.regs();
     let room = u64::from(immediate(&i.first) % 0x1_0000);
@@ -84,7 +84,7 @@ fn make_frame(m: &Machine, i: &Insn, frame: u32, next: &mut Next)
 #[tactic(auto, unfolding(crate::specs::Frames::enter))]
 fn plan_enter(m: &Machine, i: &Insn, next: &mut Next) -> Result<(), Raised>
     requires { next.old ≡ unchanged m.now.world }
-    ensures { Leaves next.new result (planned m.now.world (enter m.now.world i.now)) }
+    ensures { Leaves next.new result (plan_result m.now.world (enter m.now.world i.now)) }
 {
     next.push(m, i.width, register(m.registers(), i.width, EBP));
     let frame = stack_pointer(m, &next.regs());
@@ -110,7 +110,7 @@ pub(crate) fn enter(m: &mut Machine, i: &Insn) -> Result<(), Raised>
 
 /// LEAVE. Source: 80386 Programmer's Reference Manual, ch. 17.
 #[inline(never)]
-#[tactic(auto, unfolding(crate::specs::Frames::leave, insn_plan::specs::Plan::carried_out, insn_plan::specs::Plan::after_commit, guest_space::specs::Pending::first_refusal, guest_space::specs::Pending::all_written, client_world::specs::General::with_general, insn_plan::specs::Stack::items_popped))]
+#[tactic(auto, unfolding(crate::specs::Frames::leave, insn_plan::specs::Plan::after_plan, insn_plan::specs::Plan::after_commit, guest_space::specs::Pending::first_write_fault, guest_space::specs::Pending::after_writes, client_world::specs::General::with_general, insn_plan::specs::Stack::regs_after_pops))]
 pub(crate) fn leave(m: &mut Machine, i: &Insn) -> Result<(), Raised>
     ensures { CarriesOut m.old m.new result (leave m.old.world i.now) }
 {
@@ -146,7 +146,7 @@ pub(crate) fn is_less_signed(width: u8, a: u64, b: u64) -> bool
 
 /// BOUND. Source: 80386 Programmer's Reference Manual, ch. 17; that the pair is one access is own.
 #[inline(never)]
-#[tactic(auto, unfolding(crate::specs::Frames::bound, insn_plan::specs::Plan::carried_out, insn_plan::specs::Plan::after_commit, guest_space::specs::Pending::first_refusal, guest_space::specs::Pending::all_written))]
+#[tactic(auto, unfolding(crate::specs::Frames::bound, insn_plan::specs::Plan::after_plan, insn_plan::specs::Plan::after_commit, guest_space::specs::Pending::first_write_fault, guest_space::specs::Pending::after_writes))]
 pub(crate) fn bound(m: &mut Machine, i: &Insn) -> Result<(), Raised>
     requires { IsTrue (is_width i.now.width) }
     ensures { CarriesOut m.old m.new result (bound m.old.world i.now) }

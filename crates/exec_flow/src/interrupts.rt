@@ -1,6 +1,6 @@
 // Software interrupts, and what they push.
 ghost use Rattle.std.specs.Prelude.{◌≡◌};
-ghost use Rattle.exec_flow.specs.Interrupts.{frame_bits, int, int3, interrupt_pushed, into, item_bits};
+ghost use Rattle.exec_flow.specs.Interrupts.{frame_bits, int, int3, interrupt_push, into, item_bits};
 ghost use Rattle.host_memory.specs.View.{MachineView};
 ghost use Rattle.insn_plan.specs.Act.{unchanged};
 ghost use Rattle.insn_plan.specs.Plan.{CarriesOut};
@@ -13,7 +13,7 @@ use insn_plan::{Next, Raised};
 
 /// INT. Source: 80386 Programmer's Reference Manual, ch. 17, "INT/INTO".
 #[inline(never)]
-#[tactic(auto, unfolding(crate::specs::Interrupts::int, insn_plan::specs::Plan::carried_out))]
+#[tactic(auto, unfolding(crate::specs::Interrupts::int, insn_plan::specs::Plan::after_plan))]
 pub(crate) fn int(i: &Insn, len: u8) -> Result<(), Raised>
     ensures { (v : MachineView) → CarriesOut v v result (int i.now len) }
 {
@@ -22,7 +22,7 @@ pub(crate) fn int(i: &Insn, len: u8) -> Result<(), Raised>
 
 /// INT 3. Source: as above; that it is the client's interrupt 3 is own.
 #[inline(never)]
-#[tactic(auto, unfolding(crate::specs::Interrupts::int3, insn_plan::specs::Plan::carried_out))]
+#[tactic(auto, unfolding(crate::specs::Interrupts::int3, insn_plan::specs::Plan::after_plan))]
 pub(crate) fn int3(len: u8) -> Result<(), Raised>
     ensures { (v : MachineView) → CarriesOut v v result (int3 len) }
 {
@@ -31,7 +31,7 @@ pub(crate) fn int3(len: u8) -> Result<(), Raised>
 
 /// INTO. Source: as above; that it is the client's interrupt 4 is own.
 #[inline(never)]
-#[tactic(auto, unfolding(crate::specs::Interrupts::into, insn_plan::specs::Plan::carried_out, insn_plan::specs::Plan::after_commit, guest_space::specs::Pending::first_refusal, guest_space::specs::Pending::all_written))]
+#[tactic(auto, unfolding(crate::specs::Interrupts::into, insn_plan::specs::Plan::after_plan, insn_plan::specs::Plan::after_commit, guest_space::specs::Pending::first_write_fault, guest_space::specs::Pending::after_writes))]
 pub(crate) fn into(m: &Machine, len: u8) -> Result<(), Raised>
     ensures { CarriesOut m.now m.now result (into m.now.world len) }
 {
@@ -64,10 +64,10 @@ pub fn frame_bits(m: &Machine) -> u8
 
 /// Pushes what a software interrupt pushes: the flags image with the virtual interrupt flag, CS and EIP.
 /// Source: 80386 Programmer's Reference Manual, ch. 17, "INT/INTO"; DPMI 0.9, "Interrupt State".
-#[tactic(auto, unfolding(crate::specs::Interrupts::interrupt_pushed))]
+#[tactic(auto, unfolding(crate::specs::Interrupts::interrupt_push))]
 pub fn push_interrupt_frame(m: &Machine, next: &mut Next)
     requires { next.old ≡ unchanged m.now.world }
-    ensures { next.new ≡ interrupt_pushed m.now.world }
+    ensures { next.new ≡ interrupt_push m.now.world }
 {
     let r = m.registers();
     let bits = frame_bits(m);

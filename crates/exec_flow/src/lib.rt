@@ -1,6 +1,9 @@
-//! Transfers, segments and the system's instructions: jumps, calls, returns, frames, flags images, segment registers, descriptor questions.
+//! Transfers, segments and the system's instructions, over `insn_plan`. `exec_flow` has what transfers control, names or loads a
+//! segment register, shows or sets IF, asks a port or a descriptor, and the system's and the coprocessor's; also ENTER, LEAVE and
+//! BOUND. `exec_core` has the rest.
 //! It promises that an instruction does what its row says, or raises its fault and changes nothing, or is a software interrupt.
-//! It is built on the operands, the stack and the plans of `insn_plan`.
+//! A body is free as long as it meets its row, the manual's. The frames of IRET and far returns are shared: `interrupts`,
+//! `fault_service` and `mode_gates` pop and push by them.
 #![tactic(auto)]
 
 mod dispatch;

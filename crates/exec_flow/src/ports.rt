@@ -18,7 +18,7 @@ fn all_ones(width: u8) -> u32
 
 /// IN. Source: 80386 Programmer's Reference Manual, ch. 17; that no port answers is own.
 #[inline(never)]
-#[tactic(auto, unfolding(crate::specs::Ports::input, insn_plan::specs::Plan::carried_out))]
+#[tactic(auto, unfolding(crate::specs::Ports::input, insn_plan::specs::Plan::after_plan))]
 pub(crate) fn input(m: &mut Machine, i: &Insn) -> Result<(), Raised>
     requires { IsTrue (is_width i.now.width) }
     ensures { CarriesOut m.old m.new result (input m.old.world i.now) }
@@ -28,7 +28,7 @@ pub(crate) fn input(m: &mut Machine, i: &Insn) -> Result<(), Raised>
 
 /// OUT. Source: as above.
 #[inline(never)]
-#[tactic(auto, unfolding(crate::specs::Ports::output, insn_plan::specs::Plan::carried_out, insn_plan::specs::Plan::after_commit, guest_space::specs::Pending::first_refusal, guest_space::specs::Pending::all_written))]
+#[tactic(auto, unfolding(crate::specs::Ports::output, insn_plan::specs::Plan::after_plan, insn_plan::specs::Plan::after_commit, guest_space::specs::Pending::first_write_fault, guest_space::specs::Pending::after_writes))]
 pub(crate) fn output(m: &Machine) -> Result<(), Raised>
     ensures { CarriesOut m.now m.now result (output m.now.world) }
 {

@@ -20,7 +20,7 @@ pub(crate) fn exception(number: u8) -> Raised
 
 /// SLDT, STR, SGDT, SIDT, SMSW. Source: 80386 Programmer's Reference Manual, ch. 17; that they are invalid is own.
 #[inline(never)]
-#[tactic(auto, unfolding(crate::specs::Raising::invalid_opcode, insn_plan::specs::Plan::carried_out))]
+#[tactic(auto, unfolding(crate::specs::Raising::invalid_opcode, insn_plan::specs::Plan::after_plan))]
 pub(crate) fn invalid_opcode() -> Result<(), Raised>
     ensures { (v : MachineView) → CarriesOut v v result invalid_opcode }
 {
@@ -30,7 +30,7 @@ pub(crate) fn invalid_opcode() -> Result<(), Raised>
 /// HLT, INS, OUTS, LGDT, LIDT, LMSW, CLTS, moves of control, debug and test registers.
 /// Source: 80386 Programmer's Reference Manual, ch. 17, each under its name, and ch. 15, "Sensitive Instructions".
 #[inline(never)]
-#[tactic(auto, unfolding(crate::specs::Raising::privileged, insn_plan::specs::Plan::carried_out))]
+#[tactic(auto, unfolding(crate::specs::Raising::privileged, insn_plan::specs::Plan::after_plan))]
 pub(crate) fn privileged() -> Result<(), Raised>
     ensures { (v : MachineView) → CarriesOut v v result privileged }
 {
@@ -39,7 +39,7 @@ pub(crate) fn privileged() -> Result<(), Raised>
 
 /// The coprocessor's escape. Source: 80386 Programmer's Reference Manual, ch. 9, "Interrupt 7 - Coprocessor Not Available".
 #[inline(never)]
-#[tactic(auto, unfolding(crate::specs::Raising::escape, insn_plan::specs::Plan::carried_out))]
+#[tactic(auto, unfolding(crate::specs::Raising::escape, insn_plan::specs::Plan::after_plan))]
 pub(crate) fn escape() -> Result<(), Raised>
     ensures { (v : MachineView) → CarriesOut v v result escape }
 {

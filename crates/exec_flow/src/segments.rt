@@ -49,7 +49,7 @@ fn load_segment(m: &mut Machine, seg: SegReg, sel: u16) -> Result<(), Fault>
 
 // MOV into a segment register.
 #[inline(always)]
-#[tactic(auto, unfolding(crate::specs::Segments::mov_to_segment, crate::specs::Segments::segment_loaded, insn_plan::specs::Plan::carried_out, insn_plan::specs::Plan::after_commit, guest_space::specs::Pending::first_refusal, guest_space::specs::Pending::all_written))]
+#[tactic(auto, unfolding(crate::specs::Segments::mov_to_segment, crate::specs::Segments::with_loaded_segment, insn_plan::specs::Plan::after_plan, insn_plan::specs::Plan::after_commit, guest_space::specs::Pending::first_write_fault, guest_space::specs::Pending::after_writes))]
 fn mov_to_segment(m: &mut Machine, i: &Insn, seg: SegReg) -> Result<(), Raised>
     ensures { CarriesOut m.old m.new result (mov_to_segment m.old.world i.now seg) }
 {
@@ -60,7 +60,7 @@ fn mov_to_segment(m: &mut Machine, i: &Insn, seg: SegReg) -> Result<(), Raised>
 
 // MOV from a segment register.
 #[inline(always)]
-#[tactic(auto, unfolding(crate::specs::Segments::mov_from_segment, insn_plan::specs::Plan::carried_out))]
+#[tactic(auto, unfolding(crate::specs::Segments::mov_from_segment, insn_plan::specs::Plan::after_plan))]
 fn mov_from_segment(m: &mut Machine, i: &Insn) -> Result<(), Raised>
     ensures { CarriesOut m.old m.new result (mov_from_segment m.old.world i.now) }
 {
@@ -86,7 +86,7 @@ pub(crate) fn mov_segment(m: &mut Machine, i: &Insn) -> Result<(), Raised>
 
 /// PUSH of a segment register. Source: as above.
 #[inline(never)]
-#[tactic(auto, unfolding(crate::specs::Segments::push_segment, insn_plan::specs::Plan::carried_out))]
+#[tactic(auto, unfolding(crate::specs::Segments::push_segment, insn_plan::specs::Plan::after_plan))]
 pub(crate) fn push_segment(m: &mut Machine, i: &Insn) -> Result<(), Raised>
     ensures { CarriesOut m.old m.new result (push_segment m.old.world i.now) }
 {
@@ -96,7 +96,7 @@ pub(crate) fn push_segment(m: &mut Machine, i: &Insn) -> Result<(), Raised>
 
 // POP into a segment register.
 #[inline(always)]
-#[tactic(auto, unfolding(crate::specs::Segments::pop_into, crate::specs::Segments::segment_loaded, insn_plan::specs::Plan::carried_out, insn_plan::specs::Plan::after_commit, guest_space::specs::Pending::first_refusal, guest_space::specs::Pending::all_written, client_world::specs::General::with_general, insn_plan::specs::Stack::items_popped))]
+#[tactic(auto, unfolding(crate::specs::Segments::pop_into, crate::specs::Segments::with_loaded_segment, insn_plan::specs::Plan::after_plan, insn_plan::specs::Plan::after_commit, guest_space::specs::Pending::first_write_fault, guest_space::specs::Pending::after_writes, client_world::specs::General::with_general, insn_plan::specs::Stack::regs_after_pops))]
 fn pop_into(m: &mut Machine, i: &Insn, seg: SegReg) -> Result<(), Raised>
     ensures { CarriesOut m.old m.new result (pop_into m.old.world i.now seg) }
 {
@@ -110,7 +110,7 @@ fn pop_into(m: &mut Machine, i: &Insn, seg: SegReg) -> Result<(), Raised>
 
 /// POP of a segment register. Source: as above.
 #[inline(never)]
-#[tactic(auto, unfolding(crate::specs::Segments::pop_segment, insn_plan::specs::Plan::carried_out, insn_plan::specs::Plan::after_commit, guest_space::specs::Pending::first_refusal, guest_space::specs::Pending::all_written))]
+#[tactic(auto, unfolding(crate::specs::Segments::pop_segment, insn_plan::specs::Plan::after_plan, insn_plan::specs::Plan::after_commit, guest_space::specs::Pending::first_write_fault, guest_space::specs::Pending::after_writes))]
 pub(crate) fn pop_segment(m: &mut Machine, i: &Insn) -> Result<(), Raised>
     ensures { CarriesOut m.old m.new result (pop_segment m.old.world i.now) }
 {
@@ -126,7 +126,7 @@ pub(crate) fn pop_segment(m: &mut Machine, i: &Insn) -> Result<(), Raised>
 
 /// LES, LDS, LSS, LFS, LGS. Source: 80386 Programmer's Reference Manual, ch. 17, LGS/LSS/LDS/LES/LFS.
 #[inline(never)]
-#[tactic(auto, unfolding(crate::specs::Segments::load_pointer, crate::specs::Segments::segment_loaded, insn_plan::specs::Plan::carried_out), using(crate::proofs::Loaded::settled_with_selector, insn_plan::proofs::Settled::refused_with))]
+#[tactic(auto, unfolding(crate::specs::Segments::load_pointer, crate::specs::Segments::with_loaded_segment, insn_plan::specs::Plan::after_plan), using(crate::proofs::Loaded::settled_with_selector, insn_plan::proofs::Settled::refused_with))]
 pub(crate) fn load_pointer(m: &mut Machine, i: &Insn, seg: SegReg) -> Result<(), Raised>
     ensures { CarriesOut m.old m.new result (load_pointer seg m.old.world i.now) }
 {

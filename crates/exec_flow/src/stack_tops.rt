@@ -1,16 +1,16 @@
 // The stack pointer after items are popped.
 ghost use Rattle.std.specs.Prelude.{◌≡◌};
-ghost use Rattle.exec_flow.specs.Transfers.{released};
-ghost use Rattle.insn_plan.specs.Stack.{items_popped};
+ghost use Rattle.exec_flow.specs.Transfers.{regs_after_drop};
+ghost use Rattle.insn_plan.specs.Stack.{regs_after_pops};
 
 use guest_space::{Machine, byte_count};
 use insn_plan::{esp_up, has_big_stack};
 
 /// ESP after n items of a width are popped.
 #[inline(always)]
-#[tactic(auto, unfolding(insn_plan::specs::Stack::items_popped))]
+#[tactic(auto, unfolding(insn_plan::specs::Stack::regs_after_pops))]
 pub(crate) fn popped_esp(m: &Machine, width: u8, n: u8) -> u32
-    ensures { result ≡ (items_popped m.now.world width n m.now.world.regs).esp }
+    ensures { result ≡ (regs_after_pops m.now.world width n m.now.world.regs).esp }
 {
     let count = u32::from(byte_count(width)) * u32::from(n);
     esp_up(has_big_stack(m), count, m.registers().esp)
@@ -19,7 +19,7 @@ pub(crate) fn popped_esp(m: &Machine, width: u8, n: u8) -> u32
 /// ESP after n items of a width are popped, and then a number of bytes is dropped.
 #[inline(always)]
 pub(crate) fn released_esp(m: &Machine, width: u8, n: u8, bytes: u32) -> u32
-    ensures { result ≡ (released m.now.world bytes (items_popped m.now.world width n m.now.world.regs)).esp }
+    ensures { result ≡ (regs_after_drop m.now.world bytes (regs_after_pops m.now.world width n m.now.world.regs)).esp }
 {
     esp_up(has_big_stack(m), bytes, popped_esp(m, width, n))
 }

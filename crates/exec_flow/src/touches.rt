@@ -10,12 +10,12 @@ ghost use Rattle.exec_flow.specs.Frames.{bound, enter, leave};
 ghost use Rattle.exec_flow.specs.Interrupts.{into};
 ghost use Rattle.exec_flow.specs.Pointers.{memory_bytes, pointer};
 ghost use Rattle.exec_flow.specs.Ports.{input};
-ghost use Rattle.exec_flow.specs.Questions.{arpl, tell, verify};
+ghost use Rattle.exec_flow.specs.Questions.{arpl, load_from_descriptor, verify};
 ghost use Rattle.exec_flow.specs.Segments.{load_pointer, mov_from_segment, mov_segment, mov_to_segment, pop_into, pop_segment, push_segment};
 ghost use Rattle.exec_flow.specs.Transfers.{at_operand_size, call, jcc, jcxz, jmp, loop_while, ret, target};
 ghost use Rattle.client_world.specs.Selector.{Row};
 ghost use Rattle.insn_forms.specs.Kinds.{has_good_number, is_width};
-ghost use Rattle.insn_plan.specs.Accesses.{Notes, and_read, moved, touches};
+ghost use Rattle.insn_plan.specs.Accesses.{Notes, and_read, with_next_eip, touches};
 ghost use Rattle.insn_plan.specs.Act.{IsCount, value_of};
 
 use crate::frames::{is_less_signed, saved_frame};
@@ -206,7 +206,7 @@ fn call_far(a: &mut Accesses<'_>, i: &Insn) -> Result<(), Raised>
 }
 
 // RETF.
-#[tactic(auto, unfolding(crate::specs::FarTransfers::retf, crate::specs::FarTransfers::far_frame_popped, crate::specs::FarTransfers::far_transfer, insn_plan::specs::Accesses::accesses_after))]
+#[tactic(auto, unfolding(crate::specs::FarTransfers::retf, crate::specs::FarTransfers::far_frame_pop, crate::specs::FarTransfers::far_transfer, insn_plan::specs::Accesses::accesses_after))]
 fn retf(a: &mut Accesses<'_>, i: &Insn) -> Result<(), Raised>
     requires { length a.old.accesses ≡ 0 }
     ensures { Notes a.old a.new result (retf a.old.world i.now) }
@@ -218,7 +218,7 @@ fn retf(a: &mut Accesses<'_>, i: &Insn) -> Result<(), Raised>
 }
 
 // IRET.
-#[tactic(auto, unfolding(crate::specs::FarTransfers::iret, crate::specs::FarTransfers::frame_popped, crate::specs::FarTransfers::far_transfer, crate::specs::FlagImages::flags_popped, insn_plan::specs::Accesses::accesses_after))]
+#[tactic(auto, unfolding(crate::specs::FarTransfers::iret, crate::specs::FarTransfers::interrupt_frame_pop, crate::specs::FarTransfers::far_transfer, crate::specs::FlagImages::with_popped_flags, insn_plan::specs::Accesses::accesses_after))]
 fn iret(a: &mut Accesses<'_>, i: &Insn) -> Result<(), Raised>
     requires { length a.old.accesses ≡ 0 }
     ensures { Notes a.old a.new result (iret a.old.world i.now) }
@@ -241,7 +241,7 @@ fn pushf(a: &mut Accesses<'_>, i: &Insn) -> Result<(), Raised>
 }
 
 // POPF.
-#[tactic(auto, unfolding(crate::specs::FlagImages::popf, crate::specs::FlagImages::flags_popped, insn_plan::specs::Accesses::accesses_after))]
+#[tactic(auto, unfolding(crate::specs::FlagImages::popf, crate::specs::FlagImages::with_popped_flags, insn_plan::specs::Accesses::accesses_after))]
 fn popf(a: &mut Accesses<'_>, i: &Insn) -> Result<(), Raised>
     requires { length a.old.accesses ≡ 0 }
     ensures { Notes a.old a.new result (popf a.old.world i.now) }
@@ -287,10 +287,10 @@ fn verify(a: &mut Accesses<'_>, i: &Insn) -> Result<(), Raised>
 }
 
 // LAR and LSL.
-#[tactic(auto, unfolding(crate::specs::Questions::tell, crate::specs::Raising::in_protected, crate::specs::Raising::invalid_opcode, insn_plan::specs::Accesses::accesses_after), using(insn_plan::proofs::AccessLists::put_accesses))]
-fn tell(a: &mut Accesses<'_>, i: &Insn) -> Result<(), Raised>
+#[tactic(auto, unfolding(crate::specs::Questions::load_from_descriptor, crate::specs::Raising::in_protected, crate::specs::Raising::invalid_opcode, insn_plan::specs::Accesses::accesses_after), using(insn_plan::proofs::AccessLists::put_accesses))]
+fn load_from_descriptor(a: &mut Accesses<'_>, i: &Insn) -> Result<(), Raised>
     requires { length a.old.accesses ≡ 0 }
-    ensures { (number : ADesc → ℕ) → Notes a.old a.new result (tell number a.old.world i.now) }
+    ensures { (number : ADesc → ℕ) → Notes a.old a.new result (load_from_descriptor number a.old.world i.now) }
 {
     if a.machine().mode() == Mode::Real {
         return Err(exception(INVALID_OPCODE));
@@ -320,7 +320,7 @@ fn arpl(a: &mut Accesses<'_>, i: &Insn) -> Result<(), Raised>
 }
 
 // MOV into a segment register.
-#[tactic(auto, unfolding(crate::specs::Segments::mov_to_segment, crate::specs::Segments::segment_loaded, insn_plan::specs::Accesses::accesses_after))]
+#[tactic(auto, unfolding(crate::specs::Segments::mov_to_segment, crate::specs::Segments::with_loaded_segment, insn_plan::specs::Accesses::accesses_after))]
 fn mov_to_segment(a: &mut Accesses<'_>, i: &Insn, seg: SegReg) -> Result<(), Raised>
     requires { length a.old.accesses ≡ 0 }
     ensures { Notes a.old a.new result (mov_to_segment a.old.world i.now seg) }
@@ -369,7 +369,7 @@ fn push_segment(a: &mut Accesses<'_>, i: &Insn) -> Result<(), Raised>
 }
 
 // POP into a segment register.
-#[tactic(auto, unfolding(crate::specs::Segments::pop_into, crate::specs::Segments::segment_loaded, insn_plan::specs::Accesses::accesses_after))]
+#[tactic(auto, unfolding(crate::specs::Segments::pop_into, crate::specs::Segments::with_loaded_segment, insn_plan::specs::Accesses::accesses_after))]
 fn pop_into(a: &mut Accesses<'_>, i: &Insn, seg: SegReg) -> Result<(), Raised>
     requires { length a.old.accesses ≡ 0 }
     ensures { Notes a.old a.new result (pop_into a.old.world i.now seg) }
@@ -396,7 +396,7 @@ fn pop_segment(a: &mut Accesses<'_>, i: &Insn) -> Result<(), Raised>
 }
 
 // LES, LDS, LSS, LFS, LGS.
-#[tactic(auto, unfolding(crate::specs::Segments::load_pointer, crate::specs::Segments::segment_loaded, insn_plan::specs::Accesses::accesses_after), using(insn_plan::proofs::AccessLists::put_accesses))]
+#[tactic(auto, unfolding(crate::specs::Segments::load_pointer, crate::specs::Segments::with_loaded_segment, insn_plan::specs::Accesses::accesses_after), using(insn_plan::proofs::AccessLists::put_accesses))]
 fn load_pointer(a: &mut Accesses<'_>, i: &Insn, seg: SegReg) -> Result<(), Raised>
     requires { length a.old.accesses ≡ 0 }
     ensures { Notes a.old a.new result (load_pointer seg a.old.world i.now) }
@@ -524,7 +524,7 @@ fn follow(a: &mut Accesses<'_>, insn: &Insn, len: u8) -> Result<(), Raised>
         Op::Bound => bound(a, insn),
         Op::Enter => enter(a, insn),
         Op::Leave => leave(a, insn),
-        Op::Lar | Op::Lsl => tell(a, insn),
+        Op::Lar | Op::Lsl => load_from_descriptor(a, insn),
         Op::Verr | Op::Verw => verify(a, insn),
         Op::Arpl => arpl(a, insn),
         Op::Cli | Op::Sti | Op::Out => Ok(()),
@@ -540,7 +540,7 @@ pub fn touches_flow(m: &Machine, insn: &Insn, len: u8) -> Option<ArrayVec<Touch,
     requires flow { IsFlow insn.now }
     requires width { IsTrue (is_width insn.now.width) }
     requires number { IsTrue (has_good_number insn.now.op) }
-    ensures { let w = moved len m.now.world in let found = touches w (flow_row insn.now.op w insn.now len) in
+    ensures { let w = with_next_eip len m.now.world in let found = touches w (flow_row insn.now.op w insn.now len) in
         MatchOption result (found ≡ None) (λ list. found ≡ Some list.items) }
 {
     let mut a = Accesses::new(m, len);

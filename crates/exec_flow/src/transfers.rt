@@ -111,7 +111,7 @@ fn near_transfer(m: &mut Machine, i: &Insn, ip: u64) -> Result<(), Fault>
 
 /// Jcc. Source: 80386 Programmer's Reference Manual, ch. 17.
 #[inline(never)]
-#[tactic(auto, unfolding(crate::specs::Transfers::jcc, crate::specs::Transfers::near_transfer, insn_plan::specs::Plan::carried_out, insn_plan::specs::Plan::after_commit, guest_space::specs::Pending::first_refusal, guest_space::specs::Pending::all_written))]
+#[tactic(auto, unfolding(crate::specs::Transfers::jcc, crate::specs::Transfers::near_transfer, insn_plan::specs::Plan::after_plan, insn_plan::specs::Plan::after_commit, guest_space::specs::Pending::first_write_fault, guest_space::specs::Pending::after_writes))]
 pub(crate) fn jcc(m: &mut Machine, i: &Insn, n: u8) -> Result<(), Raised>
     ensures { CarriesOut m.old m.new result (jcc m.old.world i.now n) }
 {
@@ -124,7 +124,7 @@ pub(crate) fn jcc(m: &mut Machine, i: &Insn, n: u8) -> Result<(), Raised>
 
 /// JCXZ. Source: as above.
 #[inline(never)]
-#[tactic(auto, unfolding(crate::specs::Transfers::jcxz, crate::specs::Transfers::near_transfer, insn_plan::specs::Plan::carried_out, insn_plan::specs::Plan::after_commit, guest_space::specs::Pending::first_refusal, guest_space::specs::Pending::all_written))]
+#[tactic(auto, unfolding(crate::specs::Transfers::jcxz, crate::specs::Transfers::near_transfer, insn_plan::specs::Plan::after_plan, insn_plan::specs::Plan::after_commit, guest_space::specs::Pending::first_write_fault, guest_space::specs::Pending::after_writes))]
 pub(crate) fn jcxz(m: &mut Machine, i: &Insn) -> Result<(), Raised>
     ensures { CarriesOut m.old m.new result (jcxz m.old.world i.now) }
 {
@@ -146,7 +146,7 @@ fn count_down(m: &Machine, i: &Insn) -> u32
 /// LOOP, and LOOPE and LOOPNE with their condition.
 /// Source: 80386 Programmer's Reference Manual, ch. 17, "LOOP/LOOPcond"; that a loop whose jump faults keeps its counter is own.
 #[inline(never)]
-#[tactic(auto, unfolding(crate::specs::Transfers::loop_while, crate::specs::Transfers::near_transfer, insn_plan::specs::Plan::carried_out, insn_plan::specs::Plan::after_commit, guest_space::specs::Pending::first_refusal, guest_space::specs::Pending::all_written, client_world::specs::General::with_general))]
+#[tactic(auto, unfolding(crate::specs::Transfers::loop_while, crate::specs::Transfers::near_transfer, insn_plan::specs::Plan::after_plan, insn_plan::specs::Plan::after_commit, guest_space::specs::Pending::first_write_fault, guest_space::specs::Pending::after_writes, client_world::specs::General::with_general))]
 pub(crate) fn loop_while(m: &mut Machine, i: &Insn, holds: bool) -> Result<(), Raised>
     ensures { CarriesOut m.old m.new result (loop_while holds m.old.world i.now) }
 {
@@ -162,7 +162,7 @@ pub(crate) fn loop_while(m: &mut Machine, i: &Insn, holds: bool) -> Result<(), R
 
 /// JMP. Source: 80386 Programmer's Reference Manual, ch. 17.
 #[inline(never)]
-#[tactic(auto, unfolding(crate::specs::Transfers::jmp, crate::specs::Transfers::near_transfer, insn_plan::specs::Plan::carried_out, insn_plan::specs::Plan::after_commit, guest_space::specs::Pending::first_refusal, guest_space::specs::Pending::all_written))]
+#[tactic(auto, unfolding(crate::specs::Transfers::jmp, crate::specs::Transfers::near_transfer, insn_plan::specs::Plan::after_plan, insn_plan::specs::Plan::after_commit, guest_space::specs::Pending::first_write_fault, guest_space::specs::Pending::after_writes))]
 pub(crate) fn jmp(m: &mut Machine, i: &Insn) -> Result<(), Raised>
     ensures { CarriesOut m.old m.new result (jmp m.old.world i.now) }
 {
@@ -173,7 +173,7 @@ pub(crate) fn jmp(m: &mut Machine, i: &Insn) -> Result<(), Raised>
 
 /// CALL. Source: as above.
 #[inline(never)]
-#[tactic(auto, unfolding(crate::specs::Transfers::call, crate::specs::Transfers::near_transfer, insn_plan::specs::Plan::carried_out), using(insn_plan::proofs::Settled::settled_with, insn_plan::proofs::Settled::refused_with))]
+#[tactic(auto, unfolding(crate::specs::Transfers::call, crate::specs::Transfers::near_transfer, insn_plan::specs::Plan::after_plan), using(insn_plan::proofs::Settled::settled_with, insn_plan::proofs::Settled::refused_with))]
 pub(crate) fn call(m: &mut Machine, i: &Insn) -> Result<(), Raised>
     ensures { CarriesOut m.old m.new result (call m.old.world i.now) }
 {
@@ -198,7 +198,7 @@ pub(crate) fn immediate(operand: &Operand) -> u32
 
 /// RET. Source: as above.
 #[inline(never)]
-#[tactic(auto, unfolding(crate::specs::Transfers::ret, crate::specs::Transfers::near_transfer, insn_plan::specs::Plan::carried_out, insn_plan::specs::Plan::after_commit, guest_space::specs::Pending::first_refusal, guest_space::specs::Pending::all_written, client_world::specs::General::with_general, insn_plan::specs::Stack::items_popped))]
+#[tactic(auto, unfolding(crate::specs::Transfers::ret, crate::specs::Transfers::near_transfer, insn_plan::specs::Plan::after_plan, insn_plan::specs::Plan::after_commit, guest_space::specs::Pending::first_write_fault, guest_space::specs::Pending::after_writes, client_world::specs::General::with_general, insn_plan::specs::Stack::regs_after_pops))]
 pub(crate) fn ret(m: &mut Machine, i: &Insn) -> Result<(), Raised>
     ensures { CarriesOut m.old m.new result (ret m.old.world i.now) }
 {

@@ -12,14 +12,14 @@ use Rattle.client_world.specs.World.{World}
 use Rattle.client_world.proofs.PlaceLaws.{place_in-with_byte_of}
 use Rattle.guest_ram.proofs.PutLaws.{same_region}
 use Rattle.guest_space.specs.declared.pending.Write.{Write}
-use Rattle.guest_space.specs.Far.{far_written}
-use Rattle.guest_space.specs.Pending.{all_written, byte_count, number_bytes, places_of_writes, written}
-use Rattle.guest_space.specs.Transfer.{places_of_access, stored, with_places}
+use Rattle.guest_space.specs.Far.{after_far_write}
+use Rattle.guest_space.specs.Pending.{after_writes, byte_count, number_bytes, places_of_writes, after_write}
+use Rattle.guest_space.specs.Transfer.{places_of_access, after_store, with_places}
 use Rattle.guest_space.proofs.KeptAccess.{near_kept}
 use Rattle.guest_space.proofs.Machines.{CanWrite, CanWriteAll, can_write_after, with_place, with_places_first, with_places_none, with_places_short}
 use Rattle.guest_space.proofs.OnlyWritten.{can_write_at, write_places}
 use Rattle.guest_space.proofs.Writes.{all_none, all_first}
-use Rattle.cpu_step.specs.Step.{behind}
+use Rattle.cpu_step.specs.Step.{view_with_next_eip}
 use Rattle.host_memory.specs.Layout.{address_of, frames_at}
 use Rattle.host_memory.specs.View.{MachineView, OnlyAt}
 use Rattle.host_memory.proofs.OnlyAtLaws.{only_start, only_step, only_then}
@@ -45,7 +45,7 @@ machine_away v m = record {
 }
 
 -- and with the instruction pointer moved
-pub behind_away : (v : MachineView) (len : ℕ) → LiesAway v → LiesAway (behind len v)
+pub behind_away : (v : MachineView) (len : ℕ) → LiesAway v → LiesAway (view_with_next_eip len v)
 behind_away v len h =
     record { size = h.size; away = λ p can. h.away p (record { at = can.at; is = can.is; may = can.may }) }
 
@@ -118,31 +118,31 @@ access_written v (Err f) bytes h can = places_written v [] bytes h (λ i within.
 abbrev places_of_write : World → Write → List Place
 places_of_write w x = places_of_access (access w x.seg x.off (byte_count x.width) true)
 
-one_written : (v : MachineView) (x : Write) → LiesAway v → Writes v (written v x) (places_of_write v.world x)
-unfolding written stored
+one_written : (v : MachineView) (x : Write) → LiesAway v → Writes v (after_write v x) (places_of_write v.world x)
+unfolding after_write after_store
 one_written v x h =
     access_written v (access v.world x.seg x.off (byte_count x.width) true) (number_bytes x.width x.value) h
     (write_places v.world x.seg x.off (byte_count x.width))
 
 -- the others' places are the same after it
 access_kept : (v : MachineView) (x y : Write) →
-    access (written v x).world y.seg y.off (byte_count y.width) true ≡ access v.world y.seg y.off (byte_count y.width) true
-unfolding written stored
+    access (after_write v x).world y.seg y.off (byte_count y.width) true ≡ access v.world y.seg y.off (byte_count y.width) true
+unfolding after_write after_store
 access_kept v x y =
     near_kept v (places_of_write v.world x) (number_bytes x.width x.value) y.seg y.off (byte_count y.width) true
 
-places_kept : (v : MachineView) (x : Write) (ys : List Write) → places_of_writes (written v x).world ys ≡ places_of_writes v.world ys
+places_kept : (v : MachineView) (x : Write) (ys : List Write) → places_of_writes (after_write v x).world ys ≡ places_of_writes v.world ys
 places_kept v x [] = refl
 places_kept v x (y ∷ ys) = rw (access_kept v x y, places_kept v x ys) refl
 
-pub writes_only : (v : MachineView) (xs : List Write) → LiesAway v → OnlyAt (places_of_writes v.world xs) v.bytes (all_written v xs).bytes
+pub writes_only : (v : MachineView) (xs : List Write) → LiesAway v → OnlyAt (places_of_writes v.world xs) v.bytes (after_writes v xs).bytes
 writes_only v [] h = subst (λ (u : MachineView). OnlyAt [] v.bytes u.bytes) (sym (all_none v)) (only_start [] v.bytes)
 writes_only v (x ∷ xs) h =
     let one = one_written v x h in
     subst (λ (u : MachineView). OnlyAt (places_of_writes v.world (x ∷ xs)) v.bytes u.bytes) (sym (all_first v x xs))
-    (only_then (places_of_write v.world x) (places_of_writes v.world xs) v.bytes (written v x).bytes (all_written (written v x) xs).bytes one.only
-    (subst (λ (places : List Place). OnlyAt places (written v x).bytes (all_written (written v x) xs).bytes) (places_kept v x xs)
-    (writes_only (written v x) xs one.away)))
+    (only_then (places_of_write v.world x) (places_of_writes v.world xs) v.bytes (after_write v x).bytes (after_writes (after_write v x) xs).bytes one.only
+    (subst (λ (places : List Place). OnlyAt places (after_write v x).bytes (after_writes (after_write v x) xs).bytes) (places_kept v x xs)
+    (writes_only (after_write v x) xs one.away)))
 
 -- ---- a write at a far pointer
 
@@ -151,6 +151,6 @@ unfolding far_access
 far_can_write w p n places e = can_write_at w (protected_base w.descriptors Es p.sel p.off n true) p.off n places e
 
 pub far_only : (v : MachineView) (p : FarPtr) (n : ℕ) (bytes : List ℕ) → LiesAway v →
-    OnlyAt (places_of_access (far_access v.world p n true)) v.bytes (far_written v p n bytes).bytes
-unfolding far_written
+    OnlyAt (places_of_access (far_access v.world p n true)) v.bytes (after_far_write v p n bytes).bytes
+unfolding after_far_write
 far_only v p n bytes h = (access_written v (far_access v.world p n true) bytes h (far_can_write v.world p n)).only

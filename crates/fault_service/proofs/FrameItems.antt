@@ -24,11 +24,11 @@ use Rattle.guest_space.proofs.WriteRuns.{count_some}
 use Rattle.host_memory.specs.View.{MachineView}
 use Rattle.insn_plan.specs.Act.{Act, Input, Pending, Read, done, number_of, number_read, unless_fault, value_of}
 use Rattle.insn_plan.proofs.Settled.{carried_by}
-use Rattle.insn_plan.specs.Plan.{carried_out, planned, with_state}
+use Rattle.insn_plan.specs.Plan.{after_plan, plan_result, with_state}
 use Rattle.insn_plan.specs.Registers.{cut_address}
 use Rattle.insn_plan.specs.Stack.{has_big_stack, stack_item, stack_pointer_up}
 use Rattle.fault_service.specs.Delivery.{items_bytes}
-use Rattle.fault_service.specs.Return.{exception_left, exception_popped, frame_regs}
+use Rattle.fault_service.specs.Return.{pending_of_exception_frame, exception_frame_pop, frame_regs}
 use Rattle.fault_service.specs.Trip.{cut_item}
 use Rattle.fault_service.proofs.Plans.{settled_is}
 
@@ -82,15 +82,15 @@ pub record ItemValues (w : World) (bits ip cs image sp ss : ℕ) : Type 0 where
   pub fifth : value_of w (stack_item w bits 4) ≡ Ok sp
   pub sixth : value_of w (stack_item w bits 5) ≡ Ok ss
 
-step : (w : World) (input : Input) (rest : ℕ → Act) (v : ℕ) → value_of w input ≡ Ok v → planned w (Read input rest) ≡ planned w (rest v)
-step w input rest v e = ap (λ (r : Result ℕ Event). elim r as (λ _. Result Pending Event) [ Ok x ↦ planned w (rest x) | Err f ↦ Err f ]) e
+step : (w : World) (input : Input) (rest : ℕ → Act) (v : ℕ) → value_of w input ≡ Ok v → plan_result w (Read input rest) ≡ plan_result w (rest v)
+step w input rest v e = ap (λ (r : Result ℕ Event). elim r as (λ _. Result Pending Event) [ Ok x ↦ plan_result w (rest x) | Err f ↦ Err f ]) e
 
-pass : (w : World) (o : Option Fault) (act : Act) → o ≡ None → planned w (unless_fault o act) ≡ planned w act
-pass w o act e = ap (λ (x : Option Fault). planned w (unless_fault x act)) e
+pass : (w : World) (o : Option Fault) (act : Act) → o ≡ None → plan_result w (unless_fault o act) ≡ plan_result w act
+pass w o act e = ap (λ (x : Option Fault). plan_result w (unless_fault x act)) e
 
 -- what is left to do after each item
 abbrev leaves : World → ℕ → ℕ → ℕ → ℕ → ℕ → Act
-leaves w ip cs image sp ss = done (exception_left w ip (low_half cs) (low_half image) sp (low_half ss))
+leaves w ip cs image sp ss = done (pending_of_exception_frame w ip (low_half cs) (low_half image) sp (low_half ss))
 
 abbrev asks_stack : World → ℕ → ℕ → ℕ → ℕ → ℕ → Act
 asks_stack w ip cs image sp ss = unless_fault (load_fault w.descriptors Ss (low_half ss) 0 false) (leaves w ip cs image sp ss)
@@ -116,8 +116,8 @@ after_first w bits code = Read (stack_item w bits 1) (after_code w bits)
 -- the plan that they give
 plan_is : (w : World) (bits ip cs image sp ss : ℕ) → ItemValues w bits ip cs image sp ss →
     load_fault w.descriptors Cs (low_half cs) ip true ≡ None → load_fault w.descriptors Ss (low_half ss) 0 false ≡ None →
-    planned w (exception_popped w bits) ≡ Ok (exception_left w ip (low_half cs) (low_half image) sp (low_half ss))
-unfolding exception_popped
+    plan_result w (exception_frame_pop w bits) ≡ Ok (pending_of_exception_frame w ip (low_half cs) (low_half image) sp (low_half ss))
+unfolding exception_frame_pop
 plan_is w bits ip cs image sp ss h code stack =
     step w (stack_item w bits 0) (after_first w bits) h.code h.first
     ∙ step w (stack_item w bits 1) (after_code w bits) ip h.second
@@ -129,15 +129,15 @@ plan_is w bits ip cs image sp ss h code stack =
     ∙ pass w (load_fault w.descriptors Ss (low_half ss) 0 false) (leaves w ip cs image sp ss) stack
 
 carried_left : (y : MachineView) (plan : Result Pending Event) (p : Pending) → plan ≡ Ok p → p.writes ≡ [] →
-    carried_out y plan ≡ Ok (with_state p.regs p.vif y)
+    after_plan y plan ≡ Ok (with_state p.regs p.vif y)
 carried_left y plan p e none = carried_by y plan p e ∙ settled_is y p none
 
 pub popped_is : (y : MachineView) (bits ip cs image sp ss : ℕ) → ItemValues y.world bits ip cs image sp ss →
     load_fault y.world.descriptors Cs (low_half cs) ip true ≡ None → load_fault y.world.descriptors Ss (low_half ss) 0 false ≡ None →
-    carried_out y (planned y.world (exception_popped y.world bits))
+    after_plan y (plan_result y.world (exception_frame_pop y.world bits))
     ≡ Ok (with_state (frame_regs y.world.regs ip (low_half cs) (low_half image) sp (low_half ss)) (has_bit (low_half image) INTERRUPT_BIT) y)
 popped_is y bits ip cs image sp ss h code stack =
-    carried_left y (planned y.world (exception_popped y.world bits)) (exception_left y.world ip (low_half cs) (low_half image) sp (low_half ss))
+    carried_left y (plan_result y.world (exception_frame_pop y.world bits)) (pending_of_exception_frame y.world ip (low_half cs) (low_half image) sp (low_half ss))
     (plan_is y.world bits ip cs image sp ss h code stack) refl
 
 -- the number of an item, of either width

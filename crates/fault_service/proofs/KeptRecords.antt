@@ -4,9 +4,9 @@ use Rattle.std.specs.List.{slice_get}
 use Rattle.client_world.specs.declared.calls.Record.{Record}
 use Rattle.client_world.specs.World.{World, depth}
 use Rattle.host_memory.specs.View.{MachineView}
-use Rattle.insn_plan.specs.Plan.{carried_out, planned}
+use Rattle.insn_plan.specs.Plan.{after_plan, plan_result}
 use Rattle.mode_stack.specs.Stack.{top}
-use Rattle.fault_service.specs.Return.{exception_popped, is_exception}
+use Rattle.fault_service.specs.Return.{exception_frame_pop, is_exception}
 use Rattle.fault_service.proofs.Plans.{pop_restores}
 
 abbrev top_of : List Record → Option Record
@@ -19,5 +19,5 @@ some_record (r ∷ calls) e = omega arith
 pub exception_there : (w : World) → is_exception (top w) ≡ true → 0 < depth w
 exception_there w e = some_record w.calls e
 
-pub pop_keeps_depth : (v u : MachineView) (bits : ℕ) → carried_out v (planned v.world (exception_popped v.world bits)) ≡ Ok u → depth u.world ≡ depth v.world
+pub pop_keeps_depth : (v u : MachineView) (bits : ℕ) → after_plan v (plan_result v.world (exception_frame_pop v.world bits)) ≡ Ok u → depth u.world ≡ depth v.world
 pop_keeps_depth v u bits e = ap (λ (t : MachineView). depth t.world) (pop_restores v u bits e).is

@@ -26,7 +26,7 @@ use Rattle.client_world.proofs.PlaceLaws.{length-places_from}
 use Rattle.guest_ram.specs.Listed.{zeros}
 use Rattle.guest_ram.specs.Bytes.{put}
 use Rattle.guest_ram.proofs.ListedLaws.{length-zeros}
-use Rattle.guest_space.specs.Far.{far_written}
+use Rattle.guest_space.specs.Far.{after_far_write}
 use Rattle.guest_space.specs.Records.{OnlyAtAndRow, record_place}
 use Rattle.guest_space.proofs.HostStacks.{stacks_place, stacks_places}
 use Rattle.guest_space.proofs.MemoryAlone.{other_far}
@@ -34,14 +34,14 @@ use Rattle.guest_space.proofs.RecordWrites.{only_row}
 use Rattle.host_memory.specs.Records.{record_bytes, record_size}
 use Rattle.host_memory.specs.View.{MachineView}
 use Rattle.host_memory.proofs.OnlyAtLaws.{only_start}
-use Rattle.insn_plan.specs.Plan.{carried_out, planned}
+use Rattle.insn_plan.specs.Plan.{after_plan, plan_result}
 use Rattle.mode_stack.specs.Stack.{top}
 use Rattle.mode_stack.proofs.Trips.{length-record_bytes}
-use Rattle.fault_service.specs.Delivery.{after_delivery, delivery_to, exception_frame, frame_start, frame_size, protected_delivery}
-use Rattle.interrupts.specs.Delivery.{unserved}
+use Rattle.fault_service.specs.Delivery.{after_delivery, delivery_to, exception_frame, exception_frame_start, exception_frame_size, protected_delivery}
+use Rattle.interrupts.specs.Delivery.{exit_of_fault}
 use Rattle.guest_space.specs.VectorLists.{vector_at}
 use Rattle.fault_service.specs.Memory.{frame_places, DeliveryLaw, IsMachineView, ReturnLaw, LiesInStack}
-use Rattle.fault_service.specs.Return.{exception_popped, exception_return, is_exception, returned_or_bad}
+use Rattle.fault_service.specs.Return.{exception_frame_pop, exception_return, is_exception, result_of_exception_pop}
 use Rattle.fault_service.proofs.AwayWrites.{far_only, machine_away}
 use Rattle.fault_service.proofs.KeptRecords.{exception_there}
 use Rattle.fault_service.proofs.Plans.{pop_restores}
@@ -53,7 +53,7 @@ pub record IsDelivered (v u : MachineView) (f : Fault) (p : FarPtr) : Type 0 whe
   pub is : u ≡ after_delivery v f p
 
 made : (o : Option Fault) (v u : MachineView) (f : Fault) (p : FarPtr) → depth v.world < GREATEST_DEPTH → load_fault v.world.descriptors Cs p.sel p.off false ≡ o →
-    elim o as (λ _. Result MachineView Exit) [ Some g ↦ Err (unserved f) | None ↦ Ok (after_delivery v f p) ] ≡ Ok u → IsDelivered v u f p
+    elim o as (λ _. Result MachineView Exit) [ Some g ↦ Err (exit_of_fault f) | None ↦ Ok (after_delivery v f p) ] ≡ Ok u → IsDelivered v u f p
 made None v u f p room loads e = record { room = room; loads = loads; is = cc }
 made (Some g) v u f p room loads e = absurd cc
 
@@ -68,11 +68,11 @@ is_delivered v u f e = where_room (nat_le GREATEST_DEPTH (depth v.world)) v u f 
 
 -- its bytes
 unfoldable pub frame_written : MachineView → Fault → MachineView
-frame_written v f = far_written v (frame_start v.world) (frame_size v.world) (exception_frame v.world f)
+frame_written v f = after_far_write v (exception_frame_start v.world) (exception_frame_size v.world) (exception_frame v.world f)
 
 pub depth_kept : (v : MachineView) (f : Fault) → depth (frame_written v f).world ≡ depth v.world
 unfolding frame_written
-depth_kept v f = ap (λ (w : World). depth w) (other_far v (frame_start v.world) (frame_size v.world) (exception_frame v.world f))
+depth_kept v f = ap (λ (w : World). depth w) (other_far v (exception_frame_start v.world) (exception_frame_size v.world) (exception_frame v.world f))
 
 delivered_bytes : (v : MachineView) (f : Fault) (p : FarPtr) →
     (after_delivery v f p).bytes ≡ put (frame_written v f).bytes (record_place (depth v.world)) (record_bytes (Exc f.number f.code))
@@ -87,12 +87,12 @@ delivery_law v m f u e =
     subst (λ (c : List ℕ). OnlyAtAndRow (frame_places w) (depth w) v.bytes c)
     (sym (ap (λ (x : MachineView). x.bytes) done.is ∙ delivered_bytes v f (vector_at w.exception_vectors f.number)))
     (only_row (frame_places w) v.bytes (frame_written v f).bytes w.budget (depth w) (record_bytes (Exc f.number f.code))
-    (far_only v (frame_start w) (frame_size w) (exception_frame w f) (machine_away v m)) m.holds.size done.room
+    (far_only v (exception_frame_start w) (exception_frame_size w) (exception_frame w f) (machine_away v m)) m.holds.size done.room
     (length-record_bytes (Exc f.number f.code)))
 
 -- a return
 back_bytes : (r : Result MachineView Event) (v u : MachineView) → 0 < depth v.world → ((x : MachineView) → r ≡ Ok x → (x.bytes ≡ v.bytes) × (depth x.world ≡ depth v.world)) →
-    returned_or_bad r ≡ Ok u → u.bytes ≡ put v.bytes (record_place (depth v.world - 1)) (zeros record_size)
+    result_of_exception_pop r ≡ Ok u → u.bytes ≡ put v.bytes (record_place (depth v.world - 1)) (zeros record_size)
 back_bytes (Ok x) v u some keeps e =
     let same = keeps x refl in
     let is : put x.bytes (record_place (depth x.world - 1)) (zeros record_size) ≡ u.bytes = ap bytes_of e in
@@ -105,12 +105,12 @@ back_bytes (Ok x) v u some keeps e =
 back_bytes (Err g) v u some keeps e = absurd cc
 
 where_exception : (exception : Bool) (v u : MachineView) → is_exception (top v.world) ≡ exception →
-    (if exception then returned_or_bad (carried_out v (planned v.world (exception_popped v.world (frame_bits v.world)))) else Err exits.Stray) ≡ Ok u →
+    (if exception then result_of_exception_pop (after_plan v (plan_result v.world (exception_frame_pop v.world (frame_bits v.world)))) else Err exits.Stray) ≡ Ok u →
     (0 < depth v.world) × (u.bytes ≡ put v.bytes (record_place (depth v.world - 1)) (zeros record_size))
 where_exception true v u is e =
     let some = exception_there v.world is in (
       some,
-      back_bytes (carried_out v (planned v.world (exception_popped v.world (frame_bits v.world)))) v u some
+      back_bytes (after_plan v (plan_result v.world (exception_frame_pop v.world (frame_bits v.world)))) v u some
           (λ x was. (let restores = pop_restores v x (frame_bits v.world) was in
           (ap (λ (t : MachineView). t.bytes) restores.is, ap (λ (t : MachineView). depth t.world) restores.is))) e,
     )
@@ -138,11 +138,11 @@ size_of_width Protected (Some ThirtyTwo) = omega arith
 
 pub frame_lies : (w : World) → IsSound w → w.width ≢ None → depth w < GREATEST_DEPTH → LiesInStack w
 frame_lies w s some room =
-    let small : frame_size w ≤ 32 = size_of_width w.mode w.width in
-    let places = stacks_places w (frame_start w).off (frame_size w) s some (omega arith) in
+    let small : exception_frame_size w ≤ 32 = size_of_width w.mode w.width in
+    let places = stacks_places w (exception_frame_start w).off (exception_frame_size w) s some (omega arith) in
     record {
-      size = ap (λ (ps : List Place). length ps) places ∙ length-places_from w.blocks (PROTECTED_STACKS + (frame_start w).off) (frame_size w);
-      each = λ i less. ap (λ (ps : List Place). slice_index_or ps i Nothing) places ∙ stacks_place w (frame_start w).off (frame_size w) i less (omega arith);
+      size = ap (λ (ps : List Place). length ps) places ∙ length-places_from w.blocks (PROTECTED_STACKS + (exception_frame_start w).off) (exception_frame_size w);
+      each = λ i less. ap (λ (ps : List Place). slice_index_or ps i Nothing) places ∙ stacks_place w (exception_frame_start w).off (exception_frame_size w) i less (omega arith);
       from = omega arith;
       to = omega arith;
     }

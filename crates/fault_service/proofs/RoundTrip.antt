@@ -35,11 +35,11 @@ use Rattle.guest_space.specs.Transfer.{read_result}
 use Rattle.guest_space.proofs.MemoryAlone.{other_far}
 use Rattle.guest_space.specs.VectorLists.{vector_at}
 use Rattle.host_memory.specs.View.{MachineView}
-use Rattle.insn_plan.specs.Plan.{carried_out, planned, with_state}
+use Rattle.insn_plan.specs.Plan.{after_plan, plan_result, with_state}
 use Rattle.mode_stack.specs.Stack.{after_pop, top}
 use Rattle.mode_stack.proofs.Trips.{FlagsTrip}
-use Rattle.fault_service.specs.Delivery.{after_delivery, exception_frame, exception_items, frame_start, frame_size, handler_regs, protected_delivery}
-use Rattle.fault_service.specs.Return.{exception_popped, exception_return, is_exception, returned_or_bad}
+use Rattle.fault_service.specs.Delivery.{after_delivery, exception_frame, exception_items, exception_frame_start, exception_frame_size, handler_regs, protected_delivery}
+use Rattle.fault_service.specs.Return.{exception_frame_pop, exception_return, is_exception, result_of_exception_pop}
 use Rattle.fault_service.specs.Trip.{FrameLaw, TripLaw, cut_item, regs_after_return}
 use Rattle.fault_service.proofs.FrameItems.{AtFrame, popped_is, item_values}
 use Rattle.fault_service.proofs.MemoryLaws.{is_delivered, frame_written}
@@ -87,7 +87,7 @@ pub record Kept (v : MachineView) (f : Fault) : Type 0 where
 kept : (v : MachineView) (f : Fault) → Kept v f
 unfolding frame_written
 kept v f =
-    let same = other_far v (frame_start v.world) (frame_size v.world) (exception_frame v.world f) in
+    let same = other_far v (exception_frame_start v.world) (exception_frame_size v.world) (exception_frame v.world f) in
     record {
       mode = ap (λ (w : World). w.mode) same;
       width = ap (λ (w : World). w.width) same;
@@ -120,18 +120,18 @@ size_small w = elim (bits_are w) [
 ]
 
 frame_there : (v : MachineView) (f : Fault) (r : Regs) (on : Bool) → IsSound v.world → v.world.width ≢ None → depth v.world < GREATEST_DEPTH →
-    far_bytes (world_then v f r on) (stacks_at (frame_start v.world).off) (8 * byte_count (frame_bits v.world)) ≡ exception_frame v.world f
+    far_bytes (world_then v f r on) (stacks_at (exception_frame_start v.world).off) (8 * byte_count (frame_bits v.world)) ≡ exception_frame v.world f
 unfolding frame_written
 frame_there v f r on s some room =
     let small = size_small v.world in
-    far_same (frame_written v f).world (calls_then v f) r on (stacks_at (frame_start v.world).off) (8 * byte_count (frame_bits v.world))
-    ∙ written_is_read v (frame_start v.world) (frame_size v.world) (exception_frame v.world f) s (omega arith) (length-frame v.world f)
-    (stacks_reachable v.world (frame_start v.world).off (frame_size v.world) true s some (omega arith))
+    far_same (frame_written v f).world (calls_then v f) r on (stacks_at (exception_frame_start v.world).off) (8 * byte_count (frame_bits v.world))
+    ∙ written_is_read v (exception_frame_start v.world) (exception_frame_size v.world) (exception_frame v.world f) s (omega arith) (length-frame v.world f)
+    (stacks_reachable v.world (exception_frame_start v.world).off (exception_frame_size v.world) true s some (omega arith))
 
 at_frame : (v : MachineView) (f : Fault) (p : FarPtr) (r : Regs) (on : Bool) → IsSound v.world → v.world.mode ≡ Protected → v.world.width ≢ None →
     depth v.world < GREATEST_DEPTH → p.sel < 0x10000 → HasSegments r → r.ss ≡ selector_of HOST_STACKS →
-    r.esp ≡ (frame_start v.world).off + 2 * byte_count (frame_bits v.world) →
-    AtFrame (world_then v f r on) (frame_bits v.world) (frame_start v.world).off (exception_frame v.world f)
+    r.esp ≡ (exception_frame_start v.world).off + 2 * byte_count (frame_bits v.world) →
+    AtFrame (world_then v f r on) (frame_bits v.world) (exception_frame_start v.world).off (exception_frame v.world f)
 at_frame v f p r on s mode some room word segments ss esp =
     let k = kept v f in
     let small = size_small v.world in
@@ -158,10 +158,10 @@ half_of_item bits n small = half (nat_eq bits 16)
 
 -- the return in that machine
 abbrev carried : MachineView → ℕ → Result MachineView Event
-carried y bits = carried_out y (planned y.world (exception_popped y.world bits))
+carried y bits = after_plan y (plan_result y.world (exception_frame_pop y.world bits))
 
 carried_is : (v y : MachineView) (f : Fault) (r : Regs) → FlagsTrip → InterruptTrip → IsSound v.world → y.world.regs ≡ r → y.world.descriptors ≡ v.world.descriptors →
-    AtFrame y.world (frame_bits v.world) (frame_start v.world).off (exception_frame v.world f) →
+    AtFrame y.world (frame_bits v.world) (exception_frame_start v.world).off (exception_frame v.world f) →
     load_fault v.world.descriptors Cs v.world.regs.cs (cut_item (frame_bits v.world) v.world.regs.eip) true ≡ None →
     load_fault v.world.descriptors Ss v.world.regs.ss 0 false ≡ None → carried y (frame_bits v.world) ≡ Ok (with_state (regs_after_return v.world r) v.world.vif y)
 unfolding exception_frame exception_items
@@ -174,7 +174,7 @@ carried_is v y f r trip interrupt s regs descriptors h code stack =
     let ss : low_half (cut_item bits w.regs.ss) ≡ w.regs.ss = half_of_item bits w.regs.ss segments.ss in
     let flags : low_half (cut_item bits image) ≡ image = half_of_item bits image (image_small w.regs.flags w.vif) in
     popped_is y bits (cut_item bits w.regs.eip) (cut_item bits w.regs.cs) (cut_item bits image) (cut_item bits w.regs.esp) (cut_item bits w.regs.ss)
-    (item_values y.world bits (frame_start w).off 0x322 0x87 f.code w.regs.eip w.regs.cs image w.regs.esp w.regs.ss (bits_are w) h)
+    (item_values y.world bits (exception_frame_start w).off 0x322 0x87 f.code w.regs.eip w.regs.cs image w.regs.esp w.regs.ss (bits_are w) h)
     (rw (descriptors, cs) code) (rw (descriptors, ss) stack)
     ∙ rw (regs, cs, ss, flags, trip w.regs.flags w.vif, interrupt w.regs.flags w.vif) refl
 
@@ -184,13 +184,13 @@ returned_where : (y t : MachineView) (bits : ℕ) → frame_bits y.world ≡ bit
     exception_return y ≡ Ok (after_pop t)
 unfolding exception_return
 returned_where y t bits same is e =
-    ap (λ (b : Bool). if b then returned_or_bad (carried y (frame_bits y.world)) else Err exits.Stray) is
-    ∙ ap (λ (n : ℕ). returned_or_bad (carried y n)) same
-    ∙ ap returned_or_bad e
+    ap (λ (b : Bool). if b then result_of_exception_pop (carried y (frame_bits y.world)) else Err exits.Stray) is
+    ∙ ap (λ (n : ℕ). result_of_exception_pop (carried y n)) same
+    ∙ ap result_of_exception_pop e
 
 trip_delivered : FlagsTrip → InterruptTrip → (v : MachineView) (f : Fault) (p : FarPtr) (r : Regs) (on : Bool) → IsSound v.world → v.world.mode ≡ Protected →
     v.world.width ≢ None → depth v.world < GREATEST_DEPTH → p.sel < 0x10000 → HasSegments r → r.ss ≡ selector_of HOST_STACKS →
-    r.esp ≡ (frame_start v.world).off + 2 * byte_count (frame_bits v.world) →
+    r.esp ≡ (exception_frame_start v.world).off + 2 * byte_count (frame_bits v.world) →
     load_fault v.world.descriptors Cs v.world.regs.cs (cut_item (frame_bits v.world) v.world.regs.eip) true ≡ None →
     load_fault v.world.descriptors Ss v.world.regs.ss 0 false ≡ None →
     exception_return (with_state r on (after_delivery v f p)) ≡ Ok (with_state (regs_after_return v.world r) v.world.vif (after_pop (after_delivery v f p)))
@@ -198,7 +198,7 @@ trip_delivered trip interrupt v f p r on s mode some room word segments ss esp c
     let y = with_state r on (after_delivery v f p) in
     let k = kept v f in
     let is = then_is v f p r on in
-    let there = subst (λ (w : World). AtFrame w (frame_bits v.world) (frame_start v.world).off (exception_frame v.world f)) (sym is)
+    let there = subst (λ (w : World). AtFrame w (frame_bits v.world) (exception_frame_start v.world).off (exception_frame v.world f)) (sym is)
     (at_frame v f p r on s mode some room word segments ss esp) in
     returned_where y (with_state (regs_after_return v.world r) v.world.vif y) (frame_bits v.world)
     (ap (λ (w : World). frame_bits w) is ∙ k.bits)
@@ -218,22 +218,22 @@ handler_world : (v : MachineView) (f : Fault) (p : FarPtr) → (after_delivery v
 unfolding after_delivery frame_written
 handler_world v f p = refl
 
-handler_esp : (v : MachineView) (f : Fault) (p : FarPtr) → (after_delivery v f p).world.regs.esp ≡ (frame_start v.world).off
+handler_esp : (v : MachineView) (f : Fault) (p : FarPtr) → (after_delivery v f p).world.regs.esp ≡ (exception_frame_start v.world).off
 unfolding after_delivery
 handler_esp v f p = refl
 
 frame_read : (v : MachineView) (f : Fault) (p : FarPtr) → IsSound v.world → v.world.mode ≡ Protected → v.world.width ≢ None →
     depth v.world < GREATEST_DEPTH → p.sel < 0x10000 →
-    read_result (after_delivery v f p).world Ss (after_delivery v f p).world.regs.esp (frame_size v.world) ≡ Ok (exception_frame v.world f)
+    read_result (after_delivery v f p).world Ss (after_delivery v f p).world.regs.esp (exception_frame_size v.world) ≡ Ok (exception_frame v.world f)
 frame_read v f p s mode some room word =
     let r = handler_regs v.world p in
     let w = world_then v f r false in
     let k = kept v f in
     let is = handler_world v f p in
     let small = size_small v.world in
-    ap (λ (a : ℕ). read_result (after_delivery v f p).world Ss a (frame_size v.world)) (handler_esp v f p)
-    ∙ ap (λ (x : World). read_result x Ss (frame_start v.world).off (frame_size v.world)) is
-    ∙ stacks_loaded w (frame_start v.world).off (frame_size v.world) (subst IsSound is (sound_delivered v f p s some room word)) (k.mode ∙ mode) refl
+    ap (λ (a : ℕ). read_result (after_delivery v f p).world Ss a (exception_frame_size v.world)) (handler_esp v f p)
+    ∙ ap (λ (x : World). read_result x Ss (exception_frame_start v.world).off (exception_frame_size v.world)) is
+    ∙ stacks_loaded w (exception_frame_start v.world).off (exception_frame_size v.world) (subst IsSound is (sound_delivered v f p s some room word)) (k.mode ∙ mode) refl
     (λ e. some (sym k.width ∙ e)) (omega arith)
     ∙ ap Ok (frame_there v f r false s some room)
 
@@ -241,7 +241,7 @@ pub frame_law : FrameLaw
 frame_law v u f s mode e =
     let done = is_delivered v u f e in
     let p = vector_at v.world.exception_vectors f.number in
-    subst (λ (x : MachineView). read_result x.world Ss x.world.regs.esp (frame_size v.world) ≡ Ok (exception_frame v.world f)) (sym done.is)
+    subst (λ (x : MachineView). read_result x.world Ss x.world.regs.esp (exception_frame_size v.world) ≡ Ok (exception_frame v.world f)) (sym done.is)
     (frame_read v f p s mode (protected_by v.world.width v.world mode s.width) done.room
     (code_is_named_by_a_word v.world.descriptors p.sel p.off false s.descriptors.indices done.loads))
 
@@ -254,7 +254,7 @@ front_is xs r =
 
 pub calls_kept : (v : MachineView) (f : Fault) → (frame_written v f).world.calls ≡ v.world.calls
 unfolding frame_written
-calls_kept v f = ap (λ (w : World). w.calls) (other_far v (frame_start v.world) (frame_size v.world) (exception_frame v.world f))
+calls_kept v f = ap (λ (w : World). w.calls) (other_far v (exception_frame_start v.world) (exception_frame_size v.world) (exception_frame v.world f))
 
 pub delivered_calls : (v : MachineView) (f : Fault) (p : FarPtr) → (after_delivery v f p).world.calls ≡ (frame_written v f).world.calls ++ Exc f.number f.code ∷ []
 unfolding after_delivery frame_written

@@ -26,16 +26,16 @@ use Rattle.guest_space.specs.VectorLists.{vector_at}
 use Rattle.cpu_step.proofs.FlowSegments.{code_is_word}
 use Rattle.cpu_step.proofs.SoundWritten.{number_is_bytes}
 use Rattle.interrupts.proofs.SoundAnswers.{code_is_named_by_a_word}
-use Rattle.interrupts.specs.Delivery.{unserved}
-use Rattle.interrupts.specs.Worlds.{bare, its_world}
+use Rattle.interrupts.specs.Delivery.{exit_of_fault}
+use Rattle.interrupts.specs.Worlds.{view_without_bytes, world_of_result}
 use Rattle.insn_plan.specs.Act.{Pending}
 use Rattle.guest_space.proofs.RecordWrites.{has_width}
 use Rattle.guest_space.proofs.SoundLists.{IsSound-calls}
 use Rattle.host_memory.specs.View.{MachineView}
-use Rattle.insn_plan.specs.Plan.{carried_out, planned}
+use Rattle.insn_plan.specs.Plan.{after_plan, plan_result}
 use Rattle.mode_stack.specs.Stack.{top}
-use Rattle.fault_service.specs.Delivery.{after_delivery, delivery_to, exception_frame, exception_items, frame_start, frame_size, handler_regs, items_bytes, protected_delivery}
-use Rattle.fault_service.specs.Return.{exception_popped, exception_return, is_exception, returned_or_bad}
+use Rattle.fault_service.specs.Delivery.{after_delivery, delivery_to, exception_frame, exception_items, exception_frame_start, exception_frame_size, handler_regs, items_bytes, protected_delivery}
+use Rattle.fault_service.specs.Return.{exception_frame_pop, exception_return, is_exception, result_of_exception_pop}
 use Rattle.fault_service.specs.Worlds.{world_exception_return, world_protected_delivery}
 use Rattle.fault_service.proofs.KeptRecords.{exception_there}
 use Rattle.fault_service.proofs.MemoryLaws.{is_delivered, frame_written, depth_kept}
@@ -86,11 +86,11 @@ protected_by (Some width) w is s = λ e. cc
 
 width_kept : (v : MachineView) (f : Fault) → (frame_written v f).world.width ≡ v.world.width
 unfolding frame_written
-width_kept v f = ap (λ (w : World). w.width) (other_far v (frame_start v.world) (frame_size v.world) (exception_frame v.world f))
+width_kept v f = ap (λ (w : World). w.width) (other_far v (exception_frame_start v.world) (exception_frame_size v.world) (exception_frame v.world f))
 
 sound_frame : (v : MachineView) (f : Fault) → IsSound v.world → IsSound (frame_written v f).world
 unfolding frame_written
-sound_frame v f s = sound_far v (frame_start v.world) (frame_size v.world) (exception_frame v.world f) s (frame_is_bytes v.world f)
+sound_frame v f s = sound_far v (exception_frame_start v.world) (exception_frame_size v.world) (exception_frame v.world f) s (frame_is_bytes v.world f)
 
 pub sound_delivered : (v : MachineView) (f : Fault) (p : FarPtr) → IsSound v.world → v.world.width ≢ None → depth v.world < GREATEST_DEPTH → p.sel < 0x10000 →
     IsSound (after_delivery v f p).world
@@ -114,7 +114,7 @@ sound_delivery v u f s mode e =
 -- ---- a return
 
 sound_returned : (r : Result MachineView Event) (v u : MachineView) → IsSound v.world → 0 < depth v.world → ((x : MachineView) → r ≡ Ok x → Restores v x) →
-    returned_or_bad r ≡ Ok u → IsSound u.world
+    result_of_exception_pop r ≡ Ok u → IsSound u.world
 sound_returned (Ok x) v u s some restores e =
     let h = restores x refl in
     let calls = take (depth v.world - 1) v.world.calls in
@@ -130,10 +130,10 @@ sound_returned (Ok x) v u s some restores e =
 sound_returned (Err g) v u s some restores e = absurd cc
 
 where_exception : (exception : Bool) (v u : MachineView) → IsSound v.world → is_exception (top v.world) ≡ exception →
-    (if exception then returned_or_bad (carried_out v (planned v.world (exception_popped v.world (frame_bits v.world)))) else Err exits.Stray) ≡ Ok u →
+    (if exception then result_of_exception_pop (after_plan v (plan_result v.world (exception_frame_pop v.world (frame_bits v.world)))) else Err exits.Stray) ≡ Ok u →
     IsSound u.world
 where_exception true v u s is e =
-    sound_returned (carried_out v (planned v.world (exception_popped v.world (frame_bits v.world)))) v u s (exception_there v.world is)
+    sound_returned (after_plan v (plan_result v.world (exception_frame_pop v.world (frame_bits v.world)))) v u s (exception_there v.world is)
     (λ x was. pop_restores v x (frame_bits v.world) was) e
 where_exception false v u s is e = absurd cc
 
@@ -143,45 +143,45 @@ sound_return v u s e = where_exception (is_exception (top v.world)) v u s refl e
 
 -- ---- of worlds
 
-delivered_alone : (v : MachineView) (f : Fault) (p : FarPtr) → (after_delivery v f p).world ≡ (after_delivery (bare v.world) f p).world
+delivered_alone : (v : MachineView) (f : Fault) (p : FarPtr) → (after_delivery v f p).world ≡ (after_delivery (view_without_bytes v.world) f p).world
 unfolding after_delivery
 delivered_alone v f p =
     ap (λ (x : World). record x { calls = x.calls ++ Exc f.number f.code ∷ []; regs = handler_regs v.world p; vif = false })
-    (far_alone v (bare v.world) (frame_start v.world) (frame_size v.world) (exception_frame v.world f) refl)
+    (far_alone v (view_without_bytes v.world) (exception_frame_start v.world) (exception_frame_size v.world) (exception_frame v.world f) refl)
 
 by_fault : (o : Option Fault) (x y : MachineView) (g : Exit) → x.world ≡ y.world →
-    its_world (elim o as (λ _. Result MachineView Exit) [ Some h ↦ Err g | None ↦ Ok x ]) ≡ its_world (elim o as (λ _. Result MachineView Exit) [ Some h ↦ Err g | None ↦ Ok y ])
+    world_of_result (elim o as (λ _. Result MachineView Exit) [ Some h ↦ Err g | None ↦ Ok x ]) ≡ world_of_result (elim o as (λ _. Result MachineView Exit) [ Some h ↦ Err g | None ↦ Ok y ])
 by_fault None x y g same = ap (λ (w : World). Ok w) same
 by_fault (Some h) x y g same = refl
 
-by_depth : (deep : Bool) (r s : Result MachineView Exit) → its_world r ≡ its_world s →
-    its_world (if deep then Err exits.Deep else r) ≡ its_world (if deep then Err exits.Deep else s)
+by_depth : (deep : Bool) (r s : Result MachineView Exit) → world_of_result r ≡ world_of_result s →
+    world_of_result (if deep then Err exits.Deep else r) ≡ world_of_result (if deep then Err exits.Deep else s)
 by_depth true r s same = refl
 by_depth false r s same = same
 
-pub delivery_alone : (v : MachineView) (f : Fault) → its_world (protected_delivery v f) ≡ world_protected_delivery v.world f
+pub delivery_alone : (v : MachineView) (f : Fault) → world_of_result (protected_delivery v f) ≡ world_protected_delivery v.world f
 unfolding protected_delivery world_protected_delivery
 delivery_alone v f =
     let p = vector_at v.world.exception_vectors f.number in
-    by_depth (nat_le GREATEST_DEPTH (depth v.world)) (delivery_to v f p) (delivery_to (bare v.world) f p)
-    (by_fault (load_fault v.world.descriptors Cs p.sel p.off false) (after_delivery v f p) (after_delivery (bare v.world) f p) (unserved f) (delivered_alone v f p))
+    by_depth (nat_le GREATEST_DEPTH (depth v.world)) (delivery_to v f p) (delivery_to (view_without_bytes v.world) f p)
+    (by_fault (load_fault v.world.descriptors Cs p.sel p.off false) (after_delivery v f p) (after_delivery (view_without_bytes v.world) f p) (exit_of_fault f) (delivered_alone v f p))
 
 returned_alone : (v : MachineView) (r : Result Pending Event) → OfPlan v.world.regs r →
-    its_world (returned_or_bad (carried_out v r)) ≡ its_world (returned_or_bad (carried_out (bare v.world) r))
-unfolding carried_out
+    world_of_result (result_of_exception_pop (after_plan v r)) ≡ world_of_result (result_of_exception_pop (after_plan (view_without_bytes v.world) r))
+unfolding after_plan
 returned_alone v (Ok p) h =
-    ap (λ (r : Result MachineView Event). its_world (returned_or_bad r)) (settled_is v p h.writes)
-    ∙ ap (λ (r : Result MachineView Event). its_world (returned_or_bad r)) (sym (settled_is (bare v.world) p h.writes))
+    ap (λ (r : Result MachineView Event). world_of_result (result_of_exception_pop r)) (settled_is v p h.writes)
+    ∙ ap (λ (r : Result MachineView Event). world_of_result (result_of_exception_pop r)) (sym (settled_is (view_without_bytes v.world) p h.writes))
 returned_alone v (Err g) h = refl
 
-by_exception : (exception : Bool) (r s : Result MachineView Exit) → its_world r ≡ its_world s →
-    its_world (if exception then r else Err exits.Stray) ≡ its_world (if exception then s else Err exits.Stray)
+by_exception : (exception : Bool) (r s : Result MachineView Exit) → world_of_result r ≡ world_of_result s →
+    world_of_result (if exception then r else Err exits.Stray) ≡ world_of_result (if exception then s else Err exits.Stray)
 by_exception true r s same = same
 by_exception false r s same = refl
 
-pub return_alone : (v : MachineView) → its_world (exception_return v) ≡ world_exception_return v.world
+pub return_alone : (v : MachineView) → world_of_result (exception_return v) ≡ world_exception_return v.world
 unfolding exception_return world_exception_return
 return_alone v =
-    let plan = planned v.world (exception_popped v.world (frame_bits v.world)) in
-    by_exception (is_exception (top v.world)) (returned_or_bad (carried_out v plan)) (returned_or_bad (carried_out (bare v.world) plan))
+    let plan = plan_result v.world (exception_frame_pop v.world (frame_bits v.world)) in
+    by_exception (is_exception (top v.world)) (result_of_exception_pop (after_plan v plan)) (result_of_exception_pop (after_plan (view_without_bytes v.world) plan))
     (returned_alone v plan (of_popped v.world (frame_bits v.world)).plan)

@@ -12,14 +12,14 @@ use Rattle.client_world.specs.declared.registers.Mode.TheVariants.{Protected}
 use Rattle.client_world.specs.Soundness.{IsSound}
 use Rattle.client_world.specs.World.{World}
 use Rattle.exec_flow.specs.Interrupts.{frame_bits}
-use Rattle.interrupts.specs.Worlds.{bare}
+use Rattle.interrupts.specs.Worlds.{view_without_bytes}
 use Rattle.interrupts.proofs.SoundAnswers.{holds_of_world}
 use Rattle.guest_space.specs.VectorLists.{vector_at}
 use Rattle.host_memory.specs.View.{MachineView}
-use Rattle.insn_plan.specs.Plan.{carried_out, planned}
+use Rattle.insn_plan.specs.Plan.{after_plan, plan_result}
 use Rattle.mode_stack.specs.Stack.{top}
 use Rattle.fault_service.specs.Delivery.{protected_delivery}
-use Rattle.fault_service.specs.Return.{exception_popped, exception_return, is_exception, returned_or_bad}
+use Rattle.fault_service.specs.Return.{exception_frame_pop, exception_return, is_exception, result_of_exception_pop}
 use Rattle.fault_service.specs.Worlds.{world_exception_return, world_protected_delivery}
 use Rattle.fault_service.proofs.MemoryLaws.{is_delivered}
 use Rattle.fault_service.proofs.Plans.{Restores, pop_restores}
@@ -29,11 +29,11 @@ use Rattle.fault_service.proofs.SoundAnswers.{sound_delivery, sound_return}
 pub sound_world_delivery : (w u : World) (f : Fault) → IsSound w → w.mode ≡ Protected → world_protected_delivery w f ≡ Ok u → IsSound u
 unfolding world_protected_delivery
 sound_world_delivery w u f s mode e =
-    holds_of_world IsSound (protected_delivery (bare w) f) u (λ v is. sound_delivery (bare w) v f s mode is) e
+    holds_of_world IsSound (protected_delivery (view_without_bytes w) f) u (λ v is. sound_delivery (view_without_bytes w) v f s mode is) e
 
 pub sound_world_return : (w u : World) → IsSound w → world_exception_return w ≡ Ok u → IsSound u
 unfolding world_exception_return
-sound_world_return w u s e = holds_of_world IsSound (exception_return (bare w)) u (λ v is. sound_return (bare w) v s is) e
+sound_world_return w u s e = holds_of_world IsSound (exception_return (view_without_bytes w)) u (λ v is. sound_return (view_without_bytes w) v s is) e
 
 -- ---- a delivery adds the record of its exception
 
@@ -46,8 +46,8 @@ delivered_record v u f e =
 pub pushed_record : (w u : World) (f : Fault) → world_protected_delivery w f ≡ Ok u → u.calls ≡ w.calls ++ Exc f.number f.code ∷ []
 unfolding world_protected_delivery
 pushed_record w u f e =
-    holds_of_world (λ (x : World). x.calls ≡ w.calls ++ Exc f.number f.code ∷ []) (protected_delivery (bare w) f) u
-    (λ v is. delivered_record (bare w) v f is) e
+    holds_of_world (λ (x : World). x.calls ≡ w.calls ++ Exc f.number f.code ∷ []) (protected_delivery (view_without_bytes w) f) u
+    (λ v is. delivered_record (view_without_bytes w) v f is) e
 
 -- ---- a return takes the record of an exception away
 
@@ -78,7 +78,7 @@ popped_by calls (Some (Sim call saved vif at)) is e = absurd cc
 popped_by calls (Some (Back slot at)) is e = absurd cc
 popped_by calls (Some (Exc number code)) is e = record { number = number; code = code; top_is = is; is = split_last calls (Exc number code) is }
 
-returned_calls : (r : Result MachineView Event) (v u : MachineView) → ((x : MachineView) → r ≡ Ok x → Restores v x) → returned_or_bad r ≡ Ok u →
+returned_calls : (r : Result MachineView Event) (v u : MachineView) → ((x : MachineView) → r ≡ Ok x → Restores v x) → result_of_exception_pop r ≡ Ok u →
     u.world.calls ≡ but_last v.world.calls
 returned_calls (Ok x) v u restores e =
     let same : u.world.calls ≡ but_last x.world.calls = ap calls_of (sym e) in
@@ -90,10 +90,10 @@ returned_calls (Ok x) v u restores e =
 returned_calls (Err g) v u restores e = absurd cc
 
 where_exception : (exception : Bool) (v u : MachineView) → is_exception (top v.world) ≡ exception →
-    (if exception then returned_or_bad (carried_out v (planned v.world (exception_popped v.world (frame_bits v.world)))) else Err exits.Stray) ≡ Ok u →
+    (if exception then result_of_exception_pop (after_plan v (plan_result v.world (exception_frame_pop v.world (frame_bits v.world)))) else Err exits.Stray) ≡ Ok u →
     Popped v.world.calls u.world.calls
 where_exception true v u is e =
-    let rest = returned_calls (carried_out v (planned v.world (exception_popped v.world (frame_bits v.world)))) v u
+    let rest = returned_calls (after_plan v (plan_result v.world (exception_frame_pop v.world (frame_bits v.world)))) v u
     (λ x was. pop_restores v x (frame_bits v.world) was) e in
     rw rest (popped_by v.world.calls (top v.world) refl is)
 where_exception false v u is e = absurd cc
@@ -105,4 +105,4 @@ machine_popped v u e = where_exception (is_exception (top v.world)) v u refl e
 pub popped_record : (w u : World) → world_exception_return w ≡ Ok u → Popped w.calls u.calls
 unfolding world_exception_return
 popped_record w u e =
-    holds_of_world (λ (x : World). Popped w.calls x.calls) (exception_return (bare w)) u (λ v is. machine_popped (bare w) v is) e
+    holds_of_world (λ (x : World). Popped w.calls x.calls) (exception_return (view_without_bytes w)) u (λ v is. machine_popped (view_without_bytes w) v is) e

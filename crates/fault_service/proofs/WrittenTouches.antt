@@ -16,13 +16,13 @@ use Rattle.client_world.specs.declared.segments.SegReg.TheVariants.{Ss}
 use Rattle.client_world.specs.Access.{IsHeld, access, places_at, segment_base}
 use Rattle.client_world.specs.Selector.{Row}
 use Rattle.client_world.specs.World.{World}
-use Rattle.cpu_step.specs.Step.{behind, client_row, client_step, code, executed, has_big_code, step_of}
-use Rattle.cpu_step.specs.Touched.{and_then, decoded_touches, executed_touches, fetched, places_behind, read_places, touched, vector_read, write_places}
-use Rattle.exec_flow.specs.Interrupts.{interrupt_pushed}
+use Rattle.cpu_step.specs.Step.{view_with_next_eip, client_row, client_step, code, after_instruction, has_big_code, step_of}
+use Rattle.cpu_step.specs.Touched.{and_then, touched_by_decoded, touched_by_instruction, touched_by_fetch, places_after_reads, read_places, touched_by_step, vector_read_places, write_places}
+use Rattle.exec_flow.specs.Interrupts.{interrupt_push}
 use Rattle.interrupts.specs.Delivery.{software_interrupt}
 use Rattle.guest_space.specs.Code.{code_room}
 use Rattle.guest_space.specs.declared.pending.Write.{Write}
-use Rattle.guest_space.specs.Pending.{all_written, byte_count, first_refusal, places_of_writes, write_refusal}
+use Rattle.guest_space.specs.Pending.{after_writes, byte_count, first_write_fault, places_of_writes, write_fault}
 use Rattle.guest_space.specs.Transfer.{access_fault, fault_of, places_of_access}
 use Rattle.guest_space.proofs.Machines.{CanWriteAll, held_there}
 use Rattle.guest_space.proofs.OnlyWritten.{write_places as can_write}
@@ -31,10 +31,10 @@ use Rattle.insn_decode.specs.declared.decoding.Decoded.{Decoded}
 use Rattle.insn_decode.specs.declared.decoding.Decoded.TheVariants.{Whole, More, Invalid}
 use Rattle.insn_decode.specs.Decode.{decoded}
 use Rattle.insn_forms.specs.declared.insn.Insn.{Insn}
-use Rattle.insn_plan.specs.Accesses.{moved}
+use Rattle.insn_plan.specs.Accesses.{with_next_eip}
 use Rattle.insn_plan.specs.Act.{Pending}
-use Rattle.insn_plan.specs.Plan.{after_commit, carried_out, planned, with_state}
-use Rattle.insn_plan.specs.Stack.{has_big_stack, pushed}
+use Rattle.insn_plan.specs.Plan.{after_commit, after_plan, plan_result, with_state}
+use Rattle.insn_plan.specs.Stack.{has_big_stack, with_pushed_number}
 use Rattle.fault_service.specs.StepMemory.{interrupt_places, written_by, written_of, written_places}
 
 -- ---- writes none of which is refused
@@ -44,11 +44,11 @@ granted_where : (r : Result (List Place) Fault) (refused : Option Fault) (more o
 granted_where (Ok places) refused more others rest e = ap (λ (xs : List Place). places ++ xs) (rest e)
 granted_where (Err f) refused more others rest e = absurd cc
 
-granted_places : (w : World) (xs : List Write) → first_refusal w xs ≡ None → write_places w xs ≡ places_of_writes w xs
-unfolding write_places first_refusal write_refusal access_fault
+granted_places : (w : World) (xs : List Write) → first_write_fault w xs ≡ None → write_places w xs ≡ places_of_writes w xs
+unfolding write_places first_write_fault write_fault access_fault
 granted_places w [] e = refl
 granted_places w (x ∷ xs) e =
-    granted_where (access w x.seg x.off (byte_count x.width) true) (first_refusal w xs) (write_places w xs) (places_of_writes w xs)
+    granted_where (access w x.seg x.off (byte_count x.width) true) (first_write_fault w xs) (write_places w xs) (places_of_writes w xs)
     (granted_places w xs) e
 
 -- ---- an instruction that is carried out
@@ -58,12 +58,12 @@ not_refused : (o : Option Fault) (x u : MachineView) →
 not_refused None x u e = refl
 not_refused (Some f) x u e = absurd cc
 
-commit_granted : (v u : MachineView) (p : Pending) → after_commit v p ≡ Ok u → first_refusal v.world p.writes ≡ None
+commit_granted : (v u : MachineView) (p : Pending) → after_commit v p ≡ Ok u → first_write_fault v.world p.writes ≡ None
 unfolding after_commit
-commit_granted v u p e = not_refused (first_refusal v.world p.writes) (with_state p.regs p.vif (all_written v p.writes)) u e
+commit_granted v u p e = not_refused (first_write_fault v.world p.writes) (with_state p.regs p.vif (after_writes v p.writes)) u e
 
-written_behind : (v u : MachineView) (r : Result Pending Event) → carried_out v r ≡ Ok u → places_behind v.world r ≡ written_by v.world r
-unfolding carried_out
+written_behind : (v u : MachineView) (r : Result Pending Event) → after_plan v r ≡ Ok u → places_after_reads v.world r ≡ written_by v.world r
+unfolding after_plan
 written_behind v u (Ok p) e = granted_places v.world p.writes (commit_granted v u p e)
 written_behind v u (Err event) e = absurd cc
 
@@ -76,26 +76,26 @@ last_in first second third =
     All-weaker (Contains third) (Contains (first ++ (second ++ third)))
     (λ p here. Contains-append_right first (second ++ third) p (Contains-append_right second third p here)) third (All-contains_itself third)
 
-executed_in : (v u : MachineView) (insn : Insn) (len : ℕ) (before : List Place) → executed v insn len ≡ Ok u →
-    AreIn (before ++ decoded_touches v.world (Whole insn len)) (written_of v.world (Whole insn len))
-unfolding executed
+executed_in : (v u : MachineView) (insn : Insn) (len : ℕ) (before : List Place) → after_instruction v insn len ≡ Ok u →
+    AreIn (before ++ touched_by_decoded v.world (Whole insn len)) (written_of v.world (Whole insn len))
+unfolding after_instruction
 executed_in v u insn len before e =
-    let w = moved len v.world in
+    let w = with_next_eip len v.world in
     let act = client_row w insn len in
-    let same = written_behind (behind len v) u (planned w act) e in
-    subst (AreIn (before ++ executed_touches w act)) same (last_in before (read_places w act) (places_behind w (planned w act)))
+    let same = written_behind (view_with_next_eip len v) u (plan_result w act) e in
+    subst (AreIn (before ++ touched_by_instruction w act)) same (last_in before (read_places w act) (places_after_reads w (plan_result w act)))
 
 decoded_in : (v u : MachineView) (d : Decoded) (before : List Place) → step_of v d ≡ Ok u →
-    AreIn (before ++ decoded_touches v.world d) (written_of v.world d)
+    AreIn (before ++ touched_by_decoded v.world d) (written_of v.world d)
 decoded_in v u (Whole insn len) before e = executed_in v u insn len before e
 decoded_in v u More before e = absurd cc
 decoded_in v u Invalid before e = absurd cc
 
-pub written_touched : (v u : MachineView) → client_step v ≡ Ok u → AreIn (touched v.world) (written_places v.world)
-unfolding client_step touched written_places
+pub written_touched : (v u : MachineView) → client_step v ≡ Ok u → AreIn (touched_by_step v.world) (written_places v.world)
+unfolding client_step touched_by_step written_places
 written_touched v u e =
     let w = v.world in
-    decoded_in v u (decoded (has_big_code w) (code w)) (fetched w 0 code_room) e
+    decoded_in v u (decoded (has_big_code w) (code w)) (touched_by_fetch w 0 code_room) e
 
 -- ---- a software interrupt whose pushes are made
 
@@ -111,43 +111,43 @@ unfolding segment_base
 stack_base Real r eip rows off n = refl
 stack_base Protected r eip rows off n = refl
 
-stack_access : (w : World) (len : ℕ) (seg : SegReg) (off n : ℕ) → seg ≡ Ss → access (moved len w) seg off n true ≡ access w seg off n true
+stack_access : (w : World) (len : ℕ) (seg : SegReg) (off n : ℕ) → seg ≡ Ss → access (with_next_eip len w) seg off n true ≡ access w seg off n true
 unfolding access
 stack_access w len seg off n is = rw is
     (ap (λ (base : Result ℕ Fault). places_at w.blocks base off n true)
     (stack_base w.mode w.regs ((w.regs.eip + len) % 2 ^ 32) w.descriptors off n))
 
-stack_places : (w : World) (len : ℕ) (xs : List Write) → AreOnStack xs → places_of_writes (moved len w) xs ≡ places_of_writes w xs
+stack_places : (w : World) (len : ℕ) (xs : List Write) → AreOnStack xs → places_of_writes (with_next_eip len w) xs ≡ places_of_writes w xs
 stack_places w len [] on = refl
 stack_places w len (x ∷ xs) on =
-    ap (λ (r : Result (List Place) Fault). places_of_access r ++ places_of_writes (moved len w) xs)
+    ap (λ (r : Result (List Place) Fault). places_of_access r ++ places_of_writes (with_next_eip len w) xs)
     (stack_access w len x.seg x.off (byte_count x.width) on.0)
     ∙ ap (λ (more : List Place). places_of_access (access w x.seg x.off (byte_count x.width) true) ++ more) (stack_places w len xs on.1)
 
 refused_first : Option Fault → Result (List Place) Fault → Option Fault
 refused_first more r = elim (fault_of r) [ Some f ↦ Some f | None ↦ more ]
 
-stack_refusal : (w : World) (len : ℕ) (xs : List Write) → AreOnStack xs → first_refusal (moved len w) xs ≡ first_refusal w xs
-unfolding first_refusal write_refusal access_fault refused_first
+stack_refusal : (w : World) (len : ℕ) (xs : List Write) → AreOnStack xs → first_write_fault (with_next_eip len w) xs ≡ first_write_fault w xs
+unfolding first_write_fault write_fault access_fault refused_first
 stack_refusal w len [] on = refl
 stack_refusal w len (x ∷ xs) on =
-    ap (refused_first (first_refusal (moved len w) xs)) (stack_access w len x.seg x.off (byte_count x.width) on.0)
+    ap (refused_first (first_write_fault (with_next_eip len w) xs)) (stack_access w len x.seg x.off (byte_count x.width) on.0)
     ∙ ap (λ (more : Option Fault). refused_first more (access w x.seg x.off (byte_count x.width) true)) (stack_refusal w len xs on.1)
 
 -- what an interrupt pushes lies at the same places, whatever the instruction pointer is that it pushes
 abbrev pushes : World → ℕ → List Write
-pushes w len = (interrupt_pushed (moved len w)).writes
+pushes w len = (interrupt_push (with_next_eip len w)).writes
 
 pushes_on_stack : (w : World) (len : ℕ) → AreOnStack (pushes w len)
-unfolding interrupt_pushed pushed
+unfolding interrupt_push with_pushed_number
 pushes_on_stack w len = (refl, (refl, (refl, tt)))
 
 same_pushes : (w : World) (one other : ℕ) → places_of_writes w (pushes w one) ≡ places_of_writes w (pushes w other)
-unfolding interrupt_pushed pushed has_big_stack
+unfolding interrupt_push with_pushed_number has_big_stack
 same_pushes w one other = refl
 
-same_refusal : (w : World) (one other : ℕ) → first_refusal w (pushes w one) ≡ first_refusal w (pushes w other)
-unfolding interrupt_pushed pushed has_big_stack first_refusal write_refusal
+same_refusal : (w : World) (one other : ℕ) → first_write_fault w (pushes w one) ≡ first_write_fault w (pushes w other)
+unfolding interrupt_push with_pushed_number has_big_stack first_write_fault write_fault
 same_refusal w one other = refl
 
 interrupt_places_same : (w : World) (one other : ℕ) → interrupt_places w one ≡ interrupt_places w other
@@ -155,7 +155,7 @@ interrupt_places_same w one other =
     stack_places w one (pushes w one) (pushes_on_stack w one) ∙ same_pushes w one other
     ∙ sym (stack_places w other (pushes w other) (pushes_on_stack w other))
 
-refusal_same : (w : World) (one other : ℕ) → first_refusal (moved one w) (pushes w one) ≡ first_refusal (moved other w) (pushes w other)
+refusal_same : (w : World) (one other : ℕ) → first_write_fault (with_next_eip one w) (pushes w one) ≡ first_write_fault (with_next_eip other w) (pushes w other)
 refusal_same w one other =
     stack_refusal w one (pushes w one) (pushes_on_stack w one) ∙ same_refusal w one other
     ∙ sym (stack_refusal w other (pushes w other) (pushes_on_stack w other))
@@ -165,9 +165,9 @@ interrupt_granted_by : (o : Option Fault) (r : Result MachineView Fault) (u : Ma
 interrupt_granted_by None r u e = refl
 interrupt_granted_by (Some f) r u e = absurd cc
 
-interrupt_granted : (v u : MachineView) (n len : ℕ) → software_interrupt v n len ≡ Ok u → first_refusal (moved len v.world) (pushes v.world len) ≡ None
+interrupt_granted : (v u : MachineView) (n len : ℕ) → software_interrupt v n len ≡ Ok u → first_write_fault (with_next_eip len v.world) (pushes v.world len) ≡ None
 unfolding software_interrupt
-interrupt_granted v u n len e = interrupt_granted_by (first_refusal (moved len v.world) (pushes v.world len)) _ u e
+interrupt_granted v u n len e = interrupt_granted_by (first_write_fault (with_next_eip len v.world) (pushes v.world len)) _ u e
 
 -- an event of a plan is that of the plan
 event_was : (v : MachineView) (o : Option Fault) (x : MachineView) (number len : ℕ) →
@@ -177,10 +177,10 @@ event_was v (Some f) x number len e = cc
 
 no_commit : (v : MachineView) (p : Pending) (number len : ℕ) → after_commit v p ≡ Err (Soft number len) → ⊥
 unfolding after_commit
-no_commit v p number len e = event_was v (first_refusal v.world p.writes) (with_state p.regs p.vif (all_written v p.writes)) number len e
+no_commit v p number len e = event_was v (first_write_fault v.world p.writes) (with_state p.regs p.vif (after_writes v p.writes)) number len e
 
-plan_was : (v : MachineView) (r : Result Pending Event) (number len : ℕ) → carried_out v r ≡ Err (Soft number len) → r ≡ Err (Soft number len)
-unfolding carried_out
+plan_was : (v : MachineView) (r : Result Pending Event) (number len : ℕ) → after_plan v r ≡ Err (Soft number len) → r ≡ Err (Soft number len)
+unfolding after_plan
 plan_was v (Ok p) number len e = absurd (no_commit v p number len e)
 plan_was v (Err event) number len e = cc
 
@@ -191,34 +191,34 @@ third_in first second third fourth =
     (λ p here. Contains-append_right first (second ++ (third ++ fourth)) p
     (Contains-append_right second (third ++ fourth) p (Contains-append_left third fourth p here))) third (All-contains_itself third)
 
-executed_pushes : (v : MachineView) (insn : Insn) (long number len : ℕ) (before : List Place) → executed v insn long ≡ Err (Soft number len) →
-    first_refusal (moved long v.world) (pushes v.world long) ≡ None → AreIn (before ++ decoded_touches v.world (Whole insn long)) (interrupt_places v.world long)
-unfolding executed
+executed_pushes : (v : MachineView) (insn : Insn) (long number len : ℕ) (before : List Place) → after_instruction v insn long ≡ Err (Soft number len) →
+    first_write_fault (with_next_eip long v.world) (pushes v.world long) ≡ None → AreIn (before ++ touched_by_decoded v.world (Whole insn long)) (interrupt_places v.world long)
+unfolding after_instruction
 executed_pushes v insn long number len before e granted =
-    let w = moved long v.world in
+    let w = with_next_eip long v.world in
     let act = client_row w insn long in
-    let xs = (interrupt_pushed w).writes in
-    let plan = plan_was (behind long v) (planned w act) number len e in
-    let behind_is = ap (places_behind w) plan in
+    let xs = (interrupt_push w).writes in
+    let plan = plan_was (view_with_next_eip long v) (plan_result w act) number len e in
+    let behind_is = ap (places_after_reads w) plan in
     let written_is = granted_places w xs granted in
     subst (λ (places : List Place). AreIn (before ++ (read_places w act ++ places)) (places_of_writes w xs)) (sym behind_is)
-    (subst (λ (places : List Place). AreIn (before ++ (read_places w act ++ (places ++ vector_read w number))) (places_of_writes w xs)) (sym written_is)
-    (third_in before (read_places w act) (places_of_writes w xs) (vector_read w number)))
+    (subst (λ (places : List Place). AreIn (before ++ (read_places w act ++ (places ++ vector_read_places w number))) (places_of_writes w xs)) (sym written_is)
+    (third_in before (read_places w act) (places_of_writes w xs) (vector_read_places w number)))
 
 decoded_pushes : (v : MachineView) (d : Decoded) (number len : ℕ) (before : List Place) → step_of v d ≡ Err (Soft number len) →
-    first_refusal (moved len v.world) (pushes v.world len) ≡ None → AreIn (before ++ decoded_touches v.world d) (interrupt_places v.world len)
+    first_write_fault (with_next_eip len v.world) (pushes v.world len) ≡ None → AreIn (before ++ touched_by_decoded v.world d) (interrupt_places v.world len)
 decoded_pushes v (Whole insn long) number len before e granted =
-    subst (AreIn (before ++ decoded_touches v.world (Whole insn long))) (interrupt_places_same v.world long len)
+    subst (AreIn (before ++ touched_by_decoded v.world (Whole insn long))) (interrupt_places_same v.world long len)
     (executed_pushes v insn long number len before e (refusal_same v.world long len ∙ granted))
 decoded_pushes v More number len before e granted = absurd cc
 decoded_pushes v Invalid number len before e granted = absurd cc
 
 pub pushed_touched : (v u : MachineView) (number len : ℕ) → client_step v ≡ Err (Soft number len) → software_interrupt v number len ≡ Ok u →
-    AreIn (touched v.world) (interrupt_places v.world len)
-unfolding client_step touched
+    AreIn (touched_by_step v.world) (interrupt_places v.world len)
+unfolding client_step touched_by_step
 pushed_touched v u number len e made =
     let w = v.world in
-    decoded_pushes v (decoded (has_big_code w) (code w)) number len (fetched w 0 code_room) e (interrupt_granted v u number len made)
+    decoded_pushes v (decoded (has_big_code w) (code w)) number len (touched_by_fetch w 0 code_room) e (interrupt_granted v u number len made)
 
 -- ---- they are the client's
 
@@ -238,25 +238,25 @@ writes_held w (x ∷ xs) =
     (writes_held w xs)
 
 -- the instruction pointer has no part in it
-held_before : (w : World) (len : ℕ) (p : Place) → IsHeld (moved len w) p → IsHeld w p
+held_before : (w : World) (len : ℕ) (p : Place) → IsHeld (with_next_eip len w) p → IsHeld w p
 held_before w len (Dos at) h = h
 held_before w len (Block number at) h = h
 held_before w len Host h = h
 held_before w len Nothing h = h
 
-moved_held : (w : World) (len : ℕ) (xs : List Write) → All (IsHeld w) (places_of_writes (moved len w) xs)
+moved_held : (w : World) (len : ℕ) (xs : List Write) → All (IsHeld w) (places_of_writes (with_next_eip len w) xs)
 moved_held w len xs =
-    All-weaker (IsHeld (moved len w)) (IsHeld w) (held_before w len) (places_of_writes (moved len w) xs) (writes_held (moved len w) xs)
+    All-weaker (IsHeld (with_next_eip len w)) (IsHeld w) (held_before w len) (places_of_writes (with_next_eip len w) xs) (writes_held (with_next_eip len w) xs)
 
 pub pushed_held : (w : World) (len : ℕ) → All (IsHeld w) (interrupt_places w len)
-pushed_held w len = moved_held w len (interrupt_pushed (moved len w)).writes
+pushed_held w len = moved_held w len (interrupt_push (with_next_eip len w)).writes
 
-plan_held : (w : World) (len : ℕ) (r : Result Pending Event) → All (IsHeld w) (written_by (moved len w) r)
+plan_held : (w : World) (len : ℕ) (r : Result Pending Event) → All (IsHeld w) (written_by (with_next_eip len w) r)
 plan_held w len (Ok p) = moved_held w len p.writes
 plan_held w len (Err e) = All-nil (IsHeld w)
 
 decoded_held : (w : World) (d : Decoded) → All (IsHeld w) (written_of w d)
-decoded_held w (Whole insn len) = plan_held w len (planned (moved len w) (client_row (moved len w) insn len))
+decoded_held w (Whole insn len) = plan_held w len (plan_result (with_next_eip len w) (client_row (with_next_eip len w) insn len))
 decoded_held w More = All-nil (IsHeld w)
 decoded_held w Invalid = All-nil (IsHeld w)
 

@@ -19,8 +19,8 @@ use Rattle.client_world.specs.Selector.{selector_of}
 use Rattle.client_world.specs.World.{World, depth}
 use Rattle.exec_flow.specs.FarTransfers.{code_selector}
 use Rattle.exec_flow.specs.Interrupts.{frame_bits}
-use Rattle.interrupts.specs.Delivery.{unserved}
-use Rattle.guest_space.specs.Far.{far_written}
+use Rattle.interrupts.specs.Delivery.{exit_of_fault}
+use Rattle.guest_space.specs.Far.{after_far_write}
 use Rattle.guest_space.specs.Pending.{byte_count, number_bytes}
 use Rattle.guest_space.specs.VectorLists.{vector_at}
 use Rattle.host_memory.specs.View.{MachineView}
@@ -44,26 +44,26 @@ items_bytes bits (item ∷ items) = number_bytes bits item ++ items_bytes bits i
 unfoldable pub exception_frame : World → Fault → List ℕ
 exception_frame w f = items_bytes (frame_bits w) (exception_items w f)
 
-abbrev pub frame_size : World → ℕ
-frame_size w = 8 * byte_count (frame_bits w)
+abbrev pub exception_frame_size : World → ℕ
+exception_frame_size w = 8 * byte_count (frame_bits w)
 
 -- where it lies
-abbrev pub frame_start : World → FarPtr
-frame_start w = frame_address w (frame_size w)
+abbrev pub exception_frame_start : World → FarPtr
+exception_frame_start w = frame_address w (exception_frame_size w)
 
 -- the registers at the handler: it runs on the host's stack, with the frame at the stack's top
 abbrev pub handler_regs : World → FarPtr → Regs
-handler_regs w p = record w.regs { cs = code_selector w p.sel; eip = p.off; ss = selector_of HOST_STACKS; esp = (frame_start w).off }
+handler_regs w p = record w.regs { cs = code_selector w p.sel; eip = p.off; ss = selector_of HOST_STACKS; esp = (exception_frame_start w).off }
 
 -- the machine at the handler: the frame is written, the exception is the innermost record, and virtual interrupts are off
 unfoldable pub after_delivery : MachineView → Fault → FarPtr → MachineView
 after_delivery v f p = with_state (handler_regs v.world p) false
-    (after_push (far_written v (frame_start v.world) (frame_size v.world) (exception_frame v.world f)) (Exc f.number f.code))
+    (after_push (after_far_write v (exception_frame_start v.world) (exception_frame_size v.world) (exception_frame v.world f)) (Exc f.number f.code))
 
 -- the delivery to a handler: where its address can't be loaded into CS, the exception ends the client
 abbrev pub delivery_to : MachineView → Fault → FarPtr → Result MachineView Exit
 delivery_to v f p = elim (load_fault v.world.descriptors Cs p.sel p.off false) [
-  | Some g ↦ Err (unserved f)
+  | Some g ↦ Err (exit_of_fault f)
   | None ↦ Ok (after_delivery v f p)
 ]
 

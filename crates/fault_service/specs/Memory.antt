@@ -12,7 +12,7 @@ use Rattle.guest_space.specs.Transfer.{places_of_access}
 use Rattle.host_memory.specs.HoldsWorld.{HoldsWorld}
 use Rattle.host_memory.specs.Law.{StandsAt}
 use Rattle.host_memory.specs.View.{MachineView}
-use Rattle.fault_service.specs.Delivery.{frame_start, frame_size, protected_delivery}
+use Rattle.fault_service.specs.Delivery.{exception_frame_start, exception_frame_size, protected_delivery}
 use Rattle.fault_service.specs.Return.{exception_return}
 
 -- what every machine promises of its view (`Machine::ram`): its world is sound, its bytes hold that world, and the byte of each place that
@@ -24,14 +24,14 @@ pub record IsMachineView (v : MachineView) : Type 0 where
 
 -- the places of the frame of an exception
 abbrev pub frame_places : World → List Place
-frame_places w = places_of_access (far_access w (frame_start w) (frame_size w) true)
+frame_places w = places_of_access (far_access w (exception_frame_start w) (exception_frame_size w) true)
 
 -- each byte of the frame lies in the megabyte, in the host's stack of the depth
 pub record LiesInStack (w : World) : Type 0 where
-  pub size : length (frame_places w) ≡ frame_size w
-  pub each : (i : ℕ) → i < frame_size w → slice_index_or (frame_places w) i Nothing ≡ Dos (PROTECTED_STACKS + (frame_start w).off + i)
-  pub from : PROTECTED_STACK_SIZE * depth w ≤ (frame_start w).off
-  pub to : (frame_start w).off + frame_size w ≡ PROTECTED_STACK_SIZE * (depth w + 1)
+  pub size : length (frame_places w) ≡ exception_frame_size w
+  pub each : (i : ℕ) → i < exception_frame_size w → slice_index_or (frame_places w) i Nothing ≡ Dos (PROTECTED_STACKS + (exception_frame_start w).off + i)
+  pub from : PROTECTED_STACK_SIZE * depth w ≤ (exception_frame_start w).off
+  pub to : (exception_frame_start w).off + exception_frame_size w ≡ PROTECTED_STACK_SIZE * (depth w + 1)
 
 -- a delivery changes at most the bytes of its frame and those of its record's row
 abbrev pub DeliveryLaw : MachineView → Type 0

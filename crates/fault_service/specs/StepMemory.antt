@@ -7,16 +7,16 @@ use Rattle.client_world.specs.declared.faults.Fault.{Fault}
 use Rattle.client_world.specs.declared.place.Place.{Place}
 use Rattle.client_world.specs.World.{World}
 use Rattle.cpu_step.specs.Step.{client_row, client_step, code, has_big_code}
-use Rattle.exec_flow.specs.Interrupts.{interrupt_pushed}
+use Rattle.exec_flow.specs.Interrupts.{interrupt_push}
 use Rattle.interrupts.specs.Delivery.{real_delivery, software_interrupt}
 use Rattle.guest_space.specs.Pending.{places_of_writes}
 use Rattle.host_memory.specs.View.{MachineView, OnlyAt}
 use Rattle.insn_decode.specs.declared.decoding.Decoded.{Decoded}
 use Rattle.insn_decode.specs.declared.decoding.Decoded.TheVariants.{Whole, More, Invalid}
 use Rattle.insn_decode.specs.Decode.{decoded}
-use Rattle.insn_plan.specs.Accesses.{moved}
+use Rattle.insn_plan.specs.Accesses.{with_next_eip}
 use Rattle.insn_plan.specs.Act.{Pending}
-use Rattle.insn_plan.specs.Plan.{planned}
+use Rattle.insn_plan.specs.Plan.{plan_result}
 
 -- the places that a plan writes
 abbrev pub written_by : World → Result Pending Event → List Place
@@ -25,7 +25,7 @@ written_by w (Err e) = []
 
 -- the places that a decoded instruction writes
 abbrev pub written_of : World → Decoded → List Place
-written_of w (Whole insn len) = written_by (moved len w) (planned (moved len w) (client_row (moved len w) insn len))
+written_of w (Whole insn len) = written_by (with_next_eip len w) (plan_result (with_next_eip len w) (client_row (with_next_eip len w) insn len))
 written_of w More = []
 written_of w Invalid = []
 
@@ -39,7 +39,7 @@ StepLaw v = (u : MachineView) → client_step v ≡ Ok u → OnlyAt (written_pla
 
 -- the places to which a software interrupt pushes whose instruction has `len` bytes
 abbrev pub interrupt_places : World → ℕ → List Place
-interrupt_places w len = places_of_writes (moved len w) (interrupt_pushed (moved len w)).writes
+interrupt_places w len = places_of_writes (with_next_eip len w) (interrupt_push (with_next_eip len w)).writes
 
 abbrev pub InterruptLaw : MachineView → Type 0
 InterruptLaw v = (n len : ℕ) (u : MachineView) → software_interrupt v n len ≡ Ok u → OnlyAt (interrupt_places v.world len) v.bytes u.bytes

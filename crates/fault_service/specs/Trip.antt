@@ -16,13 +16,13 @@ use Rattle.guest_space.specs.Transfer.{read_result}
 use Rattle.host_memory.specs.View.{MachineView}
 use Rattle.insn_plan.specs.Plan.{with_state}
 use Rattle.mode_stack.specs.Stack.{after_pop}
-use Rattle.fault_service.specs.Delivery.{exception_frame, frame_start, frame_size, protected_delivery}
+use Rattle.fault_service.specs.Delivery.{exception_frame, exception_frame_start, exception_frame_size, protected_delivery}
 use Rattle.fault_service.specs.Return.{exception_return}
 
 -- at the handler the frame is read at SS:ESP
 abbrev pub FrameLaw : Type 0
 FrameLaw = (v u : MachineView) (f : Fault) → IsSound v.world → v.world.mode ≡ Protected → protected_delivery v f ≡ Ok u →
-    read_result u.world Ss u.world.regs.esp (frame_size v.world) ≡ Ok (exception_frame v.world f)
+    read_result u.world Ss u.world.regs.esp (exception_frame_size v.world) ≡ Ok (exception_frame v.world f)
 
 -- a number in an item of that many bits
 abbrev pub cut_item : ℕ → ℕ → ℕ
@@ -42,7 +42,7 @@ regs_after_return w r = record r {
 -- with the memory as the delivery left it
 abbrev pub TripLaw : Type 0
 TripLaw = (v u : MachineView) (f : Fault) (r : Regs) (on : Bool) → IsSound v.world → v.world.mode ≡ Protected → protected_delivery v f ≡ Ok u →
-    HasSegments r → r.ss ≡ selector_of HOST_STACKS → r.esp ≡ (frame_start v.world).off + 2 * byte_count (frame_bits v.world) →
+    HasSegments r → r.ss ≡ selector_of HOST_STACKS → r.esp ≡ (exception_frame_start v.world).off + 2 * byte_count (frame_bits v.world) →
     load_fault v.world.descriptors Cs v.world.regs.cs (cut_item (frame_bits v.world) v.world.regs.eip) true ≡ None →
     load_fault v.world.descriptors Ss v.world.regs.ss 0 false ≡ None →
     exception_return (with_state r on u) ≡ Ok (with_state (regs_after_return v.world r) v.world.vif (after_pop u))

@@ -4,9 +4,9 @@ ghost use Rattle.client_world.specs.declared.limits.TheConstants.{GREATEST_DEPTH
 ghost use Rattle.client_world.specs.declared.registers.Mode.TheVariants.{Protected};
 ghost use Rattle.client_world.specs.World.{depth};
 ghost use Rattle.guest_space.specs.VectorLists.{vector_at};
-ghost use Rattle.guest_space.specs.Far.{far_written};
+ghost use Rattle.guest_space.specs.Far.{after_far_write};
 ghost use Rattle.guest_space.specs.Pending.{byte_count};
-ghost use Rattle.fault_service.specs.Delivery.{after_delivery, exception_frame, frame_start, frame_size, protected_delivery};
+ghost use Rattle.fault_service.specs.Delivery.{after_delivery, exception_frame, exception_frame_start, exception_frame_size, protected_delivery};
 
 use crate::frame::{dword_frame, exception_items, word_frame};
 use client_world::limits::{EXCEPTION_VECTORS, GREATEST_DEPTH};
@@ -22,9 +22,9 @@ use mode_stack::{depth, frame_address, push};
 const DEEPEST: u8 = GREATEST_DEPTH as u8;
 
 // Where the frame lies.
-fn frame_start(m: &Machine) -> FarPtr
+fn exception_frame_start(m: &Machine) -> FarPtr
     requires { depth m.now.world < GREATEST_DEPTH }
-    ensures { result ≡ frame_start m.now.world }
+    ensures { result ≡ exception_frame_start m.now.world }
 {
     let size = if frame_bits(m) == 16 { 16 } else { 32 };
     frame_address(m, size)
@@ -35,12 +35,12 @@ fn frame_start(m: &Machine) -> FarPtr
 fn write_frame(m: &mut Machine, f: Fault)
     requires width { m.old.world.width ≢ None }
     requires depth { depth m.old.world < GREATEST_DEPTH }
-    ensures { m.new ≡ far_written m.old (frame_start m.old.world) (frame_size m.old.world) (exception_frame m.old.world f) }
+    ensures { m.new ≡ after_far_write m.old (exception_frame_start m.old.world) (exception_frame_size m.old.world) (exception_frame m.old.world f) }
 {
     the_protected_stacks_are_reachable();
     m.soundness();
     let items = exception_items(m, f);
-    let at = frame_start(m);
+    let at = exception_frame_start(m);
     if frame_bits(m) == 16 {
         m.write_bytes(at, &word_frame(&items));
     } else {
@@ -61,7 +61,7 @@ fn enter(m: &mut Machine, f: Fault, p: FarPtr)
         cs: code_selector(m, p.sel),
         eip: p.off,
         ss: selector_of(HOST_STACKS),
-        esp: frame_start(m).off,
+        esp: exception_frame_start(m).off,
         ..m.regs()
     };
     write_frame(m, f);

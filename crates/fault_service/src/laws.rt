@@ -8,7 +8,7 @@ ghost use Rattle.client_world.specs.Access.{IsHeld};
 ghost use Rattle.client_world.specs.Soundness.{IsSound};
 ghost use Rattle.client_world.specs.World.{World, depth};
 ghost use Rattle.cpu_step.specs.Step.{client_step};
-ghost use Rattle.cpu_step.specs.Touched.{touched};
+ghost use Rattle.cpu_step.specs.Touched.{touched_by_step};
 ghost use Rattle.host_memory.specs.View.{MachineView};
 ghost use Rattle.fault_service.specs.Delivery.{protected_delivery};
 ghost use Rattle.fault_service.specs.Return.{exception_return};
@@ -16,7 +16,7 @@ ghost use Rattle.fault_service.specs.StepMemory.{InterruptLaw, RealDeliveryLaw, 
 ghost use Rattle.fault_service.specs.Trip.{FrameLaw, RecordsLaw, TripLaw};
 ghost use Rattle.fault_service.specs.Worlds.{world_exception_return, world_protected_delivery};
 ghost use Rattle.interrupts.specs.Delivery.{software_interrupt};
-ghost use Rattle.interrupts.specs.Worlds.{its_world};
+ghost use Rattle.interrupts.specs.Worlds.{world_of_result};
 ghost use Rattle.fault_service.specs.Memory.{DeliveryLaw, IsMachineView, ReturnLaw, LiesInStack};
 
 use client_world::a_flags_image_gives_its_flags_back;
@@ -32,8 +32,8 @@ pub fn every_delivery_and_return_changes_only_its_bytes()
 
 /// What a delivery and a return make of the world depends on the world alone, and not on the bytes that hold it.
 pub fn every_answer_depends_on_the_world_alone()
-    ensures delivery { (v : MachineView) (f : Fault) → its_world (protected_delivery v f) ≡ world_protected_delivery v.world f }
-    ensures back { (v : MachineView) → its_world (exception_return v) ≡ world_exception_return v.world }
+    ensures delivery { (v : MachineView) (f : Fault) → world_of_result (protected_delivery v f) ≡ world_protected_delivery v.world f }
+    ensures back { (v : MachineView) → world_of_result (exception_return v) ≡ world_exception_return v.world }
 {}
 
 /// A delivery in protected mode and a return lead from a sound world to a sound one.
@@ -67,9 +67,9 @@ pub fn every_step_changes_only_what_it_writes()
 
 /// What a client instruction writes, or its software interrupt pushes, it touches; and each such place lies in memory that the client holds.
 pub fn every_written_place_is_touched_and_held()
-    ensures touched { (v u : MachineView) → client_step v ≡ Ok u → All (Contains (touched v.world)) (written_places v.world) }
+    ensures touched { (v u : MachineView) → client_step v ≡ Ok u → All (Contains (touched_by_step v.world)) (written_places v.world) }
     ensures pushed_touched { (v u : MachineView) (number len : ℕ) → client_step v ≡ Err (Soft number len) → software_interrupt v number len ≡ Ok u →
-        All (Contains (touched v.world)) (interrupt_places v.world len) }
+        All (Contains (touched_by_step v.world)) (interrupt_places v.world len) }
     ensures held { (w : World) → All (IsHeld w) (written_places w) }
     ensures pushed { (w : World) (len : ℕ) → All (IsHeld w) (interrupt_places w len) }
 {}

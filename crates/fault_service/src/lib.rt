@@ -1,6 +1,8 @@
-//! Software interrupts, exceptions in both modes, and the returns from them.
-//! It promises that each leaves the machine that its definition names, or gives its fault or exit and changes nothing.
-//! It is built on the stack of records, on `interrupts`, and on the stack items and frames of the executing crates.
+//! Exceptions in both modes, delivered by the mode, and the return from a handler; what happens in real mode is `interrupts`'.
+//! It promises that each leaves the machine that its definition names, or gives its fault or exit and changes nothing. It is built on
+//! the stack of records, on `interrupts`, and on the stack items and frames of the executing crates.
+//! How a frame is written and read is free. Its items and their order are the DPMI text's (`specs/Delivery`, `specs/Return`), and that
+//! a return gives back what the delivery took is a law of its own (`specs/Trip`).
 #![tactic(auto)]
 
 mod by_mode;

@@ -1,8 +1,8 @@
 // The return from an exception.
 ghost use Rattle.std.specs.Prelude.{◌≡◌, Ok, Err, MatchResult};
-ghost use Rattle.insn_plan.specs.Plan.{CarriesOut, planned};
+ghost use Rattle.insn_plan.specs.Plan.{CarriesOut, plan_result};
 ghost use Rattle.mode_stack.specs.Stack.{top};
-ghost use Rattle.fault_service.specs.Return.{exception_left, exception_popped, exception_return, exit_of_record, is_exception};
+ghost use Rattle.fault_service.specs.Return.{pending_of_exception_frame, exception_frame_pop, exception_return, exit_of_record, is_exception};
 
 use client_world::{Exit, Flags, Record, Regs, SegReg, is_interrupt_set, low_half};
 use exec_flow::frame_bits;
@@ -31,12 +31,12 @@ struct Frame {
 }
 
 // Reads the frame above the return address, in items of n bits, to which a return may be made; or gives the event.
-#[tactic(auto, unfolding(crate::specs::Return::exception_popped))]
+#[tactic(auto, unfolding(crate::specs::Return::exception_frame_pop))]
 fn frame_at_top(m: &Machine, bits: u8) -> Result<Frame, Raised>
     ensures { MatchResult result
-        (λ frame. planned m.now.world (exception_popped m.now.world bits)
-        ≡ Ok (exception_left m.now.world frame.ip frame.cs frame.image frame.sp frame.ss))
-        (λ event. planned m.now.world (exception_popped m.now.world bits) ≡ Err event) }
+        (λ frame. plan_result m.now.world (exception_frame_pop m.now.world bits)
+        ≡ Ok (pending_of_exception_frame m.now.world frame.ip frame.cs frame.image frame.sp frame.ss))
+        (λ event. plan_result m.now.world (exception_frame_pop m.now.world bits) ≡ Err event) }
 {
     let _code = stack_item(m, bits, 0)?;
     let ip = stack_item(m, bits, 1)?;
@@ -58,7 +58,7 @@ fn frame_at_top(m: &Machine, bits: u8) -> Result<Frame, Raised>
 // Pops that frame; or gives the event, which changes nothing.
 #[tactic(auto, using(insn_plan::proofs::Settled::carried_event))]
 fn pop_exception(m: &mut Machine, bits: u8) -> Result<(), Raised>
-    ensures { CarriesOut m.old m.new result (exception_popped m.old.world bits) }
+    ensures { CarriesOut m.old m.new result (exception_frame_pop m.old.world bits) }
 {
     let frame = frame_at_top(m, bits)?;
     m.set_regs(Regs {

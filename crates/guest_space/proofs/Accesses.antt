@@ -8,7 +8,7 @@ use Rattle.client_world.specs.declared.segments.SegReg.{SegReg}
 use Rattle.client_world.specs.Access.{access, segment_base, places_from, places_at, touched_places, first_forbidden, unless_forbidden}
 use Rattle.client_world.specs.World.{World}
 use Rattle.host_memory.specs.View.{MachineView}
-use Rattle.guest_space.specs.Transfer.{read_result, access_fault, stored, linear_access, bytes_at, fault_of, with_places, places_of_access}
+use Rattle.guest_space.specs.Transfer.{read_result, access_fault, after_store, linear_access, bytes_at, fault_of, with_places, places_of_access}
 use Rattle.guest_space.proofs.Runs.{linear_run}
 
 -- the places from a base and an offset are those from the linear address
@@ -58,8 +58,8 @@ places_linear_access w lin n write e = places_unless (first_forbidden (places_fr
 pub stored_linear : (v : MachineView) (seg : SegReg) (offset n base : ℕ) (bytes : List ℕ) →
     segment_base v.world.mode v.world.regs v.world.descriptors seg offset n true ≡ Ok base →
     fault_of (linear_access v.world ((base + offset) % 2 ^ 32) n true) ≡ None →
-    with_places v (places_from v.world.blocks ((base + offset) % 2 ^ 32) n) bytes ≡ stored v seg offset n bytes
-unfolding stored
+    with_places v (places_from v.world.blocks ((base + offset) % 2 ^ 32) n) bytes ≡ after_store v seg offset n bytes
+unfolding after_store
 stored_linear v seg offset n base bytes e none =
     ap (λ (places : List Place). with_places v places bytes)
     (sym (ap places_of_access (access_linear v.world seg offset n base true e) ∙ places_linear_access v.world ((base + offset) % 2 ^ 32) n true none))
@@ -69,7 +69,7 @@ pub write_done : (v new : MachineView) (seg : SegReg) (offset n base : ℕ) (byt
     segment_base v.world.mode v.world.regs v.world.descriptors seg offset n true ≡ Ok base →
     OnOk r ((fault_of (linear_access v.world ((base + offset) % 2 ^ 32) n true) ≡ None)
     × (new ≡ with_places v (places_from v.world.blocks ((base + offset) % 2 ^ 32) n) bytes)) →
-    OnOk r ((access_fault v.world seg offset n true ≡ None) × (new ≡ stored v seg offset n bytes))
+    OnOk r ((access_fault v.world seg offset n true ≡ None) × (new ≡ after_store v seg offset n bytes))
 write_done v new seg offset n base bytes (Ok u) e done =
     (refusal_linear v.world seg offset n base true e ∙ done.0, done.1 ∙ stored_linear v seg offset n base bytes e done.0)
 write_done v new seg offset n base bytes (Err f) e done = tt

@@ -11,7 +11,7 @@ use Rattle.guest_ram.proofs.PutLaws.{length-put, put_above, put_below, put_withi
 use Rattle.host_memory.specs.DosList.{entry_count, entry_room, list_size, arena_in, KeepsArena, entry_size}
 use Rattle.host_memory.specs.Layout.{arena_part}
 use Rattle.host_memory.proofs.ListsClaim.{entries_few}
-use Rattle.guest_space.specs.Arena.{spliced, list_bytes, arena_bytes}
+use Rattle.guest_space.specs.Arena.{with_replaced_entries, list_bytes, arena_bytes}
 use Rattle.guest_space.proofs.ArenaLists.{length-list_bytes, length-arena_bytes, length-arena_in, arena_bytes_are}
 use Rattle.guest_space.proofs.ArenaReads.{HasFrames, list_start}
 use Rattle.guest_space.proofs.ArenaSplices.{spliced_bytes, splice_is, length-spliced}
@@ -87,7 +87,7 @@ is_splice b n place old new frames few within fits =
 -- so they put the bytes of the entries after it
 pub splice_put : (b : List ℕ) (n place old : ℕ) (new : List DosEntry) → HasFrames b → KeepsArena (arena_part b) → n ≡ entry_count (arena_part b) →
     place + old ≤ n → n + length new ≤ entry_room + old →
-    spliced_bytes b list_start n place old new ≡ put b list_start (arena_bytes (spliced (arena_in (arena_part b)) place old new))
+    spliced_bytes b list_start n place old new ≡ put b list_start (arena_bytes (with_replaced_entries (arena_in (arena_part b)) place old new))
 splice_put b n place old new frames keeps count within fits =
     let few = entries_few (arena_part b) 0 entry_room in
     let es = arena_in (arena_part b) in
@@ -95,8 +95,8 @@ splice_put b n place old new frames keeps count within fits =
     let size : length (arena_part b) ≡ list_size = length-region b list_start list_size (omega arith) in
     let total = length-spliced es place old new (omega arith) in
     let done = is_splice b n place old new frames (omega arith) within fits in
-    is_put b (spliced_bytes b list_start n place old new) (arena_bytes (spliced es place old new)) list_start list_size
-    (length-arena_bytes (spliced es place old new) (omega arith)) done.size (omega arith)
+    is_put b (spliced_bytes b list_start n place old new) (arena_bytes (with_replaced_entries es place old new)) list_start list_size
+    (length-arena_bytes (with_replaced_entries es place old new) (omega arith)) done.size (omega arith)
     (done.part
     ∙ ap (λ (a : List ℕ). spliced_bytes a 0 n place old new) (arena_bytes_are (arena_part b) size few keeps)
     ∙ ap (λ (k : ℕ). spliced_bytes (arena_bytes es) 0 k place old new) (sym long)

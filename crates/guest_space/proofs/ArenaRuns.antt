@@ -8,7 +8,7 @@ use Rattle.client_world.specs.declared.dos_memory.DosEntry.{DosEntry}
 use Rattle.client_world.specs.DosMemory.{is_dpmi}
 use Rattle.client_world.specs.Selector.{Row}
 use Rattle.client_world.specs.Soundness.{SoundRuns}
-use Rattle.guest_space.specs.Arena.{spliced, NoneMade}
+use Rattle.guest_space.specs.Arena.{with_replaced_entries, NoneMade}
 
 -- the entry is one of them
 abbrev pub Has : DosEntry → List DosEntry → Type 0
@@ -62,7 +62,7 @@ parts_are es place old =
 
 -- one that is made stays, and none comes
 kept_made : (entry : DosEntry) (es : List DosEntry) (place old : ℕ) (new : List DosEntry) → NoneMade (take old (drop place es)) →
-    is_dpmi entry.state ≡ true → Has entry es → Has entry (spliced es place old new)
+    is_dpmi entry.state ≡ true → Has entry es → Has entry (with_replaced_entries es place old new)
 kept_made entry es place old new none made h =
     let all : Has entry (take place es ++ (take old (drop place es) ++ drop (place + old) es)) = subst (Has entry) (sym (parts_are es place old)) h in
     elim (has_either entry (take place es) (take old (drop place es) ++ drop (place + old) es) all) [
@@ -74,7 +74,7 @@ kept_made entry es place old new none made h =
     ]
 
 was_made : (entry : DosEntry) (es : List DosEntry) (place old : ℕ) (new : List DosEntry) → NoneMade new →
-    is_dpmi entry.state ≡ true → Has entry (spliced es place old new) → Has entry es
+    is_dpmi entry.state ≡ true → Has entry (with_replaced_entries es place old new) → Has entry es
 was_made entry es place old new none made h = subst (Has entry) (parts_are es place old)
     (elim (has_either entry (take place es) (new ++ drop (place + old) es) h) [
       | inl front ↦ has_left entry (take place es) (take old (drop place es) ++ drop (place + old) es) front
@@ -86,13 +86,13 @@ was_made entry es place old new none made h = subst (Has entry) (parts_are es pl
     ])
 
 pub SoundRuns-spliced : (rows : List Row) (es : List DosEntry) (place old : ℕ) (new : List DosEntry) → SoundRuns rows es →
-    NoneMade (take old (drop place es)) → NoneMade new → SoundRuns rows (spliced es place old new)
+    NoneMade (take old (drop place es)) → NoneMade new → SoundRuns rows (with_replaced_entries es place old new)
 SoundRuns-spliced rows es place old new sound gone none = record {
   runs = λ at entry there made.
-      (let was = stands entry es (was_made entry es place old new none made (has_there entry (spliced es place old new) at there)) in
+      (let was = stands entry es (was_made entry es place old new none made (has_there entry (with_replaced_entries es place old new) at there)) in
       sound.runs was.place entry was.there made);
   entries = λ index segment has.
       (let was = sound.entries index segment has in
-      let kept = stands was.entry (spliced es place old new) (kept_made was.entry es place old new gone was.made (has_there was.entry es was.place was.there)) in
+      let kept = stands was.entry (with_replaced_entries es place old new) (kept_made was.entry es place old new gone was.made (has_there was.entry es was.place was.there)) in
       record { place = kept.place; entry = was.entry; there = kept.there; made = was.made; starts = was.starts });
 }

@@ -10,11 +10,11 @@ use Rattle.guest_ram.specs.Listed.{copies}
 use Rattle.guest_ram.proofs.ListedLaws.{length-copies, at_copies}
 use Rattle.guest_ram.proofs.PutLaws.{length-put, put_above, put_below, put_within, length-region, at_region}
 use Rattle.host_memory.specs.DosList.{entry_room, list_size, entry_size}
-use Rattle.guest_space.specs.Arena.{spliced, list_bytes, arena_bytes}
+use Rattle.guest_space.specs.Arena.{with_replaced_entries, list_bytes, arena_bytes}
 use Rattle.guest_space.proofs.ArenaLists.{length-list_bytes, length-arena_bytes, at_arena_bytes, past_arena_bytes, bytes_left, bytes_right, bytes_take, bytes_drop}
 
 pub length-spliced : (es : List DosEntry) (place old : ℕ) (new : List DosEntry) → place + old ≤ length es →
-    length (spliced es place old new) + old ≡ length es + length new
+    length (with_replaced_entries es place old new) + old ≡ length es + length new
 length-spliced es place old new within =
     let all : length (take place es ++ (new ++ drop (place + old) es)) ≡ length (take place es) + length (new ++ drop (place + old) es) =
     length-append (take place es) (new ++ drop (place + old) es) in
@@ -32,29 +32,29 @@ spliced_bytes b start n place old new =
 
 -- the bytes of the entries after it, by those of the old ones and of the new ones
 bytes_before : (es : List DosEntry) (place old : ℕ) (new : List DosEntry) (at : ℕ) → place + old ≤ length es → at < entry_size * place →
-    get_or (arena_bytes (spliced es place old new)) at 0 ≡ get_or (arena_bytes es) at 0
+    get_or (arena_bytes (with_replaced_entries es place old new)) at 0 ≡ get_or (arena_bytes es) at 0
 bytes_before es place old new at within small =
     let front : length (take place es) ≡ place = omega (arith, length-take place es) in
-    at_arena_bytes (spliced es place old new) at
+    at_arena_bytes (with_replaced_entries es place old new) at
     ∙ bytes_left (take place es) (new ++ drop (place + old) es) at (omega arith)
     ∙ bytes_take es place at (omega arith) small
     ∙ sym (at_arena_bytes es at)
 
 bytes_new : (es : List DosEntry) (place old : ℕ) (new : List DosEntry) (at i : ℕ) → place + old ≤ length es → at ≡ entry_size * place + i → i < entry_size * length new →
-    get_or (arena_bytes (spliced es place old new)) at 0 ≡ get_or (list_bytes new) i 0
+    get_or (arena_bytes (with_replaced_entries es place old new)) at 0 ≡ get_or (list_bytes new) i 0
 bytes_new es place old new at i within e small =
     let front : length (take place es) ≡ place = omega (arith, length-take place es) in
-    at_arena_bytes (spliced es place old new) at
+    at_arena_bytes (with_replaced_entries es place old new) at
     ∙ bytes_right (take place es) (new ++ drop (place + old) es) at (omega arith)
     ∙ bytes_left new (drop (place + old) es) (at - entry_size * length (take place es)) (omega arith)
     ∙ ap (λ (k : ℕ). get_or (list_bytes new) k 0) (let same : at - entry_size * length (take place es) ≡ i = omega arith in same)
 
 bytes_behind : (es : List DosEntry) (place old : ℕ) (new : List DosEntry) (at i : ℕ) → place + old ≤ length es →
     entry_size * (place + length new) ≤ at → at + entry_size * old ≡ i + entry_size * length new →
-    get_or (arena_bytes (spliced es place old new)) at 0 ≡ get_or (arena_bytes es) i 0
+    get_or (arena_bytes (with_replaced_entries es place old new)) at 0 ≡ get_or (arena_bytes es) i 0
 bytes_behind es place old new at i within from e =
     let front : length (take place es) ≡ place = omega (arith, length-take place es) in
-    at_arena_bytes (spliced es place old new) at
+    at_arena_bytes (with_replaced_entries es place old new) at
     ∙ bytes_right (take place es) (new ++ drop (place + old) es) at (omega arith)
     ∙ bytes_right new (drop (place + old) es) (at - entry_size * length (take place es)) (omega arith)
     ∙ bytes_drop es (place + old) (at - entry_size * length (take place es) - entry_size * length new) within
@@ -65,15 +65,15 @@ bytes_behind es place old new at i within from e =
 -- so they are the bytes that the three writes leave
 pub splice_is : (es : List DosEntry) (place old : ℕ) (new : List DosEntry) → place + old ≤ length es → length es ≤ entry_room →
     length es + length new ≤ entry_room + old →
-    spliced_bytes (arena_bytes es) 0 (length es) place old new ≡ arena_bytes (spliced es place old new)
+    spliced_bytes (arena_bytes es) 0 (length es) place old new ≡ arena_bytes (with_replaced_entries es place old new)
 splice_is es place old new within few fits =
     let n = length es in
     let count = length new in
     let a = arena_bytes es in
-    let after = arena_bytes (spliced es place old new) in
+    let after = arena_bytes (with_replaced_entries es place old new) in
     let size : length a ≡ list_size = length-arena_bytes es few in
-    let total : length (spliced es place old new) + old ≡ n + count = length-spliced es place old new within in
-    let long : length after ≡ list_size = length-arena_bytes (spliced es place old new) (omega arith) in
+    let total : length (with_replaced_entries es place old new) + old ≡ n + count = length-spliced es place old new within in
+    let long : length after ≡ list_size = length-arena_bytes (with_replaced_entries es place old new) (omega arith) in
     let from = 0 + entry_size * (place + old) in
     let to = 0 + entry_size * (place + count) in
     let moved = region a from (entry_size * (n - (place + old))) in
@@ -107,11 +107,11 @@ splice_is es place old new within few fits =
             | inl filled ↦
                 put_within a2 end none (at - end) at (omega arith) (omega arith) (omega arith)
                 ∙ at_copies (entry_size * (old - count)) 0 (at - end) (omega arith)
-                ∙ sym (past_arena_bytes (spliced es place old new) at (omega arith))
+                ∙ sym (past_arena_bytes (with_replaced_entries es place old new) at (omega arith))
             | inr behind ↦
                 put_above a2 end none at (omega arith) ∙ put_above a1 here bytes at (omega arith) ∙ put_above a to moved at (omega arith)
                 ∙ past_arena_bytes es at (omega arith)
-                ∙ sym (past_arena_bytes (spliced es place old new) at (omega arith))
+                ∙ sym (past_arena_bytes (with_replaced_entries es place old new) at (omega arith))
           ]
         ]
       ]

@@ -19,7 +19,7 @@ use Rattle.host_memory.specs.View.{MachineView}
 use Rattle.host_memory.proofs.Parts.{MemoryParts, parts_of, HasSize, world_by, holds_by, holds_parts, holds_with_arena, holds_with_dos}
 use Rattle.host_memory.proofs.PutParts.{put_arena, size_put}
 use Rattle.host_memory.proofs.WorldParts.{arena_is}
-use Rattle.guest_space.specs.Arena.{spliced, NoneMade, with_entries, arena_bytes}
+use Rattle.guest_space.specs.Arena.{with_replaced_entries, NoneMade, with_entries, arena_bytes}
 use Rattle.guest_space.specs.Machines.{Processor, held_world}
 use Rattle.guest_space.proofs.ArenaHeaders.{headers_parts, length-headers, SoundMegabyte-headers}
 use Rattle.guest_space.proofs.ArenaLists.{length-arena_bytes, length-arena_in, arena_back, arena_keeps}
@@ -78,11 +78,11 @@ keeps_width None w es dos s = record { mode = s.mode; descriptors = s.descriptor
 keeps_width (Some width) w es dos s = s
 
 pub IsSound-entries : (w : World) (place old : ℕ) (new : List DosEntry) → IsSound w → NoneMade (take old (drop place w.arena)) → NoneMade new →
-    IsArena (spliced w.arena place old new) → IsSound (with_entries w place old new)
+    IsArena (with_replaced_entries w.arena place old new) → IsSound (with_entries w place old new)
 unfolding with_entries
 IsSound-entries w place old new s gone none arena = record {
   segments = s.segments;
-  megabyte = SoundMegabyte-headers w.dos (spliced w.arena place old new) ARENA_START s.megabyte arena.fills;
+  megabyte = SoundMegabyte-headers w.dos (with_replaced_entries w.arena place old new) ARENA_START s.megabyte arena.fills;
   arena = arena;
   blocks = s.blocks;
   block_bytes = s.block_bytes;
@@ -93,7 +93,7 @@ IsSound-entries w place old new s gone none arena = record {
   exception_vectors = s.exception_vectors;
   callbacks = s.callbacks;
   depth = s.depth;
-  width = keeps_width w.width w (spliced w.arena place old new) (with_headers w.dos (spliced w.arena place old new)) s.width;
+  width = keeps_width w.width w (with_replaced_entries w.arena place old new) (with_headers w.dos (with_replaced_entries w.arena place old new)) s.width;
 }
 
 -- what a machine's view shows of the list
@@ -106,11 +106,11 @@ pub count_of : (k : Processor) (b : List ℕ) (v : MachineView) → record { wor
 count_of k b v is = ap (λ (es : List DosEntry). length es) (arena_of k b v is) ∙ length-arena_in (arena_part b)
 
 -- the entries after it have room
-pub splice_fits : (es : List DosEntry) (place old : ℕ) (new : List DosEntry) → place + old ≤ length es → IsArena (spliced es place old new) →
+pub splice_fits : (es : List DosEntry) (place old : ℕ) (new : List DosEntry) → place + old ≤ length es → IsArena (with_replaced_entries es place old new) →
     ARENA_START + (length es + length new) ≤ ARENA_END + old
 splice_fits es place old new within arena =
     let total = length-spliced es place old new within in
-    let few = arena_few (spliced es place old new) arena in
+    let few = arena_few (with_replaced_entries es place old new) arena in
     omega arith
 
 -- the memory before the headers are written
@@ -135,7 +135,7 @@ count_after b a es frames arena is =
 
 -- what the writes put is said of the machine's entries
 pub replaced_is : (b a : List ℕ) (es : List DosEntry) (place old : ℕ) (xs new : List DosEntry) → es ≡ arena_in (arena_part b) → xs ≡ new →
-    a ≡ put b list_start (arena_bytes (spliced (arena_in (arena_part b)) place old xs)) → a ≡ put b list_start (arena_bytes (spliced es place old new))
+    a ≡ put b list_start (arena_bytes (with_replaced_entries (arena_in (arena_part b)) place old xs)) → a ≡ put b list_start (arena_bytes (with_replaced_entries es place old new))
 replaced_is b a es place old xs new of is put_there = rw (of, ← is) put_there
 
 pub written_is : (b a c : List ℕ) (es : List DosEntry) → HasFrames b → IsArena es → a ≡ put b list_start (arena_bytes es) →
@@ -146,33 +146,33 @@ written_is b a c es frames arena is headers =
 
 -- the memory after it holds the world with these entries, which is sound
 pub entries_holds : (k : Processor) (b c : List ℕ) (v : MachineView) (place old : ℕ) (new : List DosEntry) → record { world = held_world k b; bytes = b } ≡ v →
-    Holds b k.budget → IsArena (spliced v.world.arena place old new) → c ≡ with_arena b (spliced v.world.arena place old new) → Holds c k.budget
-entries_holds k b c v place old new view holds arena is = rw is (arena_holds b k.budget holds (spliced v.world.arena place old new) arena)
+    Holds b k.budget → IsArena (with_replaced_entries v.world.arena place old new) → c ≡ with_arena b (with_replaced_entries v.world.arena place old new) → Holds c k.budget
+entries_holds k b c v place old new view holds arena is = rw is (arena_holds b k.budget holds (with_replaced_entries v.world.arena place old new) arena)
 
 with_entries_is : (w : World) (place old : ℕ) (new : List DosEntry) →
-    record w { arena = spliced w.arena place old new; dos = with_headers w.dos (spliced w.arena place old new) } ≡ with_entries w place old new
+    record w { arena = with_replaced_entries w.arena place old new; dos = with_headers w.dos (with_replaced_entries w.arena place old new) } ≡ with_entries w place old new
 unfolding with_entries
 with_entries_is w place old new = refl
 
 pub entries_world : (k : Processor) (b c : List ℕ) (v : MachineView) (place old : ℕ) (new : List DosEntry) → record { world = held_world k b; bytes = b } ≡ v →
-    Holds b k.budget → IsArena (spliced v.world.arena place old new) → c ≡ with_arena b (spliced v.world.arena place old new) →
+    Holds b k.budget → IsArena (with_replaced_entries v.world.arena place old new) → c ≡ with_arena b (with_replaced_entries v.world.arena place old new) →
     held_world k c ≡ with_entries v.world place old new
 entries_world k b c v place old new view holds arena is =
     ap (held_world k) is
-    ∙ arena_world b k.budget holds k.mode k.regs k.vif k.width (spliced v.world.arena place old new) arena
-    ∙ ap (λ (x : MachineView). record x.world { arena = spliced v.world.arena place old new; dos = with_headers x.world.dos (spliced v.world.arena place old new) }) view
+    ∙ arena_world b k.budget holds k.mode k.regs k.vif k.width (with_replaced_entries v.world.arena place old new) arena
+    ∙ ap (λ (x : MachineView). record x.world { arena = with_replaced_entries v.world.arena place old new; dos = with_headers x.world.dos (with_replaced_entries v.world.arena place old new) }) view
     ∙ with_entries_is v.world place old new
 
 pub entries_sound : (k : Processor) (b c : List ℕ) (v : MachineView) (place old : ℕ) (new : List DosEntry) → record { world = held_world k b; bytes = b } ≡ v →
     Holds b k.budget → IsSound (held_world k b) → NoneMade (take old (drop place v.world.arena)) → NoneMade new →
-    IsArena (spliced v.world.arena place old new) → c ≡ with_arena b (spliced v.world.arena place old new) → IsSound (held_world k c)
+    IsArena (with_replaced_entries v.world.arena place old new) → c ≡ with_arena b (with_replaced_entries v.world.arena place old new) → IsSound (held_world k c)
 entries_sound k b c v place old new view holds sound gone none arena is =
     subst IsSound (sym (entries_world k b c v place old new view holds arena is))
     (IsSound-entries v.world place old new (subst (λ (x : MachineView). IsSound x.world) view sound) gone none arena)
 
 -- what was put is said of the machine's entries
-pub put_is : (es xs : List DosEntry) (b c : List ℕ) (place old : ℕ) (new : List DosEntry) → es ≡ xs → c ≡ with_arena b (spliced xs place old new) →
-    c ≡ with_arena b (spliced es place old new)
+pub put_is : (es xs : List DosEntry) (b c : List ℕ) (place old : ℕ) (new : List DosEntry) → es ≡ xs → c ≡ with_arena b (with_replaced_entries xs place old new) →
+    c ≡ with_arena b (with_replaced_entries es place old new)
 put_is es xs b c place old new same is = rw same is
 
 -- the descriptors stay

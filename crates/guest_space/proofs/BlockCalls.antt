@@ -10,7 +10,7 @@ use Rattle.host_memory.specs.Holds.{Holds}
 use Rattle.host_memory.specs.Layout.{address_of}
 use Rattle.host_memory.specs.View.{MachineView}
 use Rattle.block_memory.specs.BlockChanges.{blocks_held, CanHoldIn, CanSizeIn, HasBlockIn, IsHeldIn, ReplacesBlock, with_at}
-use Rattle.block_memory.specs.BlockSizes.{CanHold, CanMake, CanSize, extended, fresh_block}
+use Rattle.block_memory.specs.BlockSizes.{CanHold, CanMake, CanSize, block_with_zero_pages, fresh_block}
 use Rattle.block_memory.proofs.BlockSteps.{becomes, held_still}
 use Rattle.block_memory.proofs.PageChanges.{held_in, is_held}
 use Rattle.block_memory.proofs.SizedBlocks.{extended_fresh}
@@ -122,7 +122,7 @@ held_before_drop w now handle some most e p held =
     (λ at has. absurd (subst (λ (o : Option MemoryBlock). HasByte o at) (get_or-set_same w.blocks place None None (omega arith)) has)) p
     (held_in now less p (e ∙ sym (put_handle w.blocks handle None some)) held)))
 
-pub made_block : (base pages : ℕ) (o : Option MemoryBlock) → o ≡ None → 0 < pages → extended base o (pages - 0) ≡ Some (fresh_block base pages)
+pub made_block : (base pages : ℕ) (o : Option MemoryBlock) → o ≡ None → 0 < pages → block_with_zero_pages base o (pages - 0) ≡ Some (fresh_block base pages)
 made_block base pages o free some =
-    ap (λ (x : Option MemoryBlock). extended base x (pages - 0)) free ∙ ap (extended base None) (let e : pages - 0 ≡ pages = omega arith in e)
+    ap (λ (x : Option MemoryBlock). block_with_zero_pages base x (pages - 0)) free ∙ ap (block_with_zero_pages base None) (let e : pages - 0 ≡ pages = omega arith in e)
     ∙ extended_fresh base pages (omega arith)

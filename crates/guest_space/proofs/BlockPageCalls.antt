@@ -10,7 +10,7 @@ use Rattle.client_world.specs.Soundness.{IsSound, SoundBlocks, HoldBytes, pages_
 use Rattle.client_world.specs.World.{MemoryBlock, block_at}
 use Rattle.guest_ram.specs.Bytes.{dword, put}
 use Rattle.guest_ram.specs.Listed.{copies}
-use Rattle.block_memory.specs.BlockSizes.{IsBlocks, zeroed, locked_pages, all_locked}
+use Rattle.block_memory.specs.BlockSizes.{IsBlocks, blocks_with_zero_page, locked_pages, all_locked}
 use Rattle.host_memory.specs.Holds.{Holds, all_pages}
 use Rattle.host_memory.specs.Layout.{address_of, handles_part, tables_part, locks_part, budget_part, entry_of, pages_of, first_page_of}
 use Rattle.host_memory.specs.View.{MachineView}
@@ -30,7 +30,7 @@ use Rattle.guest_space.proofs.BlockViews.{IsView, held_blocks, held_budget, memo
 -- the machine with zeros in a page
 pub record ClearedMachine (k : Processor) (b c : List ℕ) (lin : ℕ) : Type 0 where
   pub holds : Holds c k.budget
-  pub world : held_world k c ≡ record (held_world k b) { blocks = zeroed (held_world k b).blocks (place_of (held_world k b) lin) }
+  pub world : held_world k c ≡ record (held_world k b) { blocks = blocks_with_zero_page (held_world k b).blocks (place_of (held_world k b) lin) }
   pub sound : IsSound (held_world k c)
   pub addresses : (p : Place) → address_of c p ≡ address_of b p
 
@@ -69,16 +69,16 @@ cleared_machine k b v is holds sound lin entry blocks_is e c f =
     let after = page_cleared b lin in
     let there = block_there (handles_part b) (tables_part b) (locks_part b) (budget_part b k.budget) byte.place byte.within byte.some in
     let some : (held_world k b).width ≢ None = held_width (held_world k b) (suc byte.place) _ sound (ap (λ (bs : List (Option MemoryBlock)). block_at bs (suc byte.place)) (held_blocks k b) ∙ there) in
-    let world : held_world k after ≡ record (held_world k b) { blocks = zeroed blocks (place_in blocks lin) } = ch.world k.mode k.regs k.vif k.width in
-    let sound_now : SoundBlocks (zeroed blocks (place_in blocks lin)) k.budget =
-    subst (λ (p : Place). SoundBlocks (zeroed blocks p) k.budget) (sym byte.answer) (zeroed_sound blocks k.budget byte.place byte.at old byte.within) in
-    let fits : HoldBytes (zeroed blocks (place_in blocks lin)) =
-    subst (λ (p : Place). HoldBytes (zeroed blocks p)) (sym byte.answer) (zeroed_fits blocks byte.place byte.at (omega arith) (memory_bytes k b sound)) in
+    let world : held_world k after ≡ record (held_world k b) { blocks = blocks_with_zero_page blocks (place_in blocks lin) } = ch.world k.mode k.regs k.vif k.width in
+    let sound_now : SoundBlocks (blocks_with_zero_page blocks (place_in blocks lin)) k.budget =
+    subst (λ (p : Place). SoundBlocks (blocks_with_zero_page blocks p) k.budget) (sym byte.answer) (zeroed_sound blocks k.budget byte.place byte.at old byte.within) in
+    let fits : HoldBytes (blocks_with_zero_page blocks (place_in blocks lin)) =
+    subst (λ (p : Place). HoldBytes (blocks_with_zero_page blocks p)) (sym byte.answer) (zeroed_fits blocks byte.place byte.at (omega arith) (memory_bytes k b sound)) in
     subst (λ (x : List ℕ). ClearedMachine k b x lin) (sym (f ∙ ap (λ (n : ℕ). put b (PAGE_SIZE * (n / PAGE_SIZE)) (copies PAGE_SIZE 0)) own)) (record {
       holds = ch.holds;
-      world = world ∙ ap (λ (bs : List (Option MemoryBlock)). record (held_world k b) { blocks = zeroed bs (place_in bs lin) }) (sym (held_blocks k b));
-      sound = subst IsSound (sym world) (sound_blocks (held_world k b) (zeroed blocks (place_in blocks lin)) sound some
-          (subst (λ (m : ℕ). SoundBlocks (zeroed blocks (place_in blocks lin)) m) (sym (held_budget k b)) sound_now) fits);
+      world = world ∙ ap (λ (bs : List (Option MemoryBlock)). record (held_world k b) { blocks = blocks_with_zero_page bs (place_in bs lin) }) (sym (held_blocks k b));
+      sound = subst IsSound (sym world) (sound_blocks (held_world k b) (blocks_with_zero_page blocks (place_in blocks lin)) sound some
+          (subst (λ (m : ℕ). SoundBlocks (blocks_with_zero_page blocks (place_in blocks lin)) m) (sym (held_budget k b)) sound_now) fits);
       addresses = ch.addresses;
     })
 

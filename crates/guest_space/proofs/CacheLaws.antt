@@ -28,7 +28,7 @@ use Rattle.page_tables.specs.Entry.{allows}
 use Rattle.page_tables.specs.Walk.{walked, walk_end, fault, frame_of, directory_entry, table_entry}
 use Rattle.page_tables.specs.declared.entry.TheConstants.{TABLE_SPAN, PRESENT}
 use Rattle.guest_space.specs.declared.cache.CacheEntry.{CacheEntry}
-use Rattle.guest_space.specs.Cache.{ends, Hit, noted, Warm, empty_entry}
+use Rattle.guest_space.specs.Cache.{ends, Hit, cached_answer, Warm, empty_entry}
 use Rattle.guest_space.specs.declared.cache.TheConstants.{CACHE_SIZE}
 use Rattle.guest_space.specs.Machines.{Processor, IsMachine, held_world}
 use Rattle.guest_space.specs.Records.{record_place}
@@ -62,7 +62,7 @@ empty_warm b = record {
 }
 
 -- an entry that serves says where the walk ends
-noted_ends : (e : CacheEntry) (at : ℕ) (write : Bool) → (write ≡ true → e.writable ≡ true) → noted e at write ≡ Ok (PAGE_SIZE * e.frame + at)
+noted_ends : (e : CacheEntry) (at : ℕ) (write : Bool) → (write ≡ true → e.writable ≡ true) → cached_answer e at write ≡ Ok (PAGE_SIZE * e.frame + at)
 noted_ends e at true may = rw (may refl) refl
 noted_ends e at false may = refl
 
@@ -157,7 +157,7 @@ entry_hits b lin p on small low reads writes =
     record { page = omega arith; frame = omega arith; same = λ at write within. by_kind at write within }
   where
     by_kind : (at : ℕ) (write : Bool) → at < PAGE_SIZE → walked b PAGE_DIRECTORY (PAGE_SIZE * (lin / PAGE_SIZE) + at) write
-        ≡ noted (record { used = true; page = lin / PAGE_SIZE; frame = p / PAGE_SIZE; writable = on }) at write
+        ≡ cached_answer (record { used = true; page = lin / PAGE_SIZE; frame = p / PAGE_SIZE; writable = on }) at write
     by_kind at true within =
         subst (λ (x : Bool). walked b PAGE_DIRECTORY (PAGE_SIZE * (lin / PAGE_SIZE) + at) true
         ≡ if x then end_at (PAGE_SIZE * (p / PAGE_SIZE) + at) else fault true) (sym writes) (page_noted b lin at p within reads)

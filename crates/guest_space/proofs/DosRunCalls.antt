@@ -11,7 +11,7 @@ use Rattle.host_memory.specs.Holds.{Holds}
 use Rattle.host_memory.specs.Layout.{address_of}
 use Rattle.host_memory.specs.View.{MachineView}
 use Rattle.client_world.specs.Selector.{Row}
-use Rattle.guest_space.specs.Arena.{spliced, with_entries}
+use Rattle.guest_space.specs.Arena.{with_replaced_entries, with_entries}
 use Rattle.guest_space.specs.DosRuns.{CanPutRun, dos_row, rows_of_run, with_dos_rows, with_entries_and_run, with_run_bytes}
 use Rattle.guest_space.specs.Machines.{Processor, held_world}
 use Rattle.guest_space.proofs.ArenaWrites.{with_arena, entries_holds, entries_world, with_entries_rows}
@@ -38,7 +38,7 @@ run_addresses b budget holds run (suc n) segment after room p =
 
 pub run_machine : (k : Processor) (b a c : List ℕ) (v : MachineView) (place old : ℕ) (new : List DosEntry) (run : DosRun) →
     record { world = held_world k b; bytes = b } ≡ v → Holds b k.budget → IsSound (held_world k b) → run.seg < 0x10000 → run.after < 0x10000 →
-    CanPutRun v.world place old new run → a ≡ with_arena b (spliced v.world.arena place old new) → c ≡ with_run_bytes a run (rows_of_run run) →
+    CanPutRun v.world place old new run → a ≡ with_arena b (with_replaced_entries v.world.arena place old new) → c ≡ with_run_bytes a run (rows_of_run run) →
     RunMachine k v c place old new run
 run_machine k b a c v place old new run view holds sound segment after can entries rows =
     let before : IsSound v.world = subst (λ (x : MachineView). IsSound x.world) view sound in
@@ -59,6 +59,6 @@ run_machine k b a c v place old new run view holds sound segment after can entri
       addresses = λ p. ap (λ (x : List ℕ). address_of x p) rows
           ∙ run_addresses a k.budget held run (rows_of_run run) segment after room p
           ∙ ap (λ (x : List ℕ). address_of x p) entries
-          ∙ arena_addresses b k.budget (spliced v.world.arena place old new) holds can.arena p
+          ∙ arena_addresses b k.budget (with_replaced_entries v.world.arena place old new) holds can.arena p
           ∙ ap (λ (x : MachineView). address_of x.bytes p) view;
     }

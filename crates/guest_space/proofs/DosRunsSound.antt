@@ -13,7 +13,7 @@ use Rattle.client_world.specs.DosMemory.{Fills, is_dpmi, block_segment}
 use Rattle.client_world.specs.Selector.{Row, FitsRow, row_at_index}
 use Rattle.client_world.specs.Soundness.{IsSound, SoundDescriptors, SoundRuns, SoundWidth, HostRows, HasEntry, HasOrigin, HasRun, IsRunOf, descriptors_for}
 use Rattle.client_world.specs.World.{World}
-use Rattle.guest_space.specs.Arena.{spliced, with_entries}
+use Rattle.guest_space.specs.Arena.{with_replaced_entries, with_entries}
 use Rattle.guest_space.specs.DosRuns.{CanPutRun, block_alone, made_blocks, rows_of_run, with_dos_rows, with_entries_and_run, dos_row}
 use Rattle.guest_space.proofs.ArenaHeaders.{SoundMegabyte-headers}
 use Rattle.guest_space.proofs.ArenaRuns.{Has, has_left, has_right, has_either, has_there, stands, parts_are}
@@ -268,14 +268,14 @@ was_before entry es place old there = subst (Has entry) (parts_are es place old)
 ])
 
 is_after : (entry : DosEntry) (es : List DosEntry) (place old : ℕ) (new : List DosEntry) → Has entry (take place es) ⊎ Has entry (drop (place + old) es) →
-    Has entry (spliced es place old new)
+    Has entry (with_replaced_entries es place old new)
 is_after entry es place old new there = elim there [
   | inl front ↦ has_left entry (take place es) _ front
   | inr after ↦ has_right entry (take place es) _ (has_right entry new _ after)
 ]
 
 entry_run : (w : World) (place old : ℕ) (new : List DosEntry) (run : DosRun) (entry : DosEntry) → IsSound w → CanPutRun w place old new run →
-    HasRunRows w.descriptors run → is_dpmi entry.state ≡ true → Has entry (spliced w.arena place old new) →
+    HasRunRows w.descriptors run → is_dpmi entry.state ≡ true → Has entry (with_replaced_entries w.arena place old new) →
     HasRun (with_dos_rows w.descriptors run (rows_of_run run)) entry
 entry_run w place old new run entry s can h made there = elim (has_either entry (take place w.arena) _ there) [
   | inl front ↦ kept (inl front)
@@ -293,13 +293,13 @@ entry_run w place old new run entry s can h made there = elim (has_either entry 
 
 entry_of_row : (w : World) (place old : ℕ) (new : List DosEntry) (run : DosRun) (index segment : ℕ) → IsSound w → CanPutRun w place old new run →
     (index < run.first) ⊎ (run.first + rows_of_run run ≤ index) → HasOrigin (row_at_index w.descriptors index) (Dos segment) →
-    HasEntry (spliced w.arena place old new) segment
+    HasEntry (with_replaced_entries w.arena place old new) segment
 entry_of_row w place old new run index segment s can away has =
     let was = s.runs.entries index segment has in
     let part = part_of was.entry w.arena place old (has_there was.entry w.arena was.place was.there) in
     elim part.part [
       | inl out ↦ absurd (other (sym was.starts ∙ (made_tells was.entry (take old (drop place w.arena)) run.seg run.before can.old_block was.made out).starts))
-      | inr kept ↦ (let there = stands was.entry (spliced w.arena place old new) (is_after was.entry w.arena place old new kept) in
+      | inr kept ↦ (let there = stands was.entry (with_replaced_entries w.arena place old new) (is_after was.entry w.arena place old new kept) in
           record { place = there.place; entry = was.entry; there = there.there; made = was.made; starts = was.starts })
     ]
   where
@@ -310,19 +310,19 @@ entry_of_row w place old new run index segment s can away has =
         elim away [ inl below ↦ omega (arith, can.old_run.from index here) | inr beyond ↦ omega (arith, can.old_run.to index here) ]
 
 runs_sound : (w : World) (place old : ℕ) (new : List DosEntry) (run : DosRun) → IsSound w → CanPutRun w place old new run → HasRunRows w.descriptors run →
-    SoundRuns (with_dos_rows w.descriptors run (rows_of_run run)) (spliced w.arena place old new)
+    SoundRuns (with_dos_rows w.descriptors run (rows_of_run run)) (with_replaced_entries w.arena place old new)
 runs_sound w place old new run s can h = record {
-  runs = λ at entry there made. entry_run w place old new run entry s can h made (has_there entry (spliced w.arena place old new) at there);
+  runs = λ at entry there made. entry_run w place old new run entry s can h made (has_there entry (with_replaced_entries w.arena place old new) at there);
   entries = λ index segment. of_each_row w.descriptors run (rows_of_run run)
-      (λ (k : ℕ) (r : Row). HasOrigin r (Dos segment) → HasEntry (spliced w.arena place old new) segment) h.room
+      (λ (k : ℕ) (r : Row). HasOrigin r (Dos segment) → HasEntry (with_replaced_entries w.arena place old new) segment) h.room
       (λ j small has. fresh j segment has) (λ k away has. entry_of_row w place old new run k segment s can away has) index;
 }
   where
-    fresh : (j segment : ℕ) → HasOrigin (dos_row run.seg run.after j) (Dos segment) → HasEntry (spliced w.arena place old new) segment
+    fresh : (j segment : ℕ) → HasOrigin (dos_row run.seg run.after j) (Dos segment) → HasEntry (with_replaced_entries w.arena place old new) segment
     fresh j segment has =
         let tells = dos_row_tells run.seg run.after j (Dos segment) has in
         let put = made_there new run.seg run.after can.new_block (λ none. omega (arith, tells.1, none)) in
-        let there = stands put.entry (spliced w.arena place old new) (has_right put.entry (take place w.arena) _ (has_left put.entry new _ put.has)) in
+        let there = stands put.entry (with_replaced_entries w.arena place old new) (has_right put.entry (take place w.arena) _ (has_left put.entry new _ put.has)) in
         record {
           place = there.place;
           entry = put.entry;
@@ -338,7 +338,7 @@ IsSound-run w place old new run segment after s can =
     let h = run_rows w place old new run s.descriptors.indices can in
     record {
       segments = s.segments;
-      megabyte = SoundMegabyte-headers w.dos (spliced w.arena place old new) ARENA_START s.megabyte can.arena.fills;
+      megabyte = SoundMegabyte-headers w.dos (with_replaced_entries w.arena place old new) ARENA_START s.megabyte can.arena.fills;
       arena = can.arena;
       blocks = s.blocks;
       block_bytes = s.block_bytes;

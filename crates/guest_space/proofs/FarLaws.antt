@@ -13,7 +13,7 @@ use Rattle.client_world.proofs.SoundWrites.{length-bytes_of, at_bytes_of}
 use Rattle.guest_ram.specs.Bytes.{region}
 use Rattle.guest_ram.proofs.PutLaws.{length-region, at_region}
 use Rattle.host_memory.specs.View.{MachineView}
-use Rattle.guest_space.specs.Far.{far_bytes, far_written, further}
+use Rattle.guest_space.specs.Far.{far_bytes, after_far_write, further}
 use Rattle.guest_space.specs.Transfer.{places_of_access, with_places}
 use Rattle.guest_space.proofs.DistinctPlaces.{addresses_apart}
 use Rattle.guest_space.proofs.Fars.{Reached, reached, reachable_where, reachable_linear, far_places, far_bytes_linear, far_written_linear, parts_reachable}
@@ -52,7 +52,7 @@ unfolding far_bytes
 far_bytes_is w p n = refl
 
 pub written_is_read : (v : MachineView) (p : FarPtr) (n : ℕ) (bytes : List ℕ) → IsSound v.world → n ≤ PAGE_SIZE → length bytes ≡ n →
-    is_reachable v.world p n true ≡ true → far_bytes (far_written v p n bytes).world p n ≡ bytes
+    is_reachable v.world p n true ≡ true → far_bytes (after_far_write v p n bytes).world p n ≡ bytes
 written_is_read v p n bytes sound few size e =
     let w = v.world in
     let run = reached w p n true e in

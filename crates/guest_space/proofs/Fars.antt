@@ -8,7 +8,7 @@ use Rattle.client_world.specs.declared.segments.SegReg.TheVariants.{Es}
 use Rattle.client_world.specs.Access.{far_access, is_reachable, protected_base, places_at, places_from, place_in, may_touch, linear, bytes_of}
 use Rattle.client_world.specs.World.{World}
 use Rattle.host_memory.specs.View.{MachineView}
-use Rattle.guest_space.specs.Far.{far_bytes, far_written, further}
+use Rattle.guest_space.specs.Far.{far_bytes, after_far_write, further}
 use Rattle.guest_space.specs.Transfer.{linear_access, fault_of, places_of_access, with_places}
 use Rattle.guest_space.proofs.Accesses.{places_linear, places_linear_access}
 use Rattle.guest_space.proofs.Parts.{protected_part}
@@ -79,8 +79,8 @@ far_bytes_linear w p n base e reachable =
 
 pub far_written_linear : (v : MachineView) (p : FarPtr) (n base : ℕ) (bytes : List ℕ) → protected_base v.world.descriptors Es p.sel p.off n true ≡ Ok base →
     IsTrue (is_reachable v.world p n true) →
-    with_places v (places_from v.world.blocks ((base + p.off) % 2 ^ 32) n) bytes ≡ far_written v p n bytes
-unfolding far_written
+    with_places v (places_from v.world.blocks ((base + p.off) % 2 ^ 32) n) bytes ≡ after_far_write v p n bytes
+unfolding after_far_write
 far_written_linear v p n base bytes e reachable =
     ap (λ (places : List Place). with_places v places bytes)
     (sym (far_places v.world p n base true e (reachable_linear v.world p n base true e reachable)))

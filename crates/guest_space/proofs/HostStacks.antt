@@ -25,7 +25,7 @@ use Rattle.host_memory.specs.Holds.{Holds}
 use Rattle.host_memory.specs.Layout.{world_of}
 use Rattle.host_memory.specs.View.{MachineView, OnlyAt}
 use Rattle.host_memory.proofs.WorldParts.{budget_is}
-use Rattle.guest_space.specs.Far.{far_bytes, far_written}
+use Rattle.guest_space.specs.Far.{far_bytes, after_far_write}
 use Rattle.guest_space.specs.Machines.{Processor}
 use Rattle.guest_space.specs.Transfer.{bytes_at, read_result, with_places, places_of_access}
 use Rattle.guest_space.proofs.Fars.{far_places, reachable_linear, reachable_where}
@@ -80,8 +80,8 @@ far_can_write w p n places e = can_write_at w (protected_base w.descriptors Es p
 pub only_far : (b : List ℕ) (budget : ℕ) (mode : Mode) (regs : Regs) (vif : Bool) (width : Option Width) → Holds b budget →
     IsSound (world_of b budget mode regs vif width) → (p : FarPtr) (n : ℕ) (bytes : List ℕ) →
     OnlyAt (places_of_access (far_access (world_of b budget mode regs vif width) p n true)) b
-    (far_written (record { world = world_of b budget mode regs vif width; bytes = b }) p n bytes).bytes
-unfolding far_written
+    (after_far_write (record { world = world_of b budget mode regs vif width; bytes = b }) p n bytes).bytes
+unfolding after_far_write
 only_far b budget mode regs vif width holds sound p n bytes =
     let k : Processor = record { budget = budget; mode = mode; regs = regs; vif = vif; width = width } in
     let w = world_of b budget mode regs vif width in

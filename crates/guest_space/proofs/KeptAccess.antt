@@ -15,7 +15,7 @@ use Rattle.client_world.specs.World.{World, MemoryBlock}
 use Rattle.client_world.proofs.PlaceLaws.{place_in-with_byte_of, places_from-same}
 use Rattle.std.specs.declared.option.Option.{Option}
 use Rattle.host_memory.specs.View.{MachineView}
-use Rattle.guest_space.specs.Transfer.{with_places, stored, access_fault, fault_of}
+use Rattle.guest_space.specs.Transfer.{with_places, after_store, access_fault, fault_of}
 use Rattle.guest_space.proofs.Machines.{with_places_world}
 
 -- two worlds that an access can't tell apart
@@ -71,8 +71,8 @@ same_bytes w (p ∷ places) (x ∷ bytes) =
 pub same_places : (v : MachineView) (places : List Place) (bytes : List ℕ) → SameAccess v.world (with_places v places bytes).world
 same_places v places bytes = rw (with_places_world v places bytes) (same_bytes v.world places bytes)
 
-pub same_stored : (v : MachineView) (seg : SegReg) (offset n : ℕ) (bytes : List ℕ) → SameAccess v.world (stored v seg offset n bytes).world
-unfolding stored
+pub same_stored : (v : MachineView) (seg : SegReg) (offset n : ℕ) (bytes : List ℕ) → SameAccess v.world (after_store v seg offset n bytes).world
+unfolding after_store
 same_stored v seg offset n bytes = same_places v _ bytes
 
 -- the same places are given

@@ -8,7 +8,7 @@ use Rattle.client_world.specs.World.{MemoryBlock}
 use Rattle.client_world.proofs.PlaceLaws.{place_in-same}
 use Rattle.guest_ram.specs.Listed.{copies}
 use Rattle.guest_ram.proofs.PutLaws.{length-put}
-use Rattle.block_memory.specs.BlockSizes.{with_lock, with_page_lock, with_zero_page, zeroed}
+use Rattle.block_memory.specs.BlockSizes.{with_lock, with_page_lock, with_zero_page, blocks_with_zero_page}
 
 place_locked : (blocks : List (Option MemoryBlock)) (place page n handle lin : ℕ) →
     block_place (set blocks place (with_page_lock (get_or blocks place None) page n)) handle lin ≡ block_place blocks handle lin
@@ -34,10 +34,10 @@ locks_keep_places blocks (Block (suc place) at) n lin =
 locks_keep_places blocks Host n lin = refl
 locks_keep_places blocks Nothing n lin = refl
 
-pub cleared_pages_keep_places : (blocks : List (Option MemoryBlock)) (p : Place) (lin : ℕ) → place_in (zeroed blocks p) lin ≡ place_in blocks lin
+pub cleared_pages_keep_places : (blocks : List (Option MemoryBlock)) (p : Place) (lin : ℕ) → place_in (blocks_with_zero_page blocks p) lin ≡ place_in blocks lin
 cleared_pages_keep_places blocks (Dos at) lin = refl
 cleared_pages_keep_places blocks (Block zero at) lin = refl
 cleared_pages_keep_places blocks (Block (suc place) at) lin =
-    place_in-same (zeroed blocks (Block (suc place) at)) blocks lin (place_cleared blocks place (at / PAGE_SIZE) 1 lin)
+    place_in-same (blocks_with_zero_page blocks (Block (suc place) at)) blocks lin (place_cleared blocks place (at / PAGE_SIZE) 1 lin)
 cleared_pages_keep_places blocks Host lin = refl
 cleared_pages_keep_places blocks Nothing lin = refl

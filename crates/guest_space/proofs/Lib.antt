@@ -47,6 +47,7 @@ pub mod RowCalls
 pub mod Runs
 pub mod SoundLists
 pub mod VectorCalls
+pub mod WindowLaws
 pub mod WriteRuns
 pub mod Writes
 pub mod WritesOnly

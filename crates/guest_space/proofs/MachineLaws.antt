@@ -14,10 +14,10 @@ use Rattle.host_memory.specs.View.{MachineView, OnlyAt}
 use Rattle.host_memory.proofs.OnlyAtLaws.{only_start}
 use Rattle.host_memory.proofs.WalkLaw.{walk_agrees}
 use Rattle.guest_space.specs.declared.pending.Write.{Write}
-use Rattle.guest_space.specs.Far.{far_written}
+use Rattle.guest_space.specs.Far.{after_far_write}
 use Rattle.guest_space.specs.Machines.{Processor, IsMachine, HoldsItsWorld}
-use Rattle.guest_space.specs.Pending.{all_written, byte_count, first_refusal, number_bytes, places_of_writes, write_refusal, written}
-use Rattle.guest_space.specs.Transfer.{places_of_access, access_fault, stored, with_places}
+use Rattle.guest_space.specs.Pending.{after_writes, byte_count, first_write_fault, number_bytes, places_of_writes, write_fault, after_write}
+use Rattle.guest_space.specs.Transfer.{places_of_access, access_fault, after_store, with_places}
 use Rattle.guest_space.proofs.HostStacks.{only_far}
 use Rattle.guest_space.proofs.Machines.{CanWriteAll, sound_blocks, stands_there}
 use Rattle.guest_space.proofs.OnlyWritten.{HoldsBlocks, only_places, write_places}
@@ -52,27 +52,27 @@ only_where k v (Ok places) bytes h can = only_places k v places bytes h (can pla
 only_where k v (Err f) bytes h can = only_places k v [] bytes h (λ i within. absurd (omega arith))
 
 pub machine_near : (v : MachineView) → HoldsItsWorld v → (seg : SegReg) (offset n : ℕ) (bytes : List ℕ) →
-    OnlyAt (places_of_access (access v.world seg offset n true)) v.bytes (stored v seg offset n bytes).bytes
-unfolding stored
+    OnlyAt (places_of_access (access v.world seg offset n true)) v.bytes (after_store v seg offset n bytes).bytes
+unfolding after_store
 machine_near v h seg offset n bytes =
     only_where h.processor v (access v.world seg offset n true) bytes (holds_blocks h.processor v h.machine) (write_places v.world seg offset n)
 
 -- a write at a far pointer
 pub machine_far : (v : MachineView) → HoldsItsWorld v → (p : FarPtr) (n : ℕ) (bytes : List ℕ) →
-    OnlyAt (places_of_access (far_access v.world p n true)) v.bytes (far_written v p n bytes).bytes
+    OnlyAt (places_of_access (far_access v.world p n true)) v.bytes (after_far_write v p n bytes).bytes
 machine_far v h p n bytes =
     let k = h.processor in
     let m = h.machine in
-    subst (λ (w : World). OnlyAt (places_of_access (far_access w p n true)) v.bytes (far_written (record { world = w; bytes = v.bytes }) p n bytes).bytes)
+    subst (λ (w : World). OnlyAt (places_of_access (far_access w p n true)) v.bytes (after_far_write (record { world = w; bytes = v.bytes }) p n bytes).bytes)
     (sym m.is) (only_far v.bytes k.budget k.mode k.regs k.vif k.width m.holds (subst IsSound m.is m.sound) p n bytes)
 
 -- writes one after another
 pub machine_all : (v : MachineView) → HoldsItsWorld v → (writes : List Write) →
-    OnlyAt (places_of_writes v.world writes) v.bytes (all_written v writes).bytes
+    OnlyAt (places_of_writes v.world writes) v.bytes (after_writes v writes).bytes
 machine_all v h writes =
     let k = h.processor in
     let m = h.machine in
-    subst (λ (w : World). OnlyAt (places_of_writes w writes) v.bytes (all_written (record { world = w; bytes = v.bytes }) writes).bytes)
+    subst (λ (w : World). OnlyAt (places_of_writes w writes) v.bytes (after_writes (record { world = w; bytes = v.bytes }) writes).bytes)
     (sym m.is) (only_writes v.bytes k.budget k.mode k.regs k.vif k.width m.holds (subst IsSound m.is m.sound) writes)
 
 -- a call that made the write or the writes, or changed nothing
@@ -82,35 +82,35 @@ made_or_kept v u new places A B (Ok x) only made kept = subst (λ (w : MachineVi
 made_or_kept v u new places A B (Err f) only made kept = subst (λ (w : MachineView). OnlyAt places v.bytes w.bytes) (sym kept.1) (only_start places v.bytes)
 
 pub stored_or_kept : (v u : MachineView) → HoldsItsWorld v → (seg : SegReg) (offset n : ℕ) (bytes : List ℕ) (r : Result (Unit {0}) Fault) →
-    OnOk r ((access_fault v.world seg offset n true ≡ None) × (u ≡ stored v seg offset n bytes)) →
+    OnOk r ((access_fault v.world seg offset n true ≡ None) × (u ≡ after_store v seg offset n bytes)) →
     IfErr r (λ fault. (access_fault v.world seg offset n true ≡ Some fault) × (u ≡ v)) →
     OnlyAt (places_of_access (access v.world seg offset n true)) v.bytes u.bytes
 stored_or_kept v u h seg offset n bytes r =
-    made_or_kept v u (stored v seg offset n bytes) (places_of_access (access v.world seg offset n true)) (access_fault v.world seg offset n true ≡ None)
+    made_or_kept v u (after_store v seg offset n bytes) (places_of_access (access v.world seg offset n true)) (access_fault v.world seg offset n true ≡ None)
     (λ fault. access_fault v.world seg offset n true ≡ Some fault) r (machine_near v h seg offset n bytes)
 
 pub written_or_kept : (v u : MachineView) → HoldsItsWorld v → (x : Write) (r : Result (Unit {0}) Fault) → Answered v u x r →
     OnlyAt (places_of_access (access v.world x.seg x.off (byte_count x.width) true)) v.bytes u.bytes
-unfolding written
+unfolding after_write
 written_or_kept v u h x (Ok y) made =
-    made_or_kept v u (written v x) (places_of_access (access v.world x.seg x.off (byte_count x.width) true)) (write_refusal v.world x ≡ None)
+    made_or_kept v u (after_write v x) (places_of_access (access v.world x.seg x.off (byte_count x.width) true)) (write_fault v.world x ≡ None)
     (λ fault. ⊥) (Ok y) (machine_near v h x.seg x.off (byte_count x.width) (number_bytes x.width x.value)) made tt
 written_or_kept v u h x (Err f) kept =
     subst (λ (w : MachineView). OnlyAt (places_of_access (access v.world x.seg x.off (byte_count x.width) true)) v.bytes w.bytes) (sym kept.1)
     (only_start (places_of_access (access v.world x.seg x.off (byte_count x.width) true)) v.bytes)
 
 pub all_or_kept : (v u : MachineView) → HoldsItsWorld v → (writes : List Write) (r : Result (Unit {0}) Fault) →
-    OnOk r ((first_refusal v.world writes ≡ None) × (u ≡ all_written v writes)) →
-    IfErr r (λ fault. (first_refusal v.world writes ≡ Some fault) × (u ≡ v)) → OnlyAt (places_of_writes v.world writes) v.bytes u.bytes
+    OnOk r ((first_write_fault v.world writes ≡ None) × (u ≡ after_writes v writes)) →
+    IfErr r (λ fault. (first_write_fault v.world writes ≡ Some fault) × (u ≡ v)) → OnlyAt (places_of_writes v.world writes) v.bytes u.bytes
 all_or_kept v u h writes r =
-    made_or_kept v u (all_written v writes) (places_of_writes v.world writes) (first_refusal v.world writes ≡ None)
-    (λ fault. first_refusal v.world writes ≡ Some fault) r (machine_all v h writes)
+    made_or_kept v u (after_writes v writes) (places_of_writes v.world writes) (first_write_fault v.world writes ≡ None)
+    (λ fault. first_write_fault v.world writes ≡ Some fault) r (machine_all v h writes)
 
-pub all_made : (v u : MachineView) → HoldsItsWorld v → (writes : List Write) → u ≡ all_written v writes →
+pub all_made : (v u : MachineView) → HoldsItsWorld v → (writes : List Write) → u ≡ after_writes v writes →
     OnlyAt (places_of_writes v.world writes) v.bytes u.bytes
 all_made v u h writes e = subst (λ (w : MachineView). OnlyAt (places_of_writes v.world writes) v.bytes w.bytes) (sym e) (machine_all v h writes)
 
-pub far_made : (v u : MachineView) → HoldsItsWorld v → (p : FarPtr) (n : ℕ) (bytes : List ℕ) → u ≡ far_written v p n bytes →
+pub far_made : (v u : MachineView) → HoldsItsWorld v → (p : FarPtr) (n : ℕ) (bytes : List ℕ) → u ≡ after_far_write v p n bytes →
     OnlyAt (places_of_access (far_access v.world p n true)) v.bytes u.bytes
 far_made v u h p n bytes e =
     subst (λ (w : MachineView). OnlyAt (places_of_access (far_access v.world p n true)) v.bytes w.bytes) (sym e) (machine_far v h p n bytes)

@@ -7,9 +7,9 @@ use Rattle.client_world.specs.Access.{with_byte_of, with_bytes_of}
 use Rattle.client_world.specs.World.{World}
 use Rattle.host_memory.specs.View.{MachineView}
 use Rattle.guest_space.specs.declared.pending.Write.{Write}
-use Rattle.guest_space.specs.Far.{far_written}
-use Rattle.guest_space.specs.Pending.{all_written, written}
-use Rattle.guest_space.specs.Transfer.{stored, with_places, HasOtherMemory}
+use Rattle.guest_space.specs.Far.{after_far_write}
+use Rattle.guest_space.specs.Pending.{after_writes, after_write}
+use Rattle.guest_space.specs.Transfer.{after_store, with_places, HasOtherMemory}
 use Rattle.guest_space.proofs.Machines.{with_places_world}
 
 other_byte : (w : World) (p : Place) (x : ℕ) → HasOtherMemory w (with_byte_of w p x)
@@ -31,16 +31,16 @@ other_bytes w (p ∷ places) (x ∷ bytes) =
 pub other_places : (v : MachineView) (places : List Place) (bytes : List ℕ) → HasOtherMemory v.world (with_places v places bytes).world
 other_places v places bytes = rw (with_places_world v places bytes) (other_bytes v.world places bytes)
 
-pub other_written : (v : MachineView) (x : Write) → HasOtherMemory v.world (written v x).world
-unfolding written stored
+pub other_written : (v : MachineView) (x : Write) → HasOtherMemory v.world (after_write v x).world
+unfolding after_write after_store
 other_written v x = other_places v _ _
 
-pub other_all : (v : MachineView) (xs : List Write) → HasOtherMemory v.world (all_written v xs).world
-unfolding all_written
+pub other_all : (v : MachineView) (xs : List Write) → HasOtherMemory v.world (after_writes v xs).world
+unfolding after_writes
 other_all v [] = refl
 other_all v (x ∷ xs) =
-    other_then v.world (written v x).world (all_written (written v x) xs).world (other_written v x) (other_all (written v x) xs)
+    other_then v.world (after_write v x).world (after_writes (after_write v x) xs).world (other_written v x) (other_all (after_write v x) xs)
 
-pub other_far : (v : MachineView) (p : FarPtr) (n : ℕ) (bytes : List ℕ) → HasOtherMemory v.world (far_written v p n bytes).world
-unfolding far_written
+pub other_far : (v : MachineView) (p : FarPtr) (n : ℕ) (bytes : List ℕ) → HasOtherMemory v.world (after_far_write v p n bytes).world
+unfolding after_far_write
 other_far v p n bytes = other_places v _ _

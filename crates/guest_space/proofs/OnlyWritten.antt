@@ -19,7 +19,7 @@ use Rattle.host_memory.proofs.ClientWrites.{write_world, write_holds, write_addr
 use Rattle.host_memory.proofs.OnlyAtLaws.{only_start, only_step, only_then}
 use Rattle.host_memory.proofs.WorldParts.{budget_is}
 use Rattle.guest_space.specs.Machines.{Processor, held_world}
-use Rattle.guest_space.specs.Transfer.{stored, with_places, fault_of}
+use Rattle.guest_space.specs.Transfer.{after_store, with_places, fault_of}
 use Rattle.guest_space.proofs.Runs.{all_touch, can_write_run}
 use Rattle.guest_space.proofs.Machines.{CanWrite, CanWriteAll, with_place, held_there, can_write_after, with_places_none, with_places_short, with_places_first}
 
@@ -90,8 +90,8 @@ write_places w seg offset n places e = can_write_at w (segment_base w.mode w.reg
 pub only_stored : (b : List ℕ) (budget : ℕ) (mode : Mode) (regs : Regs) (vif : Bool) (width : Option Width) → Holds b budget →
     IsSound (world_of b budget mode regs vif width) → (seg : SegReg) (offset n : ℕ) (bytes : List ℕ) (places : List Place) →
     access (world_of b budget mode regs vif width) seg offset n true ≡ Ok places →
-    OnlyAt places b (stored (record { world = world_of b budget mode regs vif width; bytes = b }) seg offset n bytes).bytes
-unfolding stored
+    OnlyAt places b (after_store (record { world = world_of b budget mode regs vif width; bytes = b }) seg offset n bytes).bytes
+unfolding after_store
 only_stored b budget mode regs vif width holds sound seg offset n bytes places e =
     let k : Processor = record { budget = budget; mode = mode; regs = regs; vif = vif; width = width } in
     let w = world_of b budget mode regs vif width in

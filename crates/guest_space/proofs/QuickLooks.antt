@@ -7,8 +7,8 @@ use Rattle.client_world.specs.Access.{linear, segment_base}
 use Rattle.client_world.specs.World.{World}
 use Rattle.host_memory.specs.View.{MachineView}
 use Rattle.guest_space.specs.declared.pending.Write.{Write}
-use Rattle.guest_space.specs.Pending.{byte_count, number_bytes, write_refusal, written}
-use Rattle.guest_space.specs.Transfer.{access_fault, bytes_at, linear_access, read_result, stored}
+use Rattle.guest_space.specs.Pending.{byte_count, number_bytes, write_fault, after_write}
+use Rattle.guest_space.specs.Transfer.{access_fault, bytes_at, linear_access, read_result, after_store}
 use Rattle.guest_space.proofs.Accesses.{loaded_linear}
 use Rattle.guest_space.proofs.WriteRuns.{written_by_bytes}
 
@@ -23,9 +23,9 @@ loaded_is_read w seg offset n base (Some bytes) allowed loaded = sym (loaded_lin
 -- a write whose bytes are put is made
 pub put_is_written : (v new : MachineView) (x : Write) (n : ℕ) (bytes : List ℕ) (done : Bool) → byte_count x.width ≡ n →
     number_bytes x.width x.value ≡ bytes →
-    (IsTrue done → (access_fault v.world x.seg x.off n true ≡ None) × (new ≡ stored v x.seg x.off n bytes)) →
-    IsTrue done → (write_refusal v.world x ≡ None) × (new ≡ written v x)
-unfolding write_refusal
+    (IsTrue done → (access_fault v.world x.seg x.off n true ≡ None) × (new ≡ after_store v x.seg x.off n bytes)) →
+    IsTrue done → (write_fault v.world x ≡ None) × (new ≡ after_write v x)
+unfolding write_fault
 put_is_written v new x n bytes done count is made so =
     let put = made so in
     (ap (λ (k : ℕ). access_fault v.world x.seg x.off k true) count ∙ put.0, written_by_bytes v new x n bytes count is put.1)

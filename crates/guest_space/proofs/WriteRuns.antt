@@ -19,8 +19,8 @@ use Rattle.host_memory.specs.View.{MachineView}
 use Rattle.host_memory.proofs.WalkAnswers.{TouchesAt}
 use Rattle.guest_space.specs.declared.pending.Write.{Write}
 use Rattle.guest_space.specs.Machines.{Processor, held_world, IsMachine}
-use Rattle.guest_space.specs.Pending.{byte_count, number_bytes, write_refusal, written, first_refusal}
-use Rattle.guest_space.specs.Transfer.{translated, access_fault, stored, with_places}
+use Rattle.guest_space.specs.Pending.{byte_count, number_bytes, write_fault, after_write, first_write_fault}
+use Rattle.guest_space.specs.Transfer.{translated, access_fault, after_store, with_places}
 use Rattle.guest_space.specs.WriteRuns.{LiesIn, IsRun, AreRuns}
 use Rattle.guest_space.proofs.Accesses.{refusal_linear, stored_linear}
 use Rattle.guest_space.proofs.KeptAccess.{SameAccess, same_places}
@@ -101,11 +101,11 @@ run_not_refused k v seg low n at machine run =
     (run_all k v (linear (run.base + low)) n at true machine (omega arith) run.room run.ends)
 
 write_not_refused : (k : Processor) (v : MachineView) (x : Write) (at : ℕ) → IsMachine k v → IsRun v x.seg x.off (byte_count x.width) at →
-    write_refusal v.world x ≡ None
-unfolding write_refusal
+    write_fault v.world x ≡ None
+unfolding write_fault
 write_not_refused k v x at machine run = run_not_refused k v x.seg x.off (byte_count x.width) at machine run
 
-pub runs_not_refused : (k : Processor) (v : MachineView) (shift : ℕ) (xs : List Write) → IsMachine k v → AreRuns v shift xs → first_refusal v.world xs ≡ None
+pub runs_not_refused : (k : Processor) (v : MachineView) (shift : ℕ) (xs : List Write) → IsMachine k v → AreRuns v shift xs → first_write_fault v.world xs ≡ None
 runs_not_refused k v shift [] machine runs = first_none v.world
 runs_not_refused k v shift (x ∷ xs) machine runs =
     first_later v.world x xs (write_not_refused k v x (linear (x.off + shift)) machine (runs 0 x (omega arith)))
@@ -114,7 +114,7 @@ runs_not_refused k v shift (x ∷ xs) machine runs =
 -- bytes that are put where a run is
 pub run_stored : (k : Processor) (v : MachineView) (seg : SegReg) (low n at : ℕ) (bytes : List ℕ) → IsMachine k v → IsRun v seg low n at →
     length bytes ≡ n → AllBytes bytes →
-    record { world = held_world k (put v.bytes at bytes); bytes = put v.bytes at bytes } ≡ stored v seg low n bytes
+    record { world = held_world k (put v.bytes at bytes); bytes = put v.bytes at bytes } ≡ after_store v seg low n bytes
 run_stored k v seg low n at bytes machine run size small =
     let lin = linear (run.base + low) in
     store_is k v lin n at bytes machine (omega arith) run.room run.ends size small
@@ -140,7 +140,7 @@ places_keep_addresses k v (p ∷ places) (x ∷ bytes) m can small q =
     (λ i within. small (suc i) (omega arith)) q
     ∙ written_addresses k v p x m first q
 
-translated_same : (v u : MachineView) (lin : ℕ) (write : Bool) → place_in u.world.blocks lin ≡ place_in v.world.blocks lin →
+pub translated_same : (v u : MachineView) (lin : ℕ) (write : Bool) → place_in u.world.blocks lin ≡ place_in v.world.blocks lin →
     ((q : Place) → address_of u.bytes q ≡ address_of v.bytes q) → translated u lin write ≡ translated v lin write
 unfolding translated
 translated_same v u lin write same addresses =
@@ -180,7 +180,7 @@ run_kept k v seg low n at bytes machine run size small s offset m address other 
 
 -- a write is its bytes stored
 pub written_by_bytes : (v new : MachineView) (x : Write) (n : ℕ) (bytes : List ℕ) → byte_count x.width ≡ n → number_bytes x.width x.value ≡ bytes →
-    new ≡ stored v x.seg x.off n bytes → new ≡ written v x
-unfolding written
+    new ≡ after_store v x.seg x.off n bytes → new ≡ after_write v x
+unfolding after_write
 written_by_bytes v new x n bytes count is e =
-    e ∙ sym (ap (λ (k : ℕ). stored v x.seg x.off k (number_bytes x.width x.value)) count ∙ ap (stored v x.seg x.off n) is)
+    e ∙ sym (ap (λ (k : ℕ). after_store v x.seg x.off k (number_bytes x.width x.value)) count ∙ ap (after_store v x.seg x.off n) is)

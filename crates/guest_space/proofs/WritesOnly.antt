@@ -15,8 +15,8 @@ use Rattle.host_memory.proofs.OnlyAtLaws.{only_start, only_then}
 use Rattle.host_memory.proofs.WorldParts.{budget_is}
 use Rattle.guest_space.specs.declared.pending.Write.{Write}
 use Rattle.guest_space.specs.Machines.{Processor}
-use Rattle.guest_space.specs.Pending.{all_written, byte_count, number_bytes, places_of_writes, written}
-use Rattle.guest_space.specs.Transfer.{places_of_access, stored, with_places}
+use Rattle.guest_space.specs.Pending.{after_writes, byte_count, number_bytes, places_of_writes, after_write}
+use Rattle.guest_space.specs.Transfer.{places_of_access, after_store, with_places}
 use Rattle.guest_space.proofs.KeptAccess.{near_kept}
 use Rattle.guest_space.proofs.Machines.{CanWrite, CanWriteAll, with_place, can_write_after, with_places_none, with_places_short, with_places_first}
 use Rattle.guest_space.proofs.OnlyWritten.{HoldsBlocks, byte_holds, only_places, write_places}
@@ -46,36 +46,36 @@ one_where k v (Err f) bytes h can = record {
 }
 
 one_written : (k : Processor) (v : MachineView) (x : Write) → HoldsBlocks k v →
-    IsOne k v (written v x) (places_of_access (access v.world x.seg x.off (byte_count x.width) true))
-unfolding written stored
+    IsOne k v (after_write v x) (places_of_access (access v.world x.seg x.off (byte_count x.width) true))
+unfolding after_write after_store
 one_written k v x h =
     one_where k v (access v.world x.seg x.off (byte_count x.width) true) (number_bytes x.width x.value) h (write_places v.world x.seg x.off (byte_count x.width))
 
 -- the others' places are the same after it
 access_kept : (v : MachineView) (x y : Write) →
-    access (written v x).world y.seg y.off (byte_count y.width) true ≡ access v.world y.seg y.off (byte_count y.width) true
-unfolding written stored
+    access (after_write v x).world y.seg y.off (byte_count y.width) true ≡ access v.world y.seg y.off (byte_count y.width) true
+unfolding after_write after_store
 access_kept v x y =
     near_kept v (places_of_access (access v.world x.seg x.off (byte_count x.width) true)) (number_bytes x.width x.value) y.seg y.off (byte_count y.width) true
 
-places_kept : (v : MachineView) (x : Write) (ys : List Write) → places_of_writes (written v x).world ys ≡ places_of_writes v.world ys
+places_kept : (v : MachineView) (x : Write) (ys : List Write) → places_of_writes (after_write v x).world ys ≡ places_of_writes v.world ys
 places_kept v x [] = refl
 places_kept v x (y ∷ ys) = rw (access_kept v x y, places_kept v x ys) refl
 
-only_all : (k : Processor) (v : MachineView) (xs : List Write) → HoldsBlocks k v → OnlyAt (places_of_writes v.world xs) v.bytes (all_written v xs).bytes
+only_all : (k : Processor) (v : MachineView) (xs : List Write) → HoldsBlocks k v → OnlyAt (places_of_writes v.world xs) v.bytes (after_writes v xs).bytes
 only_all k v [] h = subst (λ (u : MachineView). OnlyAt [] v.bytes u.bytes) (sym (all_none v)) (only_start [] v.bytes)
 only_all k v (x ∷ xs) h =
     let one = one_written k v x h in
     subst (λ (u : MachineView). OnlyAt (places_of_writes v.world (x ∷ xs)) v.bytes u.bytes) (sym (all_first v x xs))
-    (only_then (places_of_access (access v.world x.seg x.off (byte_count x.width) true)) (places_of_writes v.world xs) v.bytes (written v x).bytes
-    (all_written (written v x) xs).bytes one.only
-    (subst (λ (places : List Place). OnlyAt places (written v x).bytes (all_written (written v x) xs).bytes) (places_kept v x xs)
-    (only_all k (written v x) xs one.holds)))
+    (only_then (places_of_access (access v.world x.seg x.off (byte_count x.width) true)) (places_of_writes v.world xs) v.bytes (after_write v x).bytes
+    (after_writes (after_write v x) xs).bytes one.only
+    (subst (λ (places : List Place). OnlyAt places (after_write v x).bytes (after_writes (after_write v x) xs).bytes) (places_kept v x xs)
+    (only_all k (after_write v x) xs one.holds)))
 
 pub only_writes : (b : List ℕ) (budget : ℕ) (mode : Mode) (regs : Regs) (vif : Bool) (width : Option Width) → Holds b budget →
     IsSound (world_of b budget mode regs vif width) → (writes : List Write) →
     OnlyAt (places_of_writes (world_of b budget mode regs vif width) writes) b
-    (all_written (record { world = world_of b budget mode regs vif width; bytes = b }) writes).bytes
+    (after_writes (record { world = world_of b budget mode regs vif width; bytes = b }) writes).bytes
 only_writes b budget mode regs vif width holds sound writes =
     let k : Processor = record { budget = budget; mode = mode; regs = regs; vif = vif; width = width } in
     let w = world_of b budget mode regs vif width in

@@ -9,8 +9,8 @@ use Rattle.host_memory.specs.DosList.{entry_bytes, entry_size, list_size}
 use Rattle.host_memory.specs.Headers.{with_headers}
 
 -- other entries in place of some, from a place on
-abbrev pub spliced : List DosEntry → ℕ → ℕ → List DosEntry → List DosEntry
-spliced entries place old new = take place entries ++ (new ++ drop (place + old) entries)
+abbrev pub with_replaced_entries : List DosEntry → ℕ → ℕ → List DosEntry → List DosEntry
+with_replaced_entries entries place old new = take place entries ++ (new ++ drop (place + old) entries)
 
 -- INT 31h function 0100h made none of them
 abbrev pub NoneMade : List DosEntry → Type 0
@@ -20,8 +20,8 @@ NoneMade (entry ∷ entries) = (is_dpmi entry.state ≡ false) × NoneMade entri
 -- the world with other entries in place of some
 unfoldable pub with_entries : World → ℕ → ℕ → List DosEntry → World
 with_entries w place old new = record w {
-  arena = spliced w.arena place old new;
-  dos = with_headers w.dos (spliced w.arena place old new);
+  arena = with_replaced_entries w.arena place old new;
+  dos = with_headers w.dos (with_replaced_entries w.arena place old new);
 }
 
 -- the bytes of the list's frames that hold some entries

@@ -18,16 +18,16 @@ ends (Ok address) = true
 ends (Err f) = false
 
 -- what an entry says of a byte of its page: it may be read, and written where the entry says so
-abbrev pub noted : CacheEntry → ℕ → Bool → Result ℕ PageFault
-noted entry at true = if entry.writable then Ok (PAGE_SIZE * entry.frame + at) else fault true
-noted entry at false = Ok (PAGE_SIZE * entry.frame + at)
+abbrev pub cached_answer : CacheEntry → ℕ → Bool → Result ℕ PageFault
+cached_answer entry at true = if entry.writable then Ok (PAGE_SIZE * entry.frame + at) else fault true
+cached_answer entry at false = Ok (PAGE_SIZE * entry.frame + at)
 
 -- this is what the walk gives at each byte of the page
 pub record Hit (b : List ℕ) (entry : CacheEntry) : Type 0 where
   pub page : entry.page < pages_in_all
   pub frame : entry.frame < pages_in_all
   pub same : (at : ℕ) (write : Bool) → at < PAGE_SIZE →
-      walked b PAGE_DIRECTORY (PAGE_SIZE * entry.page + at) write ≡ noted entry at write
+      walked b PAGE_DIRECTORY (PAGE_SIZE * entry.page + at) write ≡ cached_answer entry at write
 
 abbrev pub empty_entry : CacheEntry
 empty_entry = record { used = false; page = 0; frame = 0; writable = false }

@@ -16,7 +16,7 @@ use Rattle.client_world.specs.Soundness.{IsRunOf, descriptors_for}
 use Rattle.client_world.specs.World.{World}
 use Rattle.guest_ram.specs.Bytes.{put}
 use Rattle.desc_table.specs.Rows.{row_address, row_bytes}
-use Rattle.guest_space.specs.Arena.{spliced, with_entries}
+use Rattle.guest_space.specs.Arena.{with_replaced_entries, with_entries}
 
 -- the limit of descriptor j of a block of n paragraphs: the first has the whole block, the others 64 KB of it, the last of them the rest
 abbrev pub dos_limit : ℕ → ℕ → ℕ
@@ -64,7 +64,7 @@ block_alone segment n = if nat_eq n 0 then [] else (segment, n) ∷ []
 pub record CanPutRun (w : World) (place old : ℕ) (new : List DosEntry) (run : DosRun) : Type 0 where
   pub width : w.width ≢ None
   pub within : place + old ≤ length w.arena
-  pub arena : IsArena (spliced w.arena place old new)
+  pub arena : IsArena (with_replaced_entries w.arena place old new)
   pub old_block : made_blocks (take old (drop place w.arena)) ≡ block_alone run.seg run.before
   pub new_block : made_blocks new ≡ block_alone run.seg run.after
   pub from : FIRST_FREE_DESCRIPTOR ≤ run.first

@@ -12,12 +12,12 @@ unfoldable pub far_bytes : World → FarPtr → ℕ → List ℕ
 far_bytes w p n = bytes_of w (places_of_access (far_access w p n false))
 
 -- the world with other bytes at a pointer that is reachable for writing
-unfoldable pub far_put : World → FarPtr → ℕ → List ℕ → World
-far_put w p n bytes = with_bytes_of w (places_of_access (far_access w p n true)) bytes
+unfoldable pub world_after_far_write : World → FarPtr → ℕ → List ℕ → World
+world_after_far_write w p n bytes = with_bytes_of w (places_of_access (far_access w p n true)) bytes
 
 -- and the machine
-unfoldable pub far_written : MachineView → FarPtr → ℕ → List ℕ → MachineView
-far_written v p n bytes = with_places v (places_of_access (far_access v.world p n true)) bytes
+unfoldable pub after_far_write : MachineView → FarPtr → ℕ → List ℕ → MachineView
+after_far_write v p n bytes = with_places v (places_of_access (far_access v.world p n true)) bytes
 
 -- the pointer n bytes further on
 abbrev pub further : FarPtr → ℕ → FarPtr

@@ -12,4 +12,5 @@ pub mod Registers
 pub mod SegmentRows
 pub mod Transfer
 pub mod VectorLists
+pub mod Windows
 pub mod WriteRuns

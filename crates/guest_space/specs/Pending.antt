@@ -9,7 +9,7 @@ use Rattle.guest_ram.specs.Bytes.{dword_bytes}
 use Rattle.host_memory.specs.Vectors.{word_bytes}
 use Rattle.host_memory.specs.View.{MachineView}
 use Rattle.guest_space.specs.declared.pending.Write.{Write}
-use Rattle.guest_space.specs.Transfer.{places_of_access, access_fault, stored}
+use Rattle.guest_space.specs.Transfer.{places_of_access, access_fault, after_store}
 
 -- the bytes of a number of 8, 16 or 32 bits, least byte first
 abbrev pub number_bytes : ℕ → ℕ → List ℕ
@@ -27,22 +27,22 @@ abbrev pub IsCountOfWidth : ℕ → Type 0
 IsCountOfWidth n = (n ≡ 1) ⊎ (n ≡ 2) ⊎ (n ≡ 4)
 
 -- the fault of a write, if it has one
-unfoldable pub write_refusal : World → Write → Option Fault
-write_refusal w x = access_fault w x.seg x.off (byte_count x.width) true
+unfoldable pub write_fault : World → Write → Option Fault
+write_fault w x = access_fault w x.seg x.off (byte_count x.width) true
 
 -- the machine after it
-unfoldable pub written : MachineView → Write → MachineView
-written v x = stored v x.seg x.off (byte_count x.width) (number_bytes x.width x.value)
+unfoldable pub after_write : MachineView → Write → MachineView
+after_write v x = after_store v x.seg x.off (byte_count x.width) (number_bytes x.width x.value)
 
 -- the fault of the first of some writes that has one. Each is asked in the world before all of them: a write moves no place
-unfoldable pub first_refusal : World → List Write → Option Fault
-first_refusal w [] = None
-first_refusal w (x ∷ xs) = elim (write_refusal w x) [ Some fault ↦ Some fault | None ↦ first_refusal w xs ]
+unfoldable pub first_write_fault : World → List Write → Option Fault
+first_write_fault w [] = None
+first_write_fault w (x ∷ xs) = elim (write_fault w x) [ Some fault ↦ Some fault | None ↦ first_write_fault w xs ]
 
 -- the machine after all of them
-unfoldable pub all_written : MachineView → List Write → MachineView
-all_written v [] = v
-all_written v (x ∷ xs) = all_written (written v x) xs
+unfoldable pub after_writes : MachineView → List Write → MachineView
+after_writes v [] = v
+after_writes v (x ∷ xs) = after_writes (after_write v x) xs
 
 -- the places of some writes, in the world before all of them; one that has a fault has none
 abbrev pub places_of_writes : World → List Write → List Place

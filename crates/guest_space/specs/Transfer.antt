@@ -46,8 +46,8 @@ places_of_access (Ok places) = places
 places_of_access (Err fault) = []
 
 -- the machine after a write
-unfoldable pub stored : MachineView → SegReg → ℕ → ℕ → List ℕ → MachineView
-stored v seg offset n bytes = with_places v (places_of_access (access v.world seg offset n true)) bytes
+unfoldable pub after_store : MachineView → SegReg → ℕ → ℕ → List ℕ → MachineView
+after_store v seg offset n bytes = with_places v (places_of_access (access v.world seg offset n true)) bytes
 
 -- where the byte of a linear address lies in the memory, or the page fault of its access
 unfoldable pub translated : MachineView → ℕ → Bool → Result ℕ Fault

@@ -7,7 +7,7 @@ ghost use Rattle.guest_ram.specs.Bytes.{put};
 ghost use Rattle.host_memory.specs.DosList.{state_of, entry_at, entry_count, entry_room, entry_size, arena_in, KeepsArena};
 ghost use Rattle.host_memory.specs.Headers.{with_headers};
 ghost use Rattle.host_memory.specs.Layout.{arena_part};
-ghost use Rattle.guest_space.specs.Arena.{spliced, NoneMade, with_entries, list_bytes, arena_bytes};
+ghost use Rattle.guest_space.specs.Arena.{with_replaced_entries, NoneMade, with_entries, list_bytes, arena_bytes};
 
 use crate::machine::Machine;
 use arrayvec::ArrayVec;
@@ -84,7 +84,7 @@ fn replace_entries(ram: &mut Ram, n: u32, place: u32, old: u32, new: &[DosEntry]
     requires few { n ≤ entry_room }
     requires within { place + old ≤ n }
     requires fits { n + length new.now ≤ entry_room + old }
-    ensures { ram.new ≡ put ram.old (PAGE_SIZE * DOS_LIST) (arena_bytes (spliced (arena_in (arena_part ram.old)) place old new.now)) }
+    ensures { ram.new ≡ put ram.old (PAGE_SIZE * DOS_LIST) (arena_bytes (with_replaced_entries (arena_in (arena_part ram.old)) place old new.now)) }
 {
     let count = new.len() as u32;
     let from = LIST_START + DOS_ENTRY_SIZE * (place + old);
@@ -123,10 +123,10 @@ pub(crate) fn put_entries(ram: &mut Ram, place: u16, old: u16, new: &ArrayVec<Do
     requires frames { PAGE_SIZE * BUDGET_FRAMES ≤ length ram.old }
     requires keeps { KeepsArena (arena_part ram.old) }
     requires within { place + old ≤ length (arena_in (arena_part ram.old)) }
-    requires sound { IsArena (spliced (arena_in (arena_part ram.old)) place old new.now.items) }
+    requires sound { IsArena (with_replaced_entries (arena_in (arena_part ram.old)) place old new.now.items) }
     ensures { ram.new ≡ with_headers
-        (put ram.old (PAGE_SIZE * DOS_LIST) (arena_bytes (spliced (arena_in (arena_part ram.old)) place old new.now.items)))
-        (spliced (arena_in (arena_part ram.old)) place old new.now.items) }
+        (put ram.old (PAGE_SIZE * DOS_LIST) (arena_bytes (with_replaced_entries (arena_in (arena_part ram.old)) place old new.now.items)))
+        (with_replaced_entries (arena_in (arena_part ram.old)) place old new.now.items) }
 {
     let n = entry_count(ram);
     let entries = new.as_slice();
@@ -157,11 +157,11 @@ impl Machine {
         requires within { place + old ≤ length self.old.world.arena }
         requires old_plain { NoneMade (take old (drop place self.old.world.arena)) }
         requires new_plain { NoneMade new.now.items }
-        requires sound { IsArena (spliced self.old.world.arena place old new.now.items) }
+        requires sound { IsArena (with_replaced_entries self.old.world.arena place old new.now.items) }
         ensures world { self.new.world ≡ with_entries self.old.world place old new.now.items }
         ensures bytes { self.new.bytes ≡ with_headers
-            (put self.old.bytes (PAGE_SIZE * DOS_LIST) (arena_bytes (spliced self.old.world.arena place old new.now.items)))
-            (spliced self.old.world.arena place old new.now.items) }
+            (put self.old.bytes (PAGE_SIZE * DOS_LIST) (arena_bytes (with_replaced_entries self.old.world.arena place old new.now.items)))
+            (with_replaced_entries self.old.world.arena place old new.now.items) }
     {
         put_entries(&mut self.ram, place, old, new);
     }

@@ -5,7 +5,7 @@ ghost use Rattle.client_world.specs.declared.place.Place.{Place};
 ghost use Rattle.client_world.specs.Access.{IsHeld, HasByte, bytes_of_block, place_of};
 ghost use Rattle.client_world.specs.Soundness.{pages_of_blocks};
 ghost use Rattle.client_world.specs.World.{block_at, with_block_at};
-ghost use Rattle.block_memory.specs.BlockSizes.{CanHold, CanMake, CanMove, CanSize, HasPages, longer, shorter, extended, at_base, sized_block, fresh_block, IsBlocks, lock_in, with_lock, row_seen, zeroed, locked_pages};
+ghost use Rattle.block_memory.specs.BlockSizes.{CanHold, CanMake, CanMove, CanSize, HasPages, longer, shorter, block_with_zero_pages, at_base, sized_block, fresh_block, IsBlocks, lock_in, with_lock, row_seen, blocks_with_zero_page, locked_pages};
 ghost use Rattle.host_memory.specs.Layout.{address_of};
 
 use crate::cache::empty_cache;
@@ -99,7 +99,7 @@ impl Machine {
     /// Fills the page of a linear address that a memory block covers with zeros. Source: own.
     pub fn zero_page(&mut self, lin: u32)
         requires { IsBlocks (place_of self.old.world lin) }
-        ensures world { self.new.world ≡ record self.old.world { blocks = zeroed self.old.world.blocks (place_of self.old.world lin) } }
+        ensures world { self.new.world ≡ record self.old.world { blocks = blocks_with_zero_page self.old.world.blocks (place_of self.old.world lin) } }
         ensures addresses { (p : Place) → address_of self.new.bytes p ≡ address_of self.old.bytes p }
     {
         let entry = self.ram.get32(PAGE_SIZE * BLOCK_TABLES + PAGE_ENTRY_SIZE * region_page(lin));

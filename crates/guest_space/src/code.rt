@@ -16,7 +16,7 @@ pub const MAX_CODE: usize = 15;
 
 // The 15 bytes from an address on.
 #[inline(always)]
-fn words_of(ram: &Ram, at: u32) -> CodeWords
+pub(crate) fn words_of(ram: &Ram, at: u32) -> CodeWords
     requires { at + code_room ≤ length ram.now }
     ensures { region ram.now at code_room ≡ code_bytes result }
 {

@@ -3,7 +3,7 @@ ghost use Rattle.std.specs.Prelude.{◌≡◌, ◌≤◌, ◌<◌, IsTrue, true,
 ghost use Rattle.client_world.specs.declared.host_frames.TheConstants.{PAGE_SIZE};
 ghost use Rattle.client_world.specs.Access.{far_access, is_reachable};
 ghost use Rattle.host_memory.specs.View.{OnlyAt};
-ghost use Rattle.guest_space.specs.Far.{far_bytes, far_written};
+ghost use Rattle.guest_space.specs.Far.{far_bytes, after_far_write};
 ghost use Rattle.guest_space.specs.Transfer.{places_of_access};
 
 use crate::machine::Machine;
@@ -40,7 +40,7 @@ impl Machine {
         requires some { 0 < length bytes.now }
         requires few { length bytes.now ≤ PAGE_SIZE }
         requires reachable { IsTrue (is_reachable self.old.world p (length bytes.now) true) }
-        ensures written { self.new ≡ far_written self.old p (length bytes.now) bytes.now }
+        ensures written { self.new ≡ after_far_write self.old p (length bytes.now) bytes.now }
         ensures only { OnlyAt (places_of_access (far_access self.old.world p (length bytes.now) true))
             self.old.bytes self.new.bytes }
     {
@@ -63,7 +63,7 @@ impl Machine {
     /// Puts a byte at a far pointer, which is reachable for writing. Of the memory only that byte changes.
     pub fn far_set8(&mut self, p: FarPtr, v: u8)
         requires { IsTrue (is_reachable self.old.world p 1 true) }
-        ensures written { self.new ≡ far_written self.old p 1 (v ∷ []) }
+        ensures written { self.new ≡ after_far_write self.old p 1 (v ∷ []) }
         ensures only { OnlyAt (places_of_access (far_access self.old.world p 1 true)) self.old.bytes self.new.bytes }
     {
         self.write_bytes(p, &[v]);

@@ -21,10 +21,10 @@ ghost use Rattle.host_memory.specs.Layout.{world_of};
 ghost use Rattle.host_memory.specs.Records.{record_size};
 ghost use Rattle.host_memory.specs.View.{MachineView, OnlyAt};
 ghost use Rattle.guest_space.specs.declared.pending.Write.{Write};
-ghost use Rattle.guest_space.specs.Pending.{all_written, places_of_writes};
-ghost use Rattle.guest_space.specs.Far.{far_bytes, far_written, further};
+ghost use Rattle.guest_space.specs.Pending.{after_writes, places_of_writes};
+ghost use Rattle.guest_space.specs.Far.{far_bytes, after_far_write, further};
 ghost use Rattle.guest_space.specs.Records.{OnlyAtAndRow, record_place};
-ghost use Rattle.guest_space.specs.Transfer.{HasOtherMemory, places_of_access, stored, with_places};
+ghost use Rattle.guest_space.specs.Transfer.{HasOtherMemory, places_of_access, after_store, with_places};
 
 /// A write that has no fault changes the bytes of its places, and nothing else in the memory.
 pub fn every_write_changes_only_its_places()
@@ -32,7 +32,7 @@ pub fn every_write_changes_only_its_places()
         Holds b budget → IsSound (world_of b budget mode regs vif width) →
         (seg : SegReg) (offset n : ℕ) (bytes : List ℕ) (places : List Place) →
         access (world_of b budget mode regs vif width) seg offset n true ≡ Ok places →
-        OnlyAt places b (stored (record { world = world_of b budget mode regs vif width; bytes = b }) seg offset n bytes).bytes }
+        OnlyAt places b (after_store (record { world = world_of b budget mode regs vif width; bytes = b }) seg offset n bytes).bytes }
 {}
 
 /// A write moves no place: the accesses after it are those before it.
@@ -60,7 +60,7 @@ pub fn a_part_is_read_as_in_the_run()
 /// What was written at a far pointer is read there.
 pub fn what_was_written_is_read()
     ensures { (v : MachineView) (p : FarPtr) (n : ℕ) (bytes : List ℕ) → IsSound v.world → n ≤ PAGE_SIZE → length bytes ≡ n →
-        is_reachable v.world p n true ≡ true → far_bytes (far_written v p n bytes).world p n ≡ bytes }
+        is_reachable v.world p n true ≡ true → far_bytes (after_far_write v p n bytes).world p n ≡ bytes }
 {}
 
 /// Once there is a width, the host's protected-mode stacks are memory that may be read and written, at every depth.
@@ -72,8 +72,8 @@ pub fn the_protected_stacks_are_reachable()
 /// A write changes nothing of the world but the bytes of the megabyte and of memory blocks.
 #[tactic(auto, using(crate::proofs::MemoryAlone::other_all, crate::proofs::MemoryAlone::other_far))]
 pub fn every_write_changes_the_memory_alone()
-    ensures near { (v : MachineView) (writes : List Write) → HasOtherMemory v.world (all_written v writes).world }
-    ensures far { (v : MachineView) (p : FarPtr) (n : ℕ) (bytes : List ℕ) → HasOtherMemory v.world (far_written v p n bytes).world }
+    ensures near { (v : MachineView) (writes : List Write) → HasOtherMemory v.world (after_writes v writes).world }
+    ensures far { (v : MachineView) (p : FarPtr) (n : ℕ) (bytes : List ℕ) → HasOtherMemory v.world (after_far_write v p n bytes).world }
 {}
 
 /// A write at a far pointer changes the bytes of its places, and nothing else in the memory; where it has a fault, nothing.
@@ -81,7 +81,7 @@ pub fn every_far_write_changes_only_its_places()
     ensures { (b : List ℕ) (budget : ℕ) (mode : Mode) (regs : Regs) (vif : Bool) (width : Option Width) →
         Holds b budget → IsSound (world_of b budget mode regs vif width) → (p : FarPtr) (n : ℕ) (bytes : List ℕ) →
         OnlyAt (places_of_access (far_access (world_of b budget mode regs vif width) p n true)) b
-        (far_written (record { world = world_of b budget mode regs vif width; bytes = b }) p n bytes).bytes }
+        (after_far_write (record { world = world_of b budget mode regs vif width; bytes = b }) p n bytes).bytes }
 {}
 
 /// Writes that are made one after another change the bytes of their places, and nothing else in the memory.
@@ -89,14 +89,14 @@ pub fn all_writes_change_only_their_places()
     ensures { (b : List ℕ) (budget : ℕ) (mode : Mode) (regs : Regs) (vif : Bool) (width : Option Width) →
         Holds b budget → IsSound (world_of b budget mode regs vif width) → (writes : List Write) →
         OnlyAt (places_of_writes (world_of b budget mode regs vif width) writes) b
-        (all_written (record { world = world_of b budget mode regs vif width; bytes = b }) writes).bytes }
+        (after_writes (record { world = world_of b budget mode regs vif width; bytes = b }) writes).bytes }
 {}
 
 /// A write of bytes at a far pointer leaves a sound world sound, and what it makes of the world depends on the world alone.
 pub fn every_far_write_is_sound()
-    ensures sound { (v : MachineView) (p : FarPtr) (n : ℕ) (bytes : List ℕ) → IsSound v.world → AreBytes bytes → IsSound (far_written v p n bytes).world }
+    ensures sound { (v : MachineView) (p : FarPtr) (n : ℕ) (bytes : List ℕ) → IsSound v.world → AreBytes bytes → IsSound (after_far_write v p n bytes).world }
     ensures alone { (v u : MachineView) (p : FarPtr) (n : ℕ) (bytes : List ℕ) → v.world ≡ u.world →
-        (far_written v p n bytes).world ≡ (far_written u p n bytes).world }
+        (after_far_write v p n bytes).world ≡ (after_far_write u p n bytes).world }
 {}
 
 /// The row of a record that is written after other writes changes its own bytes besides, and no address.

@@ -1,6 +1,8 @@
 //! The machine: the model's world, held in the bytes of one memory.
-//! It promises that each call reads the world, or changes the part of it that it names, and that the bytes hold the world after
-//! every call. It uses `host_memory`, the descriptor table and the page tables.
+//! It promises that each call reads the world, or changes the part of it that it names, and that the bytes hold the world after every
+//! call. It uses `host_memory`, the descriptor table and the page tables.
+//! How bytes are found quickly (hidden parts, the cache of pages, windows of code, runs of writes) is free. What they hold is fixed by
+//! `HoldsWorld`, and what a call does to the world by its clause: every crate above works with the calls alone.
 #![tactic(auto)]
 
 mod arena;
@@ -24,6 +26,7 @@ mod segments;
 #[cfg(test)]
 mod tests;
 mod vectors;
+mod windows;
 mod write_runs;
 
 pub use dos_runs::descriptors_for;
@@ -36,3 +39,4 @@ pub use laws::{
 };
 pub use machine::Machine;
 pub use pending::{Write, byte_count, dword_bytes, word_bytes};
+pub use windows::CodeWindow;

@@ -4,7 +4,7 @@ ghost use Rattle.client_world.specs.declared.host_frames.TheConstants.{PAGE_SIZE
 ghost use Rattle.client_world.specs.Access.{access, byte_of, bytes_of, may_touch, page_fault, place_of, places_from};
 ghost use Rattle.host_memory.specs.View.{OnlyAt};
 ghost use Rattle.guest_space.specs.Machines.{HoldsItsWorld};
-ghost use Rattle.guest_space.specs.Transfer.{read_result, places_of_access, access_fault, stored, translated, linear_access, bytes_at, fault_of, with_places};
+ghost use Rattle.guest_space.specs.Transfer.{read_result, places_of_access, access_fault, after_store, translated, linear_access, bytes_at, fault_of, with_places};
 
 use crate::cache::cache_place;
 use crate::machine::Machine;
@@ -38,9 +38,9 @@ pub(crate) fn is_in_page(lin: u32, n: u32) -> bool
 }
 
 impl Machine {
-    // The memory holds the machine's world.
+    /// The memory holds the machine's world.
     #[inline(always)]
-    pub(crate) fn holds_world(&self)
+    pub fn holds_world(&self)
         ensures { HoldsItsWorld self.now }
     {
         let _pages = self.pages;
@@ -249,7 +249,7 @@ impl Machine {
         requires some { 0 < N }
         requires few { N ≤ PAGE_SIZE }
         ensures done { OnOk result ((access_fault self.old.world seg off N true ≡ None)
-            × (self.new ≡ stored self.old seg off N v.entry)) }
+            × (self.new ≡ after_store self.old seg off N v.entry)) }
         ensures refused { IfErr result (λ fault.
             (access_fault self.old.world seg off N true ≡ Some fault) × (self.new ≡ self.old)) }
         ensures only { OnlyAt (places_of_access (access self.old.world seg off N true)) self.old.bytes self.new.bytes }
@@ -272,7 +272,7 @@ impl Machine {
         requires some { 0 < N }
         requires few { N ≤ PAGE_SIZE }
         ensures done { OnOk result ((access_fault self.old.world seg off N true ≡ None)
-            × (self.new ≡ stored self.old seg off N v.entry)) }
+            × (self.new ≡ after_store self.old seg off N v.entry)) }
         ensures refused { IfErr result (λ fault.
             (access_fault self.old.world seg off N true ≡ Some fault) × (self.new ≡ self.old)) }
     {

@@ -4,7 +4,7 @@ ghost use Rattle.client_world.specs.Access.{access};
 ghost use Rattle.guest_ram.specs.Bytes.{dword_bytes};
 ghost use Rattle.host_memory.specs.Vectors.{word_bytes};
 ghost use Rattle.host_memory.specs.View.{OnlyAt};
-ghost use Rattle.guest_space.specs.Pending.{IsCountOfWidth, byte_count, number_bytes, write_refusal, written, first_refusal, all_written, places_of_writes};
+ghost use Rattle.guest_space.specs.Pending.{IsCountOfWidth, byte_count, number_bytes, write_fault, after_write, first_write_fault, after_writes, places_of_writes};
 ghost use Rattle.guest_space.specs.Transfer.{places_of_access};
 
 use crate::machine::Machine;
@@ -54,7 +54,7 @@ impl Machine {
     // The fault of a write, if it has one.
     #[inline(always)]
     fn fault_of_write(&self, x: &Write) -> Option<Fault>
-        ensures { result ≡ write_refusal self.now.world x.now }
+        ensures { result ≡ write_fault self.now.world x.now }
     {
         self.probe(x.seg, x.off, u32::from(byte_count(x.width)), true)
             .err()
@@ -65,8 +65,8 @@ impl Machine {
     #[inline(always)]
     pub fn write_one(&mut self, x: &Write) -> Result<(), Fault>
         ensures made { MatchResult result
-            (λ _. (write_refusal self.old.world x.now ≡ None) × (self.new ≡ written self.old x.now))
-            (λ fault. (write_refusal self.old.world x.now ≡ Some fault) × (self.new ≡ self.old)) }
+            (λ _. (write_fault self.old.world x.now ≡ None) × (self.new ≡ after_write self.old x.now))
+            (λ fault. (write_fault self.old.world x.now ≡ Some fault) × (self.new ≡ self.old)) }
         ensures only { OnlyAt
             (places_of_access (access self.old.world x.now.seg x.now.off (byte_count x.now.width) true))
             self.old.bytes self.new.bytes }
@@ -84,15 +84,15 @@ impl Machine {
     // Makes a write that has no fault.
     #[inline(always)]
     fn make_probed(&mut self, x: &Write)
-        requires { write_refusal self.old.world x.now ≡ None }
-        ensures { self.new ≡ written self.old x.now }
+        requires { write_fault self.old.world x.now ≡ None }
+        ensures { self.new ≡ after_write self.old x.now }
     {
         let _ = self.write_one(x);
     }
 
     /// The fault of the first of some writes that has one.
     pub fn first_fault(&self, writes: &[Write]) -> Option<Fault>
-        ensures { result ≡ first_refusal self.now.world writes.now }
+        ensures { result ≡ first_write_fault self.now.world writes.now }
     {
         for x in writes {
             if let Some(fault) = self.fault_of_write(x) {
@@ -105,10 +105,10 @@ impl Machine {
     // Makes some writes, all of which are probed first.
     #[inline(never)]
     fn write_probed(&mut self, writes: &[Write]) -> Result<(), Fault>
-        ensures done { OnOk result ((first_refusal self.old.world writes.now ≡ None)
-            × (self.new ≡ all_written self.old writes.now)) }
+        ensures done { OnOk result ((first_write_fault self.old.world writes.now ≡ None)
+            × (self.new ≡ after_writes self.old writes.now)) }
         ensures refused { IfErr result (λ fault.
-            (first_refusal self.old.world writes.now ≡ Some fault) × (self.new ≡ self.old)) }
+            (first_write_fault self.old.world writes.now ≡ Some fault) × (self.new ≡ self.old)) }
     {
         if let Some(fault) = self.first_fault(writes) {
             return Err(fault);
@@ -124,7 +124,7 @@ impl Machine {
     /// Source: own.
     #[inline(always)]
     pub fn write_quickly(&mut self, writes: &[Write]) -> bool
-        ensures made { IsTrue result → (first_refusal self.old.world writes.now ≡ None) × (self.new ≡ all_written self.old writes.now) }
+        ensures made { IsTrue result → (first_write_fault self.old.world writes.now ≡ None) × (self.new ≡ after_writes self.old writes.now) }
         ensures kept { IsFalse result → self.new ≡ self.old }
     {
         match self.shift_of(writes) {
@@ -139,10 +139,10 @@ impl Machine {
     /// Makes all of some writes in their order, or, where one of them has a fault, none of them, and returns the first such fault. Of the
     /// memory only the bytes of the writes' places change, and none of the host's frames.
     pub fn write_all(&mut self, writes: &[Write]) -> Result<(), Fault>
-        ensures done { OnOk result ((first_refusal self.old.world writes.now ≡ None)
-            × (self.new ≡ all_written self.old writes.now)) }
+        ensures done { OnOk result ((first_write_fault self.old.world writes.now ≡ None)
+            × (self.new ≡ after_writes self.old writes.now)) }
         ensures refused { IfErr result (λ fault.
-            (first_refusal self.old.world writes.now ≡ Some fault) × (self.new ≡ self.old)) }
+            (first_write_fault self.old.world writes.now ≡ Some fault) × (self.new ≡ self.old)) }
         ensures only { OnlyAt (places_of_writes self.old.world writes.now) self.old.bytes self.new.bytes }
     {
         self.holds_world();

@@ -2,8 +2,8 @@
 // show is decided by the calls that ask the tables.
 ghost use Rattle.std.specs.Prelude.{◌≡◌, ◌≤◌, ◌<◌, IfSome, IsTrue, IsFalse, None, Ok, false, true};
 ghost use Rattle.client_world.specs.declared.host_frames.TheConstants.{PAGE_SIZE};
-ghost use Rattle.guest_space.specs.Pending.{write_refusal, written};
-ghost use Rattle.guest_space.specs.Transfer.{access_fault, bytes_at, linear_access, read_result, stored};
+ghost use Rattle.guest_space.specs.Pending.{write_fault, after_write};
+ghost use Rattle.guest_space.specs.Transfer.{access_fault, bytes_at, linear_access, read_result, after_store};
 ghost use Rattle.guest_space.specs.WriteRuns.{IsRun};
 
 use crate::machine::Machine;
@@ -61,7 +61,7 @@ impl Machine {
     fn put_quickly<const N: usize>(&mut self, seg: SegReg, off: u32, bytes: &[u8; N]) -> bool
         requires some { 0 < N }
         requires few { N ≤ PAGE_SIZE }
-        ensures made { IsTrue result → (access_fault self.old.world seg off N true ≡ None) × (self.new ≡ stored self.old seg off N bytes.now) }
+        ensures made { IsTrue result → (access_fault self.old.world seg off N true ≡ None) × (self.new ≡ after_store self.old seg off N bytes.now) }
         ensures kept { IsFalse result → self.new ≡ self.old }
     {
         self.holds_world();
@@ -77,7 +77,7 @@ impl Machine {
     /// Makes a write where a quick look shows that it has no fault, and returns `true`; else it does nothing. Source: own.
     #[inline(always)]
     pub fn write_one_quickly(&mut self, x: &Write) -> bool
-        ensures made { IsTrue result → (write_refusal self.old.world x.now ≡ None) × (self.new ≡ written self.old x.now) }
+        ensures made { IsTrue result → (write_fault self.old.world x.now ≡ None) × (self.new ≡ after_write self.old x.now) }
         ensures kept { IsFalse result → self.new ≡ self.old }
     {
         if x.width == 8 {

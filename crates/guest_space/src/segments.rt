@@ -73,7 +73,7 @@ fn base_in_row(
 impl Machine {
     // The hidden part of a segment register.
     #[inline(always)]
-    fn part(&self, seg: SegReg) -> &Option<Hidden>
+    pub(crate) fn part(&self, seg: SegReg) -> &Option<Hidden>
         ensures { result.now ≡ found self.now.world.mode self.now.world.regs self.now.world.descriptors seg }
     {
         &self.hidden[number(seg)]

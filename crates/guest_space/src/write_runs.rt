@@ -2,8 +2,8 @@
 ghost use Rattle.std.specs.Prelude.{◌≡◌, ◌<◌, ◌≤◌, ◌+◌, ◌%◌, ℕ, All, IfSome, None};
 ghost use Rattle.client_world.specs.declared.host_frames.TheConstants.{PAGE_SIZE};
 ghost use Rattle.guest_space.specs.declared.pending.Write.{Write};
-ghost use Rattle.guest_space.specs.Pending.{byte_count, first_refusal, written, all_written};
-ghost use Rattle.guest_space.specs.Transfer.{stored};
+ghost use Rattle.guest_space.specs.Pending.{byte_count, first_write_fault, after_write, after_writes};
+ghost use Rattle.guest_space.specs.Transfer.{after_store};
 ghost use Rattle.guest_space.specs.WriteRuns.{LiesIn, IsRun, AreRuns};
 
 use crate::machine::Machine;
@@ -54,7 +54,7 @@ impl Machine {
     #[inline(always)]
     pub(crate) fn shift_of(&self, writes: &[Write]) -> Option<u32>
         ensures runs { IfSome result (λ shift. AreRuns self.now shift writes.now) }
-        ensures none { IfSome result (λ _. first_refusal self.now.world writes.now ≡ None) }
+        ensures none { IfSome result (λ _. first_write_fault self.now.world writes.now ≡ None) }
     {
         self.holds_world();
         let seg = writes.first()?.seg;
@@ -79,7 +79,7 @@ impl Machine {
     )
         requires some { 0 < N }
         requires run { IsRun self.old seg off N at }
-        ensures bytes { self.new ≡ stored self.old seg off N bytes.now }
+        ensures bytes { self.new ≡ after_store self.old seg off N bytes.now }
         ensures kept { (s : SegReg) (offset n address : ℕ) → IsRun self.old s offset n address → IsRun self.new s offset n address }
     {
         are_bytes(bytes);
@@ -90,7 +90,7 @@ impl Machine {
     #[inline(always)]
     fn make_at(&mut self, x: &Write, at: u32)
         requires { IsRun self.old x.now.seg x.now.off (byte_count x.now.width) at }
-        ensures written { self.new ≡ written self.old x.now }
+        ensures written { self.new ≡ after_write self.old x.now }
         ensures kept { (s : SegReg) (offset n address : ℕ) → IsRun self.old s offset n address → IsRun self.new s offset n address }
     {
         if x.width == 8 {
@@ -106,7 +106,7 @@ impl Machine {
     #[inline(always)]
     pub(crate) fn make_runs(&mut self, shift: u32, writes: &[Write])
         requires { AreRuns self.old shift writes.now }
-        ensures { self.new ≡ all_written self.old writes.now }
+        ensures { self.new ≡ after_writes self.old writes.now }
     {
         for x in writes {
             self.make_at(x, x.off.wrapping_add(shift));

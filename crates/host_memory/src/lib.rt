@@ -1,6 +1,8 @@
 //! The world in the bytes of the memory: where each part of it lies in the host's frames, and what the bytes must be.
-//! It promises, in laws over its definitions, that a walk of the page tables ends exactly where the client may touch, at the world's byte,
-//! and that a new memory holds the blank world. It uses the descriptor table and the page tables, and has no state of its own.
+//! It promises, in laws over its definitions, that a walk of the page tables ends exactly where the client may touch, at the world's
+//! byte, and that a new memory holds the blank world. It uses the descriptor table and the page tables, and has no state of its own.
+//! How a blank memory is filled is free. `HoldsWorld` and the layout aren't: each write of `block_memory` and `guest_space` is proved
+//! to keep them.
 #![tactic(auto)]
 
 mod blank;

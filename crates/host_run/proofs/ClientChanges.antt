@@ -9,7 +9,7 @@ use Rattle.client_world.specs.declared.registers.Mode.{Mode}
 use Rattle.client_world.specs.declared.registers.Mode.TheVariants.{Real, Protected}
 use Rattle.cpu_step.specs.Step.{client_step}
 use Rattle.interrupts.specs.Delivery.{real_delivery, software_interrupt}
-use Rattle.interrupts.specs.Worlds.{its_world}
+use Rattle.interrupts.specs.Worlds.{world_of_result}
 use Rattle.interrupts.proofs.Alone.{interrupt_alone, step_alone}
 use Rattle.host_memory.specs.View.{MachineView}
 use Rattle.host_memory.proofs.OnlyAtLaws.{only_start}
@@ -40,12 +40,12 @@ unfolding delivery
 delivery_changes v u f laws e = delivered_in v.world.mode v u f laws e
 
 interrupt_changes : (v u : MachineView) (n len : ℕ) (r : Result MachineView Fault) → HasLaws v → software_interrupt v n len ≡ r →
-    after_client_interrupt v r ≡ Ok u → ChangesOnly (interrupt_footprint v.world len (its_world r)) v.bytes u.bytes
+    after_client_interrupt v r ≡ Ok u → ChangesOnly (interrupt_footprint v.world len (world_of_result r)) v.bytes u.bytes
 interrupt_changes v u n len (Ok x) laws is e = let same : x ≡ u = cc in laws.interrupt n len u (rw same at is)
 interrupt_changes v u n len (Err f) laws is e = delivery_changes v u f laws e
 
 event_changes : (v u : MachineView) (r : Result MachineView Event) → HasLaws v → client_step v ≡ r → after_client_event v r ≡ Ok u →
-    ChangesOnly (event_footprint v.world (its_world r)) v.bytes u.bytes
+    ChangesOnly (event_footprint v.world (world_of_result r)) v.bytes u.bytes
 event_changes v u (Ok x) laws is e = let same : x ≡ u = cc in laws.step u (rw same at is)
 event_changes v u (Err (events.Fault f)) laws is e = delivery_changes v u f laws e
 event_changes v u (Err (events.Soft n len)) laws is e =

@@ -14,45 +14,45 @@ use Rattle.interrupts.proofs.KeptWorlds.{kept_world_popped}
 use Rattle.std.proofs.lemmas.Bool.{le-leb}
 use Rattle.translation.specs.SimulatedCall.{reflect}
 use Rattle.dos_calls.specs.Kept.{HasSameStack}
-use Rattle.interrupts.specs.Delivery.{iret_popped, popped_or_bad}
+use Rattle.interrupts.specs.Delivery.{after_iret, result_of_pop}
 use Rattle.interrupts.specs.RealFrames.{frame_fits}
-use Rattle.interrupts.specs.Worlds.{its_world, world_popped}
+use Rattle.interrupts.specs.Worlds.{world_of_result, world_after_iret}
 use Rattle.host_memory.specs.View.{MachineView}
-use Rattle.host_run.specs.Turn.{Outcome, ends, after_exit_call, after_protected_pop, after_protected_call, is_exit_call, is_presence_call, vector_served, vector_reached}
+use Rattle.host_run.specs.Turn.{Outcome, ends, after_exit_call, after_protected_pop, after_protected_call, is_exit_call, is_presence_call, after_default_vector, after_real_vector}
 
-same_outcome : (r : Result MachineView Exit) → is_ok (its_world r) ≡ is_ok r
+same_outcome : (r : Result MachineView Exit) → is_ok (world_of_result r) ≡ is_ok r
 same_outcome (Ok v) = refl
 same_outcome (Err e) = refl
 
 -- the world determines whether it can
-pub can_by_world : (v : MachineView) → its_world (iret_popped v) ≡ world_popped v.world → is_ok (iret_popped v) ≡ is_ok (world_popped v.world)
-can_by_world v same = sym (same_outcome (iret_popped v)) ∙ ap (λ (r : Result World Exit). is_ok r) same
+pub can_by_world : (v : MachineView) → world_of_result (after_iret v) ≡ world_after_iret v.world → is_ok (after_iret v) ≡ is_ok (world_after_iret v.world)
+can_by_world v same = sym (same_outcome (after_iret v)) ∙ ap (λ (r : Result World Exit). is_ok r) same
 
 abbrev reached : HostWorld → ℕ → Result MachineView Event → Outcome
-reached h n r = elim (its_world (popped_or_bad r)) [ Ok w ↦ vector_served h n | Err exit ↦ ends h exit ]
+reached h n r = elim (world_of_result (result_of_pop r)) [ Ok w ↦ after_default_vector h n | Err exit ↦ ends h exit ]
 
 -- where it can the vector serves, else the client ends
 by_frame : (h : HostWorld) (n : ℕ) (r : Result MachineView Event) →
-    (is_ok (its_world (popped_or_bad r)) ≡ true → reached h n r ≡ vector_served h n)
-    × (is_ok (its_world (popped_or_bad r)) ≡ false → reached h n r ≡ ends h BadFrame)
+    (is_ok (world_of_result (result_of_pop r)) ≡ true → reached h n r ≡ after_default_vector h n)
+    × (is_ok (world_of_result (result_of_pop r)) ≡ false → reached h n r ≡ ends h BadFrame)
 by_frame h n (Ok v) = (λ _. refl, λ e. cc)
 by_frame h n (Err e) = (λ e. cc, λ _. refl)
 
-pub reached_popped : (h : HostWorld) (n : ℕ) → is_ok (world_popped h.machine) ≡ true → vector_reached h n ≡ vector_served h n
-unfolding world_popped iret_popped
+pub reached_popped : (h : HostWorld) (n : ℕ) → is_ok (world_after_iret h.machine) ≡ true → after_real_vector h n ≡ after_default_vector h n
+unfolding world_after_iret after_iret
 reached_popped h n can = (by_frame h n _).0 can
 
-pub reached_bad : (h : HostWorld) (n : ℕ) → is_ok (world_popped h.machine) ≡ false → vector_reached h n ≡ ends h BadFrame
-unfolding world_popped iret_popped
+pub reached_bad : (h : HostWorld) (n : ℕ) → is_ok (world_after_iret h.machine) ≡ false → after_real_vector h n ≡ ends h BadFrame
+unfolding world_after_iret after_iret
 reached_bad h n fails = (by_frame h n _).1 fails
 
 -- of the default vectors of protected mode
-bad_frame : (r : Result MachineView Event) → is_ok (its_world (popped_or_bad r)) ≡ false → its_world (popped_or_bad r) ≡ Err BadFrame
+bad_frame : (r : Result MachineView Event) → is_ok (world_of_result (result_of_pop r)) ≡ false → world_of_result (result_of_pop r) ≡ Err BadFrame
 bad_frame (Ok v) e = absurd cc
 bad_frame (Err f) e = refl
 
-world_bad : (w : World) → is_ok (world_popped w) ≡ false → world_popped w ≡ Err BadFrame
-unfolding world_popped iret_popped
+world_bad : (w : World) → is_ok (world_after_iret w) ≡ false → world_after_iret w ≡ Err BadFrame
+unfolding world_after_iret after_iret
 world_bad w e = bad_frame _ e
 
 exit_by : (h : HostWorld) (n : ℕ) (r : Result World Exit) → is_exit_call h.machine n ≡ true → is_ok r ≡ true → after_protected_pop h n r ≡ after_exit_call h
@@ -60,11 +60,11 @@ unfolding after_protected_call
 exit_by h n (Ok w) exit e = rw exit refl
 exit_by h n (Err exit) is e = absurd cc
 
-pub exit_popped : (h : HostWorld) (n : ℕ) → is_exit_call h.machine n ≡ true → is_ok (world_popped h.machine) ≡ true →
-    after_protected_pop h n (world_popped h.machine) ≡ after_exit_call h
-exit_popped h n exit can = exit_by h n (world_popped h.machine) exit can
+pub exit_popped : (h : HostWorld) (n : ℕ) → is_exit_call h.machine n ≡ true → is_ok (world_after_iret h.machine) ≡ true →
+    after_protected_pop h n (world_after_iret h.machine) ≡ after_exit_call h
+exit_popped h n exit can = exit_by h n (world_after_iret h.machine) exit can
 
-pub popped_bad : (h : HostWorld) (n : ℕ) → is_ok (world_popped h.machine) ≡ false → after_protected_pop h n (world_popped h.machine) ≡ ends h BadFrame
+pub popped_bad : (h : HostWorld) (n : ℕ) → is_ok (world_after_iret h.machine) ≡ false → after_protected_pop h n (world_after_iret h.machine) ≡ ends h BadFrame
 popped_bad h n fails = ap (after_protected_pop h n) (world_bad h.machine fails)
 
 -- an interrupt that is reflected, where calls are nested too deeply
@@ -75,7 +75,7 @@ deep_call h n w exit presence other calls deep =
     let much : nat_le GREATEST_DEPTH (depth w) ≡ true = le-leb GREATEST_DEPTH (depth w) (subst (λ (cs : List Record). GREATEST_DEPTH ≤ length cs) (sym calls) deep) in
     rw exit (rw presence (rw other (rw much refl)))
 
-deep_by : (h : HostWorld) (n : ℕ) (r : Result World Exit) → world_popped h.machine ≡ r → is_exit_call h.machine n ≡ false →
+deep_by : (h : HostWorld) (n : ℕ) (r : Result World Exit) → world_after_iret h.machine ≡ r → is_exit_call h.machine n ≡ false →
     is_presence_call h.machine n ≡ false → nat_eq n 0x31 ≡ false → GREATEST_DEPTH ≤ depth h.machine → is_ok r ≡ true →
     after_protected_pop h n r ≡ ends h Deep
 deep_by h n (Ok w) is exit presence other deep can =
@@ -83,12 +83,12 @@ deep_by h n (Ok w) is exit presence other deep can =
 deep_by h n (Err e) is exit presence other deep can = absurd cc
 
 pub popped_deep : (h : HostWorld) (n : ℕ) → is_exit_call h.machine n ≡ false → is_presence_call h.machine n ≡ false →
-    nat_eq n 0x31 ≡ false → GREATEST_DEPTH ≤ depth h.machine → is_ok (world_popped h.machine) ≡ true →
-    after_protected_pop h n (world_popped h.machine) ≡ ends h Deep
-popped_deep h n exit presence other deep can = deep_by h n (world_popped h.machine) refl exit presence other deep can
+    nat_eq n 0x31 ≡ false → GREATEST_DEPTH ≤ depth h.machine → is_ok (world_after_iret h.machine) ≡ true →
+    after_protected_pop h n (world_after_iret h.machine) ≡ ends h Deep
+popped_deep h n exit presence other deep can = deep_by h n (world_after_iret h.machine) refl exit presence other deep can
 
 -- a service that leaves the mode and the place of the stack leaves a frame that can be popped one
-pub still_popped : ((w : World) → IsSound w → w.mode ≡ Real → is_ok (world_popped w) ≡ frame_fits w.regs.esp) →
-    (w u : World) → IsSound w → IsSound u → w.mode ≡ Real → HasSameStack w u → is_ok (world_popped w) ≡ true → is_ok (world_popped u) ≡ true
+pub still_popped : ((w : World) → IsSound w → w.mode ≡ Real → is_ok (world_after_iret w) ≡ frame_fits w.regs.esp) →
+    (w u : World) → IsSound w → IsSound u → w.mode ≡ Real → HasSameStack w u → is_ok (world_after_iret w) ≡ true → is_ok (world_after_iret u) ≡ true
 still_popped fits w u before after real same can =
     fits u after (same.mode ∙ real) ∙ ap frame_fits same.pointer ∙ sym (fits w before real) ∙ can

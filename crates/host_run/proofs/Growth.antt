@@ -23,10 +23,10 @@ use Rattle.dos_calls.specs.Calls.{CallResult, dos_call}
 use Rattle.client_world.specs.Console.{Extends}
 use Rattle.dos_calls.specs.Multiplex.{multiplex_call}
 use Rattle.dos_calls.proofs.LeftCalls as left
-use Rattle.interrupts.specs.Worlds.{world_step, world_interrupt, world_delivery, world_popped}
+use Rattle.interrupts.specs.Worlds.{world_step, world_interrupt, world_delivery, world_after_iret}
 use Rattle.mode_gates.specs.Entry.{entry}
 use Rattle.mode_gates.specs.FarFrames.{world_after_far_return}
-use Rattle.mode_gates.specs.Switches.{switched_to_protected}
+use Rattle.mode_gates.specs.Switches.{world_after_switch_to_protected}
 use Rattle.fault_service.specs.Worlds.{world_exception_return, world_protected_delivery}
 use Rattle.translation.specs.SimulatedCall.{begin_call, end_call, reflect}
 use Rattle.host_run.specs.declared.traps.Trap.{Trap}
@@ -34,7 +34,7 @@ use Rattle.host_run.specs.declared.traps.Trap.TheVariants.{RealVector, Entry, To
 use Rattle.host_run.specs.Run.{turns, run}
 use Rattle.host_run.specs.Families.{service}
 use Rattle.host_run.specs.Traps.{current_trap}
-use Rattle.host_run.specs.Turn.{Outcome, ends, with_machine, noted, popped, seen, dos_served, multiplex_served, ends_client, vector_served, after_entry, after_entry_trap, after_switch_to_protected, is_exit_call, is_presence_call, asked_call, call_enter_line, after_begin, after_call_return, after_reflection, after_service, goes_on_with, after_int31, after_protected_call, after_protected_pop, after_protected_vector, after_protected_delivery, after_exception_return, after_callback, after_callback_return, delivered, delivered_in, after_interrupt, after_step, stepped, trapped, work, with_turn_counted, settled, turn}
+use Rattle.host_run.specs.Turn.{Outcome, ends, with_machine, with_trace_line, after_frame_pop, dos_call_state, after_dos_call, after_multiplex_call, ends_client, after_default_vector, after_entry, after_entry_trap, after_switch_to_protected, is_exit_call, is_presence_call, asked_call, call_enter_line, after_begin, after_call_return, after_reflected_interrupt, after_service, goes_on_with, after_int31, after_protected_call, after_protected_pop, after_protected_vector, after_protected_delivery, after_exception_return, after_callback, after_callback_return, after_exception, after_exception_in_mode, after_interrupt, after_step, after_next_instruction, after_trap, work, with_turn_counted, after_outcome, turn}
 
 -- what the work of a turn makes of both
 pub record Grows (h : HostWorld) (o : Outcome) : Type 0 where
@@ -61,34 +61,34 @@ with_machine_grows h r = machine_grows h h r (left.extends_itself h.console) ref
 
 -- ---- the default vectors of real mode
 
-by_done : (h after : HostWorld) (r : CallResult) (d : DosDone) → left.Leaves (seen h) r → after.steps ≡ h.steps →
+by_done : (h after : HostWorld) (r : CallResult) (d : DosDone) → left.Leaves (dos_call_state h) r → after.steps ≡ h.steps →
     Grows h (elim d [
-      | done.Served ↦ popped (record after { machine = r.world; keys = r.keys; console = r.console })
+      | done.Served ↦ after_frame_pop (record after { machine = r.world; keys = r.keys; console = r.console })
       | done.Ended exit ↦ ends (record after { keys = r.keys; console = r.console }) exit
     ])
 by_done h after r done.Served call steps =
-    machine_grows h (record after { machine = r.world; keys = r.keys; console = r.console }) (world_popped r.world) call.console steps
+    machine_grows h (record after { machine = r.world; keys = r.keys; console = r.console }) (world_after_iret r.world) call.console steps
 by_done h after r (done.Ended exit) call steps = record { console = call.console; steps = steps }
 
-dos_grows : (h : HostWorld) → Grows h (dos_served h)
+dos_grows : (h : HostWorld) → Grows h (after_dos_call h)
 dos_grows h =
-    let r = dos_call (seen h) in
-    by_done h (noted (lines.Int21 (high_byte h.machine.regs.eax)) h) r r.done (left.call_leaves (seen h)) refl
+    let r = dos_call (dos_call_state h) in
+    by_done h (with_trace_line (lines.Int21 (high_byte h.machine.regs.eax)) h) r r.done (left.call_leaves (dos_call_state h)) refl
 
-multiplex_grows : (h : HostWorld) → Grows h (multiplex_served h)
+multiplex_grows : (h : HostWorld) → Grows h (after_multiplex_call h)
 multiplex_grows h =
     let w = multiplex_call h.machine in
-    machine_grows h (record (noted (lines.Int2f (low_half h.machine.regs.eax)) h) { machine = w }) (world_popped w) (left.extends_itself h.console) refl
+    machine_grows h (record (with_trace_line (lines.Int2f (low_half h.machine.regs.eax)) h) { machine = w }) (world_after_iret w) (left.extends_itself h.console) refl
 
-vector_grows : (h : HostWorld) (n : ℕ) → Grows h (vector_served h n)
-unfolding vector_served
+vector_grows : (h : HostWorld) (n : ℕ) → Grows h (after_default_vector h n)
+unfolding after_default_vector
 vector_grows h n =
     if_grows h (ends_client n) _ _ (still h _ refl refl)
     (if_grows h (nat_eq n 0x20) _ _ (still h _ refl refl)
     (if_grows h (nat_eq n 0x21) _ _ (dos_grows h)
-    (if_grows h (nat_eq n 0x2F) _ _ (multiplex_grows h) (with_machine_grows h (world_popped h.machine)))))
+    (if_grows h (nat_eq n 0x2F) _ _ (multiplex_grows h) (with_machine_grows h (world_after_iret h.machine)))))
 
-reached_grows : (h : HostWorld) (n : ℕ) (r : Result World Exit) → Grows h (elim r [ Ok w ↦ vector_served h n | Err exit ↦ ends h exit ])
+reached_grows : (h : HostWorld) (n : ℕ) (r : Result World Exit) → Grows h (elim r [ Ok w ↦ after_default_vector h n | Err exit ↦ ends h exit ])
 reached_grows h n (Ok w) = vector_grows h n
 reached_grows h n (Err exit) = still h _ refl refl
 
@@ -109,7 +109,7 @@ entry_trap_grows h = entry_grows h (entry h.machine)
 -- ---- the default vectors of protected mode
 
 begun_grows : (h : HostWorld) (ax : ℕ) (w : World) (call : Call) (s : Served) (c : Carry) →
-    Grows h (if is_set c then after_service h ax s else goes_on_with (noted (lines.Int31 ax Clear) h) (call_enter_line w call s.world) s.world)
+    Grows h (if is_set c then after_service h ax s else goes_on_with (with_trace_line (lines.Int31 ax Clear) h) (call_enter_line w call s.world) s.world)
 begun_grows h ax w call s Clear = still h _ refl refl
 begun_grows h ax w call s Set = still h _ refl refl
 
@@ -121,7 +121,7 @@ int31_by h w ax None = still h _ refl refl
 int31_grows : (h : HostWorld) (w : World) → Grows h (after_int31 h w)
 int31_grows h w = int31_by h w (low_half w.regs.eax) (asked_call (low_half w.regs.eax) w)
 
-pub reflection_grows : (h : HostWorld) (n : ℕ) (w : World) (r : Result World Exit) → Grows h (after_reflection h n w r)
+pub reflection_grows : (h : HostWorld) (n : ℕ) (w : World) (r : Result World Exit) → Grows h (after_reflected_interrupt h n w r)
 reflection_grows h n w (Ok v) = still h _ refl refl
 reflection_grows h n w (Err exit) = still h _ refl refl
 
@@ -135,7 +135,7 @@ protected_grows h n (Err exit) = still h _ refl refl
 
 protected_vector_grows : (h : HostWorld) (n : ℕ) → Grows h (after_protected_vector h n)
 unfolding after_protected_vector
-protected_vector_grows h n = protected_grows h n (world_popped h.machine)
+protected_vector_grows h n = protected_grows h n (world_after_iret h.machine)
 
 -- ---- returns, callbacks and exceptions
 
@@ -161,11 +161,11 @@ exception_return_grows h (Err exit) = still h _ refl refl
 
 -- ---- client instructions
 
-delivered_by : (mode : Mode) (h : HostWorld) (f : Fault) → Grows h (delivered_in mode h f)
+delivered_by : (mode : Mode) (h : HostWorld) (f : Fault) → Grows h (after_exception_in_mode mode h f)
 delivered_by Real h f = with_machine_grows h (world_delivery h.machine f)
 delivered_by Protected h f = delivery_grows h f.number (world_protected_delivery h.machine f)
 
-pub delivered_grows : (h : HostWorld) (f : Fault) → Grows h (delivered h f)
+pub delivered_grows : (h : HostWorld) (f : Fault) → Grows h (after_exception h f)
 delivered_grows h f = delivered_by h.machine.mode h f
 
 pub interrupt_grows : (h : HostWorld) (r : Result World Fault) → Grows h (after_interrupt h r)
@@ -177,16 +177,16 @@ step_grows h (Ok w) = still h _ refl refl
 step_grows h (Err (events.Fault f)) = delivered_grows h f
 step_grows h (Err (events.Soft number len)) = interrupt_grows h (world_interrupt h.machine number len)
 
-stepped_grows : (h : HostWorld) → Grows h (stepped h)
-unfolding stepped
+stepped_grows : (h : HostWorld) → Grows h (after_next_instruction h)
+unfolding after_next_instruction
 stepped_grows h = step_grows h (world_step h.machine)
 
 -- ---- turns
 
-trapped_grows : (h : HostWorld) (t : Trap) → Grows h (trapped h t)
-trapped_grows h (RealVector n) = reached_grows h n (world_popped h.machine)
+trapped_grows : (h : HostWorld) (t : Trap) → Grows h (after_trap h t)
+trapped_grows h (RealVector n) = reached_grows h n (world_after_iret h.machine)
 trapped_grows h Entry = entry_trap_grows h
-trapped_grows h ToProtected = switch_grows h (switched_to_protected h.machine)
+trapped_grows h ToProtected = switch_grows h (world_after_switch_to_protected h.machine)
 trapped_grows h RealState = with_machine_grows h (world_after_far_return h.machine)
 trapped_grows h CallReturn = call_return_grows h (end_call h.machine)
 trapped_grows h (Callback slot) = callback_grows h slot (enter_callback h.machine slot)
@@ -209,7 +209,7 @@ record TurnGrows (w after : HostWorld) (o : Option Exit) : Type 0 where
   most : after.steps ≤ w.steps + 1
 
 by_exit : (w : HostWorld) (o : Option Exit) →
-    TurnGrows w (elim o as (λ _. HostWorld) [ Some _ ↦ w | None ↦ settled (work (with_turn_counted w)) ]) o
+    TurnGrows w (elim o as (λ _. HostWorld) [ Some _ ↦ w | None ↦ after_outcome (work (with_turn_counted w)) ]) o
 by_exit w None =
     let g = work_grows (with_turn_counted w) in
     record { console = g.console; counted = λ _. g.steps; most = omega (arith, g.steps) }

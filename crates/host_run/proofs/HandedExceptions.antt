@@ -11,15 +11,15 @@ use Rattle.client_world.specs.Registers.{low_half}
 use Rattle.client_world.specs.Soundness.{IsSound}
 use Rattle.client_world.specs.World.{World}
 use Rattle.exec_flow.specs.Interrupts.{frame_bits}
-use Rattle.interrupts.specs.Worlds.{bare}
+use Rattle.interrupts.specs.Worlds.{view_without_bytes}
 use Rattle.interrupts.proofs.SoundAnswers.{holds_of_world}
 use Rattle.host_memory.specs.View.{MachineView}
 use Rattle.insn_plan.specs.Act.{Act, Input, Pending, Read, unless_fault, value_of}
-use Rattle.insn_plan.specs.Plan.{after_commit, carried_out, planned, with_state}
+use Rattle.insn_plan.specs.Plan.{after_commit, after_plan, plan_result, with_state}
 use Rattle.insn_plan.specs.Stack.{stack_item}
 use Rattle.mode_stack.specs.Stack.{after_pop, top}
 use Rattle.fault_service.specs.Delivery.{protected_delivery}
-use Rattle.fault_service.specs.Return.{exception_left, exception_popped, exception_return, is_exception, returned_or_bad}
+use Rattle.fault_service.specs.Return.{pending_of_exception_frame, exception_frame_pop, exception_return, is_exception, result_of_exception_pop}
 use Rattle.fault_service.specs.Worlds.{world_exception_return, world_protected_delivery}
 use Rattle.fault_service.proofs.Plans.{settled_is}
 use Rattle.fault_service.proofs.RoundTrip.{frame_law}
@@ -30,13 +30,13 @@ use Rattle.host_run.specs.Exceptions.{HasDelivered, HasResumed}
 pub has_delivered : (w v : World) (f : Fault) → IsSound w → w.mode ≡ Protected → world_protected_delivery w f ≡ Ok v → HasDelivered w f v
 unfolding world_protected_delivery
 has_delivered w v f s mode e =
-    holds_of_world (λ (x : World). HasDelivered w f x) (protected_delivery (bare w) f) v (λ u is. frame_law (bare w) u f s mode is) e
+    holds_of_world (λ (x : World). HasDelivered w f x) (protected_delivery (view_without_bytes w) f) v (λ u is. frame_law (view_without_bytes w) u f s mode is) e
 
 -- ---- a return
 
 -- an act leaves that. A record, so that the act is found from what is said of it
 record ActLeaves (w : World) (act : Act) (p : Pending) : Type 0 where
-  is : planned w act ≡ Ok p
+  is : plan_result w act ≡ Ok p
 
 -- what it reads first, and then
 record ReadsFirst (w : World) (input : Input) (rest : ℕ → Act) (p : Pending) : Type 0 where
@@ -45,7 +45,7 @@ record ReadsFirst (w : World) (input : Input) (rest : ℕ → Act) (p : Pending)
   next : ActLeaves w (rest value) p
 
 reads_by : (w : World) (input : Input) (rest : ℕ → Act) (p : Pending) (r : Result ℕ Event) → value_of w input ≡ r →
-    elim r as (λ _. Result Pending Event) [ Ok v ↦ planned w (rest v) | Err e ↦ Err e ] ≡ Ok p → ReadsFirst w input rest p
+    elim r as (λ _. Result Pending Event) [ Ok v ↦ plan_result w (rest v) | Err e ↦ Err e ] ≡ Ok p → ReadsFirst w input rest p
 reads_by w input rest p (Ok v) is e = record { value = v; read = is; next = record { is = e } }
 reads_by w input rest p (Err g) is e = absurd cc
 
@@ -68,10 +68,10 @@ record TakesItems (w : World) (bits : ℕ) (p : Pending) : Type 0 where
   image_left : value_of w (stack_item w bits 3) ≡ Ok image
   sp_left : value_of w (stack_item w bits 4) ≡ Ok sp
   ss_left : value_of w (stack_item w bits 5) ≡ Ok ss
-  is : p ≡ exception_left w ip (low_half cs) (low_half image) sp (low_half ss)
+  is : p ≡ pending_of_exception_frame w ip (low_half cs) (low_half image) sp (low_half ss)
 
-takes_items : (w : World) (bits : ℕ) (p : Pending) → ActLeaves w (exception_popped w bits) p → TakesItems w bits p
-unfolding exception_popped
+takes_items : (w : World) (bits : ℕ) (p : Pending) → ActLeaves w (exception_frame_pop w bits) p → TakesItems w bits p
+unfolding exception_frame_pop
 takes_items w bits p e =
     let code = reads_first w (stack_item w bits 0) _ p e in
     let ip = reads_first w (stack_item w bits 1) _ p code.next in
@@ -95,11 +95,11 @@ takes_items w bits p e =
       is = (let same = loads.is in cc);
     }
 
-resumed_by : (v u : MachineView) (p : Pending) → TakesItems v.world (frame_bits v.world) p → returned_or_bad (after_commit v p) ≡ Ok u →
+resumed_by : (v u : MachineView) (p : Pending) → TakesItems v.world (frame_bits v.world) p → result_of_exception_pop (after_commit v p) ≡ Ok u →
     HasResumed v.world u.world
 resumed_by v u p t e =
     let none : p.writes ≡ [] = ap (λ (x : Pending). x.writes) t.is in
-    let is : Ok (after_pop (with_state p.regs p.vif v)) ≡ Ok u = ap returned_or_bad (sym (settled_is v p none)) ∙ e in
+    let is : Ok (after_pop (with_state p.regs p.vif v)) ≡ Ok u = ap result_of_exception_pop (sym (settled_is v p none)) ∙ e in
     let same : after_pop (with_state p.regs p.vif v) ≡ u = cc in
     record {
       ip = t.ip;
@@ -116,16 +116,16 @@ resumed_by v u p t e =
       vif = ap (λ (x : MachineView). x.world.vif) (sym same) ∙ ap (λ (x : Pending). x.vif) t.is;
     }
 
-resumed_of : (v u : MachineView) (r : Result Pending Event) → planned v.world (exception_popped v.world (frame_bits v.world)) ≡ r →
-    returned_or_bad (carried_out v r) ≡ Ok u → HasResumed v.world u.world
-unfolding carried_out
+resumed_of : (v u : MachineView) (r : Result Pending Event) → plan_result v.world (exception_frame_pop v.world (frame_bits v.world)) ≡ r →
+    result_of_exception_pop (after_plan v r) ≡ Ok u → HasResumed v.world u.world
+unfolding after_plan
 resumed_of v u (Ok p) is e = resumed_by v u p (takes_items v.world (frame_bits v.world) p (record { is = is })) e
 resumed_of v u (Err g) is e = absurd cc
 
 resumed_where : (exception : Bool) (v u : MachineView) →
-    (if exception then returned_or_bad (carried_out v (planned v.world (exception_popped v.world (frame_bits v.world)))) else Err exits.Stray) ≡ Ok u →
+    (if exception then result_of_exception_pop (after_plan v (plan_result v.world (exception_frame_pop v.world (frame_bits v.world)))) else Err exits.Stray) ≡ Ok u →
     HasResumed v.world u.world
-resumed_where true v u e = resumed_of v u (planned v.world (exception_popped v.world (frame_bits v.world))) refl e
+resumed_where true v u e = resumed_of v u (plan_result v.world (exception_frame_pop v.world (frame_bits v.world))) refl e
 resumed_where false v u e = absurd cc
 
 machine_resumed : (v u : MachineView) → exception_return v ≡ Ok u → HasResumed v.world u.world
@@ -135,4 +135,4 @@ machine_resumed v u e = resumed_where (is_exception (top v.world)) v u e
 pub has_resumed : (w v : World) → world_exception_return w ≡ Ok v → HasResumed w v
 unfolding world_exception_return
 has_resumed w v e =
-    holds_of_world (λ (x : World). HasResumed w x) (exception_return (bare w)) v (λ u is. machine_resumed (bare w) u is) e
+    holds_of_world (λ (x : World). HasResumed w x) (exception_return (view_without_bytes w)) v (λ u is. machine_resumed (view_without_bytes w) u is) e

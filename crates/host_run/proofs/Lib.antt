@@ -13,6 +13,7 @@ mod Runs
 mod Services
 mod Touches
 mod TrapBytes
+pub mod WindowStarts
 pub mod OtherTurns
 pub mod Sound
 pub mod TurnLaws

@@ -13,17 +13,17 @@ use Rattle.client_world.specs.Registers.{low_half}
 use Rattle.client_world.specs.Soundness.{IsSound, IsSoundHost}
 use Rattle.client_world.specs.World.{World, HostWorld}
 use Rattle.client_world.proofs.SoundWrites.{IsSound-vif}
-use Rattle.interrupts.specs.Worlds.{world_delivery, world_interrupt, world_popped}
+use Rattle.interrupts.specs.Worlds.{world_delivery, world_interrupt, world_after_iret}
 use Rattle.interrupts.proofs.KeptWorlds.{kept_world_interrupt, kept_world_popped}
 use Rattle.interrupts.proofs.SoundAnswers.{sound_world_interrupt, sound_world_popped}
 use Rattle.fault_service.specs.Worlds.{world_protected_delivery}
 use Rattle.translation.specs.SimulatedCall.{reflect}
 use Rattle.host_run.specs.Keys.{HasKeys}
 use Rattle.host_run.specs.Nested.{Stacked, kept}
-use Rattle.host_run.specs.OtherTurns.{IsOneQuietTurn, after_answer, with_answer, exception_turn, int31_turn, interrupt_turn, interrupted_in, is_hosts_vector, with_interrupts_off}
+use Rattle.host_run.specs.OtherTurns.{IsOneQuietTurn, after_answer, with_answer, exception_turn, int31_turn, interrupt_turn, after_interrupt_in_mode, is_hosts_vector, with_interrupts_off}
 use Rattle.host_run.specs.RealCalls.{InterruptSource, from_anywhere, from_client}
-use Rattle.host_run.specs.Run.{bounded}
-use Rattle.host_run.specs.Turn.{Outcome, after_interrupt, after_protected_delivery, after_reflection, delivered_in, settled, turn, with_machine, with_turn_counted}
+use Rattle.host_run.specs.Run.{with_bound_exit}
+use Rattle.host_run.specs.Turn.{Outcome, after_interrupt, after_protected_delivery, after_reflected_interrupt, after_exception_in_mode, after_outcome, turn, with_machine, with_turn_counted}
 use Rattle.host_run.proofs.Nested.{anywhere}
 use Rattle.host_run.proofs.TurnLaws.{IsNext, IsReached, KeepsTurn, TurnKeeps, answer_next, counted_reached, delivered_keeps, interrupted_keeps, reflection_by, same_machine, service_keeps, settled_keeps, stops_same, turn_keeps, with_regs_sound}
 
@@ -60,7 +60,7 @@ delivery_quiet : (h : HostWorld) (number : ℕ) (r : Result World Exit) → IsQu
 delivery_quiet h number (Ok w) = quiet_on h _ refl refl refl refl
 delivery_quiet h number (Err exit) = quiet_end h _ refl
 
-delivered_quiet : (mode : Mode) (h : HostWorld) (f : Fault) → IsQuiet h (delivered_in mode h f)
+delivered_quiet : (mode : Mode) (h : HostWorld) (f : Fault) → IsQuiet h (after_exception_in_mode mode h f)
 delivered_quiet Real h f = machine_quiet h (world_delivery h.machine f)
 delivered_quiet Protected h f = delivery_quiet h f.number (world_protected_delivery h.machine f)
 
@@ -68,7 +68,7 @@ pushes_quiet : (h : HostWorld) (r : Result World Fault) → IsQuiet h (after_int
 pushes_quiet h (Ok w) = quiet_on h _ refl refl refl refl
 pushes_quiet h (Err f) = delivered_quiet h.machine.mode h f
 
-reflection_quiet : (h : HostWorld) (n : ℕ) (w : World) (r : Result World Exit) → IsQuiet h (after_reflection h n w r)
+reflection_quiet : (h : HostWorld) (n : ℕ) (w : World) (r : Result World Exit) → IsQuiet h (after_reflected_interrupt h n w r)
 reflection_quiet h n w (Ok v) = quiet_on h _ refl refl refl refl
 reflection_quiet h n w (Err exit) = quiet_end h _ refl
 
@@ -76,7 +76,7 @@ by_vector : (h : HostWorld) (b : Bool) (x y : Outcome) → IsQuiet h x → IsQui
 by_vector h true x y p q = p
 by_vector h false x y p q = q
 
-interrupted_quiet : (mode : Mode) (h : HostWorld) (n : ℕ) → IsQuiet h (interrupted_in mode h n)
+interrupted_quiet : (mode : Mode) (h : HostWorld) (n : ℕ) → IsQuiet h (after_interrupt_in_mode mode h n)
 interrupted_quiet Real h n = pushes_quiet h (world_interrupt h.machine n 0)
 interrupted_quiet Protected h n =
     by_vector h (is_hosts_vector h.machine n) _ _ (reflection_quiet h n h.machine (reflect h.machine n))
@@ -86,12 +86,12 @@ answer_quiet : (h : HostWorld) (r : Regs) (carry : Carry) (p : Result World Exit
 answer_quiet h r carry (Ok w) = quiet_on h _ refl refl refl refl
 answer_quiet h r carry (Err exit) = quiet_end h _ refl
 
-one_turn : (w : HostWorld) (o : Outcome) → IsQuiet (with_turn_counted w) o → IsOneQuietTurn w (settled o)
+one_turn : (w : HostWorld) (o : Outcome) → IsQuiet (with_turn_counted w) o → IsOneQuietTurn w (after_outcome o)
 one_turn w o q = (q.keys, q.console, q.steps)
 
 pub int31_quiet : (w : HostWorld) (r : Regs) (carry : Carry) → IsOneQuietTurn w (int31_turn w r carry)
 unfolding int31_turn
-int31_quiet w r carry = one_turn w _ (answer_quiet (with_turn_counted w) r carry (world_popped w.machine))
+int31_quiet w r carry = one_turn w _ (answer_quiet (with_turn_counted w) r carry (world_after_iret w.machine))
 
 pub exception_quiet : (w : HostWorld) (f : Fault) → IsOneQuietTurn w (exception_turn w f)
 unfolding exception_turn
@@ -111,16 +111,16 @@ interrupt_exit w n ended = (interrupted_quiet w.machine.mode (with_turn_counted 
 
 -- ---- INT 31h
 
-answer_calls : (w : HostWorld) (r : Regs) (carry : Carry) (p : Result World Exit) → world_popped w.machine ≡ p →
-    Stacked from_client w (settled (after_answer (with_turn_counted w) r carry p))
+answer_calls : (w : HostWorld) (r : Regs) (carry : Carry) (p : Result World Exit) → world_after_iret w.machine ≡ p →
+    Stacked from_client w (after_outcome (after_answer (with_turn_counted w) r carry p))
 answer_calls w r carry (Ok u) is = kept (ap (λ (x : World). x.calls) (kept_world_popped w.machine u is))
 answer_calls w r carry (Err exit) is = kept refl
 
 pub int31_calls : (w : HostWorld) (r : Regs) (carry : Carry) → Stacked from_client w (int31_turn w r carry)
 unfolding int31_turn
-int31_calls w r carry = answer_calls w r carry (world_popped w.machine) refl
+int31_calls w r carry = answer_calls w r carry (world_after_iret w.machine) refl
 
-answer_keeps : (h : HostWorld) (r : Regs) (carry : Carry) (p : Result World Exit) → world_popped h.machine ≡ p → IsReached h →
+answer_keeps : (h : HostWorld) (r : Regs) (carry : Carry) (p : Result World Exit) → world_after_iret h.machine ≡ p → IsReached h →
     TurnKeeps from_client h (after_answer h r carry p)
 answer_keeps h r carry (Ok w) is s =
     let sound = sound_world_popped h.machine w s.machine is in
@@ -134,8 +134,8 @@ pub int31_keeps_turn : (w : HostWorld) (r : Regs) (carry : Carry) → IsReached 
 unfolding int31_turn
 int31_keeps_turn w r carry s =
     let h = with_turn_counted w in
-    settled_keeps from_client w _ (answer_keeps h r carry (world_popped w.machine) refl (counted_reached w s))
-    (answer_quiet h r carry (world_popped w.machine)).steps
+    settled_keeps from_client w _ (answer_keeps h r carry (world_after_iret w.machine) refl (counted_reached w s))
+    (answer_quiet h r carry (world_after_iret w.machine)).steps
 
 -- ---- an exception
 
@@ -166,7 +166,7 @@ either_keeps : (h : HostWorld) (b : Bool) (x y : Outcome) → TurnKeeps from_any
 either_keeps h true x y p q = p
 either_keeps h false x y p q = q
 
-interrupt_in_keeps : (mode : Mode) (h : HostWorld) (n : ℕ) → IsReached h → h.machine.mode ≡ mode → TurnKeeps from_anywhere h (interrupted_in mode h n)
+interrupt_in_keeps : (mode : Mode) (h : HostWorld) (n : ℕ) → IsReached h → h.machine.mode ≡ mode → TurnKeeps from_anywhere h (after_interrupt_in_mode mode h n)
 interrupt_in_keeps Real h n s is =
     anywhere_keeps h _ (interrupted_keeps h (world_interrupt h.machine n 0) s (interrupt_next h.machine n s.machine))
 interrupt_in_keeps Protected h n s is =
@@ -195,14 +195,14 @@ bounded_calls_by : (w : HostWorld) (o : Option Exit) → Stacked from_client w (
 bounded_calls_by w (Some exit) = kept refl
 bounded_calls_by w None = kept refl
 
-pub bounded_calls : (w : HostWorld) → Stacked from_client w (bounded w)
+pub bounded_calls : (w : HostWorld) → Stacked from_client w (with_bound_exit w)
 bounded_calls w = bounded_calls_by w w.exit
 
 bounded_sound_by : (w : HostWorld) (o : Option Exit) → IsSoundHost w → IsSoundHost (elim o [ Some _ ↦ w | None ↦ record w { exit = Some Bound } ])
 bounded_sound_by w (Some exit) s = s
 bounded_sound_by w None s = record { machine = s.machine; lines = s.lines }
 
-pub bounded_sound : (w : HostWorld) → IsSoundHost w → IsSoundHost (bounded w)
+pub bounded_sound : (w : HostWorld) → IsSoundHost w → IsSoundHost (with_bound_exit w)
 bounded_sound w s = bounded_sound_by w w.exit s
 
 -- ---- of hosts

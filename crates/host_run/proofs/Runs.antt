@@ -6,7 +6,7 @@ use Rattle.client_world.specs.declared.outcome.Exit.{Exit}
 use Rattle.client_world.specs.World.{HostWorld}
 use Rattle.host_run.specs.Turn.{turn}
 use Rattle.host_run.specs.View.{HostView}
-use Rattle.host_run.specs.Run.{turns, run, bounded}
+use Rattle.host_run.specs.Run.{turns, run, with_bound_exit}
 
 turn_stops : (w : HostWorld) (e : Exit) → w.exit ≡ Some e → turn w ≡ w
 unfolding turn
@@ -26,7 +26,7 @@ pub turns_more : (w : HostWorld) (i : ℕ) → turns w (i + 1) ≡ turn (turns w
 unfolding turns
 turns_more w i = rw add-one refl
 
-bounded_ended : (w : HostWorld) (e : Exit) → w.exit ≡ Some e → bounded w ≡ w
+bounded_ended : (w : HostWorld) (e : Exit) → w.exit ≡ Some e → with_bound_exit w ≡ w
 bounded_ended w e is = rw is refl
 
 -- a run that ends with turn i + 1 is over there
@@ -36,7 +36,7 @@ run_ended w new n i e is lt ends =
     let there : (turns w (i + 1)).exit ≡ Some e = sym (ap (λ (v : HostWorld). v.exit) is) ∙ ends in
     let past : turns w n ≡ turns w (i + 1) = turns_past w (i + 1) n e (omega arith) there in
     let same : turns w n ≡ new = past ∙ sym is in
-    sym (ap bounded same ∙ bounded_ended new e ends)
+    sym (ap with_bound_exit same ∙ bounded_ended new e ends)
 
 -- the exit that is there
 exit_of : (o : Option Exit) → IsSome o → (e : Exit) × (o ≡ Some e)
@@ -51,7 +51,7 @@ turns_stay w m n le is = let ended = exit_of ((turns w m).exit) is in turns_past
 pub run_stays : (w : HostWorld) (m n : ℕ) → m ≤ n → IsSome (turns w m).exit → run w n ≡ turns w m
 run_stays w m n le is =
     let ended = exit_of ((turns w m).exit) is in
-    ap bounded (turns_stay w m n le is) ∙ bounded_ended (turns w m) ended.0 ended.1
+    ap with_bound_exit (turns_stay w m n le is) ∙ bounded_ended (turns w m) ended.0 ended.1
 
 -- ---- the whole host: what a turn keeps once there is an exit
 

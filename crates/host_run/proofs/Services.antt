@@ -20,7 +20,7 @@ use Rattle.vector_services.specs.Rows.{vector_service}
 use Rattle.vector_services.proofs.KeptServices as vector_kept
 use Rattle.vector_services.proofs.SoundServices as vector_sound
 use Rattle.service_rows.specs.declared.refusal.Refusal.TheVariants.{Unsupported}
-use Rattle.service_rows.specs.Reasons.{refused}
+use Rattle.service_rows.specs.Reasons.{refusal_answer}
 use Rattle.service_rows.proofs.AnswerLaws.{sound_ax}
 use Rattle.host_run.specs.declared.families.Family.{Family}
 use Rattle.host_run.specs.declared.families.Family.TheVariants.{Descriptors, DosMemory, Vectors, Callbacks, Gates, Blocks}
@@ -29,7 +29,7 @@ use Rattle.host_run.specs.Families.{family_of, service, service_of}
 -- what holds of each family's service, and of the refusal of other numbers, holds of the one that is chosen
 of_family : (P : Served → Type 0) (o : Option Family) (ax : ℕ) (w : World) →
     P (descriptor_service ax w) → P (dos_service ax w) → P (vector_service ax w) → P (callback_service ax w) → P (gate_service ax w) →
-    P (block_service ax w) → P (refused Unsupported w) → P (service_of o ax w)
+    P (block_service ax w) → P (refusal_answer Unsupported w) → P (service_of o ax w)
 of_family P (Some Descriptors) ax w descriptors dos vectors callbacks gates blocks none = descriptors
 of_family P (Some DosMemory) ax w descriptors dos vectors callbacks gates blocks none = dos
 of_family P (Some Vectors) ax w descriptors dos vectors callbacks gates blocks none = vectors

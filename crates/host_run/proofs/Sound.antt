@@ -14,7 +14,7 @@ use Rattle.mz_loader.proofs.SoundStart.{sound_start}
 use Rattle.host_run.specs.Keys.{HasKeys}
 use Rattle.host_run.specs.Nested.{Stacked}
 use Rattle.host_run.specs.RealCalls.{from_client}
-use Rattle.host_run.specs.Start.{blank, started_host}
+use Rattle.host_run.specs.Start.{blank, host_at_start}
 use Rattle.host_run.specs.Run.{turns, run}
 use Rattle.host_run.specs.Turn.{turn}
 use Rattle.host_run.proofs.Runs.{turns_more}
@@ -95,5 +95,5 @@ pub blank_sound : (pages keep : ℕ) (keys : List ℕ) → IsSoundHost (blank pa
 blank_sound pages keep keys = record { machine = blank_is_sound pages; lines = omega arith }
 
 -- so is the world that a file starts, if the file is one of bytes and is taken
-pub started_sound : (pages keep : ℕ) (keys file : List ℕ) → AreBytes file → refusal file ≡ None → IsSoundHost (started_host pages keys keep file)
+pub started_sound : (pages keep : ℕ) (keys file : List ℕ) → AreBytes file → refusal file ≡ None → IsSoundHost (host_at_start pages keys keep file)
 started_sound pages keep keys file small none = record { machine = sound_start file pages small none; lines = omega arith }

@@ -10,9 +10,9 @@ use Rattle.client_world.specs.declared.place.Place.{Place}
 use Rattle.client_world.specs.Access.{IsHeld}
 use Rattle.client_world.specs.World.{World, HostWorld}
 use Rattle.cpu_step.specs.Step.{client_step}
-use Rattle.cpu_step.specs.Touched.{touched as step_touches}
+use Rattle.cpu_step.specs.Touched.{touched_by_step as step_touches}
 use Rattle.interrupts.specs.Delivery.{software_interrupt}
-use Rattle.interrupts.specs.Worlds.{bare, its_world, world_interrupt, world_step}
+use Rattle.interrupts.specs.Worlds.{view_without_bytes, world_of_result, world_interrupt, world_step}
 use Rattle.interrupts.proofs.SoundAnswers.{holds_of_world}
 use Rattle.host_memory.specs.View.{MachineView}
 use Rattle.fault_service.specs.StepMemory.{interrupt_places, written_places}
@@ -44,7 +44,7 @@ by_exit w (Some exit) none = absurd cc
 runs : (w : HostWorld) → w.exit ≡ None → current_trap w.machine ≡ NoTrap → touched_by_turn w ≡ step_touches w.machine
 runs w none free = by_exit w w.exit none ∙ ap (unless_trapped w.machine) free
 
-event_of : (E : Type 0) (r : Result MachineView E) (e : E) → its_world r ≡ Err e → r ≡ Err e
+event_of : (E : Type 0) (r : Result MachineView E) (e : E) → world_of_result r ≡ Err e → r ≡ Err e
 event_of E (Ok v) e is = absurd cc
 event_of E (Err f) e is = cc
 
@@ -58,7 +58,7 @@ unfolding world_step
 written_by_turn law w u none free is =
     let m = w.machine in
     subst (λ (places : List Place). AreIn places (written_places m)) (sym (runs w none free))
-    (holds_of_world (λ _. AreIn (step_touches m) (written_places m)) (client_step (bare m)) u (λ v. law (bare m) v) is)
+    (holds_of_world (λ _. AreIn (step_touches m) (written_places m)) (client_step (view_without_bytes m)) u (λ v. law (view_without_bytes m) v) is)
 
 pub pushed_by_turn : ((v u : MachineView) (number len : ℕ) → client_step v ≡ Err (Soft number len) → software_interrupt v number len ≡ Ok u →
     AreIn (step_touches v.world) (interrupt_places v.world len)) →
@@ -67,7 +67,7 @@ pub pushed_by_turn : ((v u : MachineView) (number len : ℕ) → client_step v �
 unfolding world_step world_interrupt
 pushed_by_turn law w u number len none free is made =
     let m = w.machine in
-    let event = event_of Event (client_step (bare m)) (Soft number len) is in
+    let event = event_of Event (client_step (view_without_bytes m)) (Soft number len) is in
     subst (λ (places : List Place). AreIn places (interrupt_places m len)) (sym (runs w none free))
-    (holds_of_world (λ _. AreIn (step_touches m) (interrupt_places m len)) (software_interrupt (bare m) number len) u
-    (λ v. law (bare m) v number len event) made)
+    (holds_of_world (λ _. AreIn (step_touches m) (interrupt_places m len)) (software_interrupt (view_without_bytes m) number len) u
+    (λ v. law (view_without_bytes m) v number len event) made)

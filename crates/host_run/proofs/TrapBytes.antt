@@ -16,11 +16,11 @@ use Rattle.client_world.specs.Descriptor.{is_code, is_inside}
 use Rattle.client_world.specs.Selector.{Row, is_null, row_of_selector}
 use Rattle.client_world.specs.Soundness.{IsSound}
 use Rattle.client_world.specs.World.{World}
-use Rattle.cpu_step.specs.Step.{client_row, client_step, executed, has_big_code, step_of}
+use Rattle.cpu_step.specs.Step.{client_row, client_step, after_instruction, has_big_code, step_of}
 use Rattle.exec_core.specs.Dispatch.{is_core}
 use Rattle.exec_flow.specs.Dispatch.{flow_row}
 use Rattle.exec_flow.specs.Raising.{privileged}
-use Rattle.interrupts.specs.Worlds.{bare, its_world, world_step}
+use Rattle.interrupts.specs.Worlds.{view_without_bytes, world_of_result, world_step}
 use Rattle.guest_space.specs.Code.{code_byte, code_from, one_byte}
 use Rattle.guest_space.specs.SegmentRows.{base_of_row, first_byte}
 use Rattle.guest_space.specs.Transfer.{bytes_at, linear_access}
@@ -36,7 +36,7 @@ use Rattle.insn_forms.specs.Grammar.{Encoding, Pieces, addressing_of, head_of, i
 use Rattle.insn_forms.specs.OpcodeMap.{map_one_e0, opcode_row, row_one}
 use Rattle.insn_forms.specs.Operands.{insn_of, is_row}
 use Rattle.insn_forms.specs.Prefixes.{prefixes_of}
-use Rattle.insn_plan.specs.Plan.{carried_out}
+use Rattle.insn_plan.specs.Plan.{after_plan}
 use Rattle.host_run.specs.declared.traps.Trap.TheVariants.{NoTrap}
 use Rattle.host_run.specs.Traps.{address_in, code_address, code_linear, current_trap, trap_where}
 use Rattle.host_run.proofs.NoTraps.{none_at}
@@ -81,8 +81,8 @@ hlt_encoding false = record {
 hlt_decoded : (big : Bool) (rest : List ℕ) → decoded big (ROM_BYTE ∷ rest) ≡ Whole (hlt big) 1
 hlt_decoded big rest = decoded_only big (hlt big) (ROM_BYTE ∷ []) rest (ROM_BYTE ∷ rest) refl (hlt_encoding big)
 
-hlt_executed : (v : MachineView) (big : Bool) → executed v (hlt big) 1 ≡ Err (fault (fault_with GENERAL_PROTECTION 0))
-unfolding executed client_row is_core flow_row privileged carried_out hlt_pieces prefixes_of opcode_row row_one map_one_e0 insn_of
+hlt_executed : (v : MachineView) (big : Bool) → after_instruction v (hlt big) 1 ≡ Err (fault (fault_with GENERAL_PROTECTION 0))
+unfolding after_instruction client_row is_core flow_row privileged after_plan hlt_pieces prefixes_of opcode_row row_one map_one_e0 insn_of
 hlt_executed v big = refl
 
 pub hlt_faults : (v : MachineView) → code_byte v.world 0 ≡ Ok ROM_BYTE → client_step v ≡ Err (fault (fault_with GENERAL_PROTECTION 0))
@@ -183,4 +183,4 @@ no_instruction_runs w sound trapped =
     let f = fetched w trapped in
     let here = byte_there w f.0 (segment_base w.mode w.regs w.descriptors Cs w.regs.eip 1 false) refl f.1.fetched f.1.to in
     let same : f.0 ≡ ROM_BYTE = sym here ∙ rom_there w (code_address w) sound f.1.from f.1.to in
-    ap its_world (hlt_faults (bare w) (f.1.fetched ∙ ap (λ (byte : ℕ). Ok byte) same))
+    ap world_of_result (hlt_faults (view_without_bytes w) (f.1.fetched ∙ ap (λ (byte : ℕ). Ok byte) same))

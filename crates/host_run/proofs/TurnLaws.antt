@@ -35,7 +35,7 @@ use Rattle.dos_calls.specs.Calls.{CallResult, dos_call}
 use Rattle.dos_calls.specs.Multiplex.{multiplex_call}
 use Rattle.dos_calls.proofs.LeftCalls as left
 use Rattle.dos_calls.proofs.SoundCalls.{IsGood, call_keeps, multiplex_keeps}
-use Rattle.interrupts.specs.Worlds.{world_step, world_interrupt, world_delivery, world_popped}
+use Rattle.interrupts.specs.Worlds.{world_step, world_interrupt, world_delivery, world_after_iret}
 use Rattle.interrupts.proofs.KeptWorlds.{kept_world_delivery, kept_world_interrupt, kept_world_popped, kept_world_step}
 use Rattle.interrupts.proofs.RealFrameLaws.{popped_where_it_fits}
 use Rattle.interrupts.proofs.SoundAnswers.{sound_world_delivery, sound_world_interrupt, sound_world_popped, sound_world_step}
@@ -43,7 +43,7 @@ use Rattle.guest_ram.specs.Bytes.{AreBytes}
 use Rattle.mode_gates.specs.Entry.{entry, with_carry}
 use Rattle.mode_gates.proofs.FarStates.{kept_entry, kept_far}
 use Rattle.mode_gates.specs.FarFrames.{world_after_far_return}
-use Rattle.mode_gates.specs.Switches.{switched_to_protected, switched_to_real}
+use Rattle.mode_gates.specs.Switches.{world_after_switch_to_protected, world_after_switch_to_real}
 use Rattle.mode_gates.proofs.SoundGates.{sound_entry, sound_world_far}
 use Rattle.mode_gates.proofs.SwitchLaws.{sound_to_protected, sound_to_real, to_protected_switches, to_real_switches}
 use Rattle.mode_stack.specs.Stack.{top}
@@ -63,7 +63,7 @@ use Rattle.host_run.specs.Nested.{PushesRecord, PopsRecord, Stacked, kept, poppe
 use Rattle.host_run.specs.RealCalls.{InterruptSource, ReflectedFrom, StartsCall, StartsRealCall, from_client}
 use Rattle.host_run.specs.Families.{service}
 use Rattle.host_run.specs.Traps.{current_trap}
-use Rattle.host_run.specs.Turn.{Outcome, goes_on, ends, with_machine, noted, popped, seen, dos_served, multiplex_served, ends_client, vector_served, entry_line, after_entry, after_entry_trap, after_switch_to_protected, is_exit_call, is_presence_call, asked_call, call_enter_line, call_leave_line, call_of_record, after_begin, after_call_return, after_reflection, after_service, goes_on_with, after_presence_call, after_int31, after_protected_call, after_protected_pop, after_protected_vector, enter_line, after_protected_delivery, exception_number, leave_line, after_exception_return, after_callback, callback_slot, after_callback_return, delivered_in, after_interrupt, after_step, stepped, trapped, work, with_turn_counted, settled, turn}
+use Rattle.host_run.specs.Turn.{Outcome, goes_on, ends, with_machine, with_trace_line, after_frame_pop, dos_call_state, after_dos_call, after_multiplex_call, ends_client, after_default_vector, entry_line, after_entry, after_entry_trap, after_switch_to_protected, is_exit_call, is_presence_call, asked_call, call_enter_line, call_leave_line, call_of_record, after_begin, after_call_return, after_reflected_interrupt, after_service, goes_on_with, after_presence_call, after_int31, after_protected_call, after_protected_pop, after_protected_vector, enter_line, after_protected_delivery, exception_number, leave_line, after_exception_return, after_callback, callback_slot, after_callback_return, after_exception_in_mode, after_interrupt, after_step, after_next_instruction, after_trap, work, with_turn_counted, after_outcome, turn}
 use Rattle.host_run.proofs.AskedCalls.{plain_call}
 use Rattle.host_run.proofs.Frames.{still_popped}
 use Rattle.host_run.proofs.Growth.{work_grows}
@@ -127,13 +127,13 @@ pub stops_same : {source : InterruptSource} (h : HostWorld) (exit : Exit) → Is
 stops_same h exit s =
     stops h h exit s s.keys (omega arith) (record { machine = refl; outside = λ _. (refl, refl) })
 
-stops_noted : (h : HostWorld) (line : TraceLine) (exit : Exit) → IsReached h → TurnKeeps from_client h (ends (noted line h) exit)
+stops_noted : (h : HostWorld) (line : TraceLine) (exit : Exit) → IsReached h → TurnKeeps from_client h (ends (with_trace_line line h) exit)
 stops_noted h line exit s =
-    stops h (noted line h) exit s s.keys (omega arith) (record { machine = refl; outside = λ _. (refl, refl) })
+    stops h (with_trace_line line h) exit s s.keys (omega arith) (record { machine = refl; outside = λ _. (refl, refl) })
 
 told_keeps : (h : HostWorld) (line : TraceLine) (w : World) → IsReached h → IsNext h.machine w → TurnKeeps from_client h (goes_on_with h line w)
 told_keeps h line w s next =
-    goes h (record (noted line h) { machine = w }) next s.keys (omega arith)
+    goes h (record (with_trace_line line h) { machine = w }) next s.keys (omega arith)
 
 machine_keeps : (h : HostWorld) (r : Result World Exit) → IsReached h → IfOk r (IsNext h.machine) → TurnKeeps from_client h (with_machine h r)
 machine_keeps h (Ok w) s next = goes_with h w s next
@@ -157,62 +157,62 @@ with_regs_sound w r s es cs ss ds fs gs = IsSound-regs w r s (
 -- ---- the default vectors of real mode, where the frame can be popped
 
 abbrev CanPop : HostWorld → Type 0
-CanPop h = is_ok (world_popped h.machine) ≡ true
+CanPop h = is_ok (world_after_iret h.machine) ≡ true
 
 popped_keeps : (h after : HostWorld) (r : Result World Exit) → is_ok r ≡ true → IfOk r (IsNext h.machine) → AreBytes after.keys →
     after.lines ≤ h.lines + 2 → TurnKeeps from_client h (with_machine after r)
 popped_keeps h after (Ok w) can next keys lines = goes h (record after { machine = w }) next keys lines
 popped_keeps h after (Err exit) can next keys lines = absurd cc
 
-next_popped : (w u : World) → IsNext w u → IfOk (world_popped u) (IsNext w)
-next_popped w u next = answer_next Exit w (world_popped u) (λ t e. record {
+next_popped : (w u : World) → IsNext w u → IfOk (world_after_iret u) (IsNext w)
+next_popped w u next = answer_next Exit w (world_after_iret u) (λ t e. record {
   sound = sound_world_popped u t next.sound e;
   calls = ap (λ (x : World). x.calls) (kept_world_popped u t e) ∙ next.calls;
 })
 
-by_done : (h after : HostWorld) (r : CallResult) (d : DosDone) → r.done ≡ d → IsReached h → IsGood h.console r → left.Leaves (seen h) r →
-    after.machine ≡ h.machine → after.lines ≤ h.lines + 2 → is_ok (world_popped r.world) ≡ true →
+by_done : (h after : HostWorld) (r : CallResult) (d : DosDone) → r.done ≡ d → IsReached h → IsGood h.console r → left.Leaves (dos_call_state h) r →
+    after.machine ≡ h.machine → after.lines ≤ h.lines + 2 → is_ok (world_after_iret r.world) ≡ true →
     TurnKeeps from_client h (elim d [
-      | done.Served ↦ popped (record after { machine = r.world; keys = r.keys; console = r.console })
+      | done.Served ↦ after_frame_pop (record after { machine = r.world; keys = r.keys; console = r.console })
       | done.Ended exit ↦ ends (record after { keys = r.keys; console = r.console }) exit
     ])
 by_done h after r done.Served is s good call machine lines can =
-    popped_keeps h (record after { machine = r.world; keys = r.keys; console = r.console }) (world_popped r.world) can
+    popped_keeps h (record after { machine = r.world; keys = r.keys; console = r.console }) (world_after_iret r.world) can
     (next_popped h.machine r.world (record { sound = good.world; calls = ap (λ (x : World). x.calls) call.rest }))
     good.keys lines
 by_done h after r (done.Ended exit) is s good call machine lines can =
     stops h (record after { keys = r.keys; console = r.console }) exit s good.keys lines
     (record { machine = machine; outside = call.outside exit is })
 
-dos_keeps : (h : HostWorld) → IsReached h → h.machine.mode ≡ Real → CanPop h → TurnKeeps from_client h (dos_served h)
+dos_keeps : (h : HostWorld) → IsReached h → h.machine.mode ≡ Real → CanPop h → TurnKeeps from_client h (after_dos_call h)
 dos_keeps h s real can =
-    let state = seen h in
+    let state = dos_call_state h in
     let r = dos_call state in
     let call = left.call_leaves state in
     let good = call_keeps state (record { world = s.machine; keys = s.keys }) in
-    by_done h (noted (lines.Int21 (high_byte h.machine.regs.eax)) h) r r.done refl s good call refl (omega arith)
+    by_done h (with_trace_line (lines.Int21 (high_byte h.machine.regs.eax)) h) r r.done refl s good call refl (omega arith)
     (still_popped popped_where_it_fits h.machine r.world s.machine good.world real (left.same_stack h.machine r.world call.rest) can)
 
-multiplex_keeps_turn : (h : HostWorld) → IsReached h → h.machine.mode ≡ Real → CanPop h → TurnKeeps from_client h (multiplex_served h)
+multiplex_keeps_turn : (h : HostWorld) → IsReached h → h.machine.mode ≡ Real → CanPop h → TurnKeeps from_client h (after_multiplex_call h)
 multiplex_keeps_turn h s real can =
     let w = multiplex_call h.machine in
     let sound = multiplex_keeps h.machine s.machine in
     let rest = left.multiplex_leaves h.machine in
-    popped_keeps h (record (noted (lines.Int2f (low_half h.machine.regs.eax)) h) { machine = w }) (world_popped w)
+    popped_keeps h (record (with_trace_line (lines.Int2f (low_half h.machine.regs.eax)) h) { machine = w }) (world_after_iret w)
     (still_popped popped_where_it_fits h.machine w s.machine sound real (left.same_stack h.machine w rest) can)
     (next_popped h.machine w (record { sound = sound; calls = ap (λ (x : World). x.calls) rest })) s.keys (omega arith)
 
-vector_keeps : (h : HostWorld) (n : ℕ) → IsReached h → h.machine.mode ≡ Real → CanPop h → TurnKeeps from_client h (vector_served h n)
-unfolding vector_served
+vector_keeps : (h : HostWorld) (n : ℕ) → IsReached h → h.machine.mode ≡ Real → CanPop h → TurnKeeps from_client h (after_default_vector h n)
+unfolding after_default_vector
 vector_keeps h n s real can =
     if_keeps h (ends_client n) _ _ (stops_same h (exits.Fault n 0) s)
     (if_keeps h (nat_eq n 0x20) _ _ (stops_noted h lines.Int20 (exits.Exited 0) s)
     (if_keeps h (nat_eq n 0x21) _ _ (dos_keeps h s real can)
     (if_keeps h (nat_eq n 0x2F) _ _ (multiplex_keeps_turn h s real can)
-    (machine_keeps h (world_popped h.machine) s (next_popped h.machine h.machine (same_machine h.machine s.machine))))))
+    (machine_keeps h (world_after_iret h.machine) s (next_popped h.machine h.machine (same_machine h.machine s.machine))))))
 
-reached_keeps : (h : HostWorld) (n : ℕ) (r : Result World Exit) → world_popped h.machine ≡ r → IsReached h → h.machine.mode ≡ Real →
-    TurnKeeps from_client h (elim r [ Ok w ↦ vector_served h n | Err exit ↦ ends h exit ])
+reached_keeps : (h : HostWorld) (n : ℕ) (r : Result World Exit) → world_after_iret h.machine ≡ r → IsReached h → h.machine.mode ≡ Real →
+    TurnKeeps from_client h (elim r [ Ok w ↦ after_default_vector h n | Err exit ↦ ends h exit ])
 reached_keeps h n (Ok w) is s real = vector_keeps h n s real (ap (λ (r : Result World Exit). is_ok r) is)
 reached_keeps h n (Err exit) is s real = stops_same h exit s
 
@@ -235,14 +235,14 @@ switch_by : (h : HostWorld) (r : Result World Exit) → IsReached h → ((w : Wo
 switch_by h (Ok w) s next = told_keeps h lines.ToProtected w s (next w refl)
 switch_by h (Err exit) s next = stops_same h exit s
 
-to_protected_keeps : (h : HostWorld) → IsReached h → TurnKeeps from_client h (after_switch_to_protected h (switched_to_protected h.machine))
-to_protected_keeps h s = switch_by h (switched_to_protected h.machine) s (λ w e. record {
+to_protected_keeps : (h : HostWorld) → IsReached h → TurnKeeps from_client h (after_switch_to_protected h (world_after_switch_to_protected h.machine))
+to_protected_keeps h s = switch_by h (world_after_switch_to_protected h.machine) s (λ w e. record {
   sound = sound_to_protected h.machine w s.machine e;
   calls = ap (λ (x : World). x.calls) (to_protected_switches h.machine w e);
 })
 
-to_real_keeps : (h : HostWorld) → IsReached h → h.machine.mode ≡ Protected → TurnKeeps from_client h (goes_on_with h lines.ToReal (switched_to_real h.machine))
-to_real_keeps h s mode = told_keeps h lines.ToReal (switched_to_real h.machine) s (record {
+to_real_keeps : (h : HostWorld) → IsReached h → h.machine.mode ≡ Protected → TurnKeeps from_client h (goes_on_with h lines.ToReal (world_after_switch_to_real h.machine))
+to_real_keeps h s mode = told_keeps h lines.ToReal (world_after_switch_to_real h.machine) s (record {
   sound = sound_to_real h.machine s.machine mode;
   calls = ap (λ (x : World). x.calls) (to_real_switches h.machine);
 })
@@ -287,7 +287,7 @@ pub record IsServed (source : InterruptSource) (h : HostWorld) (w : World) : Typ
   pub vif : w.vif ≡ h.machine.vif
   pub from : ReflectedFrom source h.machine w
 
-is_popped : (h : HostWorld) (w : World) → IsReached h → h.machine.mode ≡ Protected → world_popped h.machine ≡ Ok w → IsServed from_client h w
+is_popped : (h : HostWorld) (w : World) → IsReached h → h.machine.mode ≡ Protected → world_after_iret h.machine ≡ Ok w → IsServed from_client h w
 is_popped h w s mode pops =
     let same = kept_world_popped h.machine w pops in
     record {
@@ -316,7 +316,7 @@ same_served : (s : Served) → s.carry ≡ Clear → s ≡ served_with s.world C
 same_served s e = ap (served_with s.world) e
 
 starts_call : (h : HostWorld) (w : World) (call : Call) → IsAsked h w call → (begin_call w call).carry ≡ Clear →
-    Stacked from_client h (record (noted (call_enter_line w call (begin_call w call).world) (noted (lines.Int31 (low_half w.regs.eax) Clear) h))
+    Stacked from_client h (record (with_trace_line (call_enter_line w call (begin_call w call).world) (with_trace_line (lines.Int31 (low_half w.regs.eax) Clear) h))
     { machine = (begin_call w call).world })
 starts_call h w call a clear =
     let r : Record = Sim call w.regs w.vif (es_di w) in
@@ -335,7 +335,7 @@ starts_call h w call a clear =
 
 begun_by : (h : HostWorld) (w : World) (call : Call) (c : Carry) → (begin_call w call).carry ≡ c → IsReached h → IsAsked h w call →
     TurnKeeps from_client h (if is_set c then after_service h (low_half w.regs.eax) (begin_call w call)
-    else goes_on_with (noted (lines.Int31 (low_half w.regs.eax) Clear) h) (call_enter_line w call (begin_call w call).world) (begin_call w call).world)
+    else goes_on_with (with_trace_line (lines.Int31 (low_half w.regs.eax) Clear) h) (call_enter_line w call (begin_call w call).world) (begin_call w call).world)
 begun_by h w call Set e s a =
     let next : IsNext h.machine (begin_call w call).world = record {
       sound = sound_begin w call a.served.next.sound a.served.mode;
@@ -343,7 +343,7 @@ begun_by h w call Set e s a =
     } in
     service_keeps h (low_half w.regs.eax) (begin_call w call) s next
 begun_by h w call Clear e s a =
-    goes_changed h (record (noted (call_enter_line w call (begin_call w call).world) (noted (lines.Int31 (low_half w.regs.eax) Clear) h))
+    goes_changed h (record (with_trace_line (call_enter_line w call (begin_call w call).world) (with_trace_line (lines.Int31 (low_half w.regs.eax) Clear) h))
     { machine = (begin_call w call).world }) s (sound_begin w call a.served.next.sound a.served.mode) (starts_call h w call a e) refl (omega arith)
 
 int31_by : (h : HostWorld) (w : World) (o : Option Call) → asked_call (low_half w.regs.eax) w ≡ o → IsReached h → IsServed from_client h w →
@@ -369,15 +369,15 @@ presence_keeps h w s next =
     told_keeps h (lines.Int2f (low_half w.regs.eax)) (record w { regs = r }) s (next_regs h.machine w r next refl refl refl refl refl refl)
 
 pub reflection_by : (source : InterruptSource) (h : HostWorld) (n : ℕ) (w : World) (r : Result World Exit) → reflect w n ≡ r → IsReached h →
-    IsServed source h w → TurnKeeps source h (after_reflection h n w r)
+    IsServed source h w → TurnKeeps source h (after_reflected_interrupt h n w r)
 reflection_by source h n w (Ok v) is s c =
     let r : Record = Sim (Reflect n) w.regs w.vif null_pointer in
-    goes_changed h (record (noted (call_enter_line w (Reflect n) v) h) { machine = v }) s (sound_reflect w v n c.next.sound c.mode is)
+    goes_changed h (record (with_trace_line (call_enter_line w (Reflect n) v) h) { machine = v }) s (sound_reflect w v n c.next.sound c.mode is)
     (pushed r (reflect_pushes w v n is ∙ ap (λ (calls : List Record). calls ++ r ∷ []) c.next.calls)
     (record { client = w; from = c.from; mode = c.was; vif = c.vif; starts = is; keeps = refl; lines = (refl, refl) })) refl (omega arith)
 reflection_by source h n w (Err exit) is s c = stops_same h exit s
 
-protected_keeps : (h : HostWorld) (n : ℕ) (r : Result World Exit) → world_popped h.machine ≡ r → IsReached h → h.machine.mode ≡ Protected →
+protected_keeps : (h : HostWorld) (n : ℕ) (r : Result World Exit) → world_after_iret h.machine ≡ r → IsReached h → h.machine.mode ≡ Protected →
     TurnKeeps from_client h (after_protected_pop h n r)
 unfolding after_protected_call
 protected_keeps h n (Ok w) is s mode =
@@ -390,14 +390,14 @@ protected_keeps h n (Err exit) is s mode = stops_same h exit s
 
 protected_vector_keeps : (h : HostWorld) (n : ℕ) → IsReached h → h.machine.mode ≡ Protected → TurnKeeps from_client h (after_protected_vector h n)
 unfolding after_protected_vector
-protected_vector_keeps h n s protected = protected_keeps h n (world_popped h.machine) refl s protected
+protected_vector_keeps h n s protected = protected_keeps h n (world_after_iret h.machine) refl s protected
 
 -- ---- the return from a call of real mode
 
 returned_line : (h : HostWorld) (w : World) (call : Call) → IsReached h → IsSound w → end_call h.machine ≡ Ok w →
     (p : IsPopped h.machine w) → call ≡ p.call → TurnKeeps from_client h (goes_on_with h (call_leave_line h.machine call w) w)
 returned_line h w call s sound is p same =
-    rw same (goes_changed h (record (noted (call_leave_line h.machine p.call w) h) { machine = w }) s sound
+    rw same (goes_changed h (record (with_trace_line (call_leave_line h.machine p.call w) h) { machine = w }) s sound
     (left_one (Sim p.call p.saved p.on p.at) p.popped (record { returns = is; lines = (refl, refl) })) refl (omega arith))
 
 call_return_by : (h : HostWorld) (r : Result World Exit) → end_call h.machine ≡ r → IsReached h → TurnKeeps from_client h (after_call_return h r)
@@ -411,14 +411,14 @@ call_return_by h (Err exit) is s = stops_same h exit s
 delivery_by : (h : HostWorld) (f : Fault) (r : Result World Exit) → world_protected_delivery h.machine f ≡ r → IsReached h →
     h.machine.mode ≡ Protected → TurnKeeps from_client h (after_protected_delivery h f.number r)
 delivery_by h f (Ok w) is s mode =
-    goes_changed h (record (noted (enter_line h.machine (whats.Exc f.number)) h) { machine = w }) s (faults.sound_world_delivery h.machine w f s.machine mode is)
+    goes_changed h (record (with_trace_line (enter_line h.machine (whats.Exc f.number)) h) { machine = w }) s (faults.sound_world_delivery h.machine w f s.machine mode is)
     (pushed (Exc f.number f.code) (faults.pushed_record h.machine w f is) (mode, is, (refl, refl))) refl (omega arith)
 delivery_by h f (Err exit) is s mode = stops_same h exit s
 
 popped_line : (h : HostWorld) (w : World) (n : ℕ) → IsReached h → IsSound w → world_exception_return h.machine ≡ Ok w →
     (p : faults.Popped h.machine.calls w.calls) → n ≡ p.number → TurnKeeps from_client h (goes_on_with h (leave_line w (whats.Exc n)) w)
 popped_line h w n s sound is p same =
-    rw same (goes_changed h (record (noted (leave_line w (whats.Exc p.number)) h) { machine = w }) s sound
+    rw same (goes_changed h (record (with_trace_line (leave_line w (whats.Exc p.number)) h) { machine = w }) s sound
     (left_one (Exc p.number p.code) p.is (is, (refl, refl))) refl (omega arith))
 
 return_by : (h : HostWorld) (r : Result World Exit) → world_exception_return h.machine ≡ r → IsReached h →
@@ -434,14 +434,14 @@ callback_by : (h : HostWorld) (slot : ℕ) (r : Result World Exit) → enter_cal
     TurnKeeps from_client h (after_callback h slot r)
 callback_by h slot (Ok w) is s =
     let p = enter_pushes h.machine w slot is in
-    goes_changed h (record (noted (enter_line h.machine (whats.Back slot)) h) { machine = w }) s (sound_enter h.machine w slot s.machine is)
+    goes_changed h (record (with_trace_line (enter_line h.machine (whats.Back slot)) h) { machine = w }) s (sound_enter h.machine w slot s.machine is)
     (pushed (Back slot p.at) p.pushed (is, (refl, refl))) refl (omega arith)
 callback_by h slot (Err exit) is s = stops_same h exit s
 
 callback_line : (h : HostWorld) (w : World) (slot : ℕ) → IsReached h → IsSound w → leave_callback h.machine ≡ Ok w →
     (p : IsCallbackPopped h.machine w) → slot ≡ p.slot → TurnKeeps from_client h (goes_on_with h (leave_line w (whats.Back slot)) w)
 callback_line h w slot s sound is p same =
-    rw same (goes_changed h (record (noted (leave_line w (whats.Back p.slot)) h) { machine = w }) s sound
+    rw same (goes_changed h (record (with_trace_line (leave_line w (whats.Back p.slot)) h) { machine = w }) s sound
     (left_one (Back p.slot p.at) p.popped (is, (refl, refl))) refl (omega arith))
 
 callback_return_by : (h : HostWorld) (r : Result World Exit) → leave_callback h.machine ≡ r → IsReached h → TurnKeeps from_client h (after_callback_return h r)
@@ -453,7 +453,7 @@ callback_return_by h (Err exit) is s = stops_same h exit s
 
 -- ---- client instructions
 
-pub delivered_keeps : (m : Mode) (h : HostWorld) (f : Fault) → IsReached h → h.machine.mode ≡ m → TurnKeeps from_client h (delivered_in m h f)
+pub delivered_keeps : (m : Mode) (h : HostWorld) (f : Fault) → IsReached h → h.machine.mode ≡ m → TurnKeeps from_client h (after_exception_in_mode m h f)
 delivered_keeps Real h f s mode =
     let r = world_delivery h.machine f in
     machine_keeps h r s (answer_next Exit h.machine r (λ u e. record {
@@ -477,8 +477,8 @@ after_keeps h (Err (events.Soft number len)) s next =
       calls = ap (λ (x : World). x.calls) (kept_world_interrupt h.machine u number len e);
     }))
 
-stepped_keeps : (h : HostWorld) → IsReached h → TurnKeeps from_client h (stepped h)
-unfolding stepped
+stepped_keeps : (h : HostWorld) → IsReached h → TurnKeeps from_client h (after_next_instruction h)
+unfolding after_next_instruction
 stepped_keeps h s =
     let r = world_step h.machine in
     after_keeps h r s (answer_next Event h.machine r (λ u e. record {
@@ -488,8 +488,8 @@ stepped_keeps h s =
 
 -- ---- turns
 
-trapped_keeps : (h : HostWorld) (t : Trap) → IsReached h → Suits h.machine.mode t → TurnKeeps from_client h (trapped h t)
-trapped_keeps h (RealVector n) s suits = reached_keeps h n (world_popped h.machine) refl s suits
+trapped_keeps : (h : HostWorld) (t : Trap) → IsReached h → Suits h.machine.mode t → TurnKeeps from_client h (after_trap h t)
+trapped_keeps h (RealVector n) s suits = reached_keeps h n (world_after_iret h.machine) refl s suits
 trapped_keeps h Entry s suits = entry_keeps h s
 trapped_keeps h ToProtected s suits = to_protected_keeps h s
 trapped_keeps h RealState s suits = state_call_keeps h s
@@ -553,7 +553,7 @@ stacked_settled source w after e (pushed r is h) = pushed r is (pushes_settled s
 stacked_settled source w after e (left_one r is h) = left_one r is (pops_settled w after e r h)
 
 pub settled_keeps : (source : InterruptSource) (w : HostWorld) (o : Outcome) → TurnKeeps source (with_turn_counted w) o →
-    o.host.steps ≡ w.steps + 1 → KeepsTurn source w (settled o)
+    o.host.steps ≡ w.steps + 1 → KeepsTurn source w (after_outcome o)
 settled_keeps source w o k steps = record {
   reached = record { machine = k.sound; keys = k.keys };
   calls = stacked_settled source w o.host o.exit k.calls;
@@ -571,7 +571,7 @@ stays w exit is s = record {
 }
 
 keeps_by : (w : HostWorld) (o : Option Exit) → w.exit ≡ o → IsReached w →
-    KeepsTurn from_client w (elim o as (λ _. HostWorld) [ Some _ ↦ w | None ↦ settled (work (with_turn_counted w)) ])
+    KeepsTurn from_client w (elim o as (λ _. HostWorld) [ Some _ ↦ w | None ↦ after_outcome (work (with_turn_counted w)) ])
 keeps_by w None is s =
     let counted = with_turn_counted w in
     settled_keeps from_client w (work counted) (work_keeps counted (counted_reached w s)) (work_grows counted).steps

@@ -11,12 +11,12 @@ use Rattle.exec_flow.specs.Interrupts.{frame_bits}
 use Rattle.guest_space.specs.Transfer.{read_result}
 use Rattle.insn_plan.specs.Act.{value_of}
 use Rattle.insn_plan.specs.Stack.{stack_item}
-use Rattle.fault_service.specs.Delivery.{exception_frame, frame_size}
+use Rattle.fault_service.specs.Delivery.{exception_frame, exception_frame_size}
 use Rattle.fault_service.specs.Return.{frame_regs}
 
 -- from w an exception was delivered, which led to v: at SS:ESP of the handler its frame is read
 abbrev pub HasDelivered : World → Fault → World → Type 0
-HasDelivered w f v = read_result v Ss v.regs.esp (frame_size w) ≡ Ok (exception_frame w f)
+HasDelivered w f v = read_result v Ss v.regs.esp (exception_frame_size w) ≡ Ok (exception_frame w f)
 
 -- an item of the frame at SS:(E)SP where the handler has returned, counted from the error code
 abbrev pub item_left : World → ℕ → Result ℕ Event

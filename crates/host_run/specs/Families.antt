@@ -9,7 +9,7 @@ use Rattle.desc_services.specs.Rows.{descriptor_service}
 use Rattle.dos_blocks.specs.Services.{dos_service}
 use Rattle.mode_gates.specs.Switches.{gate_service}
 use Rattle.service_rows.specs.declared.refusal.Refusal.TheVariants.{Unsupported}
-use Rattle.service_rows.specs.Reasons.{refused}
+use Rattle.service_rows.specs.Reasons.{refusal_answer}
 use Rattle.vector_services.specs.Rows.{vector_service}
 use Rattle.host_run.specs.declared.families.Family.{Family}
 use Rattle.host_run.specs.declared.families.Family.TheVariants.{Descriptors, DosMemory, Vectors, Callbacks, Gates, Blocks}
@@ -37,7 +37,7 @@ service_of (Some Vectors) ax w = vector_service ax w
 service_of (Some Callbacks) ax w = callback_service ax w
 service_of (Some Gates) ax w = gate_service ax w
 service_of (Some Blocks) ax w = block_service ax w
-service_of None ax w = refused Unsupported w
+service_of None ax w = refusal_answer Unsupported w
 
 -- the carry that INT 31h returns, and the world after it
 unfoldable pub service : ℕ → World → Served

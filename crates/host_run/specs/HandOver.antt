@@ -17,7 +17,7 @@ use Rattle.client_world.specs.Segments.{null_pointer}
 use Rattle.client_world.specs.Services.{es_di}
 use Rattle.client_world.specs.World.{World, HostWorld}
 use Rattle.callbacks.specs.HandOver.{HasEntered, HasLeft}
-use Rattle.interrupts.specs.Worlds.{world_popped}
+use Rattle.interrupts.specs.Worlds.{world_after_iret}
 use Rattle.host_run.specs.Exceptions.{HasDelivered, HasResumed}
 use Rattle.host_run.specs.RealCalls.{HasMoreLines, InterruptSource, ReflectedFrom}
 use Rattle.host_run.specs.Turn.{call_enter_line, call_leave_line, enter_line, leave_line}
@@ -29,7 +29,7 @@ use Rattle.translation.specs.Structure.{structure_bytes}
 -- registers and virtual interrupt flag of then, and its structure of then the results
 pub record HandsOverCall (w v x y : HostWorld) (call : Call) : Type 0 where
   pub popped : World
-  pub pops : world_popped w.machine ≡ Ok popped
+  pub pops : world_after_iret w.machine ≡ Ok popped
   pub vif : popped.vif ≡ w.machine.vif
   pub begun : HasBegun popped v.machine call (structure_bytes popped (es_di popped))
   pub ended : HasEnded x.machine y.machine

@@ -1,3 +1,4 @@
+pub mod Ending
 pub mod Exceptions
 pub mod Families
 pub mod Footprint
@@ -12,3 +13,4 @@ pub mod Touched
 pub mod Traps
 pub mod Turn
 pub mod View
+pub mod Windows

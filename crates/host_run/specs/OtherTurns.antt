@@ -13,13 +13,13 @@ use Rattle.client_world.specs.declared.traps.TheConstants.{PROTECTED_VECTOR_TRAP
 use Rattle.client_world.specs.Registers.{low_half}
 use Rattle.client_world.specs.Services.{Served}
 use Rattle.client_world.specs.World.{World, HostWorld}
-use Rattle.interrupts.specs.Worlds.{world_interrupt, world_popped}
+use Rattle.interrupts.specs.Worlds.{world_interrupt, world_after_iret}
 use Rattle.guest_space.specs.VectorLists.{vector_at}
 use Rattle.host_memory.specs.Blank.{host_pointer}
 use Rattle.host_run.specs.declared.traps.Trap.{Trap}
 use Rattle.host_run.specs.declared.traps.Trap.TheVariants.{ProtectedVector}
 use Rattle.host_run.specs.Traps.{current_trap}
-use Rattle.host_run.specs.Turn.{Outcome, after_interrupt, after_reflection, after_service, delivered, ends, settled, with_turn_counted}
+use Rattle.host_run.specs.Turn.{Outcome, after_interrupt, after_reflected_interrupt, after_service, after_exception, ends, after_outcome, with_turn_counted}
 use Rattle.translation.specs.SimulatedCall.{reflect}
 
 -- the second host is one turn later, with the same keystrokes and the same console
@@ -35,7 +35,7 @@ is_int31 _ = false
 
 -- AX of the call of INT 31h at whose trap byte the machine is, where its frame can be popped
 abbrev pub int31_at : World → Option ℕ
-int31_at w = if is_int31 (current_trap w) && is_ok (world_popped w) then Some (low_half w.regs.eax) else None
+int31_at w = if is_int31 (current_trap w) && is_ok (world_after_iret w) then Some (low_half w.regs.eax) else None
 
 -- AX of the call of INT 31h that the next turn would serve
 unfoldable pub int31_call : HostWorld → Option ℕ
@@ -52,12 +52,12 @@ after_answer h r carry (Err exit) = ends h exit
 
 -- the host after such a turn
 unfoldable pub int31_turn : HostWorld → Regs → Carry → HostWorld
-int31_turn h r carry = settled (after_answer (with_turn_counted h) r carry (world_popped h.machine))
+int31_turn h r carry = after_outcome (after_answer (with_turn_counted h) r carry (world_after_iret h.machine))
 
 -- ---- an exception from outside
 
 unfoldable pub exception_turn : HostWorld → Fault → HostWorld
-exception_turn h f = settled (delivered (with_turn_counted h) f)
+exception_turn h f = after_outcome (after_exception (with_turn_counted h) f)
 
 -- ---- an interrupt from outside
 
@@ -74,11 +74,11 @@ with_interrupts_off (Ok w) = Ok (record w { vif = false })
 with_interrupts_off (Err f) = Err f
 
 -- in real mode and to the client's own handler it pushes the address of the present instruction; else it is reflected, with the present registers
-abbrev pub interrupted_in : Mode → HostWorld → ℕ → Outcome
-interrupted_in Real h n = after_interrupt h (world_interrupt h.machine n 0)
-interrupted_in Protected h n =
-    if is_hosts_vector h.machine n then after_reflection h n h.machine (reflect h.machine n)
+abbrev pub after_interrupt_in_mode : Mode → HostWorld → ℕ → Outcome
+after_interrupt_in_mode Real h n = after_interrupt h (world_interrupt h.machine n 0)
+after_interrupt_in_mode Protected h n =
+    if is_hosts_vector h.machine n then after_reflected_interrupt h n h.machine (reflect h.machine n)
     else after_interrupt h (with_interrupts_off (world_interrupt h.machine n 0))
 
 unfoldable pub interrupt_turn : HostWorld → ℕ → HostWorld
-interrupt_turn h n = settled (interrupted_in h.machine.mode (with_turn_counted h) n)
+interrupt_turn h n = after_outcome (after_interrupt_in_mode h.machine.mode (with_turn_counted h) n)

@@ -13,20 +13,20 @@ use Rattle.client_world.specs.Registers.{low_half}
 use Rattle.client_world.specs.Segments.{null_pointer}
 use Rattle.client_world.specs.Services.{es_di}
 use Rattle.client_world.specs.World.{World, HostWorld}
-use Rattle.interrupts.specs.Worlds.{world_popped}
-use Rattle.host_run.specs.Turn.{asked_call, call_enter_line, call_leave_line, noted}
+use Rattle.interrupts.specs.Worlds.{world_after_iret}
+use Rattle.host_run.specs.Turn.{asked_call, call_enter_line, call_leave_line, with_trace_line}
 use Rattle.translation.specs.SimulatedCall.{begin_call, end_call, reflect}
 
 -- the trace of the second host is that of the first with these lines after it
 abbrev pub HasMoreLines : HostWorld → List TraceLine → HostWorld → Type 0
 HasMoreLines w [] v = (v.kept ≡ w.kept) × (v.lines ≡ w.lines)
-HasMoreLines w (line ∷ lines) v = HasMoreLines (noted line w) lines v
+HasMoreLines w (line ∷ lines) v = HasMoreLines (with_trace_line line w) lines v
 
 -- the client asks for a call by a function of INT 31h. `popped` is the machine after the frame of that interrupt is popped, which in protected
 -- mode leaves the virtual interrupt flag
 pub record StartsCall (w : HostWorld) (call : Call) (r : Record) (v : HostWorld) : Type 0 where
   pub popped : World
-  pub pops : world_popped w.machine ≡ Ok popped
+  pub pops : world_after_iret w.machine ≡ Ok popped
   pub mode : w.machine.mode ≡ Protected
   pub vif : popped.vif ≡ w.machine.vif
   pub asked : asked_call (low_half popped.regs.eax) popped ≡ Some call
@@ -41,8 +41,8 @@ pub data InterruptSource : Type 0 where
 
 -- the machine that an interrupt is reflected from: with the frame popped that the interrupt pushed; or as it is, where it pushed none
 abbrev pub ReflectedFrom : InterruptSource → World → World → Type 0
-ReflectedFrom from_client w client = world_popped w ≡ Ok client
-ReflectedFrom from_anywhere w client = (world_popped w ≡ Ok client) ⊎ (client ≡ w)
+ReflectedFrom from_client w client = world_after_iret w ≡ Ok client
+ReflectedFrom from_anywhere w client = (world_after_iret w ≡ Ok client) ⊎ (client ≡ w)
 
 -- an interrupt that no handler of the client takes is reflected; `client` is the machine that it is reflected from
 pub record StartsReflection (source : InterruptSource) (w : HostWorld) (n : ℕ) (r : Record) (v : HostWorld) : Type 0 where

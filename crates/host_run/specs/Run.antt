@@ -10,9 +10,9 @@ turns w zero = w
 turns w (suc n) = turn (turns w n)
 
 -- a world without an exit ends with the bound of its run
-abbrev pub bounded : HostWorld → HostWorld
-bounded w = elim w.exit [ Some _ ↦ w | None ↦ record w { exit = Some Bound } ]
+abbrev pub with_bound_exit : HostWorld → HostWorld
+with_bound_exit w = elim w.exit [ Some _ ↦ w | None ↦ record w { exit = Some Bound } ]
 
 -- the world at the end of a run of at most that many turns
 abbrev pub run : HostWorld → ℕ → HostWorld
-run w n = bounded (turns w n)
+run w n = with_bound_exit (turns w n)

@@ -2,7 +2,7 @@
 use Rattle.std.specs.Prelude.{◌≡◌, ℕ, List, [], None}
 use Rattle.client_world.specs.World.{World, HostWorld}
 use Rattle.host_memory.specs.Blank.{blank_world}
-use Rattle.mz_loader.specs.Start.{started as client_started}
+use Rattle.mz_loader.specs.Start.{world_at_start as client_started}
 
 -- a host that has run nothing, on that machine, with these keystrokes, and a trace that keeps a number of lines at most
 abbrev pub new_host : World → List ℕ → ℕ → HostWorld
@@ -26,5 +26,5 @@ abbrev pub IsBlank : HostWorld → Type 0
 IsBlank w = w ≡ blank w.machine.budget w.keys w.keep
 
 -- the world that a file starts
-abbrev pub started_host : ℕ → List ℕ → ℕ → List ℕ → HostWorld
-started_host pages keys keep file = new_host (client_started file (blank_world pages)) keys keep
+abbrev pub host_at_start : ℕ → List ℕ → ℕ → List ℕ → HostWorld
+host_at_start pages keys keep file = new_host (client_started file (blank_world pages)) keys keep

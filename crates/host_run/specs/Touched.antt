@@ -2,7 +2,7 @@
 use Rattle.std.specs.Prelude.{List, [], None, Some}
 use Rattle.client_world.specs.declared.place.Place.{Place}
 use Rattle.client_world.specs.World.{World, HostWorld}
-use Rattle.cpu_step.specs.Touched.{touched as step_touches}
+use Rattle.cpu_step.specs.Touched.{touched_by_step as step_touches}
 use Rattle.host_run.specs.declared.traps.Trap.{Trap}
 use Rattle.host_run.specs.declared.traps.Trap.TheVariants.{NoTrap}
 use Rattle.host_run.specs.Traps.{current_trap}

@@ -27,10 +27,10 @@ use Rattle.client_world.specs.World.{World, HostWorld, depth}
 use Rattle.callbacks.specs.Callbacks.{enter_callback, leave_callback}
 use Rattle.dos_calls.specs.Calls.{CallState, CallResult, dos_call}
 use Rattle.dos_calls.specs.Multiplex.{multiplex_call}
-use Rattle.interrupts.specs.Worlds.{world_step, world_interrupt, world_delivery, world_popped}
+use Rattle.interrupts.specs.Worlds.{world_step, world_interrupt, world_delivery, world_after_iret}
 use Rattle.mode_gates.specs.Entry.{asked_width, entry, with_carry}
 use Rattle.mode_gates.specs.FarFrames.{world_after_far_return}
-use Rattle.mode_gates.specs.Switches.{switched_to_protected, switched_to_real}
+use Rattle.mode_gates.specs.Switches.{world_after_switch_to_protected, world_after_switch_to_real}
 use Rattle.mode_stack.specs.Stack.{top}
 use Rattle.fault_service.specs.Return.{exit_of_record}
 use Rattle.fault_service.specs.Worlds.{world_exception_return, world_protected_delivery}
@@ -57,56 +57,56 @@ with_machine h (Ok machine) = goes_on (record h { machine = machine })
 with_machine h (Err exit) = ends h exit
 
 -- one more line of the trace: it is kept where there is room, and counted
-abbrev pub noted : TraceLine → HostWorld → HostWorld
-noted line h = record h {
+abbrev pub with_trace_line : TraceLine → HostWorld → HostWorld
+with_trace_line line h = record h {
   kept = if nat_lt (length h.kept) h.keep then h.kept ++ line ∷ [] else h.kept;
   lines = h.lines + 1;
 }
 
 -- the run goes on with another machine, and one more line of the trace
 abbrev pub goes_on_with : HostWorld → TraceLine → World → Outcome
-goes_on_with h line w = goes_on (record (noted line h) { machine = w })
+goes_on_with h line w = goes_on (record (with_trace_line line h) { machine = w })
 
 -- ---- the default vectors of real mode
 
 -- the interrupt's frame popped
-abbrev pub popped : HostWorld → Outcome
-popped h = with_machine h (world_popped h.machine)
+abbrev pub after_frame_pop : HostWorld → Outcome
+after_frame_pop h = with_machine h (world_after_iret h.machine)
 
 -- what a DOS call sees, and the host after it; a call that ends the client leaves the machine
-abbrev pub seen : HostWorld → CallState
-seen h = record { world = h.machine; keys = h.keys; console = h.console }
+abbrev pub dos_call_state : HostWorld → CallState
+dos_call_state h = record { world = h.machine; keys = h.keys; console = h.console }
 
 abbrev pub after_call : HostWorld → CallResult → Outcome
 after_call h r = elim r.done [
-  | done.Served ↦ popped (record h { machine = r.world; keys = r.keys; console = r.console })
+  | done.Served ↦ after_frame_pop (record h { machine = r.world; keys = r.keys; console = r.console })
   | done.Ended exit ↦ ends (record h { keys = r.keys; console = r.console }) exit
 ]
 
 -- INT 21h: a DOS call
-abbrev pub dos_served : HostWorld → Outcome
-dos_served h = after_call (noted (lines.Int21 (high_byte h.machine.regs.eax)) h) (dos_call (seen h))
+abbrev pub after_dos_call : HostWorld → Outcome
+after_dos_call h = after_call (with_trace_line (lines.Int21 (high_byte h.machine.regs.eax)) h) (dos_call (dos_call_state h))
 
 -- INT 2Fh
-abbrev pub multiplex_served : HostWorld → Outcome
-multiplex_served h = popped (record (noted (lines.Int2f (low_half h.machine.regs.eax)) h) { machine = multiplex_call h.machine })
+abbrev pub after_multiplex_call : HostWorld → Outcome
+after_multiplex_call h = after_frame_pop (record (with_trace_line (lines.Int2f (low_half h.machine.regs.eax)) h) { machine = multiplex_call h.machine })
 
 -- the exceptions whose default vectors end the client
 abbrev pub ends_client : ℕ → Bool
 ends_client n = nat_eq n DIVIDE_ERROR || nat_eq n INVALID_OPCODE || nat_eq n COPROCESSOR_NOT_AVAILABLE
 
 -- the default vector n: INT 20h ends the client, INT 21h and 2Fh serve, three exceptions end it, and all others do nothing
-unfoldable pub vector_served : HostWorld → ℕ → Outcome
-vector_served h n =
+unfoldable pub after_default_vector : HostWorld → ℕ → Outcome
+after_default_vector h n =
     if ends_client n then ends h (exits.Fault n 0) else
-    if nat_eq n 0x20 then ends (noted lines.Int20 h) (exits.Exited 0) else
-    if nat_eq n 0x21 then dos_served h else
-    if nat_eq n 0x2F then multiplex_served h else
-    popped h
+    if nat_eq n 0x20 then ends (with_trace_line lines.Int20 h) (exits.Exited 0) else
+    if nat_eq n 0x21 then after_dos_call h else
+    if nat_eq n 0x2F then after_multiplex_call h else
+    after_frame_pop h
 
 -- it is asked first whether the frame can be popped
-abbrev pub vector_reached : HostWorld → ℕ → Outcome
-vector_reached h n = elim (world_popped h.machine) [ Ok w ↦ vector_served h n | Err exit ↦ ends h exit ]
+abbrev pub after_real_vector : HostWorld → ℕ → Outcome
+after_real_vector h n = elim (world_after_iret h.machine) [ Ok w ↦ after_default_vector h n | Err exit ↦ ends h exit ]
 
 -- ---- the entry to protected mode
 
@@ -116,7 +116,7 @@ entry_line Clear w = lines.Entry (asked_width w)
 entry_line Set w = lines.EntryRefused
 
 abbrev pub after_entry : HostWorld → Result Served Exit → Outcome
-after_entry h (Ok s) = goes_on (record (noted (entry_line s.carry s.world) h) { machine = s.world })
+after_entry h (Ok s) = goes_on (record (with_trace_line (entry_line s.carry s.world) h) { machine = s.world })
 after_entry h (Err exit) = ends h exit
 
 unfoldable pub after_entry_trap : HostWorld → Outcome
@@ -161,7 +161,7 @@ asked_call ax w =
 
 -- INT 21h function 4Ch: the client ends itself with the code in AL
 abbrev pub after_exit_call : HostWorld → Outcome
-after_exit_call h = ends (noted (lines.Int21 (high_byte h.machine.regs.eax)) h) (exits.Exited (low_byte h.machine.regs.eax))
+after_exit_call h = ends (with_trace_line (lines.Int21 (high_byte h.machine.regs.eax)) h) (exits.Exited (low_byte h.machine.regs.eax))
 
 -- INT 2Fh AX = 1686h: AX becomes 0, since the client runs in protected mode
 abbrev pub after_presence_call : HostWorld → World → Outcome
@@ -177,7 +177,7 @@ after_service h ax s =
 abbrev pub after_begin : HostWorld → ℕ → World → Call → Served → Outcome
 after_begin h ax w call s =
     if is_set s.carry then after_service h ax s
-    else goes_on_with (noted (lines.Int31 ax Clear) h) (call_enter_line w call s.world) s.world
+    else goes_on_with (with_trace_line (lines.Int31 ax Clear) h) (call_enter_line w call s.world) s.world
 
 abbrev pub after_int31 : HostWorld → World → Outcome
 after_int31 h w = elim (asked_call (low_half w.regs.eax) w) [
@@ -186,9 +186,9 @@ after_int31 h w = elim (asked_call (low_half w.regs.eax) w) [
 ]
 
 -- every other interrupt is reflected to real mode
-abbrev pub after_reflection : HostWorld → ℕ → World → Result World Exit → Outcome
-after_reflection h n w (Ok v) = goes_on_with h (call_enter_line w (Reflect n) v) v
-after_reflection h n w (Err exit) = ends h exit
+abbrev pub after_reflected_interrupt : HostWorld → ℕ → World → Result World Exit → Outcome
+after_reflected_interrupt h n w (Ok v) = goes_on_with h (call_enter_line w (Reflect n) v) v
+after_reflected_interrupt h n w (Err exit) = ends h exit
 
 -- INT 21h function 4Ch, and INT 2Fh AX = 1686h
 abbrev pub is_exit_call : World → ℕ → Bool
@@ -203,7 +203,7 @@ after_protected_call h n w =
     if is_exit_call h.machine n then after_exit_call h else
     if is_presence_call h.machine n then after_presence_call h w else
     if nat_eq n 0x31 then after_int31 h w else
-    after_reflection h n w (reflect w n)
+    after_reflected_interrupt h n w (reflect w n)
 
 -- the frame is popped first; an exit leaves the machine as it was before
 abbrev pub after_protected_pop : HostWorld → ℕ → Result World Exit → Outcome
@@ -211,7 +211,7 @@ after_protected_pop h n (Ok w) = after_protected_call h n w
 after_protected_pop h n (Err exit) = ends h exit
 
 unfoldable pub after_protected_vector : HostWorld → ℕ → Outcome
-after_protected_vector h n = after_protected_pop h n (world_popped h.machine)
+after_protected_vector h n = after_protected_pop h n (world_after_iret h.machine)
 
 -- ---- exceptions of protected mode, and callbacks
 
@@ -256,57 +256,57 @@ after_callback_return h (Err exit) = ends h exit
 -- ---- client instructions
 
 -- an exception delivered
-abbrev pub delivered_in : Mode → HostWorld → Fault → Outcome
-delivered_in Real h f = with_machine h (world_delivery h.machine f)
-delivered_in Protected h f = after_protected_delivery h f.number (world_protected_delivery h.machine f)
+abbrev pub after_exception_in_mode : Mode → HostWorld → Fault → Outcome
+after_exception_in_mode Real h f = with_machine h (world_delivery h.machine f)
+after_exception_in_mode Protected h f = after_protected_delivery h f.number (world_protected_delivery h.machine f)
 
-abbrev pub delivered : HostWorld → Fault → Outcome
-delivered h f = delivered_in h.machine.mode h f
+abbrev pub after_exception : HostWorld → Fault → Outcome
+after_exception h f = after_exception_in_mode h.machine.mode h f
 
 -- a software interrupt, or the exception that it raises
 abbrev pub after_interrupt : HostWorld → Result World Fault → Outcome
 after_interrupt h (Ok w) = goes_on (record h { machine = w })
-after_interrupt h (Err f) = delivered h f
+after_interrupt h (Err f) = after_exception h f
 
 -- what a client instruction comes to
 abbrev pub after_step : HostWorld → Result World Event → Outcome
 after_step h (Ok w) = goes_on (record h { machine = w })
-after_step h (Err (events.Fault f)) = delivered h f
+after_step h (Err (events.Fault f)) = after_exception h f
 after_step h (Err (events.Soft number len)) = after_interrupt h (world_interrupt h.machine number len)
 
 -- the next instruction
-unfoldable pub stepped : HostWorld → Outcome
-stepped h = after_step h (world_step h.machine)
+unfoldable pub after_next_instruction : HostWorld → Outcome
+after_next_instruction h = after_step h (world_step h.machine)
 
 -- ---- turns
 
 -- what a turn does at a trap, or where there is none
-abbrev pub trapped : HostWorld → Trap → Outcome
-trapped h (RealVector n) = vector_reached h n
-trapped h Entry = after_entry_trap h
-trapped h ToProtected = after_switch_to_protected h (switched_to_protected h.machine)
-trapped h RealState = with_machine h (world_after_far_return h.machine)
-trapped h CallReturn = after_call_return h (end_call h.machine)
-trapped h (Callback slot) = after_callback h slot (enter_callback h.machine slot)
-trapped h (ProtectedVector n) = after_protected_vector h n
-trapped h (ExceptionHandler n) = ends h (exit_of_record (top h.machine))
-trapped h ToReal = goes_on_with h lines.ToReal (switched_to_real h.machine)
-trapped h ProtectedState = with_machine h (world_after_far_return h.machine)
-trapped h ExceptionReturn = after_exception_return h (world_exception_return h.machine)
-trapped h CallbackReturn = after_callback_return h (leave_callback h.machine)
-trapped h NoTrap = stepped h
+abbrev pub after_trap : HostWorld → Trap → Outcome
+after_trap h (RealVector n) = after_real_vector h n
+after_trap h Entry = after_entry_trap h
+after_trap h ToProtected = after_switch_to_protected h (world_after_switch_to_protected h.machine)
+after_trap h RealState = with_machine h (world_after_far_return h.machine)
+after_trap h CallReturn = after_call_return h (end_call h.machine)
+after_trap h (Callback slot) = after_callback h slot (enter_callback h.machine slot)
+after_trap h (ProtectedVector n) = after_protected_vector h n
+after_trap h (ExceptionHandler n) = ends h (exit_of_record (top h.machine))
+after_trap h ToReal = goes_on_with h lines.ToReal (world_after_switch_to_real h.machine)
+after_trap h ProtectedState = with_machine h (world_after_far_return h.machine)
+after_trap h ExceptionReturn = after_exception_return h (world_exception_return h.machine)
+after_trap h CallbackReturn = after_callback_return h (leave_callback h.machine)
+after_trap h NoTrap = after_next_instruction h
 
 unfoldable pub work : HostWorld → Outcome
-work h = trapped h (current_trap h.machine)
+work h = after_trap h (current_trap h.machine)
 
 -- the turn is counted first
 abbrev pub with_turn_counted : HostWorld → HostWorld
 with_turn_counted h = record h { steps = h.steps + 1 }
 
 -- the host after what a turn did
-abbrev pub settled : Outcome → HostWorld
-settled o = record o.host { exit = o.exit }
+abbrev pub after_outcome : Outcome → HostWorld
+after_outcome o = record o.host { exit = o.exit }
 
 -- one turn; a world with an exit stays as it is
 unfoldable pub turn : HostWorld → HostWorld
-turn w = elim w.exit [ Some _ ↦ w | None ↦ settled (work (with_turn_counted w)) ]
+turn w = elim w.exit [ Some _ ↦ w | None ↦ after_outcome (work (with_turn_counted w)) ]

@@ -1,6 +1,6 @@
 -- A host as contracts see it: its world, and the bytes of its machine's memory, which hold the machine's part of it; and how a turn's work
 -- ends. Source: own.
-use Rattle.std.specs.Prelude.{◌≡◌, ℕ, List, MatchResult}
+use Rattle.std.specs.Prelude.{◌≡◌, ◌≤◌, ◌+◌, ◌*◌, ℕ, List, MatchResult}
 use Rattle.std.specs.declared.result.Result.{Result}
 use Rattle.client_world.specs.declared.outcome.Exit.{Exit}
 use Rattle.client_world.specs.World.{HostWorld}
@@ -14,6 +14,10 @@ pub record HostView : Type 0 where
 -- its machine
 abbrev pub machine_view : HostView → MachineView
 machine_view h = record { world = h.world.machine; bytes = h.bytes }
+
+-- the trace has room for the two lines that a turn may add
+abbrev pub HasRoom : HostWorld → Type 0
+HasRoom h = h.lines + 2 ≤ 2 * h.steps
 
 -- the result of some work in a turn, and the host after it, are what was expected: the run goes on; or it ends, and the memory is as it was.
 -- It counts no turn and sets no exit

@@ -1,10 +1,10 @@
 // Callbacks from real mode, and the return from them.
-ghost use Rattle.std.specs.Prelude.{◌≡◌, ◌≤◌, ◌+◌, ◌*◌};
+ghost use Rattle.std.specs.Prelude.{◌≡◌};
 ghost use Rattle.callbacks.specs.Callbacks.{enter_callback, leave_callback};
 ghost use Rattle.client_world.specs.declared.registers.Mode.TheVariants.{Protected as protected, Real as real};
 ghost use Rattle.mode_stack.specs.Stack.{top};
 ghost use Rattle.host_run.specs.Turn.{after_callback, after_callback_return, callback_slot};
-ghost use Rattle.host_run.specs.View.{ComesTo};
+ghost use Rattle.host_run.specs.View.{ComesTo, HasRoom};
 
 use crate::host::Host;
 use crate::trace::{enter_line, leave_line};
@@ -28,7 +28,7 @@ impl Host {
     #[inline(never)]
     pub(crate) fn enter_callback(&mut self, slot: u8) -> Result<(), Exit>
         requires real { self.old.world.machine.mode ≡ real }
-        requires room { self.old.world.lines + 2 ≤ 2 * self.old.world.steps }
+        requires room { HasRoom self.old.world }
         ensures { ComesTo self.old self.new result
             (after_callback self.old.world slot (enter_callback self.old.world.machine slot)) }
     {
@@ -46,18 +46,14 @@ impl Host {
     #[inline(never)]
     pub(crate) fn return_from_callback(&mut self) -> Result<(), Exit>
         requires mode { self.old.world.machine.mode ≡ protected }
-        requires room { self.old.world.lines + 2 ≤ 2 * self.old.world.steps }
+        requires room { HasRoom self.old.world }
         ensures { ComesTo self.old self.new result
             (after_callback_return self.old.world (leave_callback self.old.world.machine)) }
     {
         let slot = callback_slot(&self.machine);
-        match leave(&mut self.machine) {
-            Ok(()) => {
-                let line = leave_line(&self.machine, What::Back(slot));
-                self.note(line);
-                Ok(())
-            }
-            Err(exit) => Err(exit),
-        }
+        leave(&mut self.machine)?;
+        let line = leave_line(&self.machine, What::Back(slot));
+        self.note(line);
+        Ok(())
     }
 }

@@ -1,13 +1,13 @@
 // Calls of real mode: those that the client asks for, interrupts that are reflected, and the return from both.
-ghost use Rattle.std.specs.Prelude.{◌≡◌, ◌≤◌, ◌<◌, ◌+◌, ◌*◌, false, Ok, Err, IfSome, MatchResult};
+ghost use Rattle.std.specs.Prelude.{◌≡◌, ◌<◌, false, Ok, Err, IfSome, MatchResult};
 ghost use Rattle.client_world.specs.declared.calls.What.TheVariants.{Call as a_call};
 ghost use Rattle.client_world.specs.declared.limits.TheConstants.{GREATEST_DEPTH};
 ghost use Rattle.client_world.specs.declared.registers.Mode.TheVariants.{Protected as protected, Real as real};
 ghost use Rattle.client_world.specs.declared.trace.TraceLine.TheVariants.{Enter, Leave};
 ghost use Rattle.client_world.specs.World.{depth};
 ghost use Rattle.mode_stack.specs.Stack.{top};
-ghost use Rattle.host_run.specs.Turn.{after_begin, after_call_return, after_reflection, asked_call, call_of_record, goes_on};
-ghost use Rattle.host_run.specs.View.{ComesTo};
+ghost use Rattle.host_run.specs.Turn.{after_begin, after_call_return, after_reflected_interrupt, asked_call, call_of_record, goes_on};
+ghost use Rattle.host_run.specs.View.{ComesTo, HasRoom};
 ghost use Rattle.translation.specs.SimulatedCall.{begin_call, end_call, is_reflection, reflect};
 
 use crate::host::Host;
@@ -57,7 +57,7 @@ impl Host {
     pub(crate) fn begin_call(&mut self, ax: u16, call: Call)
         requires mode { self.old.world.machine.mode ≡ protected }
         requires call { is_reflection call ≡ false }
-        requires room { self.old.world.lines + 2 ≤ 2 * self.old.world.steps }
+        requires room { HasRoom self.old.world }
         ensures answer { after_begin self.old.world ax self.old.world.machine call (begin_call self.old.world.machine call) ≡ goes_on self.new.world }
         ensures steps { self.new.world.steps ≡ self.old.world.steps }
     {
@@ -80,8 +80,8 @@ impl Host {
     pub(crate) fn reflect_interrupt(&mut self, n: u8)
         requires mode { self.old.world.machine.mode ≡ protected }
         requires shallow { depth self.old.world.machine < GREATEST_DEPTH }
-        requires room { self.old.world.lines + 2 ≤ 2 * self.old.world.steps }
-        ensures answer { after_reflection self.old.world n self.old.world.machine (reflect self.old.world.machine n) ≡ goes_on self.new.world }
+        requires room { HasRoom self.old.world }
+        ensures answer { after_reflected_interrupt self.old.world n self.old.world.machine (reflect self.old.world.machine n) ≡ goes_on self.new.world }
         ensures steps { self.new.world.steps ≡ self.old.world.steps }
     {
         let depth = depth(&self.machine);
@@ -96,7 +96,7 @@ impl Host {
     #[inline(never)]
     pub(crate) fn return_from_call(&mut self) -> Result<(), Exit>
         requires real { self.old.world.machine.mode ≡ real }
-        requires room { self.old.world.lines + 2 ≤ 2 * self.old.world.steps }
+        requires room { HasRoom self.old.world }
         ensures { ComesTo self.old self.new result (after_call_return self.old.world (end_call self.old.world.machine)) }
     {
         let call = innermost_call(&self.machine);

@@ -1,5 +1,5 @@
 // Exceptions, and the return from those of protected mode.
-ghost use Rattle.std.specs.Prelude.{◌≡◌, ◌≤◌, ◌+◌, ◌-◌, ◌*◌, [], Ok, Err, MatchResult, OnOk};
+ghost use Rattle.std.specs.Prelude.{◌≡◌, ◌-◌, [], Ok, Err, MatchResult, OnOk};
 ghost use Rattle.client_world.specs.World.{depth};
 ghost use Rattle.guest_space.specs.Records.{OnlyAtAndRow};
 ghost use Rattle.mode_stack.specs.Stack.{top};
@@ -7,10 +7,10 @@ ghost use Rattle.fault_service.specs.ByMode.{delivery};
 ghost use Rattle.fault_service.specs.Worlds.{world_exception_return};
 ghost use Rattle.host_run.specs.Turn.{
   after_exception_return,
-  delivered,
+  after_exception,
   exception_number,
 };
-ghost use Rattle.host_run.specs.View.{ComesTo, machine_view};
+ghost use Rattle.host_run.specs.View.{ComesTo, HasRoom, machine_view};
 
 use crate::host::Host;
 use crate::trace::{enter_line, leave_line};
@@ -46,8 +46,8 @@ impl Host {
     // An exception is delivered; in protected mode with a line of the trace.
     #[inline(never)]
     pub(crate) fn deliver(&mut self, f: Fault) -> Result<(), Exit>
-        requires room { self.old.world.lines + 2 ≤ 2 * self.old.world.steps }
-        ensures host { ComesTo self.old self.new result (delivered self.old.world f) }
+        requires room { HasRoom self.old.world }
+        ensures host { ComesTo self.old self.new result (after_exception self.old.world f) }
         ensures machine { OnOk result (delivery (machine_view self.old) f ≡ Ok (machine_view self.new)) }
     {
         let mode = self.machine.mode();
@@ -67,19 +67,15 @@ impl Host {
     // The return from an exception.
     #[inline(never)]
     pub(crate) fn return_from_exception(&mut self) -> Result<(), Exit>
-        requires room { self.old.world.lines + 2 ≤ 2 * self.old.world.steps }
+        requires room { HasRoom self.old.world }
         ensures host { ComesTo self.old self.new result
             (after_exception_return self.old.world (world_exception_return self.old.world.machine)) }
         ensures bytes { OnlyAtAndRow [] (depth self.old.world.machine - 1) self.old.bytes self.new.bytes }
     {
         let number = exception_number(&self.machine);
-        match return_to_client(&mut self.machine) {
-            Ok(()) => {
-                let line = leave_line(&self.machine, What::Exc(number));
-                self.note(line);
-                Ok(())
-            }
-            Err(exit) => Err(exit),
-        }
+        return_to_client(&mut self.machine)?;
+        let line = leave_line(&self.machine, What::Exc(number));
+        self.note(line);
+        Ok(())
     }
 }

@@ -8,19 +8,20 @@ ghost use Rattle.interrupts.specs.Delivery.{software_interrupt};
 ghost use Rattle.host_run.specs.Footprint.{ChangesOnly, after_client_event, after_client_interrupt, client_footprint, client_turn, trap_footprint, turn_footprint, work_footprint};
 ghost use Rattle.host_run.specs.Keys.{HasKeys};
 ghost use Rattle.host_run.specs.Run.{run};
-ghost use Rattle.host_run.specs.Start.{blank, IsBlank, started_host};
+ghost use Rattle.host_run.specs.Start.{blank, IsBlank, host_at_start};
 ghost use Rattle.host_run.specs.declared.traps.Trap.TheVariants.{NoTrap};
 ghost use Rattle.host_run.specs.Traps.{current_trap};
-ghost use Rattle.host_run.specs.View.{ComesTo, HostView, machine_view};
-ghost use Rattle.host_run.specs.Turn.{after_interrupt, after_step, stepped, trapped, work, turn};
+ghost use Rattle.host_run.specs.View.{ComesTo, HasRoom, HostView, machine_view};
+ghost use Rattle.host_run.specs.Turn.{after_interrupt, after_step, after_next_instruction, after_trap, work, turn};
 
+use crate::ending::Ending;
 use crate::serving::step_machine;
-use crate::traps::{Trap, current_trap};
+use crate::traps::Trap;
 use client_world::limits::{MAX_KEYS, MAX_PAGES, MAX_STEPS, MAX_TRACE};
 use client_world::{Event, Exit, LoadFault, TraceLine};
 use dos_calls::{Console, Keys};
 use fault_service::{a_machine_changes_only_what_is_written, default_handler_exit, soft_int};
-use guest_space::Machine;
+use guest_space::{CodeWindow, Machine};
 use insn_decode::Memo;
 use insn_plan::Raised;
 use std::alloc::{AllocError, Global};
@@ -95,7 +96,7 @@ impl Host {
         requires { IsBlank self.old.world }
         ensures taken { OnOk result (refusal file.now ≡ None) }
         ensures started { OnOk result (self.new.world
-            ≡ started_host self.old.world.machine.budget self.old.world.keys self.old.world.keep file.now) }
+            ≡ host_at_start self.old.world.machine.budget self.old.world.keys self.old.world.keep file.now) }
         ensures sound { OnOk result (IsSound self.new.world.machine) }
         ensures refused { IfErr result (λ fault. refusal file.now ≡ Some fault) }
         ensures kept { IfErr result (λ _. self.new ≡ self.old) }
@@ -145,8 +146,6 @@ impl Host {
 
     /// One turn: it serves a trap byte, or runs one client instruction with its software interrupt, or delivers its
     /// exception. Of the memory it changes the bytes of its footprint alone. After an exit it returns that exit again and changes nothing.
-    #[inline(always)]
-    #[tactic(auto, unfolding(crate::specs::Turn::turn))]
     pub fn turn(&mut self) -> Result<(), Exit>
         requires { self.old.world.exit ≡ None → self.old.world.steps < MAX_STEPS }
         ensures world { self.new.world ≡ turn self.old.world }
@@ -157,17 +156,16 @@ impl Host {
         ensures steps { self.new.world.steps ≤ self.old.world.steps + 1 }
         ensures was_on { self.new.world.exit ≡ None → self.old.world.exit ≡ None }
     {
-        if let Some(exit) = self.exit {
-            return Err(exit);
+        let mut window = CodeWindow::NONE;
+        match self.turn_in(&mut window) {
+            Ok(()) => Ok(()),
+            Err(ending) => Err(ending.exit()),
         }
-        let t = current_trap(&self.machine);
-        self.turn_at(t)
     }
 
-    /// The turn of a client that has not ended, for a caller that has asked already at which trap the machine is.
-    #[inline(always)]
+    // The turn of a client that has not ended, at that trap.
     #[tactic(auto, unfolding(crate::specs::Turn::turn))]
-    pub fn turn_at(&mut self, t: Trap) -> Result<(), Exit>
+    pub(crate) fn turn_at(&mut self, t: Trap) -> Result<(), Exit>
         requires no_exit { self.old.world.exit ≡ None }
         requires trap { t ≡ current_trap self.old.world.machine }
         requires room { self.old.world.steps < MAX_STEPS }
@@ -196,9 +194,10 @@ impl Host {
         ensures kept { IfSome self.old.world.exit (λ _. self.new ≡ self.old) }
         ensures answer { self.new.world.exit ≡ Some result }
     {
+        let mut window = CodeWindow::NONE;
         for count in 0..bound {
-            if let Err(exit) = self.turn() {
-                return exit;
+            if let Err(ending) = self.turn_in(&mut window) {
+                return ending.exit();
             }
         }
         match self.exit {
@@ -212,7 +211,7 @@ impl Host {
 
     // A software interrupt, or the exception that it raises.
     pub(crate) fn raise_interrupt(&mut self, number: u8, len: u8) -> Result<(), Exit>
-        requires room { self.old.world.lines + 2 ≤ 2 * self.old.world.steps }
+        requires room { HasRoom self.old.world }
         ensures host { ComesTo self.old self.new result (after_interrupt self.old.world (world_interrupt self.old.world.machine number len)) }
         ensures machine { OnOk result (after_client_interrupt (machine_view self.old) (software_interrupt (machine_view self.old) number len)
             ≡ Ok (machine_view self.new)) }
@@ -225,37 +224,40 @@ impl Host {
 
     // What the event of a client's instruction comes to: its exception is delivered, or its software interrupt is raised. It is out of line, so
     // that the turn of an instruction without an event has one answer to look at.
+    #[cold]
     #[inline(never)]
-    fn handle_event(&mut self, raised: Raised) -> Result<(), Exit>
-        requires room { self.old.world.lines + 2 ≤ 2 * self.old.world.steps }
+    pub(crate) fn handle_event(&mut self, raised: Raised) -> Result<(), Ending>
+        requires room { HasRoom self.old.world }
         ensures host { ComesTo self.old self.new result (after_step self.old.world (Err raised)) }
         ensures machine { OnOk result (after_client_event (machine_view self.old) (Err raised) ≡ Ok (machine_view self.new)) }
     {
         match raised.event() {
-            Event::Fault(f) => self.deliver(f),
-            Event::Soft { number, len } => self.raise_interrupt(number, len),
+            Event::Fault(f) => self.deliver(f)?,
+            Event::Soft { number, len } => self.raise_interrupt(number, len)?,
         }
+        Ok(())
     }
 
     // The next instruction.
-    #[inline(always)]
-    #[tactic(auto, unfolding(crate::specs::Turn::stepped, crate::specs::Footprint::client_turn))]
+    #[tactic(auto, unfolding(crate::specs::Turn::after_next_instruction, crate::specs::Footprint::client_turn))]
     fn step_client(&mut self) -> Result<(), Exit>
-        requires room { self.old.world.lines + 2 ≤ 2 * self.old.world.steps }
-        ensures host { ComesTo self.old self.new result (stepped self.old.world) }
+        requires room { HasRoom self.old.world }
+        ensures host { ComesTo self.old self.new result (after_next_instruction self.old.world) }
         ensures machine { OnOk result (client_turn (machine_view self.old) ≡ Ok (machine_view self.new)) }
     {
         match step_machine(&mut self.machine, &mut self.memo) {
             Ok(()) => Ok(()),
-            Err(raised) => self.handle_event(raised),
+            Err(raised) => match self.handle_event(raised) {
+                Ok(()) => Ok(()),
+                Err(ending) => Err(ending.exit()),
+            },
         }
     }
 
     // The next instruction, whose footprint alone changes.
-    #[inline(always)]
     fn run_client(&mut self) -> Result<(), Exit>
-        requires room { self.old.world.lines + 2 ≤ 2 * self.old.world.steps }
-        ensures host { ComesTo self.old self.new result (stepped self.old.world) }
+        requires room { HasRoom self.old.world }
+        ensures host { ComesTo self.old self.new result (after_next_instruction self.old.world) }
         ensures bytes { ChangesOnly (client_footprint self.old.world.machine) self.old.bytes self.new.bytes }
     {
         a_machine_changes_only_what_is_written(&self.machine);
@@ -263,12 +265,11 @@ impl Host {
     }
 
     // What a turn does at a trap.
-    #[inline(never)]
     fn serve_trap(&mut self, t: Trap) -> Result<(), Exit>
         requires trap { t ≡ current_trap self.old.world.machine }
         requires some { t ≢ NoTrap }
-        requires room { self.old.world.lines + 2 ≤ 2 * self.old.world.steps }
-        ensures host { ComesTo self.old self.new result (trapped self.old.world t) }
+        requires room { HasRoom self.old.world }
+        ensures host { ComesTo self.old self.new result (after_trap self.old.world t) }
         ensures bytes { ChangesOnly (trap_footprint self.old.world.machine t) self.old.bytes self.new.bytes }
     {
         match t {
@@ -288,11 +289,10 @@ impl Host {
     }
 
     // What a turn does at a trap, or at none. It is counted already, so that there is room for two lines of the trace.
-    #[inline(always)]
     #[tactic(auto, unfolding(crate::specs::Turn::work, crate::specs::Footprint::work_footprint))]
     fn work(&mut self, t: Trap) -> Result<(), Exit>
         requires trap { t ≡ current_trap self.old.world.machine }
-        requires room { self.old.world.lines + 2 ≤ 2 * self.old.world.steps }
+        requires room { HasRoom self.old.world }
         ensures host { ComesTo self.old self.new result (work self.old.world) }
         ensures bytes { ChangesOnly (work_footprint self.old.world.machine) self.old.bytes self.new.bytes }
     {

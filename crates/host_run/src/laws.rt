@@ -23,8 +23,8 @@ ghost use Rattle.host_run.specs.Keys.{HasKeys};
 ghost use Rattle.host_run.specs.Nested.{HasTurns, IsHandedOver, LastPush, Matched, Stacked, host_depth};
 ghost use Rattle.host_run.specs.RealCalls.{InterruptSource, from_anywhere, from_client};
 ghost use Rattle.host_run.specs.OtherTurns.{IsOneQuietTurn, exception_turn, int31_turn, interrupt_turn};
-ghost use Rattle.host_run.specs.Run.{bounded, turns, run};
-ghost use Rattle.host_run.specs.Start.{blank, started_host};
+ghost use Rattle.host_run.specs.Run.{with_bound_exit, turns, run};
+ghost use Rattle.host_run.specs.Start.{blank, host_at_start};
 ghost use Rattle.host_run.specs.Touched.{touched_by_turn};
 ghost use Rattle.host_run.specs.declared.traps.Trap.TheVariants.{NoTrap};
 ghost use Rattle.host_run.specs.Traps.{current_trap};
@@ -125,7 +125,7 @@ pub fn every_other_turn_changes_the_innermost_record_at_most()
     ensures int31 { (w : HostWorld) (r : AnyRegs) (carry : ACarry) → Stacked from_client w (int31_turn w r carry) }
     ensures exception { (w : HostWorld) (f : AFault) → IsSound w.machine → HasKeys w → Stacked from_client w (exception_turn w f) }
     ensures interrupt { (w : HostWorld) (n : ℕ) → IsSound w.machine → HasKeys w → Stacked from_anywhere w (interrupt_turn w n) }
-    ensures bound { (w : HostWorld) → Stacked from_client w (bounded w) }
+    ensures bound { (w : HostWorld) → Stacked from_client w (with_bound_exit w) }
 {}
 
 /// They lead from a sound host to a sound host. Each is counted as one turn, takes no keystroke and adds nothing to the console. One that ends
@@ -167,7 +167,7 @@ pub fn every_client_turn_changes_only_its_footprint()
 /// The world of a new host is sound, and so is the world that a file starts, if the file is one of bytes and is taken.
 pub fn every_start_is_sound()
     ensures blank { (pages keep : ℕ) (keys : List ℕ) → IsSoundHost (blank pages keys keep) }
-    ensures started { (pages keep : ℕ) (keys file : List ℕ) → AreBytes file → refusal file ≡ None → IsSoundHost (started_host pages keys keep file) }
+    ensures started { (pages keep : ℕ) (keys file : List ℕ) → AreBytes file → refusal file ≡ None → IsSoundHost (host_at_start pages keys keep file) }
 {}
 
 /// A turn that ends the run leaves the machine, and but for a full console the keystrokes and the console too.

@@ -1,15 +1,14 @@
-//! The host: it loads one client, and runs it turn by turn.
-//! It promises that a new host is the blank world, that a load leads from it to the file's first world or is refused
-//! for the first reason, that each turn is the model's turn, and that a run is the model's run; that every world so reached
-//! is sound, that its turns touch what the client holds, change no bytes of the memory but those of their footprint, change the innermost
-//! record of a call at most and add to the console at its end alone, and that an exit leaves the machine. It makes turns in place of its own,
-//! too: a service answered from outside, an exception, an interrupt.
-//! It is built on `mz_loader`, on the services of DOS and of INT 31h, and on what delivers exceptions, calls and callbacks, all of which are
-//! built on the machine.
+//! The host: it loads one client, and runs it turn by turn. It makes turns in place of its own, too: a service answered from outside,
+//! an exception, an interrupt.
+//! It promises that a load leads to the file's first world or is refused for the first reason, that each turn and run is the model's,
+//! and by its laws that these worlds are sound, that a turn keeps to its footprint and to what the client holds, and how calls nest.
+//! How a turn finds its code and its trap is free, and a family of services may be added (`specs/Families`). The turn (`specs/Turn`)
+//! isn't: reports, watchpoints and the timer are stated over it.
 #![tactic(auto)]
 
 mod callback_turns;
 mod calls;
+mod ending;
 mod exceptions;
 mod families;
 mod host;
@@ -21,7 +20,9 @@ mod switches;
 mod trace;
 mod traps;
 mod vectors;
+mod windows;
 
+pub use ending::Ending;
 pub use host::Host;
 pub use laws::{
     a_run_past_an_exit_is_over, every_changed_place_is_touched,
@@ -32,4 +33,4 @@ pub use laws::{
     every_turn_extends_the_console, every_turn_is_counted, every_turn_is_sound,
     nested_calls_return_in_order, no_instruction_runs_at_a_trap, once_ended_a_run_stays,
 };
-pub use traps::{Trap, current_trap, is_at_trap};
+pub use traps::{Trap, is_at_trap};

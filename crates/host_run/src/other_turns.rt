@@ -1,14 +1,14 @@
 // Turns that are made in place of the host's own: INT 31h that is served from outside, an exception and an interrupt that come from outside; and the
 // end of a run at its bound.
-ghost use Rattle.std.specs.Prelude.{◌≡◌, ◌≤◌, ◌<◌, ◌+◌, ◌*◌, true, Ok, Err, Some, None, IfErr, OnOk, IsSome, MatchResult};
+ghost use Rattle.std.specs.Prelude.{◌≡◌, ◌<◌, true, Ok, Err, Some, None, IfErr, OnOk, IsSome, MatchResult};
 ghost use Rattle.client_world.specs.declared.limits.TheConstants.{EXCEPTION_VECTORS, GREATEST_DEPTH, MAX_STEPS};
 ghost use Rattle.client_world.specs.declared.registers.Mode.TheVariants.{Protected as protected};
 ghost use Rattle.client_world.specs.World.{depth};
 ghost use Rattle.host_run.specs.Footprint.{ChangesOnly, delivery_footprint};
-ghost use Rattle.host_run.specs.OtherTurns.{exception_turn, int31_call, int31_turn, interrupt_turn, interrupted_in, is_hosts_vector, is_int31};
+ghost use Rattle.host_run.specs.OtherTurns.{exception_turn, int31_call, int31_turn, interrupt_turn, after_interrupt_in_mode, is_hosts_vector, is_int31};
 ghost use Rattle.host_run.specs.Traps.{current_trap};
-ghost use Rattle.host_run.specs.Run.{bounded};
-ghost use Rattle.host_run.specs.View.{ComesTo};
+ghost use Rattle.host_run.specs.Run.{with_bound_exit};
+ghost use Rattle.host_run.specs.View.{ComesTo, HasRoom};
 
 use crate::host::Host;
 use crate::serving::{can_pop, pop_in_mode};
@@ -111,7 +111,7 @@ impl Host {
     /// Ends the run as one that has reached its bound.
     pub fn stop_bound(&mut self)
         requires { self.old.world.exit ≡ None }
-        ensures { self.new ≡ record self.old { world = bounded self.old.world } }
+        ensures { self.new ≡ record self.old { world = with_bound_exit self.old.world } }
     {
         self.exit = Some(Exit::Bound);
     }
@@ -143,8 +143,8 @@ impl Host {
     // An interrupt from outside.
     fn interrupt(&mut self, n: u8) -> Result<(), Exit>
         requires shallow { self.old.world.machine.mode ≡ protected → depth self.old.world.machine < GREATEST_DEPTH }
-        requires room { self.old.world.lines + 2 ≤ 2 * self.old.world.steps }
-        ensures { ComesTo self.old self.new result (interrupted_in self.old.world.machine.mode self.old.world n) }
+        requires room { HasRoom self.old.world }
+        ensures { ComesTo self.old self.new result (after_interrupt_in_mode self.old.world.machine.mode self.old.world n) }
     {
         match self.machine.mode() {
             Mode::Real => self.raise_interrupt(n, 0),
@@ -156,8 +156,8 @@ impl Host {
     fn interrupt_in_protected_mode(&mut self, n: u8) -> Result<(), Exit>
         requires mode { self.old.world.machine.mode ≡ protected }
         requires shallow { depth self.old.world.machine < GREATEST_DEPTH }
-        requires room { self.old.world.lines + 2 ≤ 2 * self.old.world.steps }
-        ensures { ComesTo self.old self.new result (interrupted_in protected self.old.world n) }
+        requires room { HasRoom self.old.world }
+        ensures { ComesTo self.old self.new result (after_interrupt_in_mode protected self.old.world n) }
     {
         if is_hosts_vector(&self.machine, n) {
             self.reflect_interrupt(n);

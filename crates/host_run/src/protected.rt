@@ -1,8 +1,8 @@
 // The entry to protected mode, and the default vectors of protected mode.
-ghost use Rattle.std.specs.Prelude.{◌≡◌, ◌≤◌, ◌+◌, ◌*◌, ◌||◌, true, false, nat_eq};
+ghost use Rattle.std.specs.Prelude.{◌≡◌, ◌||◌, true, false, nat_eq};
 ghost use Rattle.client_world.specs.declared.registers.Mode.TheVariants.{Protected as protected, Real as real};
-ghost use Rattle.interrupts.specs.Worlds.{world_popped};
-ghost use Rattle.host_run.specs.View.{ComesTo};
+ghost use Rattle.interrupts.specs.Worlds.{world_after_iret};
+ghost use Rattle.host_run.specs.View.{ComesTo, HasRoom};
 ghost use Rattle.client_world.specs.Services.{is_set};
 ghost use Rattle.host_run.specs.Turn.{
   entry_line,
@@ -68,26 +68,22 @@ impl Host {
     #[tactic(auto, unfolding(crate::specs::Turn::after_entry_trap))]
     pub(crate) fn serve_entry(&mut self) -> Result<(), Exit>
         requires real { self.old.world.machine.mode ≡ real }
-        requires room { self.old.world.lines + 2 ≤ 2 * self.old.world.steps }
+        requires room { HasRoom self.old.world }
         ensures { ComesTo self.old self.new result (after_entry_trap self.old.world) }
     {
-        match entry(&mut self.machine) {
-            Ok(carry) => {
-                let line = entry_line(carry, &self.machine);
-                self.note(line);
-                Ok(())
-            }
-            Err(exit) => Err(exit),
-        }
+        let carry = entry(&mut self.machine)?;
+        let line = entry_line(carry, &self.machine);
+        self.note(line);
+        Ok(())
     }
 
     // INT 21h function 4Ch: the client ends itself, if its frame can be popped.
     #[tactic(auto, using(crate::proofs::Frames::exit_popped, crate::proofs::Frames::popped_bad))]
     fn end_client(&mut self, n: u8) -> Result<(), Exit>
         requires exit { is_exit_call self.old.world.machine n ≡ true }
-        requires room { self.old.world.lines + 2 ≤ 2 * self.old.world.steps }
+        requires room { HasRoom self.old.world }
         ensures { ComesTo self.old self.new result
-            (after_protected_pop self.old.world n (world_popped self.old.world.machine)) }
+            (after_protected_pop self.old.world n (world_after_iret self.old.world.machine)) }
     {
         if !can_pop(&self.machine) {
             return Err(Exit::BadFrame);
@@ -99,7 +95,7 @@ impl Host {
 
     // INT 2Fh AX = 1686h, with its frame popped: AX becomes 0, since the client runs in protected mode.
     fn report_presence(&mut self)
-        requires room { self.old.world.lines + 2 ≤ 2 * self.old.world.steps }
+        requires room { HasRoom self.old.world }
         ensures outcome { after_presence_call self.old.world self.old.world.machine ≡ goes_on self.new.world }
         ensures steps { self.new.world.steps ≡ self.old.world.steps }
     {
@@ -114,7 +110,7 @@ impl Host {
 
     // A service of INT 31h has returned: the carry goes into the flags that were popped.
     pub(crate) fn finish_service(&mut self, ax: u16, carry: Carry)
-        requires room { self.old.world.lines + 2 ≤ 2 * self.old.world.steps }
+        requires room { HasRoom self.old.world }
         ensures answer { after_service self.old.world ax (record { carry = carry; world = self.old.world.machine }) ≡ goes_on self.new.world }
         ensures steps { self.new.world.steps ≡ self.old.world.steps }
         ensures bytes { self.new.bytes ≡ self.old.bytes }
@@ -127,7 +123,7 @@ impl Host {
     // INT 31h, with its frame popped.
     fn serve_int31(&mut self)
         requires mode { self.old.world.machine.mode ≡ protected }
-        requires room { self.old.world.lines + 2 ≤ 2 * self.old.world.steps }
+        requires room { HasRoom self.old.world }
         ensures outcome { after_int31 self.old.world self.old.world.machine ≡ goes_on self.new.world }
         ensures steps { self.new.world.steps ≡ self.old.world.steps }
     {
@@ -147,9 +143,9 @@ impl Host {
         requires mode { self.old.world.machine.mode ≡ protected }
         requires exit { is_exit_call self.old.world.machine n ≡ false }
         requires served { (is_presence_call self.old.world.machine n || nat_eq n 0x31) ≡ true }
-        requires room { self.old.world.lines + 2 ≤ 2 * self.old.world.steps }
+        requires room { HasRoom self.old.world }
         ensures { ComesTo self.old self.new result
-            (after_protected_pop self.old.world n (world_popped self.old.world.machine)) }
+            (after_protected_pop self.old.world n (world_after_iret self.old.world.machine)) }
     {
         let presence = is_presence_call(&self.machine, n);
         match pop_in_mode(&mut self.machine) {
@@ -171,9 +167,9 @@ impl Host {
         requires exit { is_exit_call self.old.world.machine n ≡ false }
         requires presence { is_presence_call self.old.world.machine n ≡ false }
         requires other { nat_eq n 0x31 ≡ false }
-        requires room { self.old.world.lines + 2 ≤ 2 * self.old.world.steps }
+        requires room { HasRoom self.old.world }
         ensures { ComesTo self.old self.new result
-            (after_protected_pop self.old.world n (world_popped self.old.world.machine)) }
+            (after_protected_pop self.old.world n (world_after_iret self.old.world.machine)) }
     {
         if !can_pop(&self.machine) {
             return Err(Exit::BadFrame);
@@ -195,7 +191,7 @@ impl Host {
     #[tactic(auto, unfolding(crate::specs::Turn::after_protected_vector))]
     pub(crate) fn serve_protected_vector(&mut self, n: u8) -> Result<(), Exit>
         requires mode { self.old.world.machine.mode ≡ protected }
-        requires room { self.old.world.lines + 2 ≤ 2 * self.old.world.steps }
+        requires room { HasRoom self.old.world }
         ensures { ComesTo self.old self.new result (after_protected_vector self.old.world n) }
     {
         if is_exit_call(&self.machine, n) {

@@ -1,17 +1,18 @@
 // The services below, as turns see them: the world alone, and frames that can still be popped after them.
-ghost use Rattle.std.specs.Prelude.{◌≡◌, true, is_ok, Ok, Err, MatchResult};
+ghost use Rattle.std.specs.Prelude.{◌≡◌, true, is_ok, Ok, Err, MatchResult, OnOk};
 ghost use Rattle.client_world.specs.declared.registers.Mode.TheVariants.{Real};
 ghost use Rattle.cpu_step.specs.Step.{client_step};
 ghost use Rattle.dos_calls.specs.Answering.{IfEnded};
 ghost use Rattle.dos_calls.specs.Calls.{dos_call};
 ghost use Rattle.dos_calls.specs.Multiplex.{multiplex_call};
-ghost use Rattle.interrupts.specs.Worlds.{world_step, world_popped};
+ghost use Rattle.host_run.specs.Windows.{HasWindow, IsStart, IsTrapFree};
+ghost use Rattle.interrupts.specs.Worlds.{world_step, world_after_iret};
 
 use client_world::{DosDone, Exit};
-use cpu_step::step_with_memo;
+use cpu_step::{step_in_window, step_with_memo};
 use dos_calls::{Console, Keys, every_dos_call_keeps_the_rest, int2f, int21};
 use fault_service::pop_iret;
-use guest_space::Machine;
+use guest_space::{CodeWindow, Machine};
 use insn_decode::Memo;
 use insn_plan::Raised;
 use interrupts::{
@@ -19,7 +20,6 @@ use interrupts::{
 };
 
 /// The client's next instruction, or its event, which leaves the machine.
-#[inline(always)]
 pub(crate) fn step_machine(m: &mut Machine, memo: &mut Memo) -> Result<(), Raised>
     ensures machine { MatchResult result (λ _. client_step m.old ≡ Ok m.new)
         (λ e. (client_step m.old ≡ Err e) × (m.new ≡ m.old)) }
@@ -30,10 +30,30 @@ pub(crate) fn step_machine(m: &mut Machine, memo: &mut Memo) -> Result<(), Raise
     step_with_memo(m, memo)
 }
 
+/// The same of an instruction at a start of a window of code, which stays a window while CS holds what it held.
+#[inline(always)]
+pub(crate) fn step_machine_in(
+    m: &mut Machine,
+    memo: &mut Memo,
+    window: &CodeWindow,
+    from: u32,
+) -> Result<(), Raised>
+    requires window { IsTrapFree m.old window.now }
+    requires start { IsStart m.old.world window.now from }
+    ensures machine { MatchResult result (λ _. client_step m.old ≡ Ok m.new)
+        (λ e. (client_step m.old ≡ Err e) × (m.new ≡ m.old)) }
+    ensures world { MatchResult result (λ _. world_step m.old.world ≡ Ok m.new.world)
+        (λ e. (world_step m.old.world ≡ Err e) × (m.new ≡ m.old)) }
+    ensures window { OnOk result (HasWindow m.new window.now) }
+{
+    every_answer_depends_on_the_world_alone();
+    step_in_window(m, memo, window, from)
+}
+
 /// Whether the frame of an interrupt can be popped.
 #[tactic(auto, using(crate::proofs::Frames::can_by_world))]
 pub(crate) fn can_pop(m: &Machine) -> bool
-    ensures { result ≡ is_ok (world_popped m.now.world) }
+    ensures { result ≡ is_ok (world_after_iret m.now.world) }
 {
     every_answer_depends_on_the_world_alone();
     can_pop_iret(m)
@@ -41,8 +61,8 @@ pub(crate) fn can_pop(m: &Machine) -> bool
 
 /// The frame of an interrupt popped: the mode and the records of calls stay.
 pub(crate) fn pop_in_mode(m: &mut Machine) -> Result<(), Exit>
-    ensures world { MatchResult result (λ _. world_popped m.old.world ≡ Ok m.new.world)
-        (λ e. (world_popped m.old.world ≡ Err e) × (m.new ≡ m.old)) }
+    ensures world { MatchResult result (λ _. world_after_iret m.old.world ≡ Ok m.new.world)
+        (λ e. (world_after_iret m.old.world ≡ Err e) × (m.new ≡ m.old)) }
     ensures mode { m.new.world.mode ≡ m.old.world.mode }
     ensures calls { m.new.world.calls ≡ m.old.world.calls }
     ensures bytes { m.new.bytes ≡ m.old.bytes }
@@ -57,11 +77,11 @@ pub(crate) fn pop_in_mode(m: &mut Machine) -> Result<(), Exit>
 #[tactic(auto, using(crate::proofs::Frames::still_popped))]
 pub(crate) fn serve_dos(m: &mut Machine, keys: &mut Keys, console: &mut Console) -> DosDone
     requires real { m.old.world.mode ≡ Real }
-    requires frame { is_ok (world_popped m.old.world) ≡ true }
+    requires frame { is_ok (world_after_iret m.old.world) ≡ true }
     ensures call { record { done = result; world = m.new.world; keys = keys.new; console = console.new }
         ≡ dos_call (record { world = m.old.world; keys = keys.old; console = console.old }) }
     ensures ended { IfEnded result (m.new ≡ m.old) }
-    ensures frame { is_ok (world_popped m.new.world) ≡ true }
+    ensures frame { is_ok (world_after_iret m.new.world) ≡ true }
 {
     every_dos_call_keeps_the_rest();
     a_real_frame_is_popped_where_it_fits();
@@ -75,9 +95,9 @@ pub(crate) fn serve_dos(m: &mut Machine, keys: &mut Keys, console: &mut Console)
 #[tactic(auto, using(crate::proofs::Frames::still_popped))]
 pub(crate) fn serve_multiplex(m: &mut Machine)
     requires real { m.old.world.mode ≡ Real }
-    requires frame { is_ok (world_popped m.old.world) ≡ true }
+    requires frame { is_ok (world_after_iret m.old.world) ≡ true }
     ensures world { m.new.world ≡ multiplex_call m.old.world }
-    ensures frame { is_ok (world_popped m.new.world) ≡ true }
+    ensures frame { is_ok (world_after_iret m.new.world) ≡ true }
 {
     every_dos_call_keeps_the_rest();
     a_real_frame_is_popped_where_it_fits();

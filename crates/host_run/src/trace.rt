@@ -1,6 +1,6 @@
 // The trace.
 ghost use Rattle.std.specs.Prelude.{◌≡◌, ◌≤◌, ◌<◌, ◌*◌, length, slice_get};
-ghost use Rattle.host_run.specs.Turn.{enter_line, leave_line, noted};
+ghost use Rattle.host_run.specs.Turn.{enter_line, leave_line, with_trace_line};
 
 use crate::host::Host;
 use client_world::{TraceLine, What};
@@ -59,7 +59,7 @@ impl Host {
     // One more line: it is kept where there is room, and counted.
     pub(crate) fn note(&mut self, line: TraceLine)
         requires room { self.old.world.lines < 2 * self.old.world.steps }
-        ensures { self.new ≡ record self.old { world = noted line self.old.world } }
+        ensures { self.new ≡ record self.old { world = with_trace_line line self.old.world } }
     {
         if self.kept.len() < self.keep as usize {
             let _ = self.kept.push(line);

@@ -1,9 +1,9 @@
 // The default vectors of real mode.
-ghost use Rattle.std.specs.Prelude.{◌≡◌, ◌≤◌, ◌+◌, ◌*◌, true, is_ok};
+ghost use Rattle.std.specs.Prelude.{◌≡◌, true, is_ok};
 ghost use Rattle.client_world.specs.declared.registers.Mode.TheVariants.{Real};
-ghost use Rattle.interrupts.specs.Worlds.{world_popped};
-ghost use Rattle.host_run.specs.View.{ComesTo};
-ghost use Rattle.host_run.specs.Turn.{popped, dos_served, multiplex_served, ends_client, vector_served, vector_reached};
+ghost use Rattle.interrupts.specs.Worlds.{world_after_iret};
+ghost use Rattle.host_run.specs.View.{ComesTo, HasRoom};
+ghost use Rattle.host_run.specs.Turn.{after_frame_pop, after_dos_call, after_multiplex_call, ends_client, after_default_vector, after_real_vector};
 
 use crate::host::Host;
 use crate::serving::{can_pop, serve_dos, serve_multiplex};
@@ -15,8 +15,8 @@ use fault_service::pop_iret;
 impl Host {
     // The interrupt's frame is popped.
     fn pop_interrupt_frame(&mut self) -> Result<(), Exit>
-        ensures host { ComesTo self.old self.new result (popped self.old.world) }
-        ensures done { is_ok (world_popped self.old.world.machine) ≡ true → is_ok result ≡ true }
+        ensures host { ComesTo self.old self.new result (after_frame_pop self.old.world) }
+        ensures done { is_ok (world_after_iret self.old.world.machine) ≡ true → is_ok result ≡ true }
     {
         pop_iret(&mut self.machine)
     }
@@ -24,9 +24,9 @@ impl Host {
     // INT 21h: a DOS call.
     fn serve_dos_call(&mut self) -> Result<(), Exit>
         requires real { self.old.world.machine.mode ≡ Real }
-        requires frame { is_ok (world_popped self.old.world.machine) ≡ true }
-        requires room { self.old.world.lines + 2 ≤ 2 * self.old.world.steps }
-        ensures { ComesTo self.old self.new result (dos_served self.old.world) }
+        requires frame { is_ok (world_after_iret self.old.world.machine) ≡ true }
+        requires room { HasRoom self.old.world }
+        ensures { ComesTo self.old self.new result (after_dos_call self.old.world) }
     {
         let function = part8(self.machine.regs().eax, true);
         self.note(TraceLine::Int21(function));
@@ -39,9 +39,9 @@ impl Host {
     // INT 2Fh.
     fn serve_multiplex_call(&mut self) -> Result<(), Exit>
         requires real { self.old.world.machine.mode ≡ Real }
-        requires frame { is_ok (world_popped self.old.world.machine) ≡ true }
-        requires room { self.old.world.lines + 2 ≤ 2 * self.old.world.steps }
-        ensures { ComesTo self.old self.new result (multiplex_served self.old.world) }
+        requires frame { is_ok (world_after_iret self.old.world.machine) ≡ true }
+        requires room { HasRoom self.old.world }
+        ensures { ComesTo self.old self.new result (after_multiplex_call self.old.world) }
     {
         let function = self.machine.regs().ax();
         self.note(TraceLine::Int2f(function));
@@ -50,12 +50,12 @@ impl Host {
     }
 
     // The default vector of a number.
-    #[tactic(auto, unfolding(crate::specs::Turn::vector_served))]
+    #[tactic(auto, unfolding(crate::specs::Turn::after_default_vector))]
     fn serve_vector(&mut self, n: u8) -> Result<(), Exit>
         requires real { self.old.world.machine.mode ≡ Real }
-        requires frame { is_ok (world_popped self.old.world.machine) ≡ true }
-        requires room { self.old.world.lines + 2 ≤ 2 * self.old.world.steps }
-        ensures { ComesTo self.old self.new result (vector_served self.old.world n) }
+        requires frame { is_ok (world_after_iret self.old.world.machine) ≡ true }
+        requires room { HasRoom self.old.world }
+        ensures { ComesTo self.old self.new result (after_default_vector self.old.world n) }
     {
         if ends_client(n) {
             return Err(Exit::Fault(n, 0));
@@ -78,8 +78,8 @@ impl Host {
     #[tactic(auto, using(crate::proofs::Frames::reached_popped, crate::proofs::Frames::reached_bad))]
     pub(crate) fn reach_vector(&mut self, n: u8) -> Result<(), Exit>
         requires real { self.old.world.machine.mode ≡ Real }
-        requires room { self.old.world.lines + 2 ≤ 2 * self.old.world.steps }
-        ensures { ComesTo self.old self.new result (vector_reached self.old.world n) }
+        requires room { HasRoom self.old.world }
+        ensures { ComesTo self.old self.new result (after_real_vector self.old.world n) }
     {
         if can_pop(&self.machine) {
             self.serve_vector(n)

@@ -1,6 +1,7 @@
 //! Worked rows of the host: services, DOS memory, exceptions, and calls between the modes.
-//! It holds nothing but tests, over the public calls of the crates that `host_run` is built on: a crate with tests of its own is proved once
-//! more with them.
+//! It holds nothing but tests, over the public calls of the crates that `host_run` is built on. They stand apart because a crate with
+//! tests of its own is proved once more with them.
+//! A row may be added or put in plainer words; its values are those of the DPMI text. One is dropped only where another shows the same.
 #![tactic(auto)]
 
 #[cfg(test)]

@@ -11,6 +11,7 @@ use Rattle.insn_forms.specs.declared.rows.Row.{Row}
 use Rattle.insn_forms.specs.OpcodeMap.{opcode_row, row_one, row_two, map_one_00, map_one_20, map_one_60, map_one_e0, map_two_a0, group_0fba}
 use Rattle.insn_forms.specs.Prefixes.{is_prefix, is_one_of}
 use Rattle.insn_forms.specs.Addressing.{modrm_size}
+use Rattle.insn_forms.specs.Kinds.{operation}
 use Rattle.insn_forms.specs.Operands.{has_op, is_row}
 use Rattle.insn_forms.specs.Grammar.{AllBytes, ArePrefixes, is_row_with, opcode_bytes}
 use Rattle.insn_decode.specs.Reading.{with_prefix, any_below, any_row, opcode_head, checked, two_at, opcode_at, head_at}
@@ -158,7 +159,7 @@ checked_stays head bytes more e =
 
 -- every mark leaves some opcode, in either map
 lock_in_one : (lock : Bool) → any_below 8 (λ reg. is_row lock (opcode_row One 0 reg) true) ≡ true
-unfolding is_row opcode_row row_one map_one_00
+unfolding is_row operation opcode_row row_one map_one_00
 lock_in_one true = refl
 lock_in_one false = refl
 
@@ -167,7 +168,7 @@ unfolding any_row modrm_size opcode_row row_one map_one_00
 some_in_one m = lock_in_one m.lock
 
 lock_in_two : (lock : Bool) → any_below 8 (λ reg. is_row lock (opcode_row Two 0xba reg) true) ≡ true
-unfolding is_row opcode_row row_two map_two_a0 group_0fba
+unfolding is_row operation opcode_row row_two map_two_a0 group_0fba
 lock_in_two true = refl
 lock_in_two false = refl
 

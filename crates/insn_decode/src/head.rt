@@ -3,12 +3,12 @@ ghost use Rattle.std.specs.Prelude.{◌≡◌, ◌≤◌, ◌||◌, IsTrue, true
 ghost use Rattle.insn_forms.specs.OpcodeMap.{opcode_row};
 ghost use Rattle.insn_forms.specs.Prefixes.{is_prefix, segment_of};
 ghost use Rattle.insn_forms.specs.Addressing.{has_modrm, modrm_size};
-ghost use Rattle.insn_forms.specs.Operands.{takes_lock, has_op, may_lock, is_m, is_row};
+ghost use Rattle.insn_forms.specs.Operands.{has_op, may_lock, is_m, is_row};
 ghost use Rattle.insn_decode.specs.Reading.{IsReading, with_prefix, any_below, any_row, checked, two_at, opcode_at, head_at, no_prefixes};
 
 use crate::stop::Stop;
 use client_world::SegReg;
-use insn_forms::{Form, Head, Op, OpMap, Prefixes, Rep, Row, row_of};
+use insn_forms::{Form, Head, OpMap, Prefixes, Rep, Row, row_of};
 
 /// The prefixes and the opcode at the start, and the bytes after them.
 #[inline(always)]
@@ -246,7 +246,7 @@ fn is_lockable(row: Row) -> bool
     ensures { result ≡ may_lock row }
 {
     match row.op {
-        Some(op) => op_takes_lock(op) && matches!(row.first, Form::Eb | Form::Ev),
+        Some(op) => op.traits().lockable && matches!(row.first, Form::Eb | Form::Ev),
         None => false,
     }
 }
@@ -257,30 +257,4 @@ fn needs_memory(row: Row) -> bool
     ensures { result ≡ (is_m row.first || is_m row.second) }
 {
     matches!(row.first, Form::M) || matches!(row.second, Form::M)
-}
-
-// Whether the operation may be locked.
-#[inline(always)]
-fn op_takes_lock(op: Op) -> bool
-    ensures { result ≡ takes_lock op }
-{
-    matches!(
-        op,
-        Op::Add
-            | Op::Or
-            | Op::Adc
-            | Op::Sbb
-            | Op::And
-            | Op::Sub
-            | Op::Xor
-            | Op::Not
-            | Op::Neg
-            | Op::Inc
-            | Op::Dec
-            | Op::Xchg
-            | Op::Bt
-            | Op::Bts
-            | Op::Btr
-            | Op::Btc
-    )
 }

@@ -1,6 +1,7 @@
 //! The decoder: the instruction that some bytes start with.
-//! It promises that `decode` is insn_forms' grammar in both directions, and that bytes encode at most one instruction.
-//! It uses insn_forms, client_world and arrayvec; the client's step hands it the code bytes that can be fetched, 15 at most.
+//! It promises that `decode` is `insn_forms`' grammar in both directions, and that bytes encode at most one instruction. It uses
+//! `insn_forms`, `client_world` and `arrayvec`; the client's step hands it the code bytes that can be fetched, 15 at most.
+//! How bytes are read and remembered is free: the contract is the grammar, both ways. The grammar itself is changed in `insn_forms`.
 #![tactic(auto)]
 
 mod address;

@@ -11,7 +11,7 @@ use Rattle.insn_forms.specs.declared.rows.Form.TheVariants as forms
 use Rattle.insn_forms.specs.declared.rows.Row.{Row}
 use Rattle.insn_forms.specs.OpcodeMap.{Line, at, span, six, conditions, group, pick, look, no_row, usual_rows, opcode_row, row_one, row_two, map_one_00, map_one_20, map_one_40, map_one_60, map_one_80, map_one_a0, map_one_c0, map_one_e0, map_two_00, map_two_80, map_two_a0, arithmetic, shifts, unary_group, alone, group_8c, group_8e, group_fe, group_ff, group_0f00, group_0f01, group_0fba}
 use Rattle.insn_forms.specs.Operands.{op_of, has_op, row_width}
-use Rattle.insn_forms.specs.Kinds.{Kind, nothing, register, segment, memory, immediate, far, suits, has_good_number, is_wide_only}
+use Rattle.insn_forms.specs.Kinds.{Kind, nothing, register, segment, memory, immediate, far, operation, suits, has_good_number, is_wide_only}
 
 -- ---- tests of maps
 
@@ -126,47 +126,47 @@ row_suits r =
     && (not (is_wide_only (op_of r)) || not (row_width false r.first r.second == 8)))))
 
 suits_one_00 : every_line row_suits map_one_00 ≡ true
-unfolding map_one_00 arithmetic shifts unary_group alone group_8c group_8e group_fe group_ff group_0f00 group_0f01 group_0fba suits is_wide_only
+unfolding map_one_00 arithmetic shifts unary_group alone group_8c group_8e group_fe group_ff group_0f00 group_0f01 group_0fba operation
 suits_one_00 = refl
 
 suits_one_20 : every_line row_suits map_one_20 ≡ true
-unfolding map_one_20 arithmetic shifts unary_group alone group_8c group_8e group_fe group_ff group_0f00 group_0f01 group_0fba suits is_wide_only
+unfolding map_one_20 arithmetic shifts unary_group alone group_8c group_8e group_fe group_ff group_0f00 group_0f01 group_0fba operation
 suits_one_20 = refl
 
 suits_one_40 : every_line row_suits map_one_40 ≡ true
-unfolding map_one_40 arithmetic shifts unary_group alone group_8c group_8e group_fe group_ff group_0f00 group_0f01 group_0fba suits is_wide_only
+unfolding map_one_40 arithmetic shifts unary_group alone group_8c group_8e group_fe group_ff group_0f00 group_0f01 group_0fba operation
 suits_one_40 = refl
 
 suits_one_60 : every_line row_suits map_one_60 ≡ true
-unfolding map_one_60 arithmetic shifts unary_group alone group_8c group_8e group_fe group_ff group_0f00 group_0f01 group_0fba suits is_wide_only
+unfolding map_one_60 arithmetic shifts unary_group alone group_8c group_8e group_fe group_ff group_0f00 group_0f01 group_0fba operation
 suits_one_60 = refl
 
 suits_one_80 : every_line row_suits map_one_80 ≡ true
-unfolding map_one_80 arithmetic shifts unary_group alone group_8c group_8e group_fe group_ff group_0f00 group_0f01 group_0fba suits is_wide_only
+unfolding map_one_80 arithmetic shifts unary_group alone group_8c group_8e group_fe group_ff group_0f00 group_0f01 group_0fba operation
 suits_one_80 = refl
 
 suits_one_a0 : every_line row_suits map_one_a0 ≡ true
-unfolding map_one_a0 arithmetic shifts unary_group alone group_8c group_8e group_fe group_ff group_0f00 group_0f01 group_0fba suits is_wide_only
+unfolding map_one_a0 arithmetic shifts unary_group alone group_8c group_8e group_fe group_ff group_0f00 group_0f01 group_0fba operation
 suits_one_a0 = refl
 
 suits_one_c0 : every_line row_suits map_one_c0 ≡ true
-unfolding map_one_c0 arithmetic shifts unary_group alone group_8c group_8e group_fe group_ff group_0f00 group_0f01 group_0fba suits is_wide_only
+unfolding map_one_c0 arithmetic shifts unary_group alone group_8c group_8e group_fe group_ff group_0f00 group_0f01 group_0fba operation
 suits_one_c0 = refl
 
 suits_one_e0 : every_line row_suits map_one_e0 ≡ true
-unfolding map_one_e0 arithmetic shifts unary_group alone group_8c group_8e group_fe group_ff group_0f00 group_0f01 group_0fba suits is_wide_only
+unfolding map_one_e0 arithmetic shifts unary_group alone group_8c group_8e group_fe group_ff group_0f00 group_0f01 group_0fba operation
 suits_one_e0 = refl
 
 suits_two_00 : every_line row_suits map_two_00 ≡ true
-unfolding map_two_00 arithmetic shifts unary_group alone group_8c group_8e group_fe group_ff group_0f00 group_0f01 group_0fba suits is_wide_only
+unfolding map_two_00 arithmetic shifts unary_group alone group_8c group_8e group_fe group_ff group_0f00 group_0f01 group_0fba operation
 suits_two_00 = refl
 
 suits_two_80 : every_line row_suits map_two_80 ≡ true
-unfolding map_two_80 arithmetic shifts unary_group alone group_8c group_8e group_fe group_ff group_0f00 group_0f01 group_0fba suits is_wide_only
+unfolding map_two_80 arithmetic shifts unary_group alone group_8c group_8e group_fe group_ff group_0f00 group_0f01 group_0fba operation
 suits_two_80 = refl
 
 suits_two_a0 : every_line row_suits map_two_a0 ≡ true
-unfolding map_two_a0 arithmetic shifts unary_group alone group_8c group_8e group_fe group_ff group_0f00 group_0f01 group_0fba suits is_wide_only
+unfolding map_two_a0 arithmetic shifts unary_group alone group_8c group_8e group_fe group_ff group_0f00 group_0f01 group_0fba operation
 suits_two_a0 = refl
 
 row_one_suits : (opcode reg : ℕ) → row_suits (row_one opcode reg) ≡ true

@@ -13,9 +13,9 @@ use Rattle.insn_forms.specs.declared.pieces.Prefixes.{Prefixes}
 use Rattle.insn_forms.specs.declared.pieces.Head.{Head}
 use Rattle.insn_forms.specs.declared.pieces.Addressing.{Addressing}
 use Rattle.insn_forms.specs.Addressing.{mod_of, reg_of, rm_of, in_memory, base16, index16, base32, index32, scale_of, place, displacement, memory}
-use Rattle.insn_forms.specs.Operands.{has_op, may_lock, takes_lock, is_e, is_m, is_row, op_of, operand, register_or_memory, width_of, form_width, row_width, insn_of}
+use Rattle.insn_forms.specs.Operands.{has_op, may_lock, is_e, is_m, is_row, op_of, operand, register_or_memory, width_of, form_width, row_width, insn_of}
 use Rattle.insn_forms.specs.Grammar.{little, head_of, addressing_of, row_with, is_row_with, wide_of, addr32_of, insn_of_pieces, IsInsn}
-use Rattle.insn_forms.specs.Kinds.{Kind, operand_kind, is_memory, is_width, is_number, is_place_in_memory, is_good, suits, has_good_number, is_wide_only, IsWellFormed}
+use Rattle.insn_forms.specs.Kinds.{Kind, operand_kind, is_memory, is_width, is_number, is_place_in_memory, is_good, suits, has_good_number, is_wide_only, takes_lock, IsWellFormed}
 use Rattle.insn_forms.proofs.RowsSuit.{kinds, all_of, row_suits, every_row_suits}
 
 -- ---- kinds

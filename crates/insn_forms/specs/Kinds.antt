@@ -1,8 +1,11 @@
--- Which operands each operation has: what an executing crate may take for granted of an instruction that bytes encode.
--- Source: 80386 Programmer's Reference Manual, ch. 17, the heading of each instruction.
+-- The table of operations: a line for each, with its crate, its operands, and whether it has forms in bytes and may be locked. And what an
+-- executing crate may take for granted of an instruction that bytes encode.
+-- Source: 80386 Programmer's Reference Manual, ch. 17, the heading of each instruction; the crates are own.
 use Rattle.std.specs.Prelude.{ℕ, Bool, true, false, not, Option, Some, None, ◌==◌, ◌&&◌, ◌||◌, nat_lt, IsTrue}
 use Rattle.insn_forms.specs.declared.insn.Op.{Op}
 use Rattle.insn_forms.specs.declared.insn.Op.TheVariants as ops
+use Rattle.insn_forms.specs.declared.insn.Owner.{Owner}
+use Rattle.insn_forms.specs.declared.insn.Owner.TheVariants.{Core, Flow, ByFirst, ByOperands}
 use Rattle.insn_forms.specs.declared.insn.Operand.{Operand}
 use Rattle.insn_forms.specs.declared.insn.Operand.TheVariants as operands
 use Rattle.insn_forms.specs.declared.insn.MemForm.{MemForm}
@@ -66,181 +69,248 @@ is_count k = is_register k || is_immediate k
 
 -- ---- shapes: the kinds of all three operands
 
+-- which kinds the operands may have
+abbrev pub Shape : Type 0
+Shape = Kind → Kind → Kind → Bool
+
 -- no operand
-abbrev pub no_operand : Kind → Kind → Kind → Bool
+abbrev pub no_operand : Shape
 no_operand a b c = is_nothing a && is_nothing b && is_nothing c
 
 -- one operand, for which the test holds
-abbrev pub one_operand : (Kind → Bool) → Kind → Kind → Kind → Bool
+abbrev pub one_operand : (Kind → Bool) → Shape
 one_operand p a b c = p a && is_nothing b && is_nothing c
 
 -- two operands, for which the tests hold
-abbrev pub two_operands : (Kind → Bool) → (Kind → Bool) → Kind → Kind → Kind → Bool
+abbrev pub two_operands : (Kind → Bool) → (Kind → Bool) → Shape
 two_operands p q a b c = p a && q b && is_nothing c
 
 -- three operands
-abbrev pub three_operands : (Kind → Bool) → (Kind → Bool) → (Kind → Bool) → Kind → Kind → Kind → Bool
+abbrev pub three_operands : (Kind → Bool) → (Kind → Bool) → (Kind → Bool) → Shape
 three_operands p q r a b c = p a && q b && r c
 
+-- one shape or the other
+abbrev pub either : Shape → Shape → Shape
+either one other a b c = one a b c || other a b c
+
 -- a destination, and a source that is not in memory with it
-abbrev pub destination_and_source : Kind → Kind → Kind → Bool
-destination_and_source a b c =
-    two_operands is_place is_count a b c || two_operands is_register is_memory a b c
+abbrev pub destination_and_source : Shape
+destination_and_source = either (two_operands is_place is_count) (two_operands is_register is_memory)
+
+-- those of IMUL: a factor; a register, which is the other factor, and a factor; a register and both factors
+abbrev pub imul_operands : Shape
+imul_operands = either (one_operand is_place)
+    (either (two_operands is_register is_place) (three_operands is_register is_place is_immediate))
+
+-- those of MOV: also a segment register, as the destination or the source
+abbrev pub mov_operands : Shape
+mov_operands = either destination_and_source (either (two_operands is_segment is_place) (two_operands is_place is_segment))
+
+-- ---- the table of operations
+
+-- what is said of an operation
+pub record Operation : Type 0 where
+  -- the crate that carries it out
+  pub owner : Owner
+  -- the kinds of its operands
+  pub shape : Shape
+  -- it has no form in bytes
+  pub wide_only : Bool
+  -- it may have the prefix LOCK (ch. 17, "LOCK")
+  pub lockable : Bool
+  -- the number in the variant is one that there is
+  pub numbered : Bool
+
+-- an operation with forms in bytes, without LOCK and without a number
+abbrev pub plain : Owner → Shape → Operation
+plain owner shape = record { owner = owner; shape = shape; wide_only = false; lockable = false; numbered = true }
+
+-- one of exec_core
+abbrev pub by_core : Shape → Operation
+by_core = plain Core
+
+-- one of exec_flow
+abbrev pub by_flow : Shape → Operation
+by_flow = plain Flow
+
+-- one of exec_flow where its first operand is a segment register, else one of exec_core
+abbrev pub by_first : Shape → Operation
+by_first = plain ByFirst
+
+-- one of exec_flow where one of its operands is a segment register, else one of exec_core
+abbrev pub by_operands : Shape → Operation
+by_operands = plain ByOperands
+
+-- it has no form in bytes
+abbrev pub words_only : Operation → Operation
+words_only o = record o { wide_only = true }
+
+-- it may have the prefix LOCK
+abbrev pub with_lock : Operation → Operation
+with_lock o = record o { lockable = true }
+
+-- this says whether the number in the variant is one that there is
+abbrev pub with_number : Bool → Operation → Operation
+with_number good o = record o { numbered = good }
+
+-- the table: a condition is 0 to 15, the width of a source 8 or 16
+unfoldable pub operation : Op → Operation
+-- arithmetic and logic
+operation ops.Add = with_lock (by_core destination_and_source)
+operation ops.Or = with_lock (by_core destination_and_source)
+operation ops.Adc = with_lock (by_core destination_and_source)
+operation ops.Sbb = with_lock (by_core destination_and_source)
+operation ops.And = with_lock (by_core destination_and_source)
+operation ops.Sub = with_lock (by_core destination_and_source)
+operation ops.Xor = with_lock (by_core destination_and_source)
+operation ops.Cmp = by_core destination_and_source
+operation ops.Test = by_core (two_operands is_place is_count)
+operation ops.Inc = with_lock (by_core (one_operand is_place))
+operation ops.Dec = with_lock (by_core (one_operand is_place))
+operation ops.Not = with_lock (by_core (one_operand is_place))
+operation ops.Neg = with_lock (by_core (one_operand is_place))
+operation ops.Mul = by_core (one_operand is_place)
+operation ops.Imul = by_core imul_operands
+operation ops.Div = by_core (one_operand is_place)
+operation ops.Idiv = by_core (one_operand is_place)
+-- decimal adjustment
+operation ops.Daa = by_core no_operand
+operation ops.Das = by_core no_operand
+operation ops.Aaa = by_core no_operand
+operation ops.Aas = by_core no_operand
+operation ops.Aam = by_core (one_operand is_immediate)
+operation ops.Aad = by_core (one_operand is_immediate)
+-- shifts and rotates
+operation ops.Rol = by_core (two_operands is_place is_count)
+operation ops.Ror = by_core (two_operands is_place is_count)
+operation ops.Rcl = by_core (two_operands is_place is_count)
+operation ops.Rcr = by_core (two_operands is_place is_count)
+operation ops.Shl = by_core (two_operands is_place is_count)
+operation ops.Shr = by_core (two_operands is_place is_count)
+operation ops.Sar = by_core (two_operands is_place is_count)
+operation ops.Shld = words_only (by_core (three_operands is_place is_register is_count))
+operation ops.Shrd = words_only (by_core (three_operands is_place is_register is_count))
+-- bits
+operation ops.Bt = with_lock (words_only (by_core (two_operands is_place is_count)))
+operation ops.Bts = with_lock (words_only (by_core (two_operands is_place is_count)))
+operation ops.Btr = with_lock (words_only (by_core (two_operands is_place is_count)))
+operation ops.Btc = with_lock (words_only (by_core (two_operands is_place is_count)))
+operation ops.Bsf = words_only (by_core (two_operands is_register is_place))
+operation ops.Bsr = words_only (by_core (two_operands is_register is_place))
+operation (ops.Setcc n) = with_number (nat_lt n 16) (by_core (one_operand is_place))
+-- moves
+operation ops.Mov = by_operands mov_operands
+operation (ops.Movzx n) = with_number (n == 8 || n == 16) (words_only (by_core (two_operands is_register is_place)))
+operation (ops.Movsx n) = with_number (n == 8 || n == 16) (words_only (by_core (two_operands is_register is_place)))
+operation ops.Xchg = with_lock (by_core (two_operands is_place is_register))
+operation ops.Lea = words_only (by_core (two_operands is_register is_memory))
+operation ops.Xlat = by_core no_operand
+operation ops.Cbw = words_only (by_core no_operand)
+operation ops.Cwd = words_only (by_core no_operand)
+operation ops.Lahf = by_core no_operand
+operation ops.Sahf = by_core no_operand
+operation ops.Push = words_only (by_first (either (one_operand is_place) (either (one_operand is_immediate) (one_operand is_segment))))
+operation ops.Pop = words_only (by_first (either (one_operand is_place) (one_operand is_segment)))
+operation ops.Pusha = words_only (by_core no_operand)
+operation ops.Popa = words_only (by_core no_operand)
+operation ops.Pushf = words_only (by_flow no_operand)
+operation ops.Popf = words_only (by_flow no_operand)
+-- strings
+operation ops.Movs = by_core no_operand
+operation ops.Cmps = by_core no_operand
+operation ops.Stos = by_core no_operand
+operation ops.Lods = by_core no_operand
+operation ops.Scas = by_core no_operand
+-- transfers
+operation (ops.Jcc n) = with_number (nat_lt n 16) (words_only (by_flow (one_operand is_immediate)))
+operation ops.Jcxz = words_only (by_flow (one_operand is_immediate))
+operation ops.Loop = words_only (by_flow (one_operand is_immediate))
+operation ops.Loope = words_only (by_flow (one_operand is_immediate))
+operation ops.Loopne = words_only (by_flow (one_operand is_immediate))
+operation ops.Jmp = words_only (by_flow (either (one_operand is_place) (one_operand is_immediate)))
+operation ops.JmpFar = words_only (by_flow (either (one_operand is_memory) (one_operand is_far)))
+operation ops.Call = words_only (by_flow (either (one_operand is_place) (one_operand is_immediate)))
+operation ops.CallFar = words_only (by_flow (either (one_operand is_memory) (one_operand is_far)))
+operation ops.Ret = words_only (by_flow (either no_operand (one_operand is_immediate)))
+operation ops.Retf = words_only (by_flow (either no_operand (one_operand is_immediate)))
+operation ops.Int = words_only (by_flow (one_operand is_immediate))
+operation ops.Int3 = words_only (by_flow no_operand)
+operation ops.Into = words_only (by_flow no_operand)
+operation ops.Iret = words_only (by_flow no_operand)
+operation ops.Bound = words_only (by_flow (two_operands is_register is_memory))
+operation ops.Enter = words_only (by_flow (two_operands is_immediate is_immediate))
+operation ops.Leave = words_only (by_flow no_operand)
+-- flags and the processor
+operation ops.Clc = by_core no_operand
+operation ops.Stc = by_core no_operand
+operation ops.Cmc = by_core no_operand
+operation ops.Cld = by_core no_operand
+operation ops.Std = by_core no_operand
+operation ops.Cli = by_flow no_operand
+operation ops.Sti = by_flow no_operand
+operation ops.Hlt = by_flow no_operand
+operation ops.Wait = by_core no_operand
+-- ports
+operation ops.In = by_flow (two_operands is_register is_count)
+operation ops.Out = by_flow (two_operands is_count is_register)
+operation ops.Ins = by_flow no_operand
+operation ops.Outs = by_flow no_operand
+-- far pointers and segments
+operation ops.Les = words_only (by_flow (two_operands is_register is_memory))
+operation ops.Lds = words_only (by_flow (two_operands is_register is_memory))
+operation ops.Lss = words_only (by_flow (two_operands is_register is_memory))
+operation ops.Lfs = words_only (by_flow (two_operands is_register is_memory))
+operation ops.Lgs = words_only (by_flow (two_operands is_register is_memory))
+operation ops.Lar = words_only (by_flow (two_operands is_register is_place))
+operation ops.Lsl = words_only (by_flow (two_operands is_register is_place))
+operation ops.Verr = words_only (by_flow (one_operand is_place))
+operation ops.Verw = words_only (by_flow (one_operand is_place))
+operation ops.Arpl = words_only (by_flow (two_operands is_place is_register))
+-- the system's instructions and the coprocessor's escape, which only raise an exception here
+operation ops.Sldt = by_flow (one_operand is_place)
+operation ops.Str = by_flow (one_operand is_place)
+operation ops.Lldt = by_flow (one_operand is_place)
+operation ops.Ltr = by_flow (one_operand is_place)
+operation ops.Sgdt = by_flow (one_operand is_memory)
+operation ops.Sidt = by_flow (one_operand is_memory)
+operation ops.Lgdt = by_flow (one_operand is_memory)
+operation ops.Lidt = by_flow (one_operand is_memory)
+operation ops.Smsw = by_flow (one_operand is_place)
+operation ops.Lmsw = by_flow (one_operand is_place)
+operation ops.Clts = by_flow no_operand
+operation ops.MovControl = by_flow no_operand
+operation ops.MovDebug = by_flow no_operand
+operation ops.MovTest = by_flow no_operand
+operation ops.Esc = by_flow (one_operand is_place)
 
 -- the kinds that the operands of an operation have
-unfoldable pub suits : Op → Kind → Kind → Kind → Bool
-suits ops.Add = destination_and_source
-suits ops.Or = destination_and_source
-suits ops.Adc = destination_and_source
-suits ops.Sbb = destination_and_source
-suits ops.And = destination_and_source
-suits ops.Sub = destination_and_source
-suits ops.Xor = destination_and_source
-suits ops.Cmp = destination_and_source
-suits ops.Test = two_operands is_place is_count
-suits ops.Inc = one_operand is_place
-suits ops.Dec = one_operand is_place
-suits ops.Not = one_operand is_place
-suits ops.Neg = one_operand is_place
-suits ops.Mul = one_operand is_place
-suits ops.Imul = λ a b c.
-    one_operand is_place a b c || two_operands is_register is_place a b c
-    || three_operands is_register is_place is_immediate a b c
-suits ops.Div = one_operand is_place
-suits ops.Idiv = one_operand is_place
-suits ops.Aam = one_operand is_immediate
-suits ops.Aad = one_operand is_immediate
-suits ops.Rol = two_operands is_place is_count
-suits ops.Ror = two_operands is_place is_count
-suits ops.Rcl = two_operands is_place is_count
-suits ops.Rcr = two_operands is_place is_count
-suits ops.Shl = two_operands is_place is_count
-suits ops.Shr = two_operands is_place is_count
-suits ops.Sar = two_operands is_place is_count
-suits ops.Shld = three_operands is_place is_register is_count
-suits ops.Shrd = three_operands is_place is_register is_count
-suits ops.Bt = two_operands is_place is_count
-suits ops.Bts = two_operands is_place is_count
-suits ops.Btr = two_operands is_place is_count
-suits ops.Btc = two_operands is_place is_count
-suits ops.Bsf = two_operands is_register is_place
-suits ops.Bsr = two_operands is_register is_place
-suits (ops.Setcc n) = one_operand is_place
-suits ops.Mov = λ a b c.
-    destination_and_source a b c
-    || two_operands is_memory is_register a b c
-    || two_operands is_segment is_place a b c
-    || two_operands is_place is_segment a b c
-suits (ops.Movzx n) = two_operands is_register is_place
-suits (ops.Movsx n) = two_operands is_register is_place
-suits ops.Xchg = two_operands is_place is_register
-suits ops.Lea = two_operands is_register is_memory
-suits ops.Push = λ a b c.
-    one_operand is_place a b c || one_operand is_immediate a b c || one_operand is_segment a b c
-suits ops.Pop = λ a b c. one_operand is_place a b c || one_operand is_segment a b c
-suits (ops.Jcc n) = one_operand is_immediate
-suits ops.Jcxz = one_operand is_immediate
-suits ops.Loop = one_operand is_immediate
-suits ops.Loope = one_operand is_immediate
-suits ops.Loopne = one_operand is_immediate
-suits ops.Jmp = λ a b c. one_operand is_place a b c || one_operand is_immediate a b c
-suits ops.Call = λ a b c. one_operand is_place a b c || one_operand is_immediate a b c
-suits ops.JmpFar = λ a b c. one_operand is_memory a b c || one_operand is_far a b c
-suits ops.CallFar = λ a b c. one_operand is_memory a b c || one_operand is_far a b c
-suits ops.Ret = λ a b c. no_operand a b c || one_operand is_immediate a b c
-suits ops.Retf = λ a b c. no_operand a b c || one_operand is_immediate a b c
-suits ops.Int = one_operand is_immediate
-suits ops.Bound = two_operands is_register is_memory
-suits ops.Enter = two_operands is_immediate is_immediate
-suits ops.In = two_operands is_register is_count
-suits ops.Out = two_operands is_count is_register
-suits ops.Les = two_operands is_register is_memory
-suits ops.Lds = two_operands is_register is_memory
-suits ops.Lss = two_operands is_register is_memory
-suits ops.Lfs = two_operands is_register is_memory
-suits ops.Lgs = two_operands is_register is_memory
-suits ops.Lar = two_operands is_register is_place
-suits ops.Lsl = two_operands is_register is_place
-suits ops.Verr = one_operand is_place
-suits ops.Verw = one_operand is_place
-suits ops.Arpl = two_operands is_place is_register
-suits ops.Sldt = one_operand is_place
-suits ops.Str = one_operand is_place
-suits ops.Lldt = one_operand is_place
-suits ops.Ltr = one_operand is_place
-suits ops.Sgdt = one_operand is_memory
-suits ops.Sidt = one_operand is_memory
-suits ops.Lgdt = one_operand is_memory
-suits ops.Lidt = one_operand is_memory
-suits ops.Smsw = one_operand is_place
-suits ops.Lmsw = one_operand is_place
-suits ops.Esc = one_operand is_place
-suits _ = no_operand
+abbrev pub suits : Op → Shape
+suits op = (operation op).shape
+
+-- the operation has no form in bytes
+abbrev pub is_wide_only : Op → Bool
+is_wide_only op = (operation op).wide_only
+
+-- the operation may be locked
+abbrev pub takes_lock : Op → Bool
+takes_lock op = (operation op).lockable
+
+-- a number in the variant is one that there is
+abbrev pub has_good_number : Op → Bool
+has_good_number op = (operation op).numbered
+
+-- an instruction with these first operands is one of exec_core, and else one of exec_flow
+abbrev pub is_of_core : Owner → Operand → Operand → Bool
+is_of_core Core first second = true
+is_of_core Flow first second = false
+is_of_core ByFirst first second = not (is_segment (operand_kind first))
+is_of_core ByOperands first second = not (is_segment (operand_kind first)) && not (is_segment (operand_kind second))
 
 -- ---- widths and numbers
 
 -- a width of a general register
 abbrev pub is_width : ℕ → Bool
 is_width n = n == 8 || (n == 16 || n == 32)
-
--- a number in the variant is one that there is: a condition 0 to 15, a source's width 8 or 16
-abbrev pub has_good_number : Op → Bool
-has_good_number (ops.Jcc n) = nat_lt n 16
-has_good_number (ops.Setcc n) = nat_lt n 16
-has_good_number (ops.Movzx n) = n == 8 || n == 16
-has_good_number (ops.Movsx n) = n == 8 || n == 16
-has_good_number _ = true
-
--- the operation has no form in bytes
-unfoldable pub is_wide_only : Op → Bool
-is_wide_only ops.Shld = true
-is_wide_only ops.Shrd = true
-is_wide_only ops.Bt = true
-is_wide_only ops.Bts = true
-is_wide_only ops.Btr = true
-is_wide_only ops.Btc = true
-is_wide_only ops.Bsf = true
-is_wide_only ops.Bsr = true
-is_wide_only (ops.Movzx n) = true
-is_wide_only (ops.Movsx n) = true
-is_wide_only ops.Lea = true
-is_wide_only ops.Cbw = true
-is_wide_only ops.Cwd = true
-is_wide_only ops.Push = true
-is_wide_only ops.Pop = true
-is_wide_only ops.Pusha = true
-is_wide_only ops.Popa = true
-is_wide_only ops.Pushf = true
-is_wide_only ops.Popf = true
-is_wide_only (ops.Jcc n) = true
-is_wide_only ops.Jcxz = true
-is_wide_only ops.Loop = true
-is_wide_only ops.Loope = true
-is_wide_only ops.Loopne = true
-is_wide_only ops.Jmp = true
-is_wide_only ops.JmpFar = true
-is_wide_only ops.Call = true
-is_wide_only ops.CallFar = true
-is_wide_only ops.Ret = true
-is_wide_only ops.Retf = true
-is_wide_only ops.Int = true
-is_wide_only ops.Int3 = true
-is_wide_only ops.Into = true
-is_wide_only ops.Iret = true
-is_wide_only ops.Bound = true
-is_wide_only ops.Enter = true
-is_wide_only ops.Leave = true
-is_wide_only ops.Les = true
-is_wide_only ops.Lds = true
-is_wide_only ops.Lss = true
-is_wide_only ops.Lfs = true
-is_wide_only ops.Lgs = true
-is_wide_only ops.Lar = true
-is_wide_only ops.Lsl = true
-is_wide_only ops.Verr = true
-is_wide_only ops.Verw = true
-is_wide_only ops.Arpl = true
-is_wide_only _ = false
 
 -- a register's number
 abbrev pub is_number : Option ℕ → Bool

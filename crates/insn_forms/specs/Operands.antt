@@ -15,29 +15,10 @@ use Rattle.insn_forms.specs.declared.insn.Insn.{Insn}
 use Rattle.insn_forms.specs.declared.pieces.Prefixes.{Prefixes}
 use Rattle.insn_forms.specs.declared.pieces.Head.{Head}
 use Rattle.insn_forms.specs.declared.pieces.Addressing.{Addressing}
+use Rattle.insn_forms.specs.Kinds.{takes_lock}
 use Rattle.insn_forms.specs.Addressing.{mod_of, reg_of, rm_of, sign_extended_byte, segment_or, place, memory}
 
 -- ---- which rows there are
-
--- the operations that may be locked (ch. 17, "LOCK")
-abbrev pub takes_lock : Op → Bool
-takes_lock ops.Add = true
-takes_lock ops.Or = true
-takes_lock ops.Adc = true
-takes_lock ops.Sbb = true
-takes_lock ops.And = true
-takes_lock ops.Sub = true
-takes_lock ops.Xor = true
-takes_lock ops.Not = true
-takes_lock ops.Neg = true
-takes_lock ops.Inc = true
-takes_lock ops.Dec = true
-takes_lock ops.Xchg = true
-takes_lock ops.Bt = true
-takes_lock ops.Bts = true
-takes_lock ops.Btr = true
-takes_lock ops.Btc = true
-takes_lock _ = false
 
 -- the form is a register or memory of ModRM that may be locked
 abbrev pub is_e : Form → Bool

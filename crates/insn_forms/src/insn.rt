@@ -1,4 +1,7 @@
-// Instructions: an operation, its width, and its operands.
+// Instructions: an operation, its width, and its operands; and the table of operations.
+ghost use Rattle.std.specs.Prelude.{◌≡◌};
+ghost use Rattle.insn_forms.specs.Kinds.{has_good_number, operation, takes_lock};
+
 use client_world::{FarPtr, SegReg};
 
 /// The operations, by the manual's names; a condition 0 to 15, or the width of a source, is a number in the variant.
@@ -132,6 +135,124 @@ pub enum Op {
     MovDebug,
     MovTest,
     Esc,
+}
+
+/// The crate that carries an operation out. Own.
+#[derive(Clone, Copy, Debug, PartialEq, Eq)]
+pub enum Owner {
+    /// `exec_core`.
+    Core,
+    /// `exec_flow`.
+    Flow,
+    /// `exec_flow` where the first operand is a segment register, else `exec_core`.
+    ByFirst,
+    /// `exec_flow` where one of the first two operands is a segment register, else `exec_core`.
+    ByOperands,
+}
+
+/// What code asks about an operation: the crate that carries it out, whether it may have the prefix LOCK, and whether the number in the
+/// variant is one that there is. Own.
+#[derive(Clone, Copy, Debug, PartialEq, Eq)]
+pub struct Traits {
+    pub owner: Owner,
+    pub lockable: bool,
+    pub numbered: bool,
+}
+
+const CORE: Traits = Traits {
+    owner: Owner::Core,
+    lockable: false,
+    numbered: true,
+};
+
+const CORE_WITH_LOCK: Traits = Traits {
+    owner: Owner::Core,
+    lockable: true,
+    numbered: true,
+};
+
+const FLOW: Traits = Traits {
+    owner: Owner::Flow,
+    lockable: false,
+    numbered: true,
+};
+
+const BY_FIRST: Traits = Traits {
+    owner: Owner::ByFirst,
+    lockable: false,
+    numbered: true,
+};
+
+const BY_OPERANDS: Traits = Traits {
+    owner: Owner::ByOperands,
+    lockable: false,
+    numbered: true,
+};
+
+impl Op {
+    /// The table of operations: a line for each family, in the order of `Op`.
+    /// Source: 80386 Programmer's Reference Manual, ch. 17, "LOCK"; the crates are own.
+    #[inline(always)]
+    #[tactic(auto, unfolding(crate::specs::Kinds::operation))]
+    pub fn traits(self) -> Traits
+        ensures owner { result.owner ≡ (operation self).owner }
+        ensures lock { result.lockable ≡ takes_lock self }
+        ensures number { result.numbered ≡ has_good_number self }
+    {
+        match self {
+            // arithmetic and logic
+            Op::Add | Op::Or | Op::Adc | Op::Sbb | Op::And | Op::Sub | Op::Xor => CORE_WITH_LOCK,
+            Op::Cmp | Op::Test => CORE,
+            Op::Inc | Op::Dec | Op::Not | Op::Neg => CORE_WITH_LOCK,
+            Op::Mul | Op::Imul | Op::Div | Op::Idiv => CORE,
+            // decimal adjustment
+            Op::Daa | Op::Das | Op::Aaa | Op::Aas | Op::Aam | Op::Aad => CORE,
+            // shifts and rotates
+            Op::Rol | Op::Ror | Op::Rcl | Op::Rcr | Op::Shl | Op::Shr | Op::Sar => CORE,
+            Op::Shld | Op::Shrd => CORE,
+            // bits
+            Op::Bt | Op::Bts | Op::Btr | Op::Btc => CORE_WITH_LOCK,
+            Op::Bsf | Op::Bsr => CORE,
+            Op::Setcc(n) => Traits {
+                numbered: n < 16,
+                ..CORE
+            },
+            // moves
+            Op::Mov => BY_OPERANDS,
+            Op::Movzx(n) | Op::Movsx(n) => Traits {
+                numbered: n == 8 || n == 16,
+                ..CORE
+            },
+            Op::Xchg => CORE_WITH_LOCK,
+            Op::Lea | Op::Xlat | Op::Cbw | Op::Cwd | Op::Lahf | Op::Sahf => CORE,
+            Op::Push | Op::Pop => BY_FIRST,
+            Op::Pusha | Op::Popa => CORE,
+            Op::Pushf | Op::Popf => FLOW,
+            // strings
+            Op::Movs | Op::Cmps | Op::Stos | Op::Lods | Op::Scas => CORE,
+            // transfers
+            Op::Jcc(n) => Traits {
+                numbered: n < 16,
+                ..FLOW
+            },
+            Op::Jcxz | Op::Loop | Op::Loope | Op::Loopne => FLOW,
+            Op::Jmp | Op::JmpFar | Op::Call | Op::CallFar | Op::Ret | Op::Retf => FLOW,
+            Op::Int | Op::Int3 | Op::Into | Op::Iret | Op::Bound | Op::Enter | Op::Leave => FLOW,
+            // flags and the processor
+            Op::Clc | Op::Stc | Op::Cmc | Op::Cld | Op::Std => CORE,
+            Op::Cli | Op::Sti | Op::Hlt => FLOW,
+            Op::Wait => CORE,
+            // ports
+            Op::In | Op::Out | Op::Ins | Op::Outs => FLOW,
+            // far pointers and segments
+            Op::Les | Op::Lds | Op::Lss | Op::Lfs | Op::Lgs => FLOW,
+            Op::Lar | Op::Lsl | Op::Verr | Op::Verw | Op::Arpl => FLOW,
+            // the system's instructions and the coprocessor's escape
+            Op::Sldt | Op::Str | Op::Lldt | Op::Ltr | Op::Sgdt | Op::Sidt | Op::Lgdt => FLOW,
+            Op::Lidt | Op::Smsw | Op::Lmsw | Op::Clts => FLOW,
+            Op::MovControl | Op::MovDebug | Op::MovTest | Op::Esc => FLOW,
+        }
+    }
 }
 
 /// The repeat prefix that counts: F3 (`Rep`), F2 (`Repne`), or none.

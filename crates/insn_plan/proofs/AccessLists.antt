@@ -10,7 +10,7 @@ use Rattle.insn_plan.specs.declared.accesses.Access.{Access}
 use Rattle.insn_plan.specs.Accesses.{and_writes, and_put, and_push, esp_down}
 use Rattle.insn_plan.specs.Act.{Pending}
 use Rattle.insn_plan.specs.Operands.{put_operand}
-use Rattle.insn_plan.specs.Stack.{pushed}
+use Rattle.insn_plan.specs.Stack.{with_pushed_number}
 
 -- the access of a write
 abbrev access_of : Write → Access
@@ -31,10 +31,10 @@ put_accesses done r addr32 width (Imm x) v p = refl
 put_accesses done r addr32 width (Far pointer) v p = refl
 
 pub pushed_accesses : (done : List Access) (w : World) (width v : ℕ) (p : Pending) →
-    and_writes done (pushed w width v p).writes ≡ and_push w width p.regs.esp (and_writes done p.writes)
-unfolding pushed
+    and_writes done (with_pushed_number w width v p).writes ≡ and_push w width p.regs.esp (and_writes done p.writes)
+unfolding with_pushed_number
 pushed_accesses done w width v p = one_more done p.writes _
 
-pub pushed_esp : (w : World) (width v : ℕ) (p : Pending) → (pushed w width v p).regs.esp ≡ esp_down w width p.regs.esp
-unfolding pushed
+pub pushed_esp : (w : World) (width v : ℕ) (p : Pending) → (with_pushed_number w width v p).regs.esp ≡ esp_down w width p.regs.esp
+unfolding with_pushed_number
 pushed_esp w width v p = refl

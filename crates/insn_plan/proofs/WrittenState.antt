@@ -7,8 +7,8 @@ use Rattle.client_world.specs.declared.place.Place.TheVariants.{Dos, Block, Host
 use Rattle.client_world.specs.Access.{access, with_byte_of, with_bytes_of}
 use Rattle.client_world.specs.World.{World}
 use Rattle.guest_space.specs.declared.pending.Write.{Write}
-use Rattle.guest_space.specs.Pending.{write_refusal, written, first_refusal, all_written, byte_count, number_bytes}
-use Rattle.guest_space.specs.Transfer.{stored, with_places, places_of_access}
+use Rattle.guest_space.specs.Pending.{write_fault, after_write, first_write_fault, after_writes, byte_count, number_bytes}
+use Rattle.guest_space.specs.Transfer.{after_store, with_places, places_of_access}
 use Rattle.host_memory.specs.View.{MachineView}
 use Rattle.insn_plan.specs.Written.{IsRefused, IsWritten}
 
@@ -31,30 +31,30 @@ bytes_state w (p ∷ places) (x ∷ bytes) =
     let rest = bytes_state (with_byte_of w p x) places bytes in
     record { regs = rest.regs ∙ first.regs; vif = rest.vif ∙ first.vif }
 
-write_state : (v : MachineView) (x : Write) → SameState v.world (written v x).world
-unfolding written stored with_places
+write_state : (v : MachineView) (x : Write) → SameState v.world (after_write v x).world
+unfolding after_write after_store with_places
 write_state v x = bytes_state v.world (places_of_access (access v.world x.seg x.off (byte_count x.width) true)) (number_bytes x.width x.value)
 
 -- and so do all of some writes
-pub all_state : (v : MachineView) (xs : List Write) → SameState v.world (all_written v xs).world
-unfolding all_written
+pub all_state : (v : MachineView) (xs : List Write) → SameState v.world (after_writes v xs).world
+unfolding after_writes
 all_state v [] = record { regs = refl; vif = refl }
 all_state v (x ∷ xs) =
     let first = write_state v x in
-    let rest = all_state (written v x) xs in
+    let rest = all_state (after_write v x) xs in
     record { regs = rest.regs ∙ first.regs; vif = rest.vif ∙ first.vif }
 
-pub made : (old new : MachineView) (x : Write) → write_refusal old.world x ≡ None → new ≡ written old x → IsWritten x old new
-unfolding first_refusal all_written
+pub made : (old new : MachineView) (x : Write) → write_fault old.world x ≡ None → new ≡ after_write old x → IsWritten x old new
+unfolding first_write_fault after_writes
 made old new x allowed is =
     let state = all_state old (x ∷ []) in
     record {
-      allowed = rw (first_refusal, allowed) refl;
+      allowed = rw (first_write_fault, allowed) refl;
       is = is;
       regs = ap (λ (v : MachineView). v.world.regs) is ∙ state.regs;
       vif = ap (λ (v : MachineView). v.world.vif) is ∙ state.vif;
     }
 
-pub refused : (old new : MachineView) (x : Write) (f : Fault) → write_refusal old.world x ≡ Some f → new ≡ old → IsRefused x old new (fault f)
-unfolding first_refusal
-refused old new x f found kept = record { cause = f; found = rw (first_refusal, found) refl; event = refl; kept = kept }
+pub refused : (old new : MachineView) (x : Write) (f : Fault) → write_fault old.world x ≡ Some f → new ≡ old → IsRefused x old new (fault f)
+unfolding first_write_fault
+refused old new x f found kept = record { cause = f; found = rw (first_write_fault, found) refl; event = refl; kept = kept }

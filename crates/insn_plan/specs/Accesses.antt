@@ -22,8 +22,8 @@ use Rattle.insn_plan.specs.Registers.{offset_of, cut_address}
 use Rattle.insn_plan.specs.Stack.{has_big_stack, with_pointer}
 
 -- the world with EIP past an instruction of `len` bytes
-abbrev pub moved : ℕ → World → World
-moved len w = record w { regs = record w.regs { eip = (w.regs.eip + len) % 2 ^ 32 } }
+abbrev pub with_next_eip : ℕ → World → World
+with_next_eip len w = record w { regs = record w.regs { eip = (w.regs.eip + len) % 2 ^ 32 } }
 
 -- ---- accesses
 
@@ -56,13 +56,13 @@ touch_of w a = record {
 }
 
 -- that of an access which has no fault
-unfoldable pub granted : World → Access → Option Touch
-granted w a = elim (access_fault w a.seg a.off a.count a.write) [ None ↦ Some (touch_of w a) | Some f ↦ None ]
+unfoldable pub touch_of_access : World → Access → Option Touch
+touch_of_access w a = elim (access_fault w a.seg a.off a.count a.write) [ None ↦ Some (touch_of w a) | Some f ↦ None ]
 
 -- some touches, and then those of some accesses; none where one of these has a fault
 unfoldable pub touches_after : World → List Touch → List Access → Option (List Touch)
 touches_after w done [] = Some done
-touches_after w done (a ∷ rest) = elim (granted w a) [ Some touch ↦ touches_after w (done ++ touch ∷ []) rest | None ↦ None ]
+touches_after w done (a ∷ rest) = elim (touch_of_access w a) [ Some touch ↦ touches_after w (done ++ touch ∷ []) rest | None ↦ None ]
 
 -- those of accesses that are known
 abbrev pub touches_where : World → Option (List Access) → Option (List Touch)

@@ -33,8 +33,8 @@ abbrev pub with_stack_pointer : World → ℕ → Regs → Regs
 with_stack_pointer w sp r = record r { esp = with_pointer (has_big_stack w) r.esp sp }
 
 -- a number of a width pushed: the stack pointer goes down by its bytes, and it is there
-unfoldable pub pushed : World → ℕ → ℕ → Pending → Pending
-pushed w width v p =
+unfoldable pub with_pushed_number : World → ℕ → ℕ → Pending → Pending
+with_pushed_number w width v p =
     let sp = cut_address (has_big_stack w) (stack_pointer w p.regs + 2 ^ 32 - byte_count width) in
     and_write Ss sp width v (with_regs (with_stack_pointer w sp p.regs) p)
 
@@ -43,8 +43,8 @@ abbrev pub with_push : Write → ℕ → Pending → Pending
 with_push x esp p = record p { regs = record p.regs { esp = esp }; writes = p.writes ++ x ∷ [] }
 
 -- some writes and another ESP, and nothing else
-abbrev pub pushes_made : World → List Write → ℕ → Pending
-pushes_made w writes esp = record { regs = record w.regs { esp = esp }; vif = w.vif; writes = writes }
+abbrev pub pending_of_pushes : World → List Write → ℕ → Pending
+pending_of_pushes w writes esp = record { regs = record w.regs { esp = esp }; vif = w.vif; writes = writes }
 
 -- the stack pointer n bytes further up
 abbrev pub stack_pointer_up : World → ℕ → Regs → ℕ
@@ -55,5 +55,5 @@ unfoldable pub stack_item : World → ℕ → ℕ → Input
 stack_item w width place = From Ss (stack_pointer_up w (byte_count width * place) w.regs) (byte_count width)
 
 -- the registers after n items of a width were popped
-unfoldable pub items_popped : World → ℕ → ℕ → Regs → Regs
-items_popped w width n r = with_stack_pointer w (stack_pointer_up w (byte_count width * n) r) r
+unfoldable pub regs_after_pops : World → ℕ → ℕ → Regs → Regs
+regs_after_pops w width n r = with_stack_pointer w (stack_pointer_up w (byte_count width * n) r) r

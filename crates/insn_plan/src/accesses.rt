@@ -2,7 +2,7 @@
 ghost use Rattle.std.specs.Prelude.{◌≡◌, ◌+◌, ◌-◌, ◌<◌, ◌≤◌, ◌++◌, ◌∷◌, [], MatchOption, None, Some, false, true, length};
 ghost use Rattle.client_world.specs.declared.segments.SegReg.TheVariants.{Ss};
 ghost use Rattle.guest_space.specs.Pending.{byte_count, IsCountOfWidth};
-ghost use Rattle.insn_plan.specs.Accesses.{and_read, and_put, and_push, esp_down, moved, granted, touches_after, HasBytes};
+ghost use Rattle.insn_plan.specs.Accesses.{and_read, and_put, and_push, esp_down, with_next_eip, touch_of_access, touches_after, HasBytes};
 ghost use Rattle.insn_plan.specs.Act.{From, IsCount, value_of};
 ghost use Rattle.insn_plan.specs.Operands.{source};
 ghost use Rattle.insn_plan.specs.Stack.{stack_item, has_big_stack};
@@ -51,11 +51,11 @@ pub struct Accesses<'a> {
 
 impl<'a> Model for Accesses<'a> {
     ghost use Rattle.std.specs.Prelude.{All};
-    ghost use Rattle.insn_plan.specs.Accesses.{Followed, HasBytes, moved};
+    ghost use Rattle.insn_plan.specs.Accesses.{Followed, HasBytes, with_next_eip};
 
     ghost Value = { Followed };
 
-    ghost view = { λ a. record { world = moved a.len a.machine.now.world; accesses = a.list.items } };
+    ghost view = { λ a. record { world = with_next_eip a.len a.machine.now.world; accesses = a.list.items } };
 
     ghost invariant = { λ a. All HasBytes a.list.items };
 }
@@ -63,7 +63,7 @@ impl<'a> Model for Accesses<'a> {
 impl<'a> Accesses<'a> {
     /// No accesses yet, for an instruction of `len` bytes.
     pub fn new(machine: &'a Machine, len: u8) -> Accesses<'a>
-        ensures { result ≡ record { world = moved len machine.now.world; accesses = [] } }
+        ensures { result ≡ record { world = with_next_eip len machine.now.world; accesses = [] } }
     {
         Accesses {
             machine,
@@ -229,10 +229,10 @@ impl<'a> Accesses<'a> {
     }
 
     // The touch of an access, or none where it has a fault.
-    #[tactic(auto, unfolding(crate::specs::Accesses::granted), using(crate::proofs::Moved::access_fault_moved, crate::proofs::Moved::selector_moved))]
-    fn granted(&self, a: Access) -> Option<Touch>
+    #[tactic(auto, unfolding(crate::specs::Accesses::touch_of_access), using(crate::proofs::Moved::access_fault_moved, crate::proofs::Moved::selector_moved))]
+    fn touch_of_access(&self, a: Access) -> Option<Touch>
         requires { HasBytes a }
-        ensures { result ≡ granted self.now.world a }
+        ensures { result ≡ touch_of_access self.now.world a }
     {
         let count = u32::from(a.count);
         if self.machine.probe(a.seg, a.off, count, a.write).is_err() {
@@ -252,7 +252,7 @@ impl<'a> Accesses<'a> {
     {
         let mut touches = ArrayVec::new();
         for a in self.list.as_slice() {
-            match self.granted(*a) {
+            match self.touch_of_access(*a) {
                 Some(touch) => touches.push(touch),
                 None => return None,
             }

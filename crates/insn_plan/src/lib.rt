@@ -1,6 +1,8 @@
 //! Instructions as plans: what an instruction reads, one after another, and what it leaves, before anything is written.
-//! It promises that each call that the executing crates share is the word of its name, and that writes are made all together or not at all.
-//! It uses the machine and the instruction's types.
+//! It promises that each call that the executing crates share is the word of its name, and that writes are made all together or not at
+//! all. It uses the machine and the instruction's types.
+//! A quicker body is free, and a word may be added. What a word means isn't, and the order of reads least: the rows of instructions are
+//! written in these words, and the order decides which fault comes.
 #![tactic(auto)]
 
 mod accesses;
@@ -17,7 +19,9 @@ pub use accesses::{Access, Accesses, MAX_ACCESSES};
 pub use conditions::condition;
 pub use loop_counter::{counter, with_address};
 pub use next::{MAX_WRITES, Next};
-pub use operands::{copy_quickly, put_operand, put_register, put_with_flags, source, write_number};
+pub use operands::{
+    at_hand, copy_quickly, put_operand, put_register, put_with_flags, source, write_number,
+};
 pub use raised::Raised;
 pub use read::{number_at, read_number, read_width};
 pub use registers::{cut_address, offset_of, register, set_register};

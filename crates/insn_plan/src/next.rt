@@ -1,6 +1,6 @@
 // What an instruction of several writes leaves.
 ghost use Rattle.std.specs.Prelude.{◌≡◌, ◌+◌, ◌<◌, ◌≤◌, length};
-ghost use Rattle.guest_space.specs.Pending.{first_refusal};
+ghost use Rattle.guest_space.specs.Pending.{first_write_fault};
 ghost use Rattle.insn_plan.specs.Act.{unchanged};
 ghost use Rattle.insn_plan.specs.Operands.{and_write, put_operand};
 ghost use Rattle.insn_plan.specs.Plan.{Follows, after_commit};
@@ -126,7 +126,7 @@ impl Next {
 
     /// The fault of the first of its writes that has one.
     pub fn refusal(&self, m: &Machine) -> Option<Fault>
-        ensures { result ≡ first_refusal m.now.world self.now.writes }
+        ensures { result ≡ first_write_fault m.now.world self.now.writes }
     {
         m.first_fault(&self.writes[..self.write_count])
     }

@@ -1,5 +1,5 @@
 // Operands, read and written at once.
-ghost use Rattle.std.specs.Prelude.{◌≡◌, OnOk, IfErr, IfSome, IfNone, Ok};
+ghost use Rattle.std.specs.Prelude.{◌≡◌, OnOk, IfErr, IfSome, IfNone, IsTrue, IsFalse, Ok};
 ghost use Rattle.guest_space.specs.Pending.{byte_count};
 ghost use Rattle.guest_space.specs.Registers.{with_registers};
 ghost use Rattle.insn_plan.specs.Act.{From, unchanged, value_of, with_flags};
@@ -50,6 +50,19 @@ pub(crate) fn given(r: &Regs, operand: &Operand) -> u32
     }
 }
 
+/// What an operand gives that is at hand, in a register or in the instruction; `None` of others. The sizes say what `source` would read.
+#[inline(always)]
+#[tactic(auto, unfolding(crate::specs::Operands::source, crate::specs::Act::value_of))]
+pub fn at_hand(m: &Machine, addr32: bool, width: u8, operand: &Operand) -> Option<u32>
+    ensures { IfSome result (λ v. value_of m.now.world (source m.now.world.regs addr32 width operand.now) ≡ Ok v) }
+{
+    match operand {
+        Operand::Reg { width, number } => Some(register(m.registers(), *width, *number)),
+        Operand::Imm(v) => Some(*v),
+        _ => None,
+    }
+}
+
 /// Reads an operand, in memory at that width, or gives the fault of the access.
 #[inline(always)]
 #[tactic(auto, unfolding(crate::specs::Operands::source, crate::specs::Act::value_of))]
@@ -88,17 +101,44 @@ pub fn put_register(m: &mut Machine, width: u8, n: u8, v: u32)
     }
 }
 
-// Makes a write, by the tables, after its page was noted.
+// Writes a number by the tables, after its page was noted.
 #[cold]
 #[inline(never)]
 #[tactic(auto, using(crate::proofs::WrittenState::made, crate::proofs::WrittenState::refused))]
-fn note_and_write(m: &mut Machine, write: &Write) -> Result<(), Raised>
-    ensures done { OnOk result (IsWritten write.now m.old m.new) }
-    ensures refused { IfErr result (λ e. IsRefused write.now m.old m.new e) }
+fn note_and_write(
+    m: &mut Machine,
+    seg: SegReg,
+    off: u32,
+    width: u8,
+    value: u32,
+) -> Result<(), Raised>
+    ensures done { OnOk result (IsWritten (record { seg = seg; off = off; width = width; value = value }) m.old m.new) }
+    ensures refused { IfErr result (λ e. IsRefused (record { seg = seg; off = off; width = width; value = value }) m.old m.new e) }
 {
-    m.warm(write.seg, write.off);
-    m.write_one(write)?;
+    m.warm(seg, off);
+    m.write_one(&Write {
+        seg,
+        width,
+        off,
+        value,
+    })?;
     Ok(())
+}
+
+/// Writes a number of a width at an offset of a segment register where a quick look shows that the write has no fault, and returns `true`; else
+/// it does nothing. The registers and the virtual interrupt flag stay.
+#[inline(always)]
+#[tactic(auto, using(crate::proofs::WrittenState::made))]
+pub(crate) fn write_at_once(m: &mut Machine, seg: SegReg, off: u32, width: u8, value: u32) -> bool
+    ensures made { IsTrue result → IsWritten (record { seg = seg; off = off; width = width; value = value }) m.old m.new }
+    ensures kept { IsFalse result → m.new ≡ m.old }
+{
+    m.write_one_quickly(&Write {
+        seg,
+        width,
+        off,
+        value,
+    })
 }
 
 /// Writes a number of a width at an offset of a segment register, or gives the fault of the write, which changes nothing. The registers and
@@ -115,16 +155,10 @@ pub fn write_number(
     ensures done { OnOk result (IsWritten (record { seg = seg; off = off; width = width; value = value }) m.old m.new) }
     ensures refused { IfErr result (λ e. IsRefused (record { seg = seg; off = off; width = width; value = value }) m.old m.new e) }
 {
-    let write = Write {
-        seg,
-        width,
-        off,
-        value,
-    };
-    if m.write_one_quickly(&write) {
+    if write_at_once(m, seg, off, width, value) {
         return Ok(());
     }
-    note_and_write(m, &write)
+    note_and_write(m, seg, off, width, value)
 }
 
 /// Copies a number of a width from an offset of a segment register to one of another, where a quick look shows that both may be accessed, and
@@ -174,7 +208,7 @@ fn put_in_memory(
 
 /// Puts a number where an operand names and sets the flags, or gives the fault of the write, which changes nothing.
 #[inline(always)]
-#[tactic(auto, unfolding(crate::specs::Operands::put_operand, crate::specs::Plan::after_commit, guest_space::specs::Pending::first_refusal, guest_space::specs::Pending::all_written))]
+#[tactic(auto, unfolding(crate::specs::Operands::put_operand, crate::specs::Plan::after_commit, guest_space::specs::Pending::first_write_fault, guest_space::specs::Pending::after_writes))]
 pub fn put_with_flags(
     m: &mut Machine,
     flags: Flags,
@@ -202,7 +236,7 @@ pub fn put_with_flags(
 
 /// Puts a number where an operand names, or gives the fault of the write, which changes nothing.
 #[inline(always)]
-#[tactic(auto, unfolding(crate::specs::Operands::put_operand, crate::specs::Plan::after_commit, guest_space::specs::Pending::first_refusal, guest_space::specs::Pending::all_written))]
+#[tactic(auto, unfolding(crate::specs::Operands::put_operand, crate::specs::Plan::after_commit, guest_space::specs::Pending::first_write_fault, guest_space::specs::Pending::after_writes))]
 pub fn put_operand(
     m: &mut Machine,
     addr32: bool,

@@ -9,15 +9,15 @@ ghost use Rattle.insn_plan.specs.Stack.{
   stack_pointer,
   with_pointer,
   with_push,
-  pushes_made,
+  pending_of_pushes,
   esp_up,
-  pushed,
+  with_pushed_number,
   stack_item,
 };
 ghost use Rattle.insn_plan.specs.declared.next.TheConstants.{MAX_WRITES};
 
 use crate::next::Next;
-use crate::operands::write_number;
+use crate::operands::{write_at_once, write_number};
 use crate::raised::Raised;
 use crate::read::{doubleword, number_at, word};
 use crate::registers::cut_address;
@@ -94,9 +94,26 @@ pub fn stack_item(m: &Machine, width: u8, place: u8) -> Result<u32, Raised>
 /// Pushes a number of a width, or gives the fault of the write, which changes nothing.
 /// Source: 80386 Programmer's Reference Manual, ch. 17, PUSH.
 #[inline(always)]
-#[tactic(auto, unfolding(crate::specs::Stack::pushed, crate::specs::Plan::after_commit, client_world::specs::General::with_general))]
+#[tactic(auto, unfolding(crate::specs::Stack::with_pushed_number, crate::specs::Plan::after_commit, client_world::specs::General::with_general))]
 pub fn push_item(m: &mut Machine, width: u8, v: u32) -> Result<(), Raised>
-    ensures { Follows m.old m.new result (after_commit m.old (pushed m.old.world width v (unchanged m.old.world))) }
+    ensures { Follows m.old m.new result (after_commit m.old (with_pushed_number m.old.world width v (unchanged m.old.world))) }
+{
+    let big = has_big_stack(m);
+    let esp = m.registers().esp;
+    let sp = pointer_down(big, byte_count(width), esp);
+    if write_at_once(m, SegReg::Ss, sp, width, v) {
+        m.set_general(ESP, with_pointer(big, esp, sp));
+        return Ok(());
+    }
+    push_by_tables(m, width, v)
+}
+
+// The same, where the tables have to be asked.
+#[cold]
+#[inline(never)]
+#[tactic(auto, unfolding(crate::specs::Stack::with_pushed_number, crate::specs::Plan::after_commit, client_world::specs::General::with_general))]
+fn push_by_tables(m: &mut Machine, width: u8, v: u32) -> Result<(), Raised>
+    ensures { Follows m.old m.new result (after_commit m.old (with_pushed_number m.old.world width v (unchanged m.old.world))) }
 {
     let big = has_big_stack(m);
     let esp = m.registers().esp;
@@ -108,10 +125,10 @@ pub fn push_item(m: &mut Machine, width: u8, v: u32) -> Result<(), Raised>
 
 /// The write of a number of a width that is pushed at an ESP, and ESP after it, where it is known whether the stack pointer is ESP or SP.
 #[inline(always)]
-#[tactic(auto, unfolding(crate::specs::Stack::pushed))]
+#[tactic(auto, unfolding(crate::specs::Stack::with_pushed_number))]
 pub fn item_pushed(big: bool, width: u8, esp: u32, v: u32) -> (Write, u32)
     ensures { (w : World) (p : Pending) → has_big_stack w ≡ big → p.regs.esp ≡ esp →
-        pushed w width v p ≡ with_push result.0 result.1 p }
+        with_pushed_number w width v p ≡ with_push result.0 result.1 p }
 {
     let sp = pointer_down(big, byte_count(width), esp);
     let write = Write {
@@ -127,7 +144,7 @@ pub fn item_pushed(big: bool, width: u8, esp: u32, v: u32) -> (Write, u32)
 #[inline(always)]
 #[tactic(auto, unfolding(crate::specs::Plan::after_commit, client_world::specs::General::with_general))]
 pub fn settle_pushes(m: &mut Machine, writes: &[Write], esp: u32) -> Result<(), Raised>
-    ensures { Follows m.old m.new result (after_commit m.old (pushes_made m.old.world writes.now esp)) }
+    ensures { Follows m.old m.new result (after_commit m.old (pending_of_pushes m.old.world writes.now esp)) }
 {
     m.write_all(writes)?;
     m.set_general(ESP, esp);
@@ -139,7 +156,7 @@ pub fn settle_pushes(m: &mut Machine, writes: &[Write], esp: u32) -> Result<(), 
 #[inline(always)]
 #[tactic(auto, unfolding(crate::specs::Plan::after_commit, client_world::specs::General::with_general))]
 pub fn settle_quickly(m: &mut Machine, writes: &[Write], esp: u32) -> bool
-    ensures made { IsTrue result → after_commit m.old (pushes_made m.old.world writes.now esp) ≡ Ok m.new }
+    ensures made { IsTrue result → after_commit m.old (pending_of_pushes m.old.world writes.now esp) ≡ Ok m.new }
     ensures kept { IsFalse result → m.new ≡ m.old }
 {
     let made = m.write_quickly(writes);
@@ -187,10 +204,10 @@ pub fn eight_items(m: &Machine, width: u8) -> Option<[u32; 8]>
 
 impl Next {
     /// Pushes a number of a width.
-    #[tactic(auto, unfolding(crate::specs::Stack::pushed))]
+    #[tactic(auto, unfolding(crate::specs::Stack::with_pushed_number))]
     pub fn push(&mut self, m: &Machine, width: u8, v: u32)
         requires { length self.old.writes < MAX_WRITES }
-        ensures pushed { self.new ≡ pushed m.now.world width v self.old }
+        ensures pushed { self.new ≡ with_pushed_number m.now.world width v self.old }
         ensures room { length self.new.writes ≡ length self.old.writes + 1 }
     {
         let big = has_big_stack(m);

@@ -11,14 +11,14 @@ use Rattle.client_world.specs.Loading.{load_fault, transfer_fault}
 use Rattle.client_world.specs.Selector.{Row}
 use Rattle.client_world.specs.Soundness.{IsSound}
 use Rattle.client_world.specs.World.{World}
-use Rattle.exec_flow.specs.Interrupts.{interrupt_pushed}
+use Rattle.exec_flow.specs.Interrupts.{interrupt_push}
 use Rattle.guest_ram.specs.Bytes.{word_of}
-use Rattle.guest_space.specs.Pending.{all_written, first_refusal}
+use Rattle.guest_space.specs.Pending.{after_writes, first_write_fault}
 use Rattle.guest_space.specs.Transfer.{HasOtherMemory}
 use Rattle.guest_space.specs.VectorLists.{vector_at}
 use Rattle.guest_space.proofs.MemoryAlone.{other_all}
 use Rattle.host_memory.specs.View.{MachineView}
-use Rattle.interrupts.specs.Delivery.{frame_pushed, handler_entered, handler_fault, interrupt_vector, interrupted, vector_fault}
+use Rattle.interrupts.specs.Delivery.{after_frame_push, after_handler_entry, handler_fault, interrupt_vector, after_interrupt_entry, vector_fault}
 
 -- in real mode every vector can be loaded
 real_loads : (w : World) (n : ℕ) → IsSound w → w.mode ≡ Real → vector_fault w n ≡ None
@@ -42,15 +42,15 @@ same_fault w u n protected mode rows vectors =
     ∙ ap (λ (v : List FarPtr). protected_fault w.descriptors v n) vectors
     ∙ sym (protected_is w n protected)
 
-pushed_fault : (v : MachineView) (n : ℕ) → v.world.mode ≡ Protected → vector_fault (frame_pushed v).world n ≡ vector_fault v.world n
+pushed_fault : (v : MachineView) (n : ℕ) → v.world.mode ≡ Protected → vector_fault (after_frame_push v).world n ≡ vector_fault v.world n
 pushed_fault v n protected =
-    let other : HasOtherMemory v.world (all_written v (interrupt_pushed v.world).writes).world = other_all v (interrupt_pushed v.world).writes in
-    same_fault v.world (frame_pushed v).world n protected (ap (λ (w : World). w.mode) other) (ap (λ (w : World). w.descriptors) other)
+    let other : HasOtherMemory v.world (after_writes v (interrupt_push v.world).writes).world = other_all v (interrupt_push v.world).writes in
+    same_fault v.world (after_frame_push v).world n protected (ap (λ (w : World). w.mode) other) (ap (λ (w : World). w.descriptors) other)
     (ap (λ (w : World). w.interrupt_vectors) other)
 
 -- where the vector's load has a fault, so has the interrupt
 fault_by_mode : (v : MachineView) (n : ℕ) (f : Fault) (m : Mode) → v.world.mode ≡ m →
-    elim m as (λ _. Option Fault) [ Real ↦ None | Protected ↦ vector_fault v.world n ] ≡ Some f → vector_fault (frame_pushed v).world n ≡ Some f
+    elim m as (λ _. Option Fault) [ Real ↦ None | Protected ↦ vector_fault v.world n ] ≡ Some f → vector_fault (after_frame_push v).world n ≡ Some f
 fault_by_mode v n f Real is e = absurd cc
 fault_by_mode v n f Protected is e = pushed_fault v n is ∙ e
 
@@ -64,25 +64,25 @@ not_served : (o : Option Fault) (r : Result MachineView Fault) (f : Fault) → o
 not_served None r f none e = e
 not_served (Some g) r f none e = absurd cc
 
-pub refused_by_vector : (v : MachineView) (n : ℕ) (f : Fault) → first_refusal v.world (interrupt_pushed v.world).writes ≡ None →
-    handler_fault v.world n ≡ Some f → interrupted v n ≡ Err f
+pub refused_by_vector : (v : MachineView) (n : ℕ) (f : Fault) → first_write_fault v.world (interrupt_push v.world).writes ≡ None →
+    handler_fault v.world n ≡ Some f → after_interrupt_entry v n ≡ Err f
 refused_by_vector v n f none e =
-    not_served (first_refusal v.world (interrupt_pushed v.world).writes)
-    (handler_entered (frame_pushed v) (interrupt_vector (frame_pushed v).world n)) f none
-    (not_entered (vector_fault (frame_pushed v).world n) _ f (fault_by_mode v n f v.world.mode refl e))
+    not_served (first_write_fault v.world (interrupt_push v.world).writes)
+    (after_handler_entry (after_frame_push v) (interrupt_vector (after_frame_push v).world n)) f none
+    (not_entered (vector_fault (after_frame_push v).world n) _ f (fault_by_mode v n f v.world.mode refl e))
 
 -- where it has none, the handler can be entered after the pushes
-granted_by_mode : (v : MachineView) (n : ℕ) (m : Mode) → v.world.mode ≡ m → IsSound (frame_pushed v).world →
-    elim m as (λ _. Option Fault) [ Real ↦ None | Protected ↦ vector_fault v.world n ] ≡ None → vector_fault (frame_pushed v).world n ≡ None
+granted_by_mode : (v : MachineView) (n : ℕ) (m : Mode) → v.world.mode ≡ m → IsSound (after_frame_push v).world →
+    elim m as (λ _. Option Fault) [ Real ↦ None | Protected ↦ vector_fault v.world n ] ≡ None → vector_fault (after_frame_push v).world n ≡ None
 granted_by_mode v n Real is s e =
-    real_loads (frame_pushed v).world n s (ap (λ (w : World). w.mode) (other_all v (interrupt_pushed v.world).writes) ∙ is)
+    real_loads (after_frame_push v).world n s (ap (λ (w : World). w.mode) (other_all v (interrupt_push v.world).writes) ∙ is)
 granted_by_mode v n Protected is s e = pushed_fault v n is ∙ e
 
-granted_after : (v : MachineView) (n : ℕ) → IsSound (frame_pushed v).world → handler_fault v.world n ≡ None →
-    vector_fault (frame_pushed v).world n ≡ None
+granted_after : (v : MachineView) (n : ℕ) → IsSound (after_frame_push v).world → handler_fault v.world n ≡ None →
+    vector_fault (after_frame_push v).world n ≡ None
 granted_after v n s e = granted_by_mode v n v.world.mode refl s e
 
-pub granted_after_pushes : (v u : MachineView) (n : ℕ) (p : FarPtr) → u ≡ frame_pushed v → IsSound u.world → handler_fault v.world n ≡ None →
+pub granted_after_pushes : (v u : MachineView) (n : ℕ) (p : FarPtr) → u ≡ after_frame_push v → IsSound u.world → handler_fault v.world n ≡ None →
     p ≡ interrupt_vector u.world n → transfer_fault u.world p.sel p.off false ≡ None
 granted_after_pushes v u n p same s e at =
     ap (λ (q : FarPtr). transfer_fault u.world q.sel q.off false) at

@@ -7,11 +7,11 @@ use Rattle.client_world.specs.declared.registers.Regs.{Regs}
 use Rattle.client_world.specs.declared.segments.FarPtr.{FarPtr}
 use Rattle.client_world.specs.Loading.{transfer_fault}
 use Rattle.client_world.specs.World.{World}
-use Rattle.cpu_step.specs.Step.{behind, client_row, client_step, code, executed, has_big_code, step_of}
+use Rattle.cpu_step.specs.Step.{view_with_next_eip, client_row, client_step, code, after_instruction, has_big_code, step_of}
 use Rattle.exec_flow.specs.FarTransfers.{code_selector}
-use Rattle.exec_flow.specs.Interrupts.{interrupt_pushed}
+use Rattle.exec_flow.specs.Interrupts.{interrupt_push}
 use Rattle.guest_space.specs.declared.pending.Write.{Write}
-use Rattle.guest_space.specs.Pending.{all_written, first_refusal}
+use Rattle.guest_space.specs.Pending.{after_writes, first_write_fault}
 use Rattle.guest_space.proofs.MemoryAlone.{other_all}
 use Rattle.host_memory.specs.View.{MachineView}
 use Rattle.insn_decode.specs.declared.decoding.Decoded.{Decoded}
@@ -19,9 +19,9 @@ use Rattle.insn_decode.specs.declared.decoding.Decoded.TheVariants.{Whole, More,
 use Rattle.insn_decode.specs.Decode.{decoded}
 use Rattle.insn_forms.specs.declared.insn.Insn.{Insn}
 use Rattle.insn_plan.specs.Act.{Pending}
-use Rattle.insn_plan.specs.Plan.{carried_out, planned, after_commit, with_state}
-use Rattle.interrupts.specs.Delivery.{frame_pushed, handler_entered, handler_interrupts, has_real_vector, interrupt_vector, interrupted, iret_popped, real_delivery, software_interrupt}
-use Rattle.interrupts.specs.Worlds.{HasOtherRegisters, HasOtherRegistersAndMemory, HasOtherState, bare, world_delivery, world_interrupt, world_popped, world_step}
+use Rattle.insn_plan.specs.Plan.{after_plan, plan_result, after_commit, with_state}
+use Rattle.interrupts.specs.Delivery.{after_frame_push, after_handler_entry, handler_interrupts, has_real_vector, interrupt_vector, after_interrupt_entry, after_iret, real_delivery, software_interrupt}
+use Rattle.interrupts.specs.Worlds.{HasOtherRegisters, HasOtherRegistersAndMemory, HasOtherState, view_without_bytes, world_delivery, world_interrupt, world_after_iret, world_step}
 use Rattle.interrupts.proofs.ReturnStates.{return_state}
 use Rattle.interrupts.proofs.SoundAnswers.{delivered_was, granted_was, holds_of_answer, holds_of_world}
 
@@ -33,26 +33,26 @@ kept_then w u t before after =
 -- ---- plans and steps
 
 with_writes : (v : MachineView) (r : Regs) (on : Bool) (xs : List Write) →
-    HasOtherRegistersAndMemory v.world (with_state r on (all_written v xs)).world
+    HasOtherRegistersAndMemory v.world (with_state r on (after_writes v xs)).world
 with_writes v r on xs = ap (λ (w : World). record w { regs = r; vif = on }) (other_all v xs)
 
 kept_settled : (v u : MachineView) (p : Pending) → after_commit v p ≡ Ok u → HasOtherRegistersAndMemory v.world u.world
 unfolding after_commit
 kept_settled v u p e =
-    let x = with_state p.regs p.vif (all_written v p.writes) in
+    let x = with_state p.regs p.vif (after_writes v p.writes) in
     holds_of_answer (λ (m : MachineView). HasOtherRegistersAndMemory v.world m.world) (Ok x) u (with_writes v p.regs p.vif p.writes)
-    (granted_was fault (first_refusal v.world p.writes) (Ok x) u e)
+    (granted_was fault (first_write_fault v.world p.writes) (Ok x) u e)
 
-kept_plan : (v u : MachineView) (r : Result Pending Event) → carried_out v r ≡ Ok u → HasOtherRegistersAndMemory v.world u.world
-unfolding carried_out
+kept_plan : (v u : MachineView) (r : Result Pending Event) → after_plan v r ≡ Ok u → HasOtherRegistersAndMemory v.world u.world
+unfolding after_plan
 kept_plan v u (Ok p) e = kept_settled v u p e
 kept_plan v u (Err event) e = absurd cc
 
-kept_executed : (v u : MachineView) (insn : Insn) (len : ℕ) → executed v insn len ≡ Ok u → HasOtherRegistersAndMemory v.world u.world
-unfolding executed
+kept_executed : (v u : MachineView) (insn : Insn) (len : ℕ) → after_instruction v insn len ≡ Ok u → HasOtherRegistersAndMemory v.world u.world
+unfolding after_instruction
 kept_executed v u insn len e =
-    let at = behind len v in
-    kept_then v.world at.world u.world refl (kept_plan at u (planned at.world (client_row at.world insn len)) e)
+    let at = view_with_next_eip len v in
+    kept_then v.world at.world u.world refl (kept_plan at u (plan_result at.world (client_row at.world insn len)) e)
 
 kept_decoded : (v u : MachineView) (d : Decoded) → step_of v d ≡ Ok u → HasOtherRegistersAndMemory v.world u.world
 kept_decoded v u (Whole insn len) e = kept_executed v u insn len e
@@ -65,24 +65,24 @@ kept_step v u e = kept_decoded v u (decoded (has_big_code v.world) (code v.world
 
 -- ---- interrupts and exceptions
 
-kept_entered : (v u : MachineView) (p : FarPtr) → handler_entered v p ≡ Ok u → HasOtherRegistersAndMemory v.world u.world
+kept_entered : (v u : MachineView) (p : FarPtr) → after_handler_entry v p ≡ Ok u → HasOtherRegistersAndMemory v.world u.world
 kept_entered v u p e =
     let x = with_state (record v.world.regs { cs = code_selector v.world p.sel; eip = p.off }) (handler_interrupts v.world) v in
     holds_of_answer (λ (m : MachineView). HasOtherRegistersAndMemory v.world m.world) (Ok x) u refl
     (granted_was (λ (f : Fault). f) (transfer_fault v.world p.sel p.off false) (Ok x) u e)
 
-kept_interrupted : (v u : MachineView) (n : ℕ) → interrupted v n ≡ Ok u → HasOtherRegistersAndMemory v.world u.world
+kept_interrupted : (v u : MachineView) (n : ℕ) → after_interrupt_entry v n ≡ Ok u → HasOtherRegistersAndMemory v.world u.world
 kept_interrupted v u n e =
-    let at = frame_pushed v in
-    let p = interrupt_pushed v.world in
+    let at = after_frame_push v in
+    let p = interrupt_push v.world in
     let vector = interrupt_vector at.world n in
     kept_then v.world at.world u.world (with_writes v p.regs p.vif p.writes)
-    (kept_entered at u vector (granted_was (λ (f : Fault). f) (first_refusal v.world p.writes) (handler_entered at vector) u e))
+    (kept_entered at u vector (granted_was (λ (f : Fault). f) (first_write_fault v.world p.writes) (after_handler_entry at vector) u e))
 
 kept_interrupt : (v u : MachineView) (n len : ℕ) → software_interrupt v n len ≡ Ok u → HasOtherRegistersAndMemory v.world u.world
 unfolding software_interrupt
 kept_interrupt v u n len e =
-    let at = behind len v in
+    let at = view_with_next_eip len v in
     kept_then v.world at.world u.world refl (kept_interrupted at u n e)
 
 kept_delivery : (v u : MachineView) (f : Fault) → real_delivery v f ≡ Ok u → HasOtherRegistersAndMemory v.world u.world
@@ -94,21 +94,21 @@ kept_delivery v u f e =
 
 pub kept_world_step : (w u : World) → world_step w ≡ Ok u → HasOtherRegistersAndMemory w u
 unfolding world_step
-kept_world_step w u e = holds_of_world (HasOtherRegistersAndMemory w) (client_step (bare w)) u (kept_step (bare w)) e
+kept_world_step w u e = holds_of_world (HasOtherRegistersAndMemory w) (client_step (view_without_bytes w)) u (kept_step (view_without_bytes w)) e
 
 pub kept_world_interrupt : (w u : World) (n len : ℕ) → world_interrupt w n len ≡ Ok u → HasOtherRegistersAndMemory w u
 unfolding world_interrupt
 kept_world_interrupt w u n len e =
-    holds_of_world (HasOtherRegistersAndMemory w) (software_interrupt (bare w) n len) u (λ v. kept_interrupt (bare w) v n len) e
+    holds_of_world (HasOtherRegistersAndMemory w) (software_interrupt (view_without_bytes w) n len) u (λ v. kept_interrupt (view_without_bytes w) v n len) e
 
 pub kept_world_delivery : (w u : World) (f : Fault) → world_delivery w f ≡ Ok u → HasOtherRegistersAndMemory w u
 unfolding world_delivery
-kept_world_delivery w u f e = holds_of_world (HasOtherRegistersAndMemory w) (real_delivery (bare w) f) u (λ v. kept_delivery (bare w) v f) e
+kept_world_delivery w u f e = holds_of_world (HasOtherRegistersAndMemory w) (real_delivery (view_without_bytes w) f) u (λ v. kept_delivery (view_without_bytes w) v f) e
 
-pub state_of_world : (w : World) (v : MachineView) → HasOtherState (bare w) v → HasOtherRegisters w v.world
+pub state_of_world : (w : World) (v : MachineView) → HasOtherState (view_without_bytes w) v → HasOtherRegisters w v.world
 state_of_world w v e = ap (λ (m : MachineView). m.world) e
 
-pub kept_world_popped : (w u : World) → world_popped w ≡ Ok u → HasOtherRegisters w u
-unfolding world_popped
+pub kept_world_popped : (w u : World) → world_after_iret w ≡ Ok u → HasOtherRegisters w u
+unfolding world_after_iret
 kept_world_popped w u e =
-    holds_of_world (HasOtherRegisters w) (iret_popped (bare w)) u (λ v popped. state_of_world w v (return_state (bare w) v popped)) e
+    holds_of_world (HasOtherRegisters w) (after_iret (view_without_bytes w)) u (λ v popped. state_of_world w v (return_state (view_without_bytes w) v popped)) e

@@ -14,15 +14,15 @@ use Rattle.client_world.specs.declared.registers.Mode.TheVariants.{Real}
 use Rattle.client_world.specs.declared.segments.SegReg.TheVariants.{Ss}
 use Rattle.client_world.specs.Soundness.{IsSound}
 use Rattle.client_world.specs.World.{World, MemoryBlock}
-use Rattle.exec_flow.specs.FarTransfers.{far_transfer, frame_popped}
+use Rattle.exec_flow.specs.FarTransfers.{far_transfer, interrupt_frame_pop}
 use Rattle.guest_space.specs.Transfer.{bytes_at, read_result}
 use Rattle.host_memory.specs.View.{MachineView}
 use Rattle.insn_plan.specs.Act.{Act, From, Read, number_read, value_of}
-use Rattle.insn_plan.specs.Plan.{planned}
+use Rattle.insn_plan.specs.Plan.{plan_result}
 use Rattle.insn_plan.specs.Stack.{has_big_stack, stack_item}
-use Rattle.interrupts.specs.Delivery.{iret_popped}
+use Rattle.interrupts.specs.Delivery.{after_iret}
 use Rattle.interrupts.specs.RealFrames.{frame_fits, word_fits}
-use Rattle.interrupts.specs.Worlds.{bare, its_world, world_popped}
+use Rattle.interrupts.specs.Worlds.{view_without_bytes, world_of_result, world_after_iret}
 use Rattle.interrupts.proofs.ReturnPlans.{return_is_made, with_cs, with_image, with_ip}
 
 -- the world in real mode
@@ -63,11 +63,11 @@ item_where w above s = rw mod-add-mod (word_where w ((w.regs.esp + 2 * above) % 
 
 -- the plan of the act is made where that holds
 abbrev IsMadeWhere : World → Bool → Act → Type 0
-IsMadeWhere w fits act = is_ok (planned w act) ≡ fits
+IsMadeWhere w fits act = is_ok (plan_result w act) ≡ fits
 
 read_where : (w : World) (r : Result ℕ Event) (rest : ℕ → Act) (fits later : Bool) → IsWordWhere fits r →
-    ((v : ℕ) → v < 0x10000 → is_ok (planned w (rest v)) ≡ later) →
-    is_ok (elim r [ Ok v ↦ planned w (rest v) | Err e ↦ Err e ]) ≡ (fits && later)
+    ((v : ℕ) → v < 0x10000 → is_ok (plan_result w (rest v)) ≡ later) →
+    is_ok (elim r [ Ok v ↦ plan_result w (rest v) | Err e ↦ Err e ]) ≡ (fits && later)
 read_where w (Ok v) rest fits later word made = rw (word.0, made v word.1) refl
 read_where w (Err e) rest fits later none made = rw none refl
 
@@ -89,23 +89,23 @@ ip_made : (w : World) (ip : ℕ) → IsSound w → ip < 0x10000 →
     IsMadeWhere (real w) (word_fits w.regs.esp 1 && word_fits w.regs.esp 2) (with_ip (real w) 16 ip)
 ip_made w ip s small = item_made w 1 (with_cs (real w) 16 ip) _ s (λ cs _. cs_made w ip cs s small)
 
-frame_made : (w : World) → IsSound w → is_ok (planned (real w) (frame_popped (real w) 16)) ≡ frame_fits w.regs.esp
-unfolding frame_popped
+frame_made : (w : World) → IsSound w → is_ok (plan_result (real w) (interrupt_frame_pop (real w) 16)) ≡ frame_fits w.regs.esp
+unfolding interrupt_frame_pop
 frame_made w s =
     item_made w 0 (with_ip (real w) 16) _ s (λ ip small. ip_made w ip s small)
     ∙ sym (and_assoc (word_fits w.regs.esp 0) _ _)
 
 -- ---- of worlds
 
-made_of_world : {E : Type 0} (r : Result MachineView E) → is_ok (its_world r) ≡ is_ok r
+made_of_world : {E : Type 0} (r : Result MachineView E) → is_ok (world_of_result r) ≡ is_ok r
 made_of_world (Ok v) = refl
 made_of_world (Err e) = refl
 
-popped_in_real : (w : World) → IsSound w → is_ok (world_popped (real w)) ≡ frame_fits w.regs.esp
-unfolding world_popped
-popped_in_real w s = made_of_world (iret_popped (bare (real w))) ∙ return_is_made (bare (real w)) ∙ frame_made w s
+popped_in_real : (w : World) → IsSound w → is_ok (world_after_iret (real w)) ≡ frame_fits w.regs.esp
+unfolding world_after_iret
+popped_in_real w s = made_of_world (after_iret (view_without_bytes (real w))) ∙ return_is_made (view_without_bytes (real w)) ∙ frame_made w s
 
-pub popped_where_it_fits : (w : World) → IsSound w → w.mode ≡ Real → is_ok (world_popped w) ≡ frame_fits w.regs.esp
+pub popped_where_it_fits : (w : World) → IsSound w → w.mode ≡ Real → is_ok (world_after_iret w) ≡ frame_fits w.regs.esp
 popped_where_it_fits w s mode =
     let same : real w ≡ w = ap (λ (m : Mode). record w { mode = m }) (sym mode) in
-    subst (λ (u : World). is_ok (world_popped u) ≡ frame_fits w.regs.esp) same (popped_in_real w s)
+    subst (λ (u : World). is_ok (world_after_iret u) ≡ frame_fits w.regs.esp) same (popped_in_real w s)

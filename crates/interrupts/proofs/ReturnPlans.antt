@@ -7,16 +7,16 @@ use Rattle.client_world.specs.declared.faults.Fault.{Fault}
 use Rattle.client_world.specs.Loading.{transfer_fault}
 use Rattle.client_world.specs.Registers.{low_half}
 use Rattle.client_world.specs.World.{World}
-use Rattle.exec_flow.specs.FarTransfers.{far_transfer, frame_popped}
-use Rattle.exec_flow.specs.FlagImages.{flags_popped}
+use Rattle.exec_flow.specs.FarTransfers.{far_transfer, interrupt_frame_pop}
+use Rattle.exec_flow.specs.FlagImages.{with_popped_flags}
 use Rattle.exec_flow.specs.Interrupts.{frame_bits}
 use Rattle.guest_space.proofs.Writes.{first_none}
-use Rattle.guest_space.specs.Pending.{all_written, first_refusal}
+use Rattle.guest_space.specs.Pending.{after_writes, first_write_fault}
 use Rattle.host_memory.specs.View.{MachineView}
 use Rattle.insn_plan.specs.Act.{Act, Input, Pending, Read, done, unchanged, unless_fault, value_of, with_regs}
-use Rattle.insn_plan.specs.Plan.{carried_out, planned, after_commit, with_state}
-use Rattle.insn_plan.specs.Stack.{stack_item, items_popped}
-use Rattle.interrupts.specs.Delivery.{popped_or_bad, iret_popped}
+use Rattle.insn_plan.specs.Plan.{after_plan, plan_result, after_commit, with_state}
+use Rattle.insn_plan.specs.Stack.{stack_item, regs_after_pops}
+use Rattle.interrupts.specs.Delivery.{result_of_pop, after_iret}
 
 -- a plan without writes, where there is one
 abbrev pub WritesNothing : Result Pending Event → Type 0
@@ -25,10 +25,10 @@ WritesNothing (Err e) = Unit {0}
 
 -- an act whose plan has none
 abbrev pub IsQuiet : World → Act → Type 0
-IsQuiet w act = WritesNothing (planned w act)
+IsQuiet w act = WritesNothing (plan_result w act)
 
 by_value : (w : World) (r : Result ℕ Event) (rest : ℕ → Act) → ((v : ℕ) → IsQuiet w (rest v)) →
-    WritesNothing (elim r [ Ok v ↦ planned w (rest v) | Err e ↦ Err e ])
+    WritesNothing (elim r [ Ok v ↦ plan_result w (rest v) | Err e ↦ Err e ])
 by_value w (Ok v) rest quiet = quiet v
 by_value w (Err e) rest quiet = tt
 
@@ -43,13 +43,13 @@ pub quiet_transfer : (w : World) (sel ip : ℕ) (return : Bool) (p : Pending) �
 unfolding far_transfer
 quiet_transfer w sel ip return p none = quiet_unless w (transfer_fault w sel ip return) _ none
 
-popped_none : (w : World) (image : ℕ) (p : Pending) → p.writes ≡ [] → (flags_popped w image p).writes ≡ []
-unfolding flags_popped
+popped_none : (w : World) (image : ℕ) (p : Pending) → p.writes ≡ [] → (with_popped_flags w image p).writes ≡ []
+unfolding with_popped_flags
 popped_none w image p none = none
 
 -- what the frame's items lead to
 abbrev pub left : World → ℕ → ℕ → Pending
-left w bits image = flags_popped w image (with_regs (items_popped w bits 3 w.regs) (unchanged w))
+left w bits image = with_popped_flags w image (with_regs (regs_after_pops w bits 3 w.regs) (unchanged w))
 
 abbrev pub with_image : World → ℕ → ℕ → ℕ → ℕ → Act
 with_image w bits ip cs image = far_transfer w (low_half cs) ip true (left w bits image)
@@ -63,7 +63,7 @@ with_ip w bits ip = Read (stack_item w bits 1) (with_cs w bits ip)
 quiet_image : (w : World) (bits ip cs image : ℕ) → IsQuiet w (with_image w bits ip cs image)
 quiet_image w bits ip cs image =
     quiet_transfer w (low_half cs) ip true (left w bits image)
-    (popped_none w image (with_regs (items_popped w bits 3 w.regs) (unchanged w)) refl)
+    (popped_none w image (with_regs (regs_after_pops w bits 3 w.regs) (unchanged w)) refl)
 
 quiet_cs : (w : World) (bits ip cs : ℕ) → IsQuiet w (with_cs w bits ip cs)
 quiet_cs w bits ip cs = quiet_read w (stack_item w bits 2) (with_image w bits ip cs) (quiet_image w bits ip cs)
@@ -71,28 +71,28 @@ quiet_cs w bits ip cs = quiet_read w (stack_item w bits 2) (with_image w bits ip
 quiet_ip : (w : World) (bits ip : ℕ) → IsQuiet w (with_ip w bits ip)
 quiet_ip w bits ip = quiet_read w (stack_item w bits 1) (with_cs w bits ip) (quiet_cs w bits ip)
 
-pub quiet_frame : (w : World) (bits : ℕ) → IsQuiet w (frame_popped w bits)
-unfolding frame_popped
+pub quiet_frame : (w : World) (bits : ℕ) → IsQuiet w (interrupt_frame_pop w bits)
+unfolding interrupt_frame_pop
 quiet_frame w bits = quiet_read w (stack_item w bits 0) (with_ip w bits) (quiet_ip w bits)
 
 -- such a plan is carried out
 popped_where_granted : (o : Option Fault) (v : MachineView) → o ≡ None →
-    is_ok (popped_or_bad (elim o [ Some f ↦ Err (fault f) | None ↦ Ok v ])) ≡ true
+    is_ok (result_of_pop (elim o [ Some f ↦ Err (fault f) | None ↦ Ok v ])) ≡ true
 popped_where_granted None v e = refl
 popped_where_granted (Some f) v e = absurd cc
 
-quiet_settled : (v : MachineView) (p : Pending) → p.writes ≡ [] → is_ok (popped_or_bad (after_commit v p)) ≡ true
+quiet_settled : (v : MachineView) (p : Pending) → p.writes ≡ [] → is_ok (result_of_pop (after_commit v p)) ≡ true
 unfolding after_commit
 quiet_settled v p none =
-    popped_where_granted (first_refusal v.world p.writes) (with_state p.regs p.vif (all_written v p.writes))
-    (ap (first_refusal v.world) none ∙ first_none v.world)
+    popped_where_granted (first_write_fault v.world p.writes) (with_state p.regs p.vif (after_writes v p.writes))
+    (ap (first_write_fault v.world) none ∙ first_none v.world)
 
-quiet_carried : (v : MachineView) (r : Result Pending Event) → WritesNothing r → is_ok (popped_or_bad (carried_out v r)) ≡ is_ok r
-unfolding carried_out
+quiet_carried : (v : MachineView) (r : Result Pending Event) → WritesNothing r → is_ok (result_of_pop (after_plan v r)) ≡ is_ok r
+unfolding after_plan
 quiet_carried v (Ok p) none = quiet_settled v p none
 quiet_carried v (Err e) none = refl
 
 pub return_is_made : (v : MachineView) →
-    is_ok (iret_popped v) ≡ is_ok (planned v.world (frame_popped v.world (frame_bits v.world)))
-unfolding iret_popped
+    is_ok (after_iret v) ≡ is_ok (plan_result v.world (interrupt_frame_pop v.world (frame_bits v.world)))
+unfolding after_iret
 return_is_made v = quiet_carried v _ (quiet_frame v.world (frame_bits v.world))

@@ -16,19 +16,19 @@ use Rattle.client_world.specs.Loading.{code_row_fault, load_fault, transfer_faul
 use Rattle.client_world.specs.Selector.{Row, is_null, is_local, index_of, row_at_index}
 use Rattle.client_world.specs.Soundness.{IsSound}
 use Rattle.client_world.specs.World.{World}
-use Rattle.cpu_step.specs.Step.{behind, client_step}
+use Rattle.cpu_step.specs.Step.{view_with_next_eip, client_step}
 use Rattle.cpu_step.proofs.FlowSegments.{code_is_word, frame_leaves}
 use Rattle.cpu_step.proofs.SegmentWords.{HoldWords, words_of, segments_of, words_pushed}
 use Rattle.cpu_step.proofs.SoundSteps.{sound_behind, sound_by_plan, sound_step}
 use Rattle.cpu_step.proofs.SoundWritten.{sound_all_written, sound_state}
-use Rattle.exec_flow.specs.FarTransfers.{code_selector, frame_popped}
-use Rattle.exec_flow.specs.Interrupts.{frame_bits, interrupt_pushed}
-use Rattle.guest_space.specs.Pending.{all_written, first_refusal}
+use Rattle.exec_flow.specs.FarTransfers.{code_selector, interrupt_frame_pop}
+use Rattle.exec_flow.specs.Interrupts.{frame_bits, interrupt_push}
+use Rattle.guest_space.specs.Pending.{after_writes, first_write_fault}
 use Rattle.host_memory.specs.View.{MachineView}
 use Rattle.insn_plan.specs.Act.{unchanged}
-use Rattle.insn_plan.specs.Plan.{planned, carried_out, with_state}
-use Rattle.interrupts.specs.Delivery.{frame_pushed, handler_entered, handler_interrupts, has_real_vector, interrupt_of, interrupt_vector, interrupted, iret_popped, popped_or_bad, real_delivery, software_interrupt, unserved}
-use Rattle.interrupts.specs.Worlds.{bare, its_world, world_delivery, world_interrupt, world_popped, world_step}
+use Rattle.insn_plan.specs.Plan.{plan_result, after_plan, with_state}
+use Rattle.interrupts.specs.Delivery.{after_frame_push, after_handler_entry, handler_interrupts, has_real_vector, interrupt_of, interrupt_vector, after_interrupt_entry, after_iret, result_of_pop, real_delivery, software_interrupt, exit_of_fault}
+use Rattle.interrupts.specs.Worlds.{view_without_bytes, world_of_result, world_delivery, world_interrupt, world_after_iret, world_step}
 
 -- ---- a selector that names a descriptor is a word
 
@@ -83,21 +83,21 @@ sound_where_granted None at u s e =
     subst (λ (m : MachineView). IsSound m.world) same (s refl)
 sound_where_granted (Some f) at u s e = absurd cc
 
-sound_entered : (v u : MachineView) (n : ℕ) → IsSound v.world → handler_entered v (interrupt_vector v.world n) ≡ Ok u → IsSound u.world
+sound_entered : (v u : MachineView) (n : ℕ) → IsSound v.world → after_handler_entry v (interrupt_vector v.world n) ≡ Ok u → IsSound u.world
 sound_entered v u n s e =
     let p = interrupt_vector v.world n in
     sound_where_granted (transfer_fault v.world p.sel p.off false)
     (with_state (record v.world.regs { cs = code_selector v.world p.sel; eip = p.off }) (handler_interrupts v.world) v) u
     (λ granted. sound_at_handler v p s (handler_is_word v.world n s granted)) e
 
-pushed_words : (w : World) → HoldWords w.regs → HoldWords (interrupt_pushed w).regs
-unfolding interrupt_pushed
+pushed_words : (w : World) → HoldWords w.regs → HoldWords (interrupt_push w).regs
+unfolding interrupt_push
 pushed_words w s = words_pushed _ _ _ _ (words_pushed _ _ _ _ (words_pushed _ _ _ _ s))
 
-sound_pushed : (v : MachineView) → IsSound v.world → IsSound (frame_pushed v).world
+sound_pushed : (v : MachineView) → IsSound v.world → IsSound (after_frame_push v).world
 sound_pushed v s =
-    let p = interrupt_pushed v.world in
-    sound_state (all_written v p.writes) p (segments_of p.regs (pushed_words v.world (words_of v.world.regs s.segments)))
+    let p = interrupt_push v.world in
+    sound_state (after_writes v p.writes) p (segments_of p.regs (pushed_words v.world (words_of v.world.regs s.segments)))
     (sound_all_written v p.writes s)
 
 -- what is answered where there is no fault
@@ -106,15 +106,15 @@ pub granted_was : {E : Type 0} (err : Fault → E) (o : Option Fault) (r : Resul
 granted_was err None r u e = e
 granted_was err (Some f) r u e = absurd cc
 
-sound_interrupted : (v u : MachineView) (n : ℕ) → IsSound v.world → interrupted v n ≡ Ok u → IsSound u.world
+sound_interrupted : (v u : MachineView) (n : ℕ) → IsSound v.world → after_interrupt_entry v n ≡ Ok u → IsSound u.world
 sound_interrupted v u n s e =
-    sound_entered (frame_pushed v) u n (sound_pushed v s)
-    (granted_was (λ (f : Fault). f) (first_refusal v.world (interrupt_pushed v.world).writes)
-    (handler_entered (frame_pushed v) (interrupt_vector (frame_pushed v).world n)) u e)
+    sound_entered (after_frame_push v) u n (sound_pushed v s)
+    (granted_was (λ (f : Fault). f) (first_write_fault v.world (interrupt_push v.world).writes)
+    (after_handler_entry (after_frame_push v) (interrupt_vector (after_frame_push v).world n)) u e)
 
 pub sound_interrupt : (v u : MachineView) (n len : ℕ) → IsSound v.world → software_interrupt v n len ≡ Ok u → IsSound u.world
 unfolding software_interrupt
-sound_interrupt v u n len s e = sound_interrupted (behind len v) u n (sound_behind v len s) e
+sound_interrupt v u n len s e = sound_interrupted (view_with_next_eip len v) u n (sound_behind v len s) e
 
 -- ---- an exception
 
@@ -123,7 +123,7 @@ interrupt_was f (Ok v) u e = cc
 interrupt_was f (Err g) u e = absurd cc
 
 pub delivered_was : (served : Bool) (f : Fault) (r : Result MachineView Fault) (u : MachineView) →
-    (if served then interrupt_of f r else Err (unserved f)) ≡ Ok u → r ≡ Ok u
+    (if served then interrupt_of f r else Err (exit_of_fault f)) ≡ Ok u → r ≡ Ok u
 delivered_was true f r u e = interrupt_was f r u e
 delivered_was false f r u e = absurd cc
 
@@ -134,22 +134,22 @@ sound_delivery v u f s e =
 
 -- ---- a return
 
-pub return_was : (r : Result MachineView Event) (u : MachineView) → popped_or_bad r ≡ Ok u → r ≡ Ok u
+pub return_was : (r : Result MachineView Event) (u : MachineView) → result_of_pop r ≡ Ok u → r ≡ Ok u
 return_was (Ok v) u e = cc
 return_was (Err g) u e = absurd cc
 
-pub sound_popped : (v u : MachineView) → IsSound v.world → iret_popped v ≡ Ok u → IsSound u.world
-unfolding iret_popped
+pub sound_popped : (v u : MachineView) → IsSound v.world → after_iret v ≡ Ok u → IsSound u.world
+unfolding after_iret
 sound_popped v u s e =
-    let act = frame_popped v.world (frame_bits v.world) in
-    sound_by_plan v u act (planned v.world act) refl (frame_leaves v.world (frame_bits v.world) (words_of v.world.regs s.segments)) s
-    (return_was (carried_out v (planned v.world act)) u e)
+    let act = interrupt_frame_pop v.world (frame_bits v.world) in
+    sound_by_plan v u act (plan_result v.world act) refl (frame_leaves v.world (frame_bits v.world) (words_of v.world.regs s.segments)) s
+    (return_was (after_plan v (plan_result v.world act)) u e)
 
 -- ---- of worlds
 
 -- what holds of each answer holds of its world
 pub holds_of_world : {E : Type 0} (P : World → Type 0) (r : Result MachineView E) (u : World) →
-    ((v : MachineView) → r ≡ Ok v → P v.world) → its_world r ≡ Ok u → P u
+    ((v : MachineView) → r ≡ Ok v → P v.world) → world_of_result r ≡ Ok u → P u
 holds_of_world P (Ok v) u holds e = let same : v.world ≡ u = cc in subst P same (holds v refl)
 holds_of_world P (Err g) u holds e = absurd cc
 
@@ -160,16 +160,16 @@ holds_of_answer P (Err g) u holds e = absurd cc
 
 pub sound_world_step : (w u : World) → IsSound w → world_step w ≡ Ok u → IsSound u
 unfolding world_step
-sound_world_step w u s e = holds_of_world IsSound (client_step (bare w)) u (λ v. sound_step (bare w) v s) e
+sound_world_step w u s e = holds_of_world IsSound (client_step (view_without_bytes w)) u (λ v. sound_step (view_without_bytes w) v s) e
 
 pub sound_world_interrupt : (w u : World) (n len : ℕ) → IsSound w → world_interrupt w n len ≡ Ok u → IsSound u
 unfolding world_interrupt
-sound_world_interrupt w u n len s e = holds_of_world IsSound (software_interrupt (bare w) n len) u (λ v. sound_interrupt (bare w) v n len s) e
+sound_world_interrupt w u n len s e = holds_of_world IsSound (software_interrupt (view_without_bytes w) n len) u (λ v. sound_interrupt (view_without_bytes w) v n len s) e
 
 pub sound_world_delivery : (w u : World) (f : Fault) → IsSound w → world_delivery w f ≡ Ok u → IsSound u
 unfolding world_delivery
-sound_world_delivery w u f s e = holds_of_world IsSound (real_delivery (bare w) f) u (λ v. sound_delivery (bare w) v f s) e
+sound_world_delivery w u f s e = holds_of_world IsSound (real_delivery (view_without_bytes w) f) u (λ v. sound_delivery (view_without_bytes w) v f s) e
 
-pub sound_world_popped : (w u : World) → IsSound w → world_popped w ≡ Ok u → IsSound u
-unfolding world_popped
-sound_world_popped w u s e = holds_of_world IsSound (iret_popped (bare w)) u (λ v. sound_popped (bare w) v s) e
+pub sound_world_popped : (w u : World) → IsSound w → world_after_iret w ≡ Ok u → IsSound u
+unfolding world_after_iret
+sound_world_popped w u s e = holds_of_world IsSound (after_iret (view_without_bytes w)) u (λ v. sound_popped (view_without_bytes w) v s) e

@@ -13,14 +13,14 @@ use Rattle.client_world.specs.declared.registers.Mode.TheVariants.{Real, Protect
 use Rattle.client_world.specs.declared.segments.FarPtr.{FarPtr}
 use Rattle.client_world.specs.Loading.{transfer_fault}
 use Rattle.client_world.specs.World.{World}
-use Rattle.cpu_step.specs.Step.{behind}
-use Rattle.exec_flow.specs.FarTransfers.{code_selector, frame_popped}
-use Rattle.exec_flow.specs.Interrupts.{frame_bits, interrupt_pushed}
+use Rattle.cpu_step.specs.Step.{view_with_next_eip}
+use Rattle.exec_flow.specs.FarTransfers.{code_selector, interrupt_frame_pop}
+use Rattle.exec_flow.specs.Interrupts.{frame_bits, interrupt_push}
 use Rattle.guest_space.specs.Dos.{real_vector}
-use Rattle.guest_space.specs.Pending.{first_refusal, all_written}
+use Rattle.guest_space.specs.Pending.{first_write_fault, after_writes}
 use Rattle.guest_space.specs.VectorLists.{vector_at}
 use Rattle.host_memory.specs.View.{MachineView}
-use Rattle.insn_plan.specs.Plan.{planned, carried_out, with_state}
+use Rattle.insn_plan.specs.Plan.{plan_result, after_plan, with_state}
 
 -- ---- software interrupts
 
@@ -44,27 +44,27 @@ abbrev pub handler_interrupts : World → Bool
 handler_interrupts w = elim w.mode [ Real ↦ false | Protected ↦ w.vif ]
 
 -- the machine at a handler, or the fault of loading its address into CS
-abbrev pub handler_entered : MachineView → FarPtr → Result MachineView Fault
-handler_entered v p = elim (transfer_fault v.world p.sel p.off false) [
+abbrev pub after_handler_entry : MachineView → FarPtr → Result MachineView Fault
+after_handler_entry v p = elim (transfer_fault v.world p.sel p.off false) [
   | Some f ↦ Err f
   | None ↦ Ok (with_state (record v.world.regs { cs = code_selector v.world p.sel; eip = p.off }) (handler_interrupts v.world) v)
 ]
 
 -- the machine with what the interrupt pushes
-abbrev pub frame_pushed : MachineView → MachineView
-frame_pushed v =
-    with_state (interrupt_pushed v.world).regs (interrupt_pushed v.world).vif (all_written v (interrupt_pushed v.world).writes)
+abbrev pub after_frame_push : MachineView → MachineView
+after_frame_push v =
+    with_state (interrupt_push v.world).regs (interrupt_push v.world).vif (after_writes v (interrupt_push v.world).writes)
 
 -- the interrupt n of a machine whose instruction pointer is the one to push; the vector is read as the pushes left it
-abbrev pub interrupted : MachineView → ℕ → Result MachineView Fault
-interrupted v n = elim (first_refusal v.world (interrupt_pushed v.world).writes) [
+abbrev pub after_interrupt_entry : MachineView → ℕ → Result MachineView Fault
+after_interrupt_entry v n = elim (first_write_fault v.world (interrupt_push v.world).writes) [
   | Some f ↦ Err f
-  | None ↦ handler_entered (frame_pushed v) (interrupt_vector (frame_pushed v).world n)
+  | None ↦ after_handler_entry (after_frame_push v) (interrupt_vector (after_frame_push v).world n)
 ]
 
 -- the machine after the software interrupt n, whose instruction has `len` bytes; or its fault, with nothing changed
 unfoldable pub software_interrupt : MachineView → ℕ → ℕ → Result MachineView Fault
-software_interrupt v n len = interrupted (behind len v) n
+software_interrupt v n len = after_interrupt_entry (view_with_next_eip len v) n
 
 -- ---- exceptions in real mode
 
@@ -75,25 +75,25 @@ has_real_vector number =
     || nat_eq number COPROCESSOR_NOT_AVAILABLE
 
 -- an exception that nothing serves
-abbrev pub unserved : Fault → Exit
-unserved f = exits.Fault f.number f.code
+abbrev pub exit_of_fault : Fault → Exit
+exit_of_fault f = exits.Fault f.number f.code
 
 -- the interrupt that an exception is, with the instruction pointer of its instruction; where that faults the exception ends the client
 abbrev pub interrupt_of : Fault → Result MachineView Fault → Result MachineView Exit
 interrupt_of f (Ok v) = Ok v
-interrupt_of f (Err g) = Err (unserved f)
+interrupt_of f (Err g) = Err (exit_of_fault f)
 
 -- the machine after an exception of real mode, or the exit
 unfoldable pub real_delivery : MachineView → Fault → Result MachineView Exit
 real_delivery v f =
-    if has_real_vector f.number then interrupt_of f (software_interrupt v f.number 0) else Err (unserved f)
+    if has_real_vector f.number then interrupt_of f (software_interrupt v f.number 0) else Err (exit_of_fault f)
 
 -- ---- the return at a trap
 
-abbrev pub popped_or_bad : Result MachineView Event → Result MachineView Exit
-popped_or_bad (Ok v) = Ok v
-popped_or_bad (Err e) = Err exits.BadFrame
+abbrev pub result_of_pop : Result MachineView Event → Result MachineView Exit
+result_of_pop (Ok v) = Ok v
+result_of_pop (Err e) = Err exits.BadFrame
 
 -- the machine after the frame at the stack's top is popped; one that can't be popped ends the client
-unfoldable pub iret_popped : MachineView → Result MachineView Exit
-iret_popped v = popped_or_bad (carried_out v (planned v.world (frame_popped v.world (frame_bits v.world))))
+unfoldable pub after_iret : MachineView → Result MachineView Exit
+after_iret v = result_of_pop (after_plan v (plan_result v.world (interrupt_frame_pop v.world (frame_bits v.world))))

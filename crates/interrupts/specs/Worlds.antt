@@ -9,20 +9,20 @@ use Rattle.client_world.specs.World.{World}
 use Rattle.cpu_step.specs.Step.{client_step}
 use Rattle.host_memory.specs.View.{MachineView}
 use Rattle.insn_plan.specs.Plan.{with_state}
-use Rattle.interrupts.specs.Delivery.{iret_popped, real_delivery, software_interrupt}
+use Rattle.interrupts.specs.Delivery.{after_iret, real_delivery, software_interrupt}
 
 -- the world of an answer
-abbrev pub its_world : {E : Type 0} → Result MachineView E → Result World E
-its_world (Ok v) = Ok v.world
-its_world (Err e) = Err e
+abbrev pub world_of_result : {E : Type 0} → Result MachineView E → Result World E
+world_of_result (Ok v) = Ok v.world
+world_of_result (Err e) = Err e
 
 -- a world with no bytes
-abbrev pub bare : World → MachineView
-bare w = record { world = w; bytes = [] }
+abbrev pub view_without_bytes : World → MachineView
+view_without_bytes w = record { world = w; bytes = [] }
 
 -- what a function makes of a world
 abbrev pub on_world : {E : Type 0} → (MachineView → Result MachineView E) → World → Result World E
-on_world f w = its_world (f (bare w))
+on_world f w = world_of_result (f (view_without_bytes w))
 
 -- the world after the client's next instruction, or its event
 unfoldable pub world_step : World → Result World Event
@@ -37,8 +37,8 @@ unfoldable pub world_delivery : World → Fault → Result World Exit
 world_delivery w f = on_world (λ v. real_delivery v f) w
 
 -- the world after the frame at the stack's top is popped, or the exit
-unfoldable pub world_popped : World → Result World Exit
-world_popped w = on_world iret_popped w
+unfoldable pub world_after_iret : World → Result World Exit
+world_after_iret w = on_world after_iret w
 
 -- the machine differs at most in its registers and its virtual interrupt flag: its memory is the same, and so are its bytes
 abbrev pub HasOtherState : MachineView → MachineView → Type 0

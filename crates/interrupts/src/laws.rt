@@ -6,33 +6,33 @@ ghost use Rattle.client_world.specs.Soundness.{IsSound};
 ghost use Rattle.client_world.specs.World.{World};
 ghost use Rattle.cpu_step.specs.Step.{client_step};
 ghost use Rattle.host_memory.specs.View.{MachineView};
-ghost use Rattle.interrupts.specs.Delivery.{iret_popped, real_delivery, software_interrupt};
+ghost use Rattle.interrupts.specs.Delivery.{after_iret, real_delivery, software_interrupt};
 ghost use Rattle.interrupts.specs.RealFrames.{frame_fits};
-ghost use Rattle.interrupts.specs.Worlds.{HasOtherRegisters, HasOtherRegistersAndMemory, HasOtherState, its_world, world_delivery, world_interrupt, world_popped, world_step};
+ghost use Rattle.interrupts.specs.Worlds.{HasOtherRegisters, HasOtherRegistersAndMemory, HasOtherState, world_of_result, world_delivery, world_interrupt, world_after_iret, world_step};
 
 /// What a step, an interrupt, an exception and a return make of the world depends on the world alone, and not on the bytes that hold it.
 pub fn every_answer_depends_on_the_world_alone()
-    ensures step { (v : MachineView) → its_world (client_step v) ≡ world_step v.world }
-    ensures interrupt { (v : MachineView) (n len : ℕ) → its_world (software_interrupt v n len) ≡ world_interrupt v.world n len }
-    ensures delivery { (v : MachineView) (f : Fault) → its_world (real_delivery v f) ≡ world_delivery v.world f }
-    ensures popped { (v : MachineView) → its_world (iret_popped v) ≡ world_popped v.world }
+    ensures step { (v : MachineView) → world_of_result (client_step v) ≡ world_step v.world }
+    ensures interrupt { (v : MachineView) (n len : ℕ) → world_of_result (software_interrupt v n len) ≡ world_interrupt v.world n len }
+    ensures delivery { (v : MachineView) (f : Fault) → world_of_result (real_delivery v f) ≡ world_delivery v.world f }
+    ensures popped { (v : MachineView) → world_of_result (after_iret v) ≡ world_after_iret v.world }
 {}
 
 /// An interrupt, an exception and a return lead from a sound world to a sound one, and so does a step.
 pub fn every_answer_is_sound()
     ensures interrupt { (v u : MachineView) (n len : ℕ) → IsSound v.world → software_interrupt v n len ≡ Ok u → IsSound u.world }
     ensures delivery { (v u : MachineView) (f : Fault) → IsSound v.world → real_delivery v f ≡ Ok u → IsSound u.world }
-    ensures popped { (v u : MachineView) → IsSound v.world → iret_popped v ≡ Ok u → IsSound u.world }
+    ensures popped { (v u : MachineView) → IsSound v.world → after_iret v ≡ Ok u → IsSound u.world }
     ensures world_step { (w u : World) → IsSound w → world_step w ≡ Ok u → IsSound u }
     ensures world_interrupt { (w u : World) (n len : ℕ) → IsSound w → world_interrupt w n len ≡ Ok u → IsSound u }
     ensures world_delivery { (w u : World) (f : Fault) → IsSound w → world_delivery w f ≡ Ok u → IsSound u }
-    ensures world_popped { (w u : World) → IsSound w → world_popped w ≡ Ok u → IsSound u }
+    ensures world_popped { (w u : World) → IsSound w → world_after_iret w ≡ Ok u → IsSound u }
 {}
 
 /// A return changes registers and the virtual interrupt flag alone, and no byte of the memory; the mode stays.
 pub fn a_return_changes_registers_alone()
-    ensures state { (v u : MachineView) → iret_popped v ≡ Ok u → HasOtherState v u }
-    ensures world { (w u : World) → world_popped w ≡ Ok u → HasOtherRegisters w u }
+    ensures state { (v u : MachineView) → after_iret v ≡ Ok u → HasOtherState v u }
+    ensures world { (w u : World) → world_after_iret w ≡ Ok u → HasOtherRegisters w u }
 {}
 
 /// A step, a software interrupt and an exception of real mode change registers, the virtual interrupt flag and memory alone.
@@ -44,5 +44,5 @@ pub fn every_answer_keeps_the_rest()
 
 /// In real mode a frame can be popped exactly where its three words lie inside the stack segment.
 pub fn a_real_frame_is_popped_where_it_fits()
-    ensures { (w : World) → IsSound w → w.mode ≡ Real → is_ok (world_popped w) ≡ frame_fits w.regs.esp }
+    ensures { (w : World) → IsSound w → w.mode ≡ Real → is_ok (world_after_iret w) ≡ frame_fits w.regs.esp }
 {}

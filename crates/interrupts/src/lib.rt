@@ -1,8 +1,8 @@
 //! Software interrupts, exceptions of real mode, and the return from an interrupt at a trap.
-//! It promises that each leaves the machine that its definition names, or gives its fault or exit and changes nothing; that its answer
-//! depends on the world alone; that a sound world leads to a sound one; that nothing but registers, the virtual interrupt flag and memory
-//! changes; and that in real mode a frame is popped exactly where its words lie inside the stack segment. It uses plans of instructions
-//! and the executing crates.
+//! It promises that each leaves the machine that its definition names, or gives its fault or exit and changes nothing; that a sound
+//! world leads to a sound one; that nothing but registers, the virtual interrupt flag and memory changes; and that in real mode a frame
+//! is popped exactly where its words lie inside the stack segment. It uses `insn_plan` and the executing crates.
+//! Bodies are free. The frame and the order of its checks aren't: `fault_service`, `mode_gates` and `host_run` are built on them.
 #![tactic(auto)]
 
 mod exceptions;

@@ -1,15 +1,15 @@
 // Software interrupts.
 ghost use Rattle.std.specs.Prelude.{false, ◌≡◌, ◌+◌, ◌<◌, IfErr, None, OnOk, Some, Ok, Err, MatchResult};
 ghost use Rattle.client_world.specs.Loading.{transfer_fault};
-ghost use Rattle.exec_flow.specs.Interrupts.{interrupt_pushed};
-ghost use Rattle.guest_space.specs.Pending.{first_refusal};
+ghost use Rattle.exec_flow.specs.Interrupts.{interrupt_push};
+ghost use Rattle.guest_space.specs.Pending.{first_write_fault};
 ghost use Rattle.interrupts.specs.Delivery.{
-  frame_pushed,
-  handler_entered,
+  after_frame_push,
+  after_handler_entry,
   handler_fault,
   handler_interrupts,
   interrupt_vector,
-  interrupted,
+  after_interrupt_entry,
   software_interrupt,
 };
 ghost use Rattle.interrupts.specs.Worlds.{world_interrupt};
@@ -57,9 +57,9 @@ fn check_vector(m: &Machine, n: u8) -> Result<(), Fault>
 // What refuses an interrupt of protected mode before its pushes are made: the first push that has a fault, or else the load of the
 // handler's address. In real mode the pushes are asked when they are made.
 fn check_handler(m: &Machine, next: &Next, n: u8) -> Result<(), Fault>
-    requires { next.now ≡ interrupt_pushed m.now.world }
+    requires { next.now ≡ interrupt_push m.now.world }
     ensures loadable { OnOk result (handler_fault m.now.world n ≡ None) }
-    ensures refused { IfErr result (λ f. interrupted m.now n ≡ Err f) }
+    ensures refused { IfErr result (λ f. after_interrupt_entry m.now n ≡ Err f) }
 {
     match m.mode() {
         Mode::Real => Ok(()),
@@ -79,9 +79,9 @@ fn check_handler(m: &Machine, next: &Next, n: u8) -> Result<(), Fault>
 // changes nothing.
 #[tactic(auto, unfolding(insn_plan::specs::Plan::after_commit))]
 fn push_frame(m: &mut Machine, n: u8) -> Result<(), Fault>
-    ensures pushed { OnOk result ((first_refusal m.old.world (interrupt_pushed m.old.world).writes ≡ None)
-        × (handler_fault m.old.world n ≡ None) × (m.new ≡ frame_pushed m.old)) }
-    ensures refused { IfErr result (λ f. (interrupted m.old n ≡ Err f) × (m.new ≡ m.old)) }
+    ensures pushed { OnOk result ((first_write_fault m.old.world (interrupt_push m.old.world).writes ≡ None)
+        × (handler_fault m.old.world n ≡ None) × (m.new ≡ after_frame_push m.old)) }
+    ensures refused { IfErr result (λ f. (after_interrupt_entry m.old n ≡ Err f) × (m.new ≡ m.old)) }
 {
     let mut next = Next::new(m);
     push_interrupt_frame(m, &mut next);
@@ -100,7 +100,7 @@ fn push_frame(m: &mut Machine, n: u8) -> Result<(), Fault>
 // Goes to a handler whose address can be loaded into CS.
 fn enter(m: &mut Machine, p: FarPtr)
     requires { transfer_fault m.old.world p.sel p.off false ≡ None }
-    ensures { handler_entered m.old p ≡ Ok m.new }
+    ensures { after_handler_entry m.old p ≡ Ok m.new }
 {
     let on = handler_interrupts(m);
     let cs = code_selector(m, p.sel);
@@ -111,8 +111,8 @@ fn enter(m: &mut Machine, p: FarPtr)
 
 // The interrupt whose pushed instruction pointer is EIP.
 fn interrupt(m: &mut Machine, n: u8) -> Result<(), Fault>
-    ensures { MatchResult result (λ _. interrupted m.old n ≡ Ok m.new)
-        (λ f. (interrupted m.old n ≡ Err f) × (m.new ≡ m.old)) }
+    ensures { MatchResult result (λ _. after_interrupt_entry m.old n ≡ Ok m.new)
+        (λ f. (after_interrupt_entry m.old n ≡ Err f) × (m.new ≡ m.old)) }
 {
     push_frame(m, n)?;
     m.soundness();

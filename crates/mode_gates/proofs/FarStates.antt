@@ -9,15 +9,15 @@ use Rattle.client_world.specs.declared.outcome.Exit.{Exit}
 use Rattle.client_world.specs.declared.registers.Width.{Width}
 use Rattle.client_world.specs.Services.{Served}
 use Rattle.client_world.specs.World.{World}
-use Rattle.exec_flow.specs.FarTransfers.{far_frame_popped, far_transfer}
+use Rattle.exec_flow.specs.FarTransfers.{far_frame_pop, far_transfer}
 use Rattle.exec_flow.specs.Interrupts.{frame_bits}
-use Rattle.exec_flow.specs.Transfers.{released}
-use Rattle.guest_space.specs.Pending.{all_written, first_refusal}
+use Rattle.exec_flow.specs.Transfers.{regs_after_drop}
+use Rattle.guest_space.specs.Pending.{after_writes, first_write_fault}
 use Rattle.host_memory.specs.View.{MachineView}
 use Rattle.insn_plan.specs.Act.{Act, Input, Pending, Read, done, unchanged, unless_fault, value_of, with_regs}
-use Rattle.insn_plan.specs.Plan.{after_commit, carried_out, planned, with_state}
-use Rattle.insn_plan.specs.Stack.{items_popped, stack_item}
-use Rattle.interrupts.specs.Worlds.{bare}
+use Rattle.insn_plan.specs.Plan.{after_commit, after_plan, plan_result, with_state}
+use Rattle.insn_plan.specs.Stack.{regs_after_pops, stack_item}
+use Rattle.interrupts.specs.Worlds.{view_without_bytes}
 use Rattle.interrupts.proofs.ReturnPlans.{IsQuiet, quiet_read, quiet_transfer}
 use Rattle.interrupts.proofs.ReturnStates.{quiet_state}
 use Rattle.interrupts.proofs.SoundAnswers.{granted_was, holds_of_answer, holds_of_world, return_was}
@@ -26,7 +26,7 @@ use Rattle.mode_gates.specs.FarFrames.{after_far_return, world_after_far_return}
 
 abbrev with_cs : World → ℕ → ℕ → ℕ → ℕ → Act
 with_cs w bits bytes ip cs =
-    far_transfer w (low_half cs) ip true (with_regs (released w bytes (items_popped w bits 2 w.regs)) (unchanged w))
+    far_transfer w (low_half cs) ip true (with_regs (regs_after_drop w bytes (regs_after_pops w bits 2 w.regs)) (unchanged w))
 
 abbrev with_ip : World → ℕ → ℕ → ℕ → Act
 with_ip w bits bytes ip = Read (stack_item w bits 1) (with_cs w bits bytes ip)
@@ -34,10 +34,10 @@ with_ip w bits bytes ip = Read (stack_item w bits 1) (with_cs w bits bytes ip)
 quiet_ip : (w : World) (bits bytes ip : ℕ) → IsQuiet w (with_ip w bits bytes ip)
 quiet_ip w bits bytes ip =
     quiet_read w (stack_item w bits 1) (with_cs w bits bytes ip)
-    (λ cs. quiet_transfer w (low_half cs) ip true (with_regs (released w bytes (items_popped w bits 2 w.regs)) (unchanged w)) refl)
+    (λ cs. quiet_transfer w (low_half cs) ip true (with_regs (regs_after_drop w bytes (regs_after_pops w bits 2 w.regs)) (unchanged w)) refl)
 
-quiet_far : (w : World) (bits bytes : ℕ) → IsQuiet w (far_frame_popped w bits bytes)
-unfolding far_frame_popped
+quiet_far : (w : World) (bits bytes : ℕ) → IsQuiet w (far_frame_pop w bits bytes)
+unfolding far_frame_pop
 quiet_far w bits bytes = quiet_read w (stack_item w bits 0) (with_ip w bits bytes) (quiet_ip w bits bytes)
 
 -- ---- the virtual interrupt flag stays
@@ -47,39 +47,39 @@ abbrev KeepsFlag : World → Result Pending Event → Type 0
 KeepsFlag w (Ok p) = p.vif ≡ w.vif
 KeepsFlag w (Err e) = Unit {0}
 
-flag_by_value : (w : World) (r : Result ℕ Event) (rest : ℕ → Act) → ((v : ℕ) → KeepsFlag w (planned w (rest v))) →
-    KeepsFlag w (elim r [ Ok v ↦ planned w (rest v) | Err e ↦ Err e ])
+flag_by_value : (w : World) (r : Result ℕ Event) (rest : ℕ → Act) → ((v : ℕ) → KeepsFlag w (plan_result w (rest v))) →
+    KeepsFlag w (elim r [ Ok v ↦ plan_result w (rest v) | Err e ↦ Err e ])
 flag_by_value w (Ok v) rest keeps = keeps v
 flag_by_value w (Err e) rest keeps = tt
 
-flag_read : (w : World) (input : Input) (rest : ℕ → Act) → ((v : ℕ) → KeepsFlag w (planned w (rest v))) →
-    KeepsFlag w (planned w (Read input rest))
+flag_read : (w : World) (input : Input) (rest : ℕ → Act) → ((v : ℕ) → KeepsFlag w (plan_result w (rest v))) →
+    KeepsFlag w (plan_result w (Read input rest))
 flag_read w input rest keeps = flag_by_value w (value_of w input) rest keeps
 
-flag_unless : (w : World) (o : Option Fault) (p : Pending) → p.vif ≡ w.vif → KeepsFlag w (planned w (unless_fault o (done p)))
+flag_unless : (w : World) (o : Option Fault) (p : Pending) → p.vif ≡ w.vif → KeepsFlag w (plan_result w (unless_fault o (done p)))
 flag_unless w None p same = same
 flag_unless w (Some f) p same = tt
 
-flag_cs : (w : World) (bits bytes ip cs : ℕ) → KeepsFlag w (planned w (with_cs w bits bytes ip cs))
+flag_cs : (w : World) (bits bytes ip cs : ℕ) → KeepsFlag w (plan_result w (with_cs w bits bytes ip cs))
 unfolding far_transfer
 flag_cs w bits bytes ip cs = flag_unless w (transfer_fault w (low_half cs) ip true) _ refl
 
-flag_ip : (w : World) (bits bytes ip : ℕ) → KeepsFlag w (planned w (with_ip w bits bytes ip))
+flag_ip : (w : World) (bits bytes ip : ℕ) → KeepsFlag w (plan_result w (with_ip w bits bytes ip))
 flag_ip w bits bytes ip = flag_read w (stack_item w bits 1) (with_cs w bits bytes ip) (flag_cs w bits bytes ip)
 
-flag_far : (w : World) (bits bytes : ℕ) → KeepsFlag w (planned w (far_frame_popped w bits bytes))
-unfolding far_frame_popped
+flag_far : (w : World) (bits bytes : ℕ) → KeepsFlag w (plan_result w (far_frame_pop w bits bytes))
+unfolding far_frame_pop
 flag_far w bits bytes = flag_read w (stack_item w bits 0) (with_ip w bits bytes) (flag_ip w bits bytes)
 
 settled_flag : (v u : MachineView) (p : Pending) → p.vif ≡ v.world.vif → after_commit v p ≡ Ok u → u.world.vif ≡ v.world.vif
 unfolding after_commit
 settled_flag v u p keeps e =
-    let x = with_state p.regs p.vif (all_written v p.writes) in
+    let x = with_state p.regs p.vif (after_writes v p.writes) in
     holds_of_answer (λ (m : MachineView). m.world.vif ≡ v.world.vif) (Ok x) u keeps
-    (granted_was fault (first_refusal v.world p.writes) (Ok x) u e)
+    (granted_was fault (first_write_fault v.world p.writes) (Ok x) u e)
 
-carried_flag : (v u : MachineView) (r : Result Pending Event) → KeepsFlag v.world r → carried_out v r ≡ Ok u → u.world.vif ≡ v.world.vif
-unfolding carried_out
+carried_flag : (v u : MachineView) (r : Result Pending Event) → KeepsFlag v.world r → after_plan v r ≡ Ok u → u.world.vif ≡ v.world.vif
+unfolding after_plan
 carried_flag v u (Ok p) keeps e = settled_flag v u p keeps e
 carried_flag v u (Err f) keeps e = absurd cc
 
@@ -98,13 +98,13 @@ far_state v u e =
 abbrev pub HasOnlyOtherRegisters : World → World → Type 0
 HasOnlyOtherRegisters w u = u ≡ record w { regs = u.regs }
 
-of_world : (w : World) (v : MachineView) → KeptByFar (bare w) v → HasOnlyOtherRegisters w v.world
+of_world : (w : World) (v : MachineView) → KeptByFar (view_without_bytes w) v → HasOnlyOtherRegisters w v.world
 of_world w v e = ap (λ (m : MachineView). m.world) e
 
 pub kept_far : (w u : World) → world_after_far_return w ≡ Ok u → HasOnlyOtherRegisters w u
 unfolding world_after_far_return
 kept_far w u e =
-    holds_of_world (HasOnlyOtherRegisters w) (after_far_return (bare w)) u (λ v popped. of_world w v (far_state (bare w) v popped)) e
+    holds_of_world (HasOnlyOtherRegisters w) (after_far_return (view_without_bytes w)) u (λ v popped. of_world w v (far_state (view_without_bytes w) v popped)) e
 
 -- ---- the entry
 

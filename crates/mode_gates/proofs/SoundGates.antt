@@ -20,13 +20,13 @@ use Rattle.client_world.proofs.SoundWrites.{IsSound-dos, IsSound-mode, IsSound-r
 use Rattle.cpu_step.proofs.FlowSegments.{far_frame_leaves}
 use Rattle.cpu_step.proofs.SegmentWords.{words_of}
 use Rattle.cpu_step.proofs.SoundSteps.{sound_by_plan}
-use Rattle.exec_flow.specs.FarTransfers.{far_frame_popped}
+use Rattle.exec_flow.specs.FarTransfers.{far_frame_pop}
 use Rattle.exec_flow.specs.Interrupts.{frame_bits}
 use Rattle.guest_ram.specs.Bytes.{with_word}
 use Rattle.guest_space.proofs.HostRows.{IsSound-width}
 use Rattle.host_memory.specs.View.{MachineView}
-use Rattle.insn_plan.specs.Plan.{planned, carried_out}
-use Rattle.interrupts.specs.Worlds.{bare}
+use Rattle.insn_plan.specs.Plan.{plan_result, after_plan}
+use Rattle.interrupts.specs.Worlds.{view_without_bytes}
 use Rattle.interrupts.proofs.SoundAnswers.{holds_of_world, return_was}
 use Rattle.mode_gates.specs.Entry.{asked_width, code_of_segment, data_of_segment, after_first_entry, entry, entry_after, entry_registers, entry_rows, entry_answer, environment_of, environment_word, host_rows, with_carry}
 use Rattle.mode_gates.specs.FarFrames.{after_far_return, world_after_far_return}
@@ -38,13 +38,13 @@ use Rattle.mode_gates.proofs.EntryRows.{free_at_first, free_after, may_put}
 pub sound_far : (v u : MachineView) → IsSound v.world → after_far_return v ≡ Ok u → IsSound u.world
 unfolding after_far_return
 sound_far v u s e =
-    let act = far_frame_popped v.world (frame_bits v.world) 0 in
-    sound_by_plan v u act (planned v.world act) refl (far_frame_leaves v.world (frame_bits v.world) 0 (words_of v.world.regs s.segments)) s
-    (return_was (carried_out v (planned v.world act)) u e)
+    let act = far_frame_pop v.world (frame_bits v.world) 0 in
+    sound_by_plan v u act (plan_result v.world act) refl (far_frame_leaves v.world (frame_bits v.world) 0 (words_of v.world.regs s.segments)) s
+    (return_was (after_plan v (plan_result v.world act)) u e)
 
 pub sound_world_far : (w u : World) → IsSound w → world_after_far_return w ≡ Ok u → IsSound u
 unfolding world_after_far_return
-sound_world_far w u s e = holds_of_world IsSound (after_far_return (bare w)) u (λ v. sound_far (bare w) v s) e
+sound_world_far w u s e = holds_of_world IsSound (after_far_return (view_without_bytes w)) u (λ v. sound_far (view_without_bytes w) v s) e
 
 -- ---- the descriptors
 

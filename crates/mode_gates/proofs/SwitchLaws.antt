@@ -15,13 +15,13 @@ use Rattle.client_world.specs.declared.services.Carry.TheVariants.{Set}
 use Rattle.service_rows.specs.declared.refusal.Refusal.{Refusal}
 use Rattle.service_rows.specs.Reasons.{family_outcome, first_reason, unsupported}
 use Rattle.service_rows.proofs.WidthLaws.{protected_width}
-use Rattle.mode_gates.specs.Switches.{after_switch, can_switch, gate_function, gate_service, state_addresses, switch_addresses, switched_by_width, switched_regs, switched_to_protected, switched_to_real}
+use Rattle.mode_gates.specs.Switches.{after_switch, can_switch, gate_function, gate_service, state_addresses, switch_addresses, world_after_switch_by_width, regs_after_switch, world_after_switch_to_protected, world_after_switch_to_real}
 
 -- of the world nothing changes but the mode and the registers
 abbrev pub Switches : World → World → Type 0
 Switches w u = u ≡ record w { mode = u.mode; regs = u.regs }
 
-switched_segments : (r : Regs) (code stack_pointer instruction_pointer : ℕ) → code < 0x10000 → HasSegments (switched_regs r code stack_pointer instruction_pointer)
+switched_segments : (r : Regs) (code stack_pointer instruction_pointer : ℕ) → code < 0x10000 → HasSegments (regs_after_switch r code stack_pointer instruction_pointer)
 switched_segments r code stack_pointer instruction_pointer small = record {
   es = omega arith;
   cs = small;
@@ -35,11 +35,11 @@ real_by : (w : World) (o : Option Width) → w.width ≡ o → w.width ≢ None 
 real_by w None is some s = absurd (some is)
 real_by w (Some width) is some s = IsSound-mode w Real width s is
 
-pub sound_to_real : (w : World) → IsSound w → w.mode ≡ Protected → IsSound (switched_to_real w)
-unfolding switched_to_real
+pub sound_to_real : (w : World) → IsSound w → w.mode ≡ Protected → IsSound (world_after_switch_to_real w)
+unfolding world_after_switch_to_real
 sound_to_real w s mode =
     let u : World = record w { mode = Real } in
-    IsSound-regs u (switched_regs w.regs (low_half w.regs.esi) (low_half w.regs.ebx) (low_half w.regs.edi))
+    IsSound-regs u (regs_after_switch w.regs (low_half w.regs.esi) (low_half w.regs.ebx) (low_half w.regs.edi))
     (real_by w w.width refl (protected_width w s mode) s)
     (switched_segments w.regs (low_half w.regs.esi) (low_half w.regs.ebx) (low_half w.regs.edi) (omega arith))
 
@@ -48,7 +48,7 @@ unfolding after_switch
 sound_switch w width is s =
     let u : World = record w { mode = Protected } in
     let code : ℕ = client_selector (low_half w.regs.esi) in
-    let r = switched_regs w.regs code (by_width (Some width) w.regs.ebx) (by_width (Some width) w.regs.edi) in
+    let r = regs_after_switch w.regs code (by_width (Some width) w.regs.ebx) (by_width (Some width) w.regs.edi) in
     IsSound-regs u r (IsSound-mode w Protected width s is)
     (switched_segments w.regs code (by_width (Some width) w.regs.ebx) (by_width (Some width) w.regs.edi) (omega arith))
 
@@ -63,15 +63,15 @@ switched_where : (can : Bool) (w u : World) (width : Width) → w.width ≡ Some
 switched_where true w u width is e = record { width = width; made = is; is = cc }
 switched_where false w u width is e = absurd cc
 
-switched_of : (w u : World) (o : Option Width) → w.width ≡ o → switched_by_width w o ≡ Ok u → IsSwitched w u
+switched_of : (w u : World) (o : Option Width) → w.width ≡ o → world_after_switch_by_width w o ≡ Ok u → IsSwitched w u
 switched_of w u None is e = absurd cc
 switched_of w u (Some width) is e = switched_where (can_switch w (Some width)) w u width is e
 
-pub is_switched : (w u : World) → switched_to_protected w ≡ Ok u → IsSwitched w u
-unfolding switched_to_protected
+pub is_switched : (w u : World) → world_after_switch_to_protected w ≡ Ok u → IsSwitched w u
+unfolding world_after_switch_to_protected
 is_switched w u e = switched_of w u w.width refl e
 
-pub sound_to_protected : (w u : World) → IsSound w → switched_to_protected w ≡ Ok u → IsSound u
+pub sound_to_protected : (w u : World) → IsSound w → world_after_switch_to_protected w ≡ Ok u → IsSound u
 sound_to_protected w u s e =
     let t = is_switched w u e in subst IsSound (sym t.is) (sound_switch w t.width t.made s)
 
@@ -79,12 +79,12 @@ after_switches : (w : World) (width : Option Width) → Switches w (after_switch
 unfolding after_switch
 after_switches w width = refl
 
-pub to_protected_switches : (w u : World) → switched_to_protected w ≡ Ok u → Switches w u
+pub to_protected_switches : (w u : World) → world_after_switch_to_protected w ≡ Ok u → Switches w u
 to_protected_switches w u e =
     let t = is_switched w u e in subst (Switches w) (sym t.is) (after_switches w (Some t.width))
 
-pub to_real_switches : (w : World) → Switches w (switched_to_real w)
-unfolding switched_to_real
+pub to_real_switches : (w : World) → Switches w (world_after_switch_to_real w)
+unfolding world_after_switch_to_real
 to_real_switches w = refl
 
 -- ---- their addresses

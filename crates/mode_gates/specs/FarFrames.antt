@@ -3,17 +3,17 @@
 use Rattle.std.specs.declared.result.Result.{Result}
 use Rattle.client_world.specs.declared.outcome.Exit.{Exit}
 use Rattle.client_world.specs.World.{World}
-use Rattle.exec_flow.specs.FarTransfers.{far_frame_popped}
+use Rattle.exec_flow.specs.FarTransfers.{far_frame_pop}
 use Rattle.exec_flow.specs.Interrupts.{frame_bits}
 use Rattle.host_memory.specs.View.{MachineView}
-use Rattle.insn_plan.specs.Plan.{planned, carried_out}
-use Rattle.interrupts.specs.Delivery.{popped_or_bad}
+use Rattle.insn_plan.specs.Plan.{plan_result, after_plan}
+use Rattle.interrupts.specs.Delivery.{result_of_pop}
 use Rattle.interrupts.specs.Worlds.{on_world}
 
 -- the machine after two items at the stack's top are popped as a far return pops them, of 16 bits in real mode and of the client's width in
 -- protected mode; or the exit
 unfoldable pub after_far_return : MachineView → Result MachineView Exit
-after_far_return v = popped_or_bad (carried_out v (planned v.world (far_frame_popped v.world (frame_bits v.world) 0)))
+after_far_return v = result_of_pop (after_plan v (plan_result v.world (far_frame_pop v.world (frame_bits v.world) 0)))
 
 -- the same of the world alone
 unfoldable pub world_after_far_return : World → Result World Exit

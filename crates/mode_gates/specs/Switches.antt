@@ -23,8 +23,8 @@ use Rattle.service_rows.specs.Rows.{with_by_width}
 -- ---- the switches
 
 -- DS, ES, SS and CS are AX, CX, DX and SI, and the stack pointer and the instruction pointer are given; FS and GS are null. All others stay
-abbrev pub switched_regs : Regs → ℕ → ℕ → ℕ → Regs
-switched_regs r code stack_pointer instruction_pointer = record r {
+abbrev pub regs_after_switch : Regs → ℕ → ℕ → ℕ → Regs
+regs_after_switch r code stack_pointer instruction_pointer = record r {
   ds = low_half r.eax;
   es = low_half r.ecx;
   ss = low_half r.edx;
@@ -36,10 +36,10 @@ switched_regs r code stack_pointer instruction_pointer = record r {
 }
 
 -- to real mode: SP is BX, and IP is DI
-unfoldable pub switched_to_real : World → World
-switched_to_real w = record w {
+unfoldable pub world_after_switch_to_real : World → World
+world_after_switch_to_real w = record w {
   mode = Real;
-  regs = switched_regs w.regs (low_half w.regs.esi) (low_half w.regs.ebx) (low_half w.regs.edi);
+  regs = regs_after_switch w.regs (low_half w.regs.esi) (low_half w.regs.ebx) (low_half w.regs.edi);
 }
 
 -- to protected mode: the selectors can be loaded, that of CS as by a far jump
@@ -52,16 +52,16 @@ can_switch w width =
 unfoldable pub after_switch : World → Option Width → World
 after_switch w width = record w {
   mode = Protected;
-  regs = switched_regs w.regs (client_selector (low_half w.regs.esi)) (by_width width w.regs.ebx) (by_width width w.regs.edi);
+  regs = regs_after_switch w.regs (client_selector (low_half w.regs.esi)) (by_width width w.regs.ebx) (by_width width w.regs.edi);
 }
 
 -- before the entry there is no protected mode to switch to
-abbrev pub switched_by_width : World → Option Width → Result World Exit
-switched_by_width w None = Err Stray
-switched_by_width w (Some width) = if can_switch w (Some width) then Ok (after_switch w (Some width)) else Err BadSwitch
+abbrev pub world_after_switch_by_width : World → Option Width → Result World Exit
+world_after_switch_by_width w None = Err Stray
+world_after_switch_by_width w (Some width) = if can_switch w (Some width) then Ok (after_switch w (Some width)) else Err BadSwitch
 
-unfoldable pub switched_to_protected : World → Result World Exit
-switched_to_protected w = switched_by_width w w.width
+unfoldable pub world_after_switch_to_protected : World → Result World Exit
+world_after_switch_to_protected w = world_after_switch_by_width w w.width
 
 -- ---- their addresses
 

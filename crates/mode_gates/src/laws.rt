@@ -4,16 +4,16 @@ ghost use Rattle.client_world.specs.declared.registers.Mode.TheVariants.{Protect
 ghost use Rattle.client_world.specs.Services.{Served};
 ghost use Rattle.client_world.specs.Soundness.{IsSound};
 ghost use Rattle.client_world.specs.World.{World};
-ghost use Rattle.interrupts.specs.Worlds.{its_world};
+ghost use Rattle.interrupts.specs.Worlds.{world_of_result};
 ghost use Rattle.host_memory.specs.View.{MachineView};
 ghost use Rattle.mode_gates.specs.Entry.{entry};
 ghost use Rattle.mode_gates.specs.FarFrames.{after_far_return, world_after_far_return};
-ghost use Rattle.mode_gates.specs.Switches.{gate_service, switched_to_protected, switched_to_real};
+ghost use Rattle.mode_gates.specs.Switches.{gate_service, world_after_switch_to_protected, world_after_switch_to_real};
 
 /// What a far return at a trap makes of the world depends on the world alone.
 #[tactic(auto, using(crate::proofs::FarAlone::far_alone))]
 pub fn a_far_return_depends_on_the_world_alone()
-    ensures { (v : MachineView) → its_world (after_far_return v) ≡ world_after_far_return v.world }
+    ensures { (v : MachineView) → world_of_result (after_far_return v) ≡ world_after_far_return v.world }
 {}
 
 /// A far return at a trap changes registers alone, and no byte of the memory.
@@ -35,8 +35,8 @@ pub fn the_entry_keeps_the_rest()
 /// A switch changes the mode and registers alone, and a function that gives addresses registers alone.
 #[tactic(auto, using(crate::proofs::SwitchLaws::to_protected_switches, crate::proofs::SwitchLaws::to_real_switches, crate::proofs::SwitchLaws::kept_service))]
 pub fn every_switch_keeps_the_rest()
-    ensures to_protected { (w u : World) → switched_to_protected w ≡ Ok u → u ≡ record w { mode = u.mode; regs = u.regs } }
-    ensures to_real { (w : World) → switched_to_real w ≡ record w { mode = (switched_to_real w).mode; regs = (switched_to_real w).regs } }
+    ensures to_protected { (w u : World) → world_after_switch_to_protected w ≡ Ok u → u ≡ record w { mode = u.mode; regs = u.regs } }
+    ensures to_real { (w : World) → world_after_switch_to_real w ≡ record w { mode = (world_after_switch_to_real w).mode; regs = (world_after_switch_to_real w).regs } }
     ensures service { (ax : ℕ) (w : World) → (gate_service ax w).world ≡ record w { regs = (gate_service ax w).world.regs } }
 {}
 
@@ -44,7 +44,7 @@ pub fn every_switch_keeps_the_rest()
 pub fn every_gate_is_sound()
     ensures far { (w u : World) → IsSound w → world_after_far_return w ≡ Ok u → IsSound u }
     ensures entry { (w : World) (s : Served) → IsSound w → entry w ≡ Ok s → IsSound s.world }
-    ensures to_protected { (w u : World) → IsSound w → switched_to_protected w ≡ Ok u → IsSound u }
-    ensures to_real { (w : World) → IsSound w → w.mode ≡ protected → IsSound (switched_to_real w) }
+    ensures to_protected { (w u : World) → IsSound w → world_after_switch_to_protected w ≡ Ok u → IsSound u }
+    ensures to_real { (w : World) → IsSound w → w.mode ≡ protected → IsSound (world_after_switch_to_real w) }
     ensures service { (ax : ℕ) (w : World) → IsSound w → IsSound (gate_service ax w).world }
 {}

@@ -1,6 +1,8 @@
 //! The gates between the modes: the entry to protected mode, the raw switches, and the frame of a far call at a trap.
-//! It promises that each leaves the machine that its definition names, or gives its exit and changes nothing; and that a sound world leads to
-//! a sound one. It is built on the plans of instructions and on `interrupts`.
+//! It promises that each leaves the machine that its definition names, or gives its exit and changes nothing; and that a sound world
+//! leads to a sound one. It is built on the plans of instructions and on `interrupts`.
+//! Bodies are free. The registers and descriptors after each gate are what a client sees (`specs/Entry`, `specs/Switches`); which of
+//! them are own is said there.
 #![tactic(auto)]
 
 mod entering;

@@ -13,9 +13,9 @@ ghost use Rattle.mode_gates.specs.Switches.{
   gate_service,
   state_addresses,
   switch_addresses,
-  switched_regs,
-  switched_to_protected,
-  switched_to_real,
+  regs_after_switch,
+  world_after_switch_to_protected,
+  world_after_switch_to_real,
 };
 
 use crate::far_frames::pop_far;
@@ -30,8 +30,8 @@ use guest_space::Machine;
 use service_rows::{Refusal, with_by_width};
 
 // The registers after a switch.
-fn switched_regs(r: &Regs, code: u16, stack_pointer: u32, instruction_pointer: u32) -> Regs
-    ensures { result ≡ switched_regs r.now code stack_pointer instruction_pointer }
+fn regs_after_switch(r: &Regs, code: u16, stack_pointer: u32, instruction_pointer: u32) -> Regs
+    ensures { result ≡ regs_after_switch r.now code stack_pointer instruction_pointer }
 {
     Regs {
         ds: low_half(r.eax),
@@ -69,15 +69,15 @@ fn can_switch(m: &Machine, width: Width) -> bool
 
 /// Switches to real mode: DS, ES, SS and CS become AX, CX, DX and SI, SP becomes BX and IP becomes DI; FS and GS become 0, and all other
 /// registers stay. Source: DPMI 0.9, INT 31h function 0306h.
-#[tactic(auto, unfolding(crate::specs::Switches::switched_to_real))]
+#[tactic(auto, unfolding(crate::specs::Switches::world_after_switch_to_real))]
 pub fn to_real(m: &mut Machine) -> Result<(), Exit>
     requires { m.old.world.mode ≡ protected }
     ensures done { result ≡ Ok tt }
-    ensures world { m.new.world ≡ switched_to_real m.old.world }
+    ensures world { m.new.world ≡ world_after_switch_to_real m.old.world }
     ensures bytes { m.new.bytes ≡ m.old.bytes }
 {
     let r = m.regs();
-    m.set_regs(switched_regs(
+    m.set_regs(regs_after_switch(
         &r,
         low_half(r.esi),
         u32::from(low_half(r.ebx)),
@@ -89,11 +89,11 @@ pub fn to_real(m: &mut Machine) -> Result<(), Exit>
 
 /// Switches to protected mode: as to real mode, with (E)BX and (E)DI. `Stray` before the entry; `BadSwitch` where a selector can't be loaded,
 /// CS as by a far jump. An exit leaves the machine as it was. Source: DPMI 0.9, INT 31h function 0306h; the exits are own.
-#[tactic(auto, unfolding(crate::specs::Switches::switched_to_protected, crate::specs::Switches::after_switch))]
+#[tactic(auto, unfolding(crate::specs::Switches::world_after_switch_to_protected, crate::specs::Switches::after_switch))]
 pub fn to_protected(m: &mut Machine) -> Result<(), Exit>
     requires { m.old.world.mode ≡ real }
-    ensures machine { MatchResult result (λ _. switched_to_protected m.old.world ≡ Ok m.new.world)
-        (λ exit. (switched_to_protected m.old.world ≡ Err exit) × (m.new ≡ m.old)) }
+    ensures machine { MatchResult result (λ _. world_after_switch_to_protected m.old.world ≡ Ok m.new.world)
+        (λ exit. (world_after_switch_to_protected m.old.world ≡ Err exit) × (m.new ≡ m.old)) }
     ensures bytes { m.new.bytes ≡ m.old.bytes }
 {
     let Some(width) = m.width() else {
@@ -104,7 +104,7 @@ pub fn to_protected(m: &mut Machine) -> Result<(), Exit>
     }
     let r = m.regs();
     let code = low_half(r.esi);
-    m.set_regs(switched_regs(
+    m.set_regs(regs_after_switch(
         &r,
         client_selector(code),
         by_width(Some(width), r.ebx),

@@ -2,7 +2,7 @@
 use Rattle.std.proofs.Common.{◌≡◌, ℕ, suc, ◌+◌, ◌-◌, ◌*◌, ◌<◌, ◌≤◌, Bool, true, false, ◌||◌, nat_lt, List, refl, ap, ◌∙◌, sym, arith}
 use Rattle.std.proofs.lemmas.Bool.{lt-ltb, le-ltb, ltb-false}
 use Rattle.mz_loader.specs.Refusal.{relocation_target, some_beyond}
-use Rattle.mz_loader.specs.Start.{relocated, all_relocated}
+use Rattle.mz_loader.specs.Start.{after_relocation, after_relocations}
 
 more_left : (n i : ℕ) → i < n → n - i ≡ suc (n - (i + 1))
 more_left n i h = omega arith
@@ -54,17 +54,17 @@ within_limit file limit at n i h none =
 
 -- the next one made
 pub all_relocated_next : (file : List ℕ) (at n i : ℕ) (dos : List ℕ) → i < n →
-    all_relocated file (at + 4 * i) (n - i) dos
-    ≡ all_relocated file (at + 4 * (i + 1)) (n - (i + 1)) (relocated dos (relocation_target file (at + 4 * i)))
-unfolding all_relocated
+    after_relocations file (at + 4 * i) (n - i) dos
+    ≡ after_relocations file (at + 4 * (i + 1)) (n - (i + 1)) (after_relocation dos (relocation_target file (at + 4 * i)))
+unfolding after_relocations
 all_relocated_next file at n i dos h =
-    ap (λ (k : ℕ). all_relocated file (at + 4 * i) k dos) (more_left n i h)
-    ∙ ap (λ (k : ℕ). all_relocated file k (n - (i + 1)) (relocated dos (relocation_target file (at + 4 * i)))) (next_address at i)
+    ap (λ (k : ℕ). after_relocations file (at + 4 * i) k dos) (more_left n i h)
+    ∙ ap (λ (k : ℕ). after_relocations file k (n - (i + 1)) (after_relocation dos (relocation_target file (at + 4 * i)))) (next_address at i)
 
-pub all_relocated_end : (file : List ℕ) (at n i : ℕ) (dos : List ℕ) → n ≤ i → all_relocated file (at + 4 * i) (n - i) dos ≡ dos
-unfolding all_relocated
-all_relocated_end file at n i dos h = ap (λ (k : ℕ). all_relocated file (at + 4 * i) k dos) (none_left n i h)
+pub all_relocated_end : (file : List ℕ) (at n i : ℕ) (dos : List ℕ) → n ≤ i → after_relocations file (at + 4 * i) (n - i) dos ≡ dos
+unfolding after_relocations
+all_relocated_end file at n i dos h = ap (λ (k : ℕ). after_relocations file (at + 4 * i) k dos) (none_left n i h)
 
-pub all_relocated_none : (file : List ℕ) (at n : ℕ) (dos : List ℕ) → n ≡ 0 → all_relocated file at n dos ≡ dos
-unfolding all_relocated
-all_relocated_none file at n dos h = ap (λ (k : ℕ). all_relocated file at k dos) h
+pub all_relocated_none : (file : List ℕ) (at n : ℕ) (dos : List ℕ) → n ≡ 0 → after_relocations file at n dos ≡ dos
+unfolding after_relocations
+all_relocated_none file at n dos h = ap (λ (k : ℕ). after_relocations file at k dos) h

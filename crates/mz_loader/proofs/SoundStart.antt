@@ -12,14 +12,14 @@ use Rattle.client_world.proofs.SoundWrites.{IsSound-dos, IsSound-regs, SoundMega
 use Rattle.guest_ram.specs.Bytes.{AreBytes, word_of, put}
 use Rattle.guest_ram.specs.Listed.{listed}
 use Rattle.guest_ram.proofs.ListedLaws.{length-listed, at_listed}
-use Rattle.guest_space.specs.Arena.{spliced, NoneMade, with_entries}
+use Rattle.guest_space.specs.Arena.{with_replaced_entries, NoneMade, with_entries}
 use Rattle.guest_space.proofs.ArenaWrites.{IsSound-entries}
 use Rattle.host_memory.specs.Blank.{blank_arena, blank_world}
 use Rattle.host_memory.specs.Vectors.{word_bytes}
 use Rattle.host_memory.proofs.BlankSound.{blank_is_sound}
 use Rattle.mz_loader.specs.Header.{relocations, relocation_table, header_length, image_length, minimum, maximum, block_paras, most_paras, psp_paras}
 use Rattle.mz_loader.specs.Refusal.{is_short, lacks_signature, has_bad_pages, has_bad_table, has_no_room, has_bad_target, relocation_target, some_beyond, refusal}
-use Rattle.mz_loader.specs.Start.{start_blocks, environment_paras, environment, environment_segment, psp_front, psp_environment, psp_command, psp_address, with_psp, image, relocated, all_relocated, with_program, start_regs, started}
+use Rattle.mz_loader.specs.Start.{start_blocks, environment_paras, environment, environment_segment, psp_front, psp_environment, psp_command, psp_address, with_psp, image, after_relocation, after_relocations, with_program, start_regs, world_at_start}
 
 -- ---- bytes
 
@@ -90,7 +90,7 @@ plain_by false paras = (refl, (refl, (refl, tt)))
 used : (b : Bool) → false ≡ true → b ≡ false
 used b h = absurd (false≢true h)
 
-filled_by : (whole : Bool) (paras : ℕ) → nat_eq paras most_paras ≡ whole → paras ≤ most_paras → IsArena (spliced blank_arena 0 1 (blocks_by whole paras))
+filled_by : (whole : Bool) (paras : ℕ) → nat_eq paras most_paras ≡ whole → paras ≤ most_paras → IsArena (with_replaced_entries blank_arena 0 1 (blocks_by whole paras))
 filled_by true paras e few = record {
   fills = (refl, (refl, (let all = eqb-true paras most_paras e in omega arith)));
   joined = (used _, (used _, tt));
@@ -127,8 +127,8 @@ image_fits : (n m : ℕ) → nat_lt most_paras (psp_paras + (n + 15) / PARAGRAPH
 image_fits n m room = let within = ltb-false most_paras (psp_paras + (n + 15) / PARAGRAPH_SIZE + m) room in omega arith
 
 sound_relocated : (dos : List ℕ) (target paras : ℕ) → SoundMegabyte dos → paras ≤ most_paras → target + 2 ≤ PARAGRAPH_SIZE * (paras - psp_paras) →
-    SoundMegabyte (relocated dos target)
-unfolding relocated
+    SoundMegabyte (after_relocation dos target)
+unfolding after_relocation
 sound_relocated dos target paras s few within =
     let v = (word_of dos (IMAGE_START + target) + IMAGE_SEGMENT) % 0x10000 in
     sound_put dos (IMAGE_START + target) (word_bytes v) s (omega arith) (bytes_word v (omega arith))
@@ -142,15 +142,15 @@ or_right true b h = cc
 or_right false b h = h
 
 sound_all_relocated : (file : List ℕ) (paras at n : ℕ) (dos : List ℕ) → SoundMegabyte dos → paras ≤ most_paras →
-    some_beyond file (PARAGRAPH_SIZE * (paras - psp_paras)) at n ≡ false → SoundMegabyte (all_relocated file at n dos)
-unfolding all_relocated some_beyond
+    some_beyond file (PARAGRAPH_SIZE * (paras - psp_paras)) at n ≡ false → SoundMegabyte (after_relocations file at n dos)
+unfolding after_relocations some_beyond
 sound_all_relocated file paras at zero dos s few none = s
 sound_all_relocated file paras at (suc n) dos s few none =
     let limit = PARAGRAPH_SIZE * (paras - psp_paras) in
     let target = relocation_target file at in
     let here = or_left (nat_lt limit (target + 2)) (some_beyond file limit (at + 4) n) none in
     let left = or_right (nat_lt limit (target + 2)) (some_beyond file limit (at + 4) n) none in
-    sound_all_relocated file paras (at + 4) n (relocated dos target)
+    sound_all_relocated file paras (at + 4) n (after_relocation dos target)
     (sound_relocated dos target paras s few (ltb-false limit (target + 2) here)) few left
 
 length-image : (file : List ℕ) → length (image file) ≡ image_length file
@@ -187,8 +187,8 @@ loads file h =
     let targets = passed (has_bad_target file) _ _ room.1 in
     record { room = room.0; targets = targets.0 }
 
-pub sound_start : (file : List ℕ) (pages : ℕ) → AreBytes file → refusal file ≡ None → IsSound (started file (blank_world pages))
-unfolding started
+pub sound_start : (file : List ℕ) (pages : ℕ) → AreBytes file → refusal file ≡ None → IsSound (world_at_start file (blank_world pages))
+unfolding world_at_start
 sound_start file pages bytes h =
     let w = blank_world pages in
     let paras = block_paras file in

@@ -30,14 +30,14 @@ header_length file = PARAGRAPH_SIZE * word_of file 0x08
 abbrev pub page_bytes : ℕ
 page_bytes = 512
 
-abbrev pub told_length : List ℕ → ℕ
-told_length file =
+abbrev pub declared_length : List ℕ → ℕ
+declared_length file =
     if nat_eq (last_page file) 0 || nat_eq (last_page file) page_bytes then page_bytes * pages file
     else page_bytes * (pages file - 1) + last_page file
 
 -- the image, in bytes and in paragraphs
 abbrev pub image_length : List ℕ → ℕ
-image_length file = told_length file - header_length file
+image_length file = declared_length file - header_length file
 
 abbrev pub image_paras : List ℕ → ℕ
 image_paras file = (image_length file + 15) / PARAGRAPH_SIZE

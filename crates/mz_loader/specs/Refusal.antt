@@ -5,7 +5,7 @@ use Rattle.client_world.specs.declared.memory_map.TheConstants.{PARAGRAPH_SIZE, 
 use Rattle.client_world.specs.declared.outcome.LoadFault.{LoadFault}
 use Rattle.client_world.specs.declared.outcome.LoadFault.TheVariants.{ShortHeader, Signature, LastPage, RelocTable, NoRoom, RelocTarget, EntryOutside}
 use Rattle.guest_ram.specs.Bytes.{word_of}
-use Rattle.mz_loader.specs.Header.{last_page, pages, relocations, relocation_table, header_length, page_bytes, told_length, needed_paras, most_paras, block_paras, psp_paras}
+use Rattle.mz_loader.specs.Header.{last_page, pages, relocations, relocation_table, header_length, page_bytes, declared_length, needed_paras, most_paras, block_paras, psp_paras}
 
 -- the bytes of a header
 abbrev pub header_bytes : ℕ
@@ -22,7 +22,7 @@ lacks_signature file = not (nat_eq (slice_index file 0) 0x4D && nat_eq (slice_in
 -- the last page has more bytes than a page, or there are no pages, or the header is longer than they are
 abbrev pub has_bad_pages : List ℕ → Bool
 has_bad_pages file =
-    nat_lt page_bytes (last_page file) || (nat_eq (pages file) 0 || nat_lt (told_length file) (header_length file))
+    nat_lt page_bytes (last_page file) || (nat_eq (pages file) 0 || nat_lt (declared_length file) (header_length file))
 
 -- the relocation table passes the file's end
 abbrev pub has_bad_table : List ℕ → Bool

@@ -56,19 +56,19 @@ unfoldable pub image : List ℕ → List ℕ
 image file = listed (image_length file) (λ at. slice_index file (header_length file + at))
 
 -- the megabyte with the image's segment added to the word at a place of the image, modulo 65536
-unfoldable pub relocated : List ℕ → ℕ → List ℕ
-relocated dos target =
+unfoldable pub after_relocation : List ℕ → ℕ → List ℕ
+after_relocation dos target =
     put dos (IMAGE_START + target) (word_bytes ((word_of dos (IMAGE_START + target) + IMAGE_SEGMENT) % 0x10000))
 
 -- after n relocations, from that at an address of the file on, one after the other
-unfoldable pub all_relocated : List ℕ → ℕ → ℕ → List ℕ → List ℕ
-all_relocated file at zero dos = dos
-all_relocated file at (suc n) dos = all_relocated file (at + 4) n (relocated dos (relocation_target file at))
+unfoldable pub after_relocations : List ℕ → ℕ → ℕ → List ℕ → List ℕ
+after_relocations file at zero dos = dos
+after_relocations file at (suc n) dos = after_relocations file (at + 4) n (after_relocation dos (relocation_target file at))
 
 -- the megabyte with the program
 unfoldable pub with_program : List ℕ → List ℕ → List ℕ
 with_program file dos =
-    all_relocated file (relocation_table file) (relocations file) (put dos IMAGE_START (image file))
+    after_relocations file (relocation_table file) (relocations file) (put dos IMAGE_START (image file))
 
 -- the first registers
 abbrev pub start_regs : List ℕ → Regs → Regs
@@ -82,8 +82,8 @@ start_regs file r = record r {
 }
 
 -- the world of a machine that held nothing, with the client of a file in it
-unfoldable pub started : List ℕ → World → World
-started file w = record (with_entries w 0 1 (start_blocks (block_paras file))) {
+unfoldable pub world_at_start : List ℕ → World → World
+world_at_start file w = record (with_entries w 0 1 (start_blocks (block_paras file))) {
   dos = with_program file (with_psp (block_paras file) (with_entries w 0 1 (start_blocks (block_paras file))).dos);
   regs = start_regs file w.regs;
 }

@@ -1,7 +1,7 @@
 // The header of an MZ file.
 ghost use Rattle.std.specs.Prelude.{◌≡◌, ◌+◌, ◌*◌, ◌≤◌, length};
 ghost use Rattle.guest_ram.specs.Bytes.{word_of};
-ghost use Rattle.mz_loader.specs.Header.{last_page, pages, relocations, minimum, maximum, relocation_table, header_length, told_length, image_length, image_paras, needed_paras, block_paras, most_paras, psp_paras};
+ghost use Rattle.mz_loader.specs.Header.{last_page, pages, relocations, minimum, maximum, relocation_table, header_length, declared_length, image_length, image_paras, needed_paras, block_paras, most_paras, psp_paras};
 ghost use Rattle.mz_loader.specs.Refusal.{header_bytes};
 
 use byteorder::{ByteOrder, LittleEndian};
@@ -89,9 +89,9 @@ pub(crate) fn header_length(file: &[u8]) -> u32
 }
 
 /// The bytes of header and image.
-pub(crate) fn told_length(file: &[u8]) -> u32
+pub(crate) fn declared_length(file: &[u8]) -> u32
     requires { header_bytes ≤ length file.now }
-    ensures length { result ≡ told_length file.now }
+    ensures length { result ≡ declared_length file.now }
     ensures most { result ≤ 0x201_FFFF }
 {
     let last = last_page(file);
@@ -109,7 +109,7 @@ pub(crate) fn image_length(file: &[u8]) -> u32
     ensures length { result ≡ image_length file.now }
     ensures most { result ≤ 0x201_FFFF }
 {
-    told_length(file).saturating_sub(header_length(file))
+    declared_length(file).saturating_sub(header_length(file))
 }
 
 // The paragraphs of the image.

@@ -4,10 +4,10 @@ ghost use Rattle.client_world.specs.Soundness.{IsSound};
 ghost use Rattle.guest_ram.specs.Bytes.{AreBytes};
 ghost use Rattle.host_memory.specs.Blank.{blank_world};
 ghost use Rattle.mz_loader.specs.Refusal.{refusal};
-ghost use Rattle.mz_loader.specs.Start.{started};
+ghost use Rattle.mz_loader.specs.Start.{world_at_start};
 
 /// The client of a file that is loaded starts in a sound world.
 pub fn every_start_is_sound()
     ensures { (file : List ℕ) (pages : ℕ) → AreBytes file → refusal file ≡ None →
-        IsSound (started file (blank_world pages)) }
+        IsSound (world_at_start file (blank_world pages)) }
 {}

@@ -1,7 +1,8 @@
 //! The loader of MZ files.
-//! It promises that a client starts in the world that its file defines, which is sound, and that a file is refused for the first reason and
-//! changes nothing.
-//! It uses `guest_space`, whose machine it fills: bytes of the DOS megabyte, entries of DOS memory, and registers.
+//! It promises that a client starts in the world that its file defines, which is sound, and that a file is refused for the first reason
+//! and changes nothing. It uses `guest_space`, whose machine it fills: bytes of the DOS megabyte, entries of DOS memory, and registers.
+//! How the image is copied is free. The reasons (`specs/Refusal`) and the first world (`specs/Start`) aren't: a user sees the one, and
+//! every run begins in the other.
 #![tactic(auto)]
 
 mod blocks;

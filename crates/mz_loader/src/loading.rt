@@ -2,7 +2,7 @@
 ghost use Rattle.std.specs.Prelude.{◌≡◌, ◌≤◌, length, false, OnOk, IfErr, Some, None};
 ghost use Rattle.host_memory.specs.Blank.{blank_world};
 ghost use Rattle.mz_loader.specs.Refusal.{header_bytes, has_bad_table, has_bad_target, has_no_room, refusal};
-ghost use Rattle.mz_loader.specs.Start.{started};
+ghost use Rattle.mz_loader.specs.Start.{world_at_start};
 
 use crate::blocks::make_blocks;
 use crate::header::block_paras;
@@ -14,14 +14,14 @@ use client_world::LoadFault;
 use guest_space::Machine;
 
 // Puts the client of a file that is loaded into the machine.
-#[tactic(auto, unfolding(crate::specs::Start::started, guest_space::specs::Arena::with_entries))]
+#[tactic(auto, unfolding(crate::specs::Start::world_at_start, guest_space::specs::Arena::with_entries))]
 fn start(m: &mut Machine, file: &[u8])
     requires blank { m.old.world ≡ blank_world m.old.world.budget }
     requires long { header_bytes ≤ length file.now }
     requires table { has_bad_table file.now ≡ false }
     requires room { has_no_room file.now ≡ false }
     requires targets { has_bad_target file.now ≡ false }
-    ensures { m.new.world ≡ started file.now m.old.world }
+    ensures { m.new.world ≡ world_at_start file.now m.old.world }
 {
     let paras = block_paras(file) as u16;
     make_blocks(m, paras);
@@ -34,7 +34,7 @@ fn start(m: &mut Machine, file: &[u8])
 /// Source: MS-DOS executable files and program segment prefix.
 pub fn load(m: &mut Machine, file: &[u8]) -> Result<(), LoadFault>
     requires blank { m.old.world ≡ blank_world m.old.world.budget }
-    ensures loaded { OnOk result ((refusal file.now ≡ None) × (m.new.world ≡ started file.now m.old.world)) }
+    ensures loaded { OnOk result ((refusal file.now ≡ None) × (m.new.world ≡ world_at_start file.now m.old.world)) }
     ensures refused { IfErr result (λ fault. (refusal file.now ≡ Some fault) × (m.new ≡ m.old)) }
 {
     match refusal(file) {

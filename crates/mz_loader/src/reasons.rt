@@ -7,8 +7,8 @@ ghost use Rattle.mz_loader.specs.declared.header.TheConstants.{MOST_BYTES};
 ghost use Rattle.mz_loader.specs.Refusal.{header_bytes, is_short, lacks_signature, has_bad_pages, has_bad_table, has_no_room, relocation_target, some_beyond, has_bad_target, first_segment, entry_address, has_bad_entry, refusal};
 
 use crate::header::{
-    HEADER_BYTES, MOST_PARAS, PAGE_BYTES, PSP_PARAS, block_paras, header_length, last_page,
-    needed_paras, pages, relocation_table, relocations, told_length, word_of,
+    HEADER_BYTES, MOST_PARAS, PAGE_BYTES, PSP_PARAS, block_paras, declared_length, header_length,
+    last_page, needed_paras, pages, relocation_table, relocations, word_of,
 };
 use client_world::LoadFault;
 use client_world::memory_map::{IMAGE_SEGMENT, PARAGRAPH_SIZE, PSP_SEGMENT};
@@ -33,7 +33,8 @@ fn has_bad_pages(file: &[u8]) -> bool
     requires { header_bytes ≤ length file.now }
     ensures { result ≡ has_bad_pages file.now }
 {
-    last_page(file) > PAGE_BYTES || (pages(file) == 0 || told_length(file) < header_length(file))
+    last_page(file) > PAGE_BYTES
+        || (pages(file) == 0 || declared_length(file) < header_length(file))
 }
 
 // Whether the relocation table passes the file's end.

@@ -3,7 +3,7 @@ ghost use Rattle.std.specs.Prelude.{◌≡◌, ◌+◌, ◌*◌, ◌≤◌, leng
 ghost use Rattle.mz_loader.specs.Header.{relocations, relocation_table};
 ghost use Rattle.mz_loader.specs.declared.header.TheConstants.{MOST_BYTES};
 ghost use Rattle.mz_loader.specs.Refusal.{header_bytes, has_bad_table, has_bad_target, has_no_room, some_beyond};
-ghost use Rattle.mz_loader.specs.Start.{relocated, all_relocated, with_program};
+ghost use Rattle.mz_loader.specs.Start.{after_relocation, after_relocations, with_program};
 
 use crate::header::{relocation_table, relocations};
 use crate::image::write_image;
@@ -12,10 +12,10 @@ use client_world::memory_map::{IMAGE_SEGMENT, IMAGE_START};
 use guest_space::Machine;
 
 // Adds the image's segment to the word at a place of the image.
-#[tactic(auto, unfolding(crate::specs::Start::relocated))]
+#[tactic(auto, unfolding(crate::specs::Start::after_relocation))]
 fn relocate_word(m: &mut Machine, target: u32)
     requires { target + 2 ≤ MOST_BYTES }
-    ensures { m.new.world ≡ record m.old.world { dos = relocated m.old.world.dos target } }
+    ensures { m.new.world ≡ record m.old.world { dos = after_relocation m.old.world.dos target } }
 {
     let at = IMAGE_START + target;
     let word = m.dos16(at);
@@ -29,7 +29,7 @@ fn relocate_from(m: &mut Machine, file: &[u8], limit: u32, at: u16, n: u16)
     requires inside { at + 4 * n ≤ length file.now }
     requires room { limit ≤ MOST_BYTES }
     requires within { some_beyond file.now limit at n ≡ false }
-    ensures { m.new.world ≡ record m.old.world { dos = all_relocated file.now at n m.old.world.dos } }
+    ensures { m.new.world ≡ record m.old.world { dos = after_relocations file.now at n m.old.world.dos } }
 {
     for i in 0..n {
         let target = relocation_target(file, at as usize + 4 * i as usize);
@@ -44,7 +44,7 @@ fn relocate(m: &mut Machine, file: &[u8])
     requires table { has_bad_table file.now ≡ false }
     requires targets { has_bad_target file.now ≡ false }
     ensures { m.new.world ≡ record m.old.world {
-      dos = all_relocated file.now (relocation_table file.now) (relocations file.now) m.old.world.dos;
+      dos = after_relocations file.now (relocation_table file.now) (relocations file.now) m.old.world.dos;
     } }
 {
     let count = relocations(file);

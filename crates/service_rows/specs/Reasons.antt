@@ -39,8 +39,8 @@ refusal_number InvalidCallback = 0x8024
 refusal_number InvalidAddress = 0x8025
 
 -- a refusal sets the carry, and AX to its number
-abbrev pub refused : Refusal → World → Served
-refused refusal w = record { carry = Set; world = with_ax (refusal_number refusal) w }
+abbrev pub refusal_answer : Refusal → World → Served
+refusal_answer refusal w = record { carry = Set; world = with_ax (refusal_number refusal) w }
 
 -- the second world is the first one but for AX
 abbrev pub HasOtherAx : World → World → Type 0
@@ -49,7 +49,7 @@ HasOtherAx w u = (number : ℕ) × (u ≡ with_ax number w)
 -- the carry and the world after a service: the first reason that applies refuses it
 abbrev pub service_answer : Option Refusal → World → World → Served
 service_answer None before after = record { carry = Clear; world = after }
-service_answer (Some refusal) before after = refused refusal before
+service_answer (Some refusal) before after = refusal_answer refusal before
 
 abbrev pub outcome : Service → World → Served
 outcome s before = service_answer (first_reason s.reasons) before s.after
@@ -58,7 +58,7 @@ outcome s before = service_answer (first_reason s.reasons) before s.after
 abbrev pub family_answer : Option Refusal → World → World → Served
 family_answer None before after = record { carry = Clear; world = after }
 family_answer (Some Unsupported) before after = record { carry = Set; world = before }
-family_answer (Some refusal) before after = refused refusal before
+family_answer (Some refusal) before after = refusal_answer refusal before
 
 abbrev pub family_outcome : Service → World → Served
 family_outcome s before = family_answer (first_reason s.reasons) before s.after

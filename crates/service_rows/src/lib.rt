@@ -1,6 +1,8 @@
-//! What the services of INT 31h share: a service with its reasons of refusal and their numbers, the registers that a client's width names, and
-//! what it asks of selectors.
+//! What the services of INT 31h share: a service with its reasons of refusal and their numbers, the registers that a client's width
+//! names, and what it asks of selectors.
 //! It promises the values that its definitions name. The services themselves are in the crates above it.
+//! A reason or a word may be added. What a service is (`specs/Reasons`: the first reason that applies, else the world after) isn't
+//! free: the rows of all services are written in it.
 #![tactic(auto)]
 
 mod descriptors;

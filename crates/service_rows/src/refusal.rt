@@ -1,6 +1,6 @@
 // Why a service refuses, and the number that the client gets.
 ghost use Rattle.std.specs.Prelude.{◌≡◌};
-ghost use Rattle.service_rows.specs.Reasons.{refusal_number, refused};
+ghost use Rattle.service_rows.specs.Reasons.{refusal_number, refusal_answer};
 
 use crate::registers::set_ax;
 use client_world::Carry;
@@ -47,7 +47,7 @@ impl Refusal {
 
 /// Refuses a service of INT 31h: AX holds the number of the reason, and the carry is set.
 pub fn refuse(m: &mut Machine, refusal: Refusal) -> Carry
-    ensures refused { record { carry = result; world = m.new.world } ≡ refused refusal m.old.world }
+    ensures refused { record { carry = result; world = m.new.world } ≡ refusal_answer refusal m.old.world }
     ensures bytes { m.new.bytes ≡ m.old.bytes }
 {
     set_ax(m, refusal.number());

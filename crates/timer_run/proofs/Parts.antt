@@ -7,7 +7,7 @@ use Rattle.client_world.specs.World.{HostWorld}
 use Rattle.host_run.specs.OtherTurns.{interrupt_turn}
 use Rattle.host_run.proofs.OtherTurns.{interrupt_quiet}
 use Rattle.timer_run.specs.declared.timer.TheConstants.{TIMER_INTERRUPT}
-use Rattle.timer_run.specs.Timer.{TimerPart, TimerState, after_tick, takes_interrupts, ticked, timer_answer, timer_part}
+use Rattle.timer_run.specs.Timer.{TimerPart, TimerState, after_tick, takes_interrupts, with_round_counted, timer_answer, timer_part}
 
 -- ---- what each kind of part has, every part has
 
@@ -25,15 +25,15 @@ by_taken P t h true interrupt pass = interrupt
 by_taken P t h false interrupt pass = pass
 
 by_exit : (P : TimerPart → Type 0) (t : TimerState) (h : HostWorld) (o : Option Exit) → h.exit ≡ o →
-    ((exit : Exit) → h.exit ≡ Some exit → P (passed t h)) → (h.exit ≡ None → P (interrupted (ticked t) h)) →
-    (h.exit ≡ None → P (passed (ticked t) h)) → P (elim o [ Some _ ↦ passed t h | None ↦ after_tick (ticked t) h ])
+    ((exit : Exit) → h.exit ≡ Some exit → P (passed t h)) → (h.exit ≡ None → P (interrupted (with_round_counted t) h)) →
+    (h.exit ≡ None → P (passed (with_round_counted t) h)) → P (elim o [ Some _ ↦ passed t h | None ↦ after_tick (with_round_counted t) h ])
 by_exit P t h (Some exit) is ended interrupt pass = ended exit is
 by_exit P t h None is ended interrupt pass =
-    let u = ticked t in
+    let u = with_round_counted t in
     by_taken P u h (u.waits && takes_interrupts h.machine) (interrupt is) (pass is)
 
 pub part_has : (P : TimerPart → Type 0) (t : TimerState) (h : HostWorld) → ((exit : Exit) → h.exit ≡ Some exit → P (passed t h)) →
-    (h.exit ≡ None → P (interrupted (ticked t) h)) → (h.exit ≡ None → P (passed (ticked t) h)) → P (timer_part t h)
+    (h.exit ≡ None → P (interrupted (with_round_counted t) h)) → (h.exit ≡ None → P (passed (with_round_counted t) h)) → P (timer_part t h)
 unfolding timer_part
 part_has P t h ended interrupt pass = by_exit P t h h.exit refl ended interrupt pass
 

@@ -8,7 +8,7 @@ use Rattle.client_world.specs.declared.outcome.Exit.{Exit}
 use Rattle.client_world.specs.Access.{IsHeld}
 use Rattle.client_world.specs.Console.{Extends}
 use Rattle.client_world.specs.Soundness.{IsSound, IsSoundHost}
-use Rattle.client_world.specs.WatchWorld.{WatchWorld, unwatched}
+use Rattle.client_world.specs.WatchWorld.{WatchWorld, host_without_watches}
 use Rattle.client_world.specs.World.{HostWorld}
 use Rattle.host_run.specs.Keys.{HasKeys}
 use Rattle.host_run.specs.Nested.{IsHandedOver, PushesRecord, Stacked, kept, popped, pushed}
@@ -143,13 +143,13 @@ rounds_sound every w (suc n) s keys =
 -- ---- from a host whose client has set no watchpoint
 
 timed_reached : (every : ℕ) (h : HostWorld) (n : ℕ) → IsSound h.machine → HasKeys h → IsReached (timed_turns every h n)
-timed_reached every h n sound keys = rounds_reached every (with_new_timer (unwatched h)) n (record { machine = sound; keys = keys })
+timed_reached every h n sound keys = rounds_reached every (with_new_timer (host_without_watches h)) n (record { machine = sound; keys = keys })
 
 pub timed_sound : (every : ℕ) (h : HostWorld) (n : ℕ) → IsSound h.machine → HasKeys h → IsSound (timed_turns every h n).machine
 timed_sound every h n sound keys = (timed_reached every h n sound keys).machine
 
 pub timed_sound_host : (every : ℕ) (h : HostWorld) (n : ℕ) → IsSoundHost h → HasKeys h → IsSoundHost (timed_turns every h n)
-timed_sound_host every h n s keys = rounds_sound every (with_new_timer (unwatched h)) n s keys
+timed_sound_host every h n s keys = rounds_sound every (with_new_timer (host_without_watches h)) n s keys
 
 pub run_sound_host : (every : ℕ) (h : HostWorld) (n : ℕ) → IsSoundHost h → HasKeys h → IsSoundHost (timed_run every h n)
 unfolding timed_run
@@ -158,15 +158,15 @@ run_sound_host every h n s keys = bounded_sound (timed_turns every h n) (timed_s
 pub timed_calls : (every : ℕ) (h : HostWorld) (n : ℕ) → IsSound h.machine → HasKeys h →
     Stacked from_anywhere (timed_turns every h n) (timed_turns every h (n + 1))
 timed_calls every h n sound keys =
-    let w = rounds every (with_new_timer (unwatched h)) n in
-    subst (λ (v : TimedWorld). Stacked from_anywhere w.watched.host v.watched.host) (sym (one_more every (with_new_timer (unwatched h)) n))
+    let w = rounds every (with_new_timer (host_without_watches h)) n in
+    subst (λ (v : TimedWorld). Stacked from_anywhere w.watched.host v.watched.host) (sym (one_more every (with_new_timer (host_without_watches h)) n))
     (round_keeps every w (timed_reached every h n sound keys)).calls
 
 pub timed_turn_calls : (every : ℕ) (h : HostWorld) (n : ℕ) → IsSound h.machine → HasKeys h → is_interrupt every (timed_rounds every h n) ≡ false →
     Stacked from_client (timed_turns every h n) (timed_turns every h (n + 1))
 timed_turn_calls every h n sound keys off =
     let w = timed_rounds every h n in
-    subst (λ (v : TimedWorld). Stacked from_client w.watched.host v.watched.host) (sym (one_more every (with_new_timer (unwatched h)) n))
+    subst (λ (v : TimedWorld). Stacked from_client w.watched.host v.watched.host) (sym (one_more every (with_new_timer (host_without_watches h)) n))
     (round_clients every w (timed_reached every h n sound keys) off)
 
 -- the record that such a round adds is one of the client's

@@ -2,9 +2,9 @@
 use Rattle.std.proofs.Common.{arith, ◌≡◌, ◌∙◌, ◌≤◌, ◌<◌, ◌+◌, ◌-◌, ℕ, zero, suc, false, None, Some, refl, sym, ap, subst, add-zero, add-suc, add-one}
 use Rattle.client_world.specs.declared.outcome.Exit.{Exit}
 use Rattle.client_world.specs.declared.outcome.Exit.TheVariants.{Bound}
-use Rattle.client_world.specs.WatchWorld.{WatchWorld, Watching, no_watches, unwatched}
+use Rattle.client_world.specs.WatchWorld.{WatchWorld, Watching, no_watches, host_without_watches}
 use Rattle.client_world.specs.World.{HostWorld}
-use Rattle.host_run.specs.Run.{bounded}
+use Rattle.host_run.specs.Run.{with_bound_exit}
 use Rattle.timer_run.specs.Rounds.{TimedWorld, round_with_timer, rounds, timed_rounds, timed_run, with_new_timer}
 use Rattle.timer_run.specs.Timer.{TimerState}
 use Rattle.timer_run.proofs.RoundParts.{round_over, timed}
@@ -28,7 +28,7 @@ pub run_goes_on : (every at : ℕ) (h : HostWorld) (n : ℕ) (before after : Tim
     after ≡ round_with_timer at before → after ≡ timed_rounds every h (n + 1)
 run_goes_on every at h n before after so_far same made =
     made ∙ ap (λ (e : ℕ). round_with_timer e before) same ∙ ap (round_with_timer every) so_far
-    ∙ sym (one_more every (with_new_timer (unwatched h)) n)
+    ∙ sym (one_more every (with_new_timer (host_without_watches h)) n)
 
 -- ---- rounds after an exit change nothing
 
@@ -47,10 +47,10 @@ rounds_past every w i n exit le is =
 
 -- ---- its end
 
-bounded_ended : (h : HostWorld) (exit : Exit) → h.exit ≡ Some exit → bounded h ≡ h
+bounded_ended : (h : HostWorld) (exit : Exit) → h.exit ≡ Some exit → with_bound_exit h ≡ h
 bounded_ended h exit is = rw is refl
 
-pub bounded_exit : (h : HostWorld) → h.exit ≡ None → (bounded h).exit ≡ Some Bound
+pub bounded_exit : (h : HostWorld) → h.exit ≡ None → (with_bound_exit h).exit ≡ Some Bound
 bounded_exit h is = rw is refl
 
 -- a run that ends with round i + 1 is over there
@@ -58,16 +58,16 @@ pub run_ended : (every : ℕ) (h : HostWorld) (n i : ℕ) (exit : Exit) (last : 
     last.watched.host.exit ≡ Some exit → last.watched.host ≡ timed_run every h n
 unfolding timed_run
 run_ended every h n i exit last is less ends =
-    let start = with_new_timer (unwatched h) in
+    let start = with_new_timer (host_without_watches h) in
     let there : (rounds every start (i + 1)).watched.host.exit ≡ Some exit = sym (ap (λ (w : TimedWorld). w.watched.host.exit) is) ∙ ends in
     let same : rounds every start n ≡ last = rounds_past every start (i + 1) n exit (omega arith) there ∙ sym is in
-    sym (ap (λ (w : TimedWorld). bounded w.watched.host) same ∙ bounded_ended last.watched.host exit ends)
+    sym (ap (λ (w : TimedWorld). with_bound_exit w.watched.host) same ∙ bounded_ended last.watched.host exit ends)
 
 -- a run that makes as many rounds as its bound
 pub run_bounded : (every : ℕ) (h : HostWorld) (n i : ℕ) (last : TimedWorld) → last ≡ timed_rounds every h i → i ≡ n →
-    bounded last.watched.host ≡ timed_run every h n
+    with_bound_exit last.watched.host ≡ timed_run every h n
 unfolding timed_run
-run_bounded every h n i last is all = ap (λ (w : TimedWorld). bounded w.watched.host) (is ∙ ap (timed_rounds every h) all)
+run_bounded every h n i last is all = ap (λ (w : TimedWorld). with_bound_exit w.watched.host) (is ∙ ap (timed_rounds every h) all)
 
 -- the same where its last round ends it
 pub run_over : (every : ℕ) (h : HostWorld) (n i : ℕ) (exit : Exit) (last : TimedWorld) → last ≡ timed_rounds every h i → i ≡ n →

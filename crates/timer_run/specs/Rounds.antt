@@ -1,10 +1,10 @@
 -- Rounds of a run with a timer. Each is the timer's part, and a turn with watchpoints where that part wasn't the whole round. Source: own.
 use Rattle.std.specs.Prelude.{ℕ, zero, suc, Bool, false, List, [], if◌then◌else◌, None, Some}
 use Rattle.client_world.specs.declared.place.Place.{Place}
-use Rattle.client_world.specs.WatchWorld.{WatchWorld, unwatched}
+use Rattle.client_world.specs.WatchWorld.{WatchWorld, host_without_watches}
 use Rattle.client_world.specs.World.{HostWorld}
 use Rattle.host_run.specs.Footprint.{Footprint, unsaid}
-use Rattle.host_run.specs.Run.{bounded}
+use Rattle.host_run.specs.Run.{with_bound_exit}
 use Rattle.timer_run.specs.Timer.{TimerPart, TimerState, timer_part}
 use Rattle.watch_run.specs.Turn.{touched_by_watch_turn, turn_with_watchpoints, watch_footprint}
 
@@ -60,7 +60,7 @@ round_footprint every w = if is_interrupt every w then unsaid else watch_footpri
 
 -- the world after that many rounds
 abbrev pub timed_rounds : ℕ → HostWorld → ℕ → TimedWorld
-timed_rounds every h n = rounds every (with_new_timer (unwatched h)) n
+timed_rounds every h n = rounds every (with_new_timer (host_without_watches h)) n
 
 -- the host after that many rounds
 abbrev pub timed_turns : ℕ → HostWorld → ℕ → HostWorld
@@ -68,4 +68,4 @@ timed_turns every h n = (timed_rounds every h n).watched.host
 
 -- the host at the end of a run of at most that many rounds
 unfoldable pub timed_run : ℕ → HostWorld → ℕ → HostWorld
-timed_run every h n = bounded (timed_turns every h n)
+timed_run every h n = with_bound_exit (timed_turns every h n)

@@ -15,8 +15,8 @@ pub record TimerState : Type 0 where
   pub waits : Bool
 
 -- one more round has passed. The last one makes an interrupt wait; at most one does
-abbrev pub ticked : TimerState → TimerState
-ticked t = if nat_eq (t.count + 1) t.every then record t { count = 0; waits = true } else record t { count = t.count + 1 }
+abbrev pub with_round_counted : TimerState → TimerState
+with_round_counted t = if nat_eq (t.count + 1) t.every then record t { count = 0; waits = true } else record t { count = t.count + 1 }
 
 -- the client can be interrupted: virtual interrupts are enabled, and in protected mode the depth is below the greatest
 abbrev pub takes_interrupts : World → Bool
@@ -37,7 +37,7 @@ after_tick t h =
 
 -- after an exit nothing changes
 unfoldable pub timer_part : TimerState → HostWorld → TimerPart
-timer_part t h = elim h.exit [ Some _ ↦ record { timer = t; host = h; taken = false } | None ↦ after_tick (ticked t) h ]
+timer_part t h = elim h.exit [ Some _ ↦ record { timer = t; host = h; taken = false } | None ↦ after_tick (with_round_counted t) h ]
 
 -- whether the round was the interrupt, or the exit that there is
 abbrev pub timer_answer : TimerPart → Result Bool Exit

@@ -1,8 +1,9 @@
-//! The virtual timer: after a number of rounds its interrupt becomes due, and it is the whole of the next round in which the client can be
-//! interrupted. Every other round is a turn with the client's watchpoints.
-//! It promises that the timer's part of a round, a round and a run are the model's, and that a round keeps what a turn keeps: the host stays sound,
-//! the round counts as one turn, the console only grows, the instruction touches memory that the client holds, and nested calls hand over what they should.
-//! It is built on `watch_run`, which makes the turns, and on `host_run`, whose call raises the interrupt.
+//! The virtual timer: after a number of rounds its interrupt becomes due, and it is the whole of the next round in which the client can
+//! be interrupted. Every other round is a turn with the client's watchpoints.
+//! It promises that the timer's part of a round, a round and a run are the model's, and that a round keeps what a turn keeps:
+//! soundness, the count, the console, the memory that the client holds, and what nested calls hand over. It is built on `watch_run`.
+//! How a round finds whether the client can be interrupted is free. When the interrupt comes is own (`specs/Timer`); a change shows in
+//! the text of each run with `--timer`.
 #![tactic(auto)]
 
 mod laws;

@@ -3,7 +3,7 @@ ghost use Rattle.std.specs.Prelude.{◌≡◌, ◌≢◌, ◌≤◌, ◌<◌, tr
 ghost use Rattle.client_world.specs.declared.limits.TheConstants.{GREATEST_DEPTH, GREATEST_TIMER, MAX_STEPS};
 ghost use Rattle.client_world.specs.declared.registers.Mode.TheVariants.{Protected as protected};
 ghost use Rattle.client_world.specs.World.{depth};
-ghost use Rattle.timer_run.specs.Timer.{TimerState, takes_interrupts, ticked, timer_answer, timer_part};
+ghost use Rattle.timer_run.specs.Timer.{TimerState, takes_interrupts, with_round_counted, timer_answer, timer_part};
 
 use client_world::limits::GREATEST_DEPTH;
 use client_world::{Exit, Mode};
@@ -62,7 +62,7 @@ impl Timer {
 
     // One more round has passed.
     fn tick(&mut self)
-        ensures { self.new ≡ ticked self.old }
+        ensures { self.new ≡ with_round_counted self.old }
     {
         if self.count + 1 == self.every {
             self.count = 0;

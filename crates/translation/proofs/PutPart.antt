@@ -16,7 +16,7 @@ use Rattle.client_world.proofs.SoundWrites.{at_bytes_of, length-bytes_of}
 use Rattle.guest_ram.specs.Bytes.{put, region}
 use Rattle.guest_ram.proofs.PutLaws.{at_region, length-put, put_away, put_within}
 use Rattle.host_memory.specs.View.{MachineView}
-use Rattle.guest_space.specs.Far.{far_bytes, far_put, further}
+use Rattle.guest_space.specs.Far.{far_bytes, world_after_far_write, further}
 use Rattle.guest_space.specs.Transfer.{places_of_access, with_places}
 use Rattle.guest_space.proofs.DistinctPlaces.{addresses_apart}
 use Rattle.guest_space.proofs.FarLaws.{part_is_read, written_is_read}
@@ -34,14 +34,14 @@ bytes_read : (w : World) (p : FarPtr) (n : ℕ) → far_bytes w p n ≡ bytes_of
 unfolding far_bytes
 bytes_read w p n = refl
 
-world_put : (w : World) (p : FarPtr) (n : ℕ) (bytes : List ℕ) → far_put w p n bytes ≡ with_bytes_of w (places_of_access (far_access w p n true)) bytes
-unfolding far_put
+world_put : (w : World) (p : FarPtr) (n : ℕ) (bytes : List ℕ) → world_after_far_write w p n bytes ≡ with_bytes_of w (places_of_access (far_access w p n true)) bytes
+unfolding world_after_far_write
 world_put w p n bytes = refl
 
 -- reaching is the same after a write
 pub reachable_after : (w : World) (q : FarPtr) (m : ℕ) (bytes : List ℕ) (p : FarPtr) (n : ℕ) (write : Bool) →
-    is_reachable (far_put w q m bytes) p n write ≡ is_reachable w p n write
-unfolding far_put with_places
+    is_reachable (world_after_far_write w q m bytes) p n write ≡ is_reachable w p n write
+unfolding world_after_far_write with_places
 reachable_after w q m bytes p n write = reachable_kept (bare w) (places_of_access (far_access w q m true)) bytes p n write
 
 access_after : (w : World) (places : List Place) (bytes : List ℕ) (p : FarPtr) (n : ℕ) →
@@ -108,7 +108,7 @@ apart w p n k m i run few within inside away j less e =
 
 -- a byte of the run outside the part stays
 outside : (w : World) (p : FarPtr) (n k m i : ℕ) (bytes : List ℕ) → IsOpen w p n → k + m ≤ n → i < n → (k + m ≤ i) ⊎ (i < k) →
-    get_or (far_bytes (far_put w (further p k) m bytes) p n) i 0 ≡ get_or (far_bytes w p n) i 0
+    get_or (far_bytes (world_after_far_write w (further p k) m bytes) p n) i 0 ≡ get_or (far_bytes w p n) i 0
 outside w p n k m i bytes open_run within inside away =
     let run = reached w p n true open_run.write in
     let q = places_from w.blocks ((run.base + (p.off + k)) % 2 ^ 32) m in
@@ -127,9 +127,9 @@ length-far w p n open_run =
 
 -- a byte of the part is the one that was written
 within_part : (w : World) (p : FarPtr) (n k m j : ℕ) (bytes : List ℕ) → IsOpen w p n → k + m ≤ n → length bytes ≡ m → j < m →
-    get_or (far_bytes (far_put w (further p k) m bytes) p n) (k + j) 0 ≡ get_or bytes j 0
+    get_or (far_bytes (world_after_far_write w (further p k) m bytes) p n) (k + j) 0 ≡ get_or bytes j 0
 within_part w p n k m j bytes open_run within size less =
-    let u = far_put w (further p k) m bytes in
+    let u = world_after_far_write w (further p k) m bytes in
     let few = open_run.few in
     let back : far_bytes u (further p k) m ≡ bytes =
     ap (λ (x : World). far_bytes x (further p k) m) (sym (world_far_written (bare w) (further p k) m bytes))
@@ -139,10 +139,10 @@ within_part w p n k m j bytes open_run within size less =
     sym (at_region (far_bytes u p n) k m j less) ∙ ap (λ (xs : List ℕ). get_or xs j 0) (sym part ∙ back)
 
 -- after a part was written, the run is the old one with the part put there
-pub part_put : (w : World) (p : FarPtr) (n k m : ℕ) (bytes : List ℕ) → IsOpen w p n → IsOpen (far_put w (further p k) m bytes) p n → k + m ≤ n →
-    length bytes ≡ m → far_bytes (far_put w (further p k) m bytes) p n ≡ put (far_bytes w p n) k bytes
+pub part_put : (w : World) (p : FarPtr) (n k m : ℕ) (bytes : List ℕ) → IsOpen w p n → IsOpen (world_after_far_write w (further p k) m bytes) p n → k + m ≤ n →
+    length bytes ≡ m → far_bytes (world_after_far_write w (further p k) m bytes) p n ≡ put (far_bytes w p n) k bytes
 part_put w p n k m bytes open_run after within size =
-    let u = far_put w (further p k) m bytes in
+    let u = world_after_far_write w (further p k) m bytes in
     let old = far_bytes w p n in
     let long = length-far w p n open_run in
     let now = length-far u p n after in

@@ -13,7 +13,7 @@ use Rattle.client_world.specs.Access.{byte_of, bytes_of, bytes_of_block, far_acc
 use Rattle.client_world.specs.Soundness.{IsSound}
 use Rattle.client_world.specs.World.{World, MemoryBlock, block_at}
 use Rattle.guest_ram.specs.Bytes.{put}
-use Rattle.guest_space.specs.Far.{far_bytes, far_put, further}
+use Rattle.guest_space.specs.Far.{far_bytes, world_after_far_write, further}
 use Rattle.guest_space.specs.Transfer.{places_of_access}
 use Rattle.guest_space.proofs.FarPuts.{sound_far_put}
 use Rattle.translation.specs.HandOver.{HasEnded}
@@ -56,8 +56,8 @@ other_size r vif = refl
 open_structure : (w : World) (at : FarPtr) → IsSound w → has_structure w at ≡ true → IsOpen w at STRUCTURE_SIZE
 open_structure w at s there = record { sound = s; few = omega arith; read = structure_read w at there; write = structure_written w at there }
 
-open_after : (w : World) (at q : FarPtr) (m : ℕ) (bytes : List ℕ) → IsOpen w at STRUCTURE_SIZE → IsSound (far_put w q m bytes) →
-    IsOpen (far_put w q m bytes) at STRUCTURE_SIZE
+open_after : (w : World) (at q : FarPtr) (m : ℕ) (bytes : List ℕ) → IsOpen w at STRUCTURE_SIZE → IsSound (world_after_far_write w q m bytes) →
+    IsOpen (world_after_far_write w q m bytes) at STRUCTURE_SIZE
 open_after w at q m bytes before s = record {
   sound = s;
   few = before.few;
@@ -69,14 +69,14 @@ results_back : (w : World) (at : FarPtr) → IsSound w → has_structure w at �
     structure_bytes (with_results w at) at ≡ put (put (structure_bytes w at) 0 (index_results w.regs)) 0x10 (other_results w.regs w.vif)
 unfolding with_results
 results_back w at s there =
-    let first = far_put w (further at 0) 0x0C (index_results w.regs) in
-    let second = far_put first (further at 0x10) 0x1A (other_results w.regs w.vif) in
+    let first = world_after_far_write w (further at 0) 0x0C (index_results w.regs) in
+    let second = world_after_far_write first (further at 0x10) 0x1A (other_results w.regs w.vif) in
     let before = open_structure w at s there in
     let sound_first = sound_far_put w (further at 0) 0x0C (index_results w.regs) s (index_bytes w.regs) in
     let between = open_after w at (further at 0) 0x0C (index_results w.regs) before sound_first in
     let after = open_after first at (further at 0x10) 0x1A (other_results w.regs w.vif) between
     (sound_far_put first (further at 0x10) 0x1A (other_results w.regs w.vif) sound_first (other_bytes w.regs w.vif)) in
-    ap (λ (p : FarPtr). structure_bytes (far_put (far_put w p 0x0C (index_results w.regs)) (further at 0x10) 0x1A (other_results w.regs w.vif)) at)
+    ap (λ (p : FarPtr). structure_bytes (world_after_far_write (world_after_far_write w p 0x0C (index_results w.regs)) (further at 0x10) 0x1A (other_results w.regs w.vif)) at)
     (sym (no_further at))
     ∙ part_put first at STRUCTURE_SIZE 0x10 0x1A (other_results w.regs w.vif) between after (omega arith) (other_size w.regs w.vif)
     ∙ ap (λ (xs : List ℕ). put xs 0x10 (other_results w.regs w.vif))

@@ -14,7 +14,7 @@ use Rattle.client_world.specs.Soundness.{IsSound, HasSegments}
 use Rattle.client_world.specs.World.{World, depth}
 use Rattle.client_world.proofs.SoundWrites.{IsSound-mode, IsSound-regs, IsSound-vif}
 use Rattle.guest_ram.specs.Bytes.{AreBytes}
-use Rattle.guest_space.specs.Far.{far_put, further}
+use Rattle.guest_space.specs.Far.{world_after_far_write, further}
 use Rattle.guest_space.specs.Pending.{number_bytes}
 use Rattle.guest_space.specs.Transfer.{HasOtherMemory}
 use Rattle.guest_space.proofs.FarPuts.{other_far_put, sound_far_put}
@@ -66,14 +66,14 @@ other_bytes r vif =
 sound_results : (w : World) (at : FarPtr) → IsSound w → IsSound (with_results w at)
 unfolding with_results
 sound_results w at s =
-    sound_far_put (far_put w at 0x0C (index_results w.regs)) (further at 0x10) 0x1A (other_results w.regs w.vif)
+    sound_far_put (world_after_far_write w at 0x0C (index_results w.regs)) (further at 0x10) 0x1A (other_results w.regs w.vif)
     (sound_far_put w at 0x0C (index_results w.regs) s (index_bytes w.regs)) (other_bytes w.regs w.vif)
 
 other_results_alone : (w : World) (at : FarPtr) → HasOtherMemory w (with_results w at)
 unfolding with_results
 other_results_alone w at =
-    let first = far_put w at 0x0C (index_results w.regs) in
-    other_then w first (far_put first (further at 0x10) 0x1A (other_results w.regs w.vif)) (other_far_put w at 0x0C (index_results w.regs))
+    let first = world_after_far_write w at 0x0C (index_results w.regs) in
+    other_then w first (world_after_far_write first (further at 0x10) 0x1A (other_results w.regs w.vif)) (other_far_put w at 0x0C (index_results w.regs))
     (other_far_put first (further at 0x10) 0x1A (other_results w.regs w.vif))
 
 either : (reflection : Bool) (w : World) (at : FarPtr) → IsSound w → IsSound (if reflection then w else with_results w at)

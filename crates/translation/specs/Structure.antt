@@ -8,7 +8,7 @@ use Rattle.client_world.specs.Access.{is_reachable}
 use Rattle.client_world.specs.Registers.{flags_image, flags_of_image}
 use Rattle.client_world.specs.World.{World}
 use Rattle.guest_ram.specs.Bytes.{dword, word_of}
-use Rattle.guest_space.specs.Far.{far_bytes, far_put, further}
+use Rattle.guest_space.specs.Far.{far_bytes, world_after_far_write, further}
 use Rattle.guest_space.specs.Pending.{number_bytes}
 use Rattle.translation.specs.declared.structure.TheConstants.{STRUCTURE_SIZE}
 
@@ -59,4 +59,4 @@ other_results r vif =
 -- the world with the results in a structure
 unfoldable pub with_results : World → FarPtr → World
 with_results w at =
-    far_put (far_put w at 0x0C (index_results w.regs)) (further at 0x10) 0x1A (other_results w.regs w.vif)
+    world_after_far_write (world_after_far_write w at 0x0C (index_results w.regs)) (further at 0x10) 0x1A (other_results w.regs w.vif)

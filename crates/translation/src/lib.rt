@@ -1,7 +1,9 @@
-//! Calls of real-mode procedures from protected mode: those that a client asks for (INT 31h functions 0300h to 0302h), interrupts that are
-//! reflected, and the return from both.
-//! It promises that each leaves the world that its definition names, or is refused and changes AX alone, or gives its exit and changes nothing.
-//! It uses the stack of records and the machine of guest_space.
+//! Calls of real-mode procedures from protected mode: those that a client asks for (INT 31h functions 0300h to 0302h), interrupts that
+//! are reflected, and the return from both.
+//! It promises that each leaves the world that its definition names, or is refused and changes AX alone, or gives its exit and changes
+//! nothing. It uses the stack of records and the machine of `guest_space`.
+//! Bodies are free. The call structure is the DPMI text's, and `callbacks` uses it too; the registers that are handed over
+//! (`specs/HandOver`) are in `host_run`'s law of nested calls.
 #![tactic(auto)]
 
 mod calling;

@@ -112,7 +112,7 @@ fn second_part(at: FarPtr, m: &Machine) -> FarPtr
 }
 
 /// Writes the results of a call into the structure at a pointer.
-#[tactic(auto, unfolding(crate::specs::Structure::with_results, guest_space::specs::Far::far_put, guest_space::specs::Far::far_written, guest_space::specs::Transfer::with_places))]
+#[tactic(auto, unfolding(crate::specs::Structure::with_results, guest_space::specs::Far::world_after_far_write, guest_space::specs::Far::after_far_write, guest_space::specs::Transfer::with_places))]
 pub(crate) fn write_results(m: &mut Machine, at: FarPtr)
     requires { IsTrue (has_structure m.old.world at) }
     ensures results { m.new.world ≡ with_results m.old.world at }

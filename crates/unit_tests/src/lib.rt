@@ -1,6 +1,8 @@
 //! Worked rows of single crates: numbers, the memory and its parts, the machine, DOS calls, files and output, the command's words, made
 //! clients, and clients in turns.
-//! It holds nothing but tests, each file over the public calls of one crate: a crate with tests of its own is proved once more with them.
+//! It holds nothing but tests, each file over the public calls of one crate. They stand apart because a crate with tests of its own is
+//! proved once more with them.
+//! A row may be added or put in plainer words. One is dropped only where another shows the same.
 #![tactic(auto)]
 
 #[cfg(test)]

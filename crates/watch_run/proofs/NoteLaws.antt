@@ -5,7 +5,7 @@ use Rattle.std.proofs.lemmas.List.{append-nil, drop_all, drop-set-lt}
 use Rattle.std.proofs.Math.Seq.{drop-cons, take-suc-set}
 use Rattle.client_world.specs.declared.watchpoints.Touch.{Touch}
 use Rattle.client_world.specs.declared.watchpoints.Watch.{Watch}
-use Rattle.watch_run.specs.Hits.{all_marked, has_first_hit, is_first_hit, marked}
+use Rattle.watch_run.specs.Hits.{watches_after_touches, has_first_hit, is_first_hit, watch_after_touches}
 
 or_false : (c : Bool) → (c || false) ≡ c
 or_false true = refl
@@ -20,11 +20,11 @@ or_assoc true b c = refl
 or_assoc false b c = refl
 
 -- an event hits nothing
-pub marked_none : (at : ℕ) (slots : List (Option Watch)) → all_marked at None slots ≡ slots
+pub marked_none : (at : ℕ) (slots : List (Option Watch)) → watches_after_touches at None slots ≡ slots
 marked_none at [] = refl
 marked_none at (None ∷ slots) = cc (marked_none at slots)
 marked_none at (Some x ∷ slots) =
-    ap (λ (c : Bool). Some (record x { hit = c }) ∷ all_marked at None slots) (or_false x.hit)
+    ap (λ (c : Bool). Some (record x { hit = c }) ∷ watches_after_touches at None slots) (or_false x.hit)
     ∙ ap (λ (rest : List (Option Watch)). Some x ∷ rest) (marked_none at slots)
 
 first_none : (at : ℕ) (slots : List (Option Watch)) → has_first_hit at None slots ≡ false
@@ -50,15 +50,15 @@ before_set slots k v within =
 
 -- those before place k are marked, and those from it on will be
 pub step_marked : (at : ℕ) (touched : Option (List Touch)) (slots : List (Option Watch)) (k : ℕ) → k < length slots →
-    take (k + 1) (slice_set slots k (marked at touched (slice_index_or slots k None)))
-    ++ all_marked at touched (drop (k + 1) (slice_set slots k (marked at touched (slice_index_or slots k None))))
-    ≡ take k slots ++ all_marked at touched (drop k slots)
+    take (k + 1) (slice_set slots k (watch_after_touches at touched (slice_index_or slots k None)))
+    ++ watches_after_touches at touched (drop (k + 1) (slice_set slots k (watch_after_touches at touched (slice_index_or slots k None))))
+    ≡ take k slots ++ watches_after_touches at touched (drop k slots)
 step_marked at touched slots k within =
-    let v = marked at touched (slice_index_or slots k None) in
-    let rest = all_marked at touched (drop (k + 1) slots) in
+    let v = watch_after_touches at touched (slice_index_or slots k None) in
+    let rest = watches_after_touches at touched (drop (k + 1) slots) in
     let front = before_set slots k v within in
-    let back = ap (all_marked at touched) (after_set slots k v) in
-    let here = ap (all_marked at touched) (slot_from slots k within) in
+    let back = ap (watches_after_touches at touched) (after_set slots k v) in
+    let here = ap (watches_after_touches at touched) (slot_from slots k within) in
     let joined = append_assoc (take k slots) (v ∷ []) rest in
     cc (front, back, here, joined)
 
@@ -79,10 +79,10 @@ take_all (x ∷ slots) zero done = absurd (omega arith)
 take_all (x ∷ slots) (suc k) done = ap (λ (rest : List (Option Watch)). x ∷ rest) (take_all slots k (omega arith))
 
 pub end_marked : (at : ℕ) (touched : Option (List Touch)) (slots : List (Option Watch)) (k : ℕ) → length slots ≤ k →
-    take k slots ++ all_marked at touched (drop k slots) ≡ slots
+    take k slots ++ watches_after_touches at touched (drop k slots) ≡ slots
 end_marked at touched slots k done =
     let front = take_all slots k done in
-    let back = ap (all_marked at touched) (drop_all k slots done) in
+    let back = ap (watches_after_touches at touched) (drop_all k slots done) in
     cc (front, back, append-nil slots)
 
 pub end_due : (at : ℕ) (touched : Option (List Touch)) (slots : List (Option Watch)) (k : ℕ) (due : Bool) → length slots ≤ k →

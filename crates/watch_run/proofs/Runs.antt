@@ -4,7 +4,7 @@ use Rattle.std.specs.Prelude.{IsSome}
 use Rattle.client_world.specs.declared.outcome.Exit.{Exit}
 use Rattle.client_world.specs.WatchWorld.{WatchWorld}
 use Rattle.client_world.specs.World.{HostWorld}
-use Rattle.host_run.specs.Run.{bounded}
+use Rattle.host_run.specs.Run.{with_bound_exit}
 use Rattle.watch_run.specs.Turn.{run_with_watchpoints, turn_with_watchpoints, turns_with_watchpoints}
 use Rattle.watch_run.proofs.WatchedTurns.{stays}
 
@@ -24,7 +24,7 @@ turns_past w i n le some =
     let split : i + (n - i) ≡ n = omega arith in
     subst (λ m. turns_with_watchpoints w m ≡ turns_with_watchpoints w i) split (turns_stop w i (n - i) some)
 
-bounded_ended : (h : HostWorld) (e : Exit) → h.exit ≡ Some e → bounded h ≡ h
+bounded_ended : (h : HostWorld) (e : Exit) → h.exit ≡ Some e → with_bound_exit h ≡ h
 bounded_ended h e is = rw is refl
 
 -- a run that ends with turn i + 1 is over there
@@ -34,5 +34,5 @@ run_ended w new n i e is lt ends =
     let there : (turns_with_watchpoints w (i + 1)).host.exit ≡ Some e = sym (ap (λ (v : WatchWorld). v.host.exit) is) ∙ ends in
     let past = turns_past w (i + 1) n (omega arith) (some_is _ e there) in
     let same : turns_with_watchpoints w n ≡ new = past ∙ sym is in
-    sym (ap (λ (v : WatchWorld). let x : WatchWorld = record v { host = bounded v.host } in x) same
+    sym (ap (λ (v : WatchWorld). let x : WatchWorld = record v { host = with_bound_exit v.host } in x) same
     ∙ ap (λ (h : HostWorld). let x : WatchWorld = record new { host = h } in x) (bounded_ended new.host e ends))

@@ -9,7 +9,7 @@ use Rattle.client_world.specs.declared.watchpoints.Watch.{Watch}
 use Rattle.client_world.specs.Registers.{low_half}
 use Rattle.client_world.specs.WatchWorld.{WatchWorld, Watching, no_watches}
 use Rattle.client_world.specs.World.{HostWorld, World}
-use Rattle.interrupts.specs.Worlds.{world_popped}
+use Rattle.interrupts.specs.Worlds.{world_after_iret}
 use Rattle.host_run.specs.OtherTurns.{exception_turn, int31_at, int31_call, int31_turn, is_int31}
 use Rattle.host_run.specs.declared.traps.Trap.{Trap}
 use Rattle.host_run.specs.declared.traps.Trap.TheVariants.{NoTrap, ProtectedVector}
@@ -29,7 +29,7 @@ at_by false ax call = cc
 call_by : (o : Option Exit) (w : World) → IsTrue (is_watch_call (elim o as (λ _. Option ℕ) [ Some _ ↦ None | None ↦ int31_at w ])) →
     IsTrue (is_watch_function (low_half w.regs.eax))
 call_by (Some exit) w call = cc
-call_by None w call = at_by (is_int31 (current_trap w) && is_ok (world_popped w)) (low_half w.regs.eax) call
+call_by None w call = at_by (is_int31 (current_trap w) && is_ok (world_after_iret w)) (low_half w.regs.eax) call
 
 pub asked_function : (h : HostWorld) → IsTrue (is_watch_call (int31_call h)) → IsTrue (is_watch_function (low_half h.machine.regs.eax))
 unfolding int31_call
@@ -46,7 +46,7 @@ no_call : (o : Option Exit) (w : World) → is_trap (current_trap w) ≡ false �
     is_watch_call (elim o as (λ _. Option ℕ) [ Some _ ↦ None | None ↦ int31_at w ]) ≡ false
 no_call (Some exit) w free = refl
 no_call None w free =
-    ap (λ (b : Bool). is_watch_call (if b && is_ok (world_popped w) then Some (low_half w.regs.eax) else None)) (no_int31 (current_trap w) free)
+    ap (λ (b : Bool). is_watch_call (if b && is_ok (world_after_iret w) then Some (low_half w.regs.eax) else None)) (no_int31 (current_trap w) free)
 
 pub not_called : (h : HostWorld) → is_trap (current_trap h.machine) ≡ false → is_watch_call (int31_call h) ≡ false
 unfolding int31_call

@@ -9,7 +9,7 @@ use Rattle.client_world.specs.declared.services.Carry.{Carry}
 use Rattle.client_world.specs.Access.{IsHeld, fault_with}
 use Rattle.client_world.specs.Console.{Extends}
 use Rattle.client_world.specs.Soundness.{IsSound, IsSoundHost}
-use Rattle.client_world.specs.WatchWorld.{WatchWorld, unwatched}
+use Rattle.client_world.specs.WatchWorld.{WatchWorld, host_without_watches}
 use Rattle.client_world.specs.World.{HostWorld}
 use Rattle.dos_calls.proofs.LeftCalls.{extends_itself}
 use Rattle.host_run.specs.Keys.{HasKeys}
@@ -112,13 +112,13 @@ turns_reached w zero s = s
 turns_reached w (suc n) s = (turn_keeps_all (turns_with_watchpoints w n) (turns_reached w n s)).reached
 
 pub turns_sound : (h : HostWorld) (n : ℕ) → IsSound h.machine → HasKeys h → IsSound (watched_turns h n).machine
-turns_sound h n sound keys = (turns_reached (unwatched h) n (from_machine h sound keys)).machine
+turns_sound h n sound keys = (turns_reached (host_without_watches h) n (from_machine h sound keys)).machine
 
 pub turn_has_keys : (w : WatchWorld) → IsSound w.host.machine → HasKeys w.host → HasKeys (turn_with_watchpoints w).host
 turn_has_keys w sound keys = (turn_keeps_all w (from_machine w.host sound keys)).reached.keys
 
 pub turns_have_keys : (h : HostWorld) (n : ℕ) → IsSound h.machine → HasKeys h → HasKeys (watched_turns h n)
-turns_have_keys h n sound keys = (turns_reached (unwatched h) n (from_machine h sound keys)).keys
+turns_have_keys h n sound keys = (turns_reached (host_without_watches h) n (from_machine h sound keys)).keys
 
 all_sound : (w : WatchWorld) (n : ℕ) → IsSoundHost w.host → HasKeys w.host → IsSoundHost (turns_with_watchpoints w n).host
 unfolding turns_with_watchpoints
@@ -127,7 +127,7 @@ all_sound w (suc n) s keys =
     (turn_keeps_all (turns_with_watchpoints w n) (turns_reached w n (reached w.host s keys))).sound (all_sound w n s keys)
 
 pub turns_sound_host : (h : HostWorld) (n : ℕ) → IsSoundHost h → HasKeys h → IsSoundHost (watched_turns h n)
-turns_sound_host h n s keys = all_sound (unwatched h) n s keys
+turns_sound_host h n s keys = all_sound (host_without_watches h) n s keys
 
 pub run_sound_host : (h : HostWorld) (n : ℕ) → IsSoundHost h → HasKeys h → IsSoundHost (watched_run h n)
 unfolding watched_run
@@ -139,9 +139,9 @@ one_more w n = rw add-one refl
 
 pub turns_calls : (h : HostWorld) (n : ℕ) → IsSound h.machine → HasKeys h → Stacked from_client (watched_turns h n) (watched_turns h (n + 1))
 turns_calls h n sound keys =
-    let w = turns_with_watchpoints (unwatched h) n in
-    subst (λ (x : WatchWorld). Stacked from_client w.host x.host) (sym (one_more (unwatched h) n))
-    (turn_keeps_all w (turns_reached (unwatched h) n (from_machine h sound keys))).calls
+    let w = turns_with_watchpoints (host_without_watches h) n in
+    subst (λ (x : WatchWorld). Stacked from_client w.host x.host) (sym (one_more (host_without_watches h) n))
+    (turn_keeps_all w (turns_reached (host_without_watches h) n (from_machine h sound keys))).calls
 
 -- ---- what is touched
 

@@ -9,14 +9,14 @@ use Rattle.insn_decode.specs.declared.decoding.Decoded.{Decoded}
 use Rattle.insn_decode.specs.declared.decoding.Decoded.TheVariants.{Whole, More, Invalid}
 use Rattle.insn_decode.specs.Decode.{decoded}
 use Rattle.client_world.specs.declared.watchpoints.Touch.{Touch}
-use Rattle.insn_plan.specs.Accesses.{moved, touches}
+use Rattle.insn_plan.specs.Accesses.{with_next_eip, touches}
 use Rattle.cpu_step.specs.Step.{has_big_code, code, client_row}
 use Rattle.client_world.specs.declared.watchpoints.Watch.{Watch}
 use Rattle.client_world.specs.declared.watchpoints.WatchKind.TheVariants.{Execute, Write, ReadOrWrite}
 
 -- the touches of what the code bytes are; none where they are no instruction, or it is an event
 abbrev pub touches_of_code : World → Decoded → Option (List Touch)
-touches_of_code w (Whole insn len) = touches (moved len w) (client_row (moved len w) insn len)
+touches_of_code w (Whole insn len) = touches (with_next_eip len w) (client_row (with_next_eip len w) insn len)
 touches_of_code w More = None
 touches_of_code w Invalid = None
 
@@ -71,13 +71,13 @@ hits w slots = hit_bits (instruction_address w) (next_touches w) slots
 -- ---- what a hit leaves
 
 -- a hit sets the status
-abbrev pub marked : ℕ → Option (List Touch) → Option Watch → Option Watch
-marked at touched None = None
-marked at touched (Some x) = Some (record x { hit = x.hit || slot_hit at touched (Some x) })
+abbrev pub watch_after_touches : ℕ → Option (List Touch) → Option Watch → Option Watch
+watch_after_touches at touched None = None
+watch_after_touches at touched (Some x) = Some (record x { hit = x.hit || slot_hit at touched (Some x) })
 
-abbrev pub all_marked : ℕ → Option (List Touch) → List (Option Watch) → List (Option Watch)
-all_marked at touched [] = []
-all_marked at touched (slot ∷ slots) = marked at touched slot ∷ all_marked at touched slots
+abbrev pub watches_after_touches : ℕ → Option (List Touch) → List (Option Watch) → List (Option Watch)
+watches_after_touches at touched [] = []
+watches_after_touches at touched (slot ∷ slots) = watch_after_touches at touched slot ∷ watches_after_touches at touched slots
 
 -- a hit where the status was clear
 abbrev pub is_first_hit : ℕ → Option (List Touch) → Option Watch → Bool
@@ -91,6 +91,6 @@ has_first_hit at touched (slot ∷ slots) = is_first_hit at touched slot || has_
 -- the watchpoints after an instruction at an address with those touches
 unfoldable pub with_hits : ℕ → Option (List Touch) → Watching → Watching
 with_hits at touched s = record {
-  watches = all_marked at touched s.watches;
+  watches = watches_after_touches at touched s.watches;
   due = s.due || has_first_hit at touched s.watches;
 }

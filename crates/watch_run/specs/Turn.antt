@@ -8,11 +8,11 @@ use Rattle.client_world.specs.declared.registers.Mode.TheVariants.{Real, Protect
 use Rattle.client_world.specs.declared.watchpoints.Touch.{Touch}
 use Rattle.client_world.specs.Access.{fault_with}
 use Rattle.client_world.specs.declared.place.Place.{Place}
-use Rattle.client_world.specs.WatchWorld.{WatchWorld, Watching, unwatched}
+use Rattle.client_world.specs.WatchWorld.{WatchWorld, Watching, host_without_watches}
 use Rattle.client_world.specs.World.{HostWorld, World}
 use Rattle.host_run.specs.Footprint.{Footprint, at_places, delivery_footprint, turn_footprint}
 use Rattle.host_run.specs.OtherTurns.{exception_turn, int31_call, int31_turn}
-use Rattle.host_run.specs.Run.{bounded}
+use Rattle.host_run.specs.Run.{with_bound_exit}
 use Rattle.host_run.specs.Touched.{touched_by_turn}
 use Rattle.host_run.specs.Traps.{current_trap, is_trap}
 use Rattle.host_run.specs.Turn.{turn}
@@ -84,17 +84,17 @@ turns_with_watchpoints w (suc n) = turn_with_watchpoints (turns_with_watchpoints
 abbrev pub run_with_watchpoints : WatchWorld → ℕ → WatchWorld
 run_with_watchpoints w n =
     let end = turns_with_watchpoints w n in
-    record end { host = bounded end.host }
+    record end { host = with_bound_exit end.host }
 
 -- ---- from a host whose client has set no watchpoint
 
 -- the host after that many turns
 abbrev pub watched_turns : HostWorld → ℕ → HostWorld
-watched_turns h n = (turns_with_watchpoints (unwatched h) n).host
+watched_turns h n = (turns_with_watchpoints (host_without_watches h) n).host
 
 -- the host at the end of a run of at most that many turns
 unfoldable pub watched_run : HostWorld → ℕ → HostWorld
-watched_run h n = (run_with_watchpoints (unwatched h) n).host
+watched_run h n = (run_with_watchpoints (host_without_watches h) n).host
 
 -- the places that the client instruction of a turn touches: none where a hit is delivered or a function on watchpoints is served
 abbrev pub touched_by_watch_turn : WatchWorld → List Place

@@ -2,14 +2,14 @@
 ghost use Rattle.std.specs.Prelude.{◌≡◌, MatchOption, None, Some};
 ghost use Rattle.cpu_step.specs.Step.{client_row};
 ghost use Rattle.insn_forms.specs.Kinds.{IsWellFormed};
-ghost use Rattle.insn_plan.specs.Accesses.{moved, touches};
+ghost use Rattle.insn_plan.specs.Accesses.{with_next_eip, touches};
 ghost use Rattle.watch_run.specs.Hits.{
   covers,
   hits,
   instruction_address,
   is_first_hit,
   is_hit,
-  marked,
+  watch_after_touches,
   next_touches,
   with_hits,
   overlaps,
@@ -34,7 +34,7 @@ use insn_plan::MAX_ACCESSES;
 #[tactic(auto, unfolding(cpu_step::specs::Step::client_row), using(cpu_step::proofs::CoreOrFlow::flow_where_not_core))]
 fn row_touches(m: &Machine, insn: &Insn, len: u8) -> Option<ArrayVec<Touch, MAX_ACCESSES>>
     requires { IsWellFormed insn.now }
-    ensures { let w = moved len m.now.world in
+    ensures { let w = with_next_eip len m.now.world in
         let found = touches w (client_row w insn.now len) in
         MatchOption result (found ≡ None) (λ list. found ≡ Some list.items) }
 {
@@ -113,8 +113,8 @@ fn slot_hit(at: u32, touches: &[Touch], slot: Option<Watch>) -> bool
 }
 
 // A handle's watchpoint after that; a hit sets the status.
-fn marked(at: u32, touches: &[Touch], slot: Option<Watch>) -> Option<Watch>
-    ensures { result ≡ marked at (Some touches.now) slot }
+fn watch_after_touches(at: u32, touches: &[Touch], slot: Option<Watch>) -> Option<Watch>
+    ensures { result ≡ watch_after_touches at (Some touches.now) slot }
 {
     match slot {
         None => None,
@@ -150,7 +150,7 @@ impl Watches {
         for k in 0..count {
             let slot = self.slots()[k];
             let due = is_first_hit(at, touches.as_slice(), slot);
-            self.put_hit(k, marked(at, touches.as_slice(), slot), due);
+            self.put_hit(k, watch_after_touches(at, touches.as_slice(), slot), due);
         }
     }
 

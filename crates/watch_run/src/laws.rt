@@ -4,10 +4,10 @@ ghost use Rattle.client_world.specs.declared.watchpoints.Touch.{Touch as ATouch}
 ghost use Rattle.client_world.specs.Access.{IsHeld};
 ghost use Rattle.client_world.specs.Console.{Extends};
 ghost use Rattle.client_world.specs.Soundness.{IsSound, IsSoundHost};
-ghost use Rattle.client_world.specs.WatchWorld.{WatchWorld, unwatched};
+ghost use Rattle.client_world.specs.WatchWorld.{WatchWorld, host_without_watches};
 ghost use Rattle.client_world.specs.World.{HostWorld, World};
 ghost use Rattle.cpu_step.specs.Step.{client_step};
-ghost use Rattle.cpu_step.specs.Touched.{fetched, touch_places, touched};
+ghost use Rattle.cpu_step.specs.Touched.{touched_by_fetch, touch_places, touched_by_step};
 ghost use Rattle.guest_space.specs.Code.{code_room};
 ghost use Rattle.host_memory.specs.View.{MachineView};
 ghost use Rattle.host_run.specs.HandOver.{HandsOver};
@@ -25,7 +25,7 @@ use host_run::{every_nested_call_hands_over, every_touch_is_held};
 /// A run from a host without watchpoints, in which no function on watchpoints is served, is the host's run.
 pub fn a_run_without_watchpoints_is_the_hosts_run()
     ensures { (h : HostWorld) (n : ℕ) → ((k : ℕ) → k < n → is_watch_call (int31_call (turns h k)) ≡ false) →
-        run_with_watchpoints (unwatched h) n ≡ unwatched (run h n) }
+        run_with_watchpoints (host_without_watches h) n ≡ host_without_watches (run h n) }
 {}
 
 /// A turn with watchpoints leads from a sound host to a sound host, and the keystrokes stay bytes. So do the turns of a run, and the whole run.
@@ -71,7 +71,7 @@ pub fn every_nested_call_of_a_watched_run_hands_over()
 pub fn every_compared_touch_is_an_access()
     ensures none { (v : MachineView) → next_touches v.world ≡ None → IsErr (client_step v) }
     ensures some { (v : MachineView) (list : List ATouch) → next_touches v.world ≡ Some list → IsOk (client_step v) }
-    ensures places { (w : World) (list : List ATouch) → next_touches w ≡ Some list → touched w ≡ fetched w 0 code_room ++ touch_places w list }
+    ensures places { (w : World) (list : List ATouch) → next_touches w ≡ Some list → touched_by_step w ≡ touched_by_fetch w 0 code_room ++ touch_places w list }
 {
     only_an_event_has_no_touches();
     every_touch_is_an_access();

@@ -1,7 +1,9 @@
 //! Watchpoints: INT 31h functions 0B00h to 0B03h, and what a turn is with them.
-//! It promises that each function is its row, that the watchpoints which an instruction hits are those that cover its address, or bytes that it
-//! writes, or reads or writes, that a turn and a run with watchpoints are the model's, and that such a turn keeps what the host's own keeps.
-//! It is built on `host_run`, whose calls make its turns, and on the touches of the executing crates.
+//! It promises that each function is its row, that the watchpoints which an instruction hits are those that cover its address, or bytes
+//! that it writes, or reads or writes, that a turn and a run with watchpoints are the model's, and that such a turn keeps what the
+//! host's own keeps. It is built on `host_run`, whose calls make its turns, and on the touches of the executing crates.
+//! How a hit is found is free, and so is the quick turn while no watchpoint was set. A turn without watchpoints stays the host's own: a
+//! law says so.
 #![tactic(auto)]
 
 mod hits;
@@ -16,5 +18,5 @@ pub use laws::{
     every_watched_turn_changes_the_innermost_record_at_most, every_watched_turn_is_counted,
     every_watched_turn_is_sound,
 };
-pub use turn::{run_with_watchpoints, watch_turn, watched_run};
+pub use turn::{run_with_watchpoints, watch_turn, watch_turn_in, watched_run};
 pub use watch::Watches;

@@ -5,14 +5,16 @@ ghost use Rattle.client_world.specs.Registers.{low_half};
 ghost use Rattle.client_world.specs.WatchWorld.{WatchWorld};
 ghost use Rattle.host_run.specs.Footprint.{ChangesOnly};
 ghost use Rattle.host_run.specs.OtherTurns.{int31_call};
+ghost use Rattle.host_run.specs.View.{machine_view};
+ghost use Rattle.host_run.specs.Windows.{HasWindow};
 ghost use Rattle.watch_run.specs.Services.{is_watch_function, watch_service};
 ghost use Rattle.watch_run.specs.Turn.{after_watch_call, is_watch_call, run_with_watchpoints, delivers_hit, turn_with_watchpoints, watch_footprint, watches_after, watched_run};
 
 use crate::watch::Watches;
 use client_world::faults::DEBUG;
 use client_world::{Exit, Fault, Mode};
-use guest_space::Machine;
-use host_run::{Host, Trap, current_trap, is_at_trap};
+use guest_space::{CodeWindow, Machine};
+use host_run::{Ending, Host, is_at_trap};
 
 // Whether a function of INT 31h is one of those on watchpoints.
 fn is_watch_function(ax: u16) -> bool
@@ -102,11 +104,58 @@ fn watching_turn(h: &mut Host, w: &mut Watches) -> Result<(), Exit>
     h.turn()
 }
 
+// A turn outside the windows of code, or with watchpoints.
+#[cold]
+#[inline(never)]
+fn watching_turn_in(h: &mut Host, w: &mut Watches, window: &mut CodeWindow) -> Result<(), Ending>
+    requires no_exit { h.old.world.exit ≡ None }
+    requires room { h.old.world.steps < MAX_STEPS }
+    ensures world { record { host = h.new.world; watching = w.new }
+        ≡ turn_with_watchpoints (record { host = h.old.world; watching = w.old }) }
+    ensures bytes { ChangesOnly (watch_footprint (record { host = h.old.world; watching = w.old })) h.old.bytes h.new.bytes }
+    ensures kept { IfErr result (λ _. h.new.bytes ≡ h.old.bytes) }
+    ensures goes_on { OnOk result (h.new.world.exit ≡ None) }
+    ensures ends { IfErr result (λ exit. h.new.world.exit ≡ Some exit) }
+    ensures steps { h.new.world.steps ≤ h.old.world.steps + 1 }
+    ensures window { HasWindow (machine_view h.new) window.new }
+{
+    *window = CodeWindow::NONE;
+    watching_turn(h, w)?;
+    Ok(())
+}
+
+/// One turn, as `watch_turn` makes it, with a window of code that turns hand on.
+#[inline(always)]
+#[tactic(auto, unfolding(crate::specs::Turn::turn_with_watchpoints), using(crate::proofs::TurnParts::none_watched, crate::proofs::TurnParts::not_called))]
+pub fn watch_turn_in(h: &mut Host, w: &mut Watches, window: &mut CodeWindow) -> Result<(), Ending>
+    requires room { h.old.world.exit ≡ None → h.old.world.steps < MAX_STEPS }
+    requires window { HasWindow (machine_view h.old) window.old }
+    ensures world { record { host = h.new.world; watching = w.new }
+        ≡ turn_with_watchpoints (record { host = h.old.world; watching = w.old }) }
+    ensures bytes { ChangesOnly (watch_footprint (record { host = h.old.world; watching = w.old })) h.old.bytes h.new.bytes }
+    ensures kept { IfErr result (λ _. h.new.bytes ≡ h.old.bytes) }
+    ensures goes_on { OnOk result (h.new.world.exit ≡ None) }
+    ensures ends { IfErr result (λ exit. h.new.world.exit ≡ Some exit) }
+    ensures steps { h.new.world.steps ≤ h.old.world.steps + 1 }
+    ensures was_on { h.new.world.exit ≡ None → h.old.world.exit ≡ None }
+    ensures window { HasWindow (machine_view h.new) window.new }
+{
+    if let Some(exit) = h.exit() {
+        return Err(Ending::from(exit));
+    }
+    // Nothing is watched, no hit waits, and a client's instruction calls no function: the turn is the host's.
+    if w.is_unused() {
+        if let Some(from) = h.find_start(window) {
+            h.no_trap_in(window, from);
+            return h.turn_in_window(window, from);
+        }
+    }
+    watching_turn_in(h, w, window)
+}
+
 /// One turn of a host with its client's watchpoints. In protected mode a hit that is due is delivered as exception 1, in a turn of its own; INT 31h
 /// functions 0B00h to 0B03h are served here; any other turn is the host's, and what its instruction hits is noted. After an exit it returns
 /// that exit again and changes nothing. Source: own.
-#[inline(always)]
-#[tactic(auto, unfolding(crate::specs::Turn::turn_with_watchpoints), using(crate::proofs::TurnParts::none_watched, crate::proofs::TurnParts::not_called))]
 pub fn watch_turn(h: &mut Host, w: &mut Watches) -> Result<(), Exit>
     requires { h.old.world.exit ≡ None → h.old.world.steps < MAX_STEPS }
     ensures world { record { host = h.new.world; watching = w.new }
@@ -118,17 +167,11 @@ pub fn watch_turn(h: &mut Host, w: &mut Watches) -> Result<(), Exit>
     ensures steps { h.new.world.steps ≤ h.old.world.steps + 1 }
     ensures was_on { h.new.world.exit ≡ None → h.old.world.exit ≡ None }
 {
-    if let Some(exit) = h.exit() {
-        return Err(exit);
+    let mut window = CodeWindow::NONE;
+    match watch_turn_in(h, w, &mut window) {
+        Ok(()) => Ok(()),
+        Err(ending) => Err(ending.exit()),
     }
-    // Nothing is watched, no hit waits, and a client's instruction calls no function: the turn is the host's.
-    if w.is_unused() {
-        match current_trap(h.machine()) {
-            Trap::NoTrap => return h.turn_at(Trap::NoTrap),
-            _ => {}
-        }
-    }
-    watching_turn(h, w)
 }
 
 /// Turns up to an exit, or as many as the bound, with the exit `Bound` then. Source: own.
@@ -138,9 +181,10 @@ pub fn run_with_watchpoints(h: &mut Host, w: &mut Watches, bound: u32) -> Exit
         ≡ run_with_watchpoints (record { host = h.old.world; watching = w.old }) bound }
     ensures answer { h.new.world.exit ≡ Some result }
 {
+    let mut window = CodeWindow::NONE;
     for count in 0..bound {
-        if let Err(exit) = watch_turn(h, w) {
-            return exit;
+        if let Err(ending) = watch_turn_in(h, w, &mut window) {
+            return ending.exit();
         }
     }
     match h.exit() {

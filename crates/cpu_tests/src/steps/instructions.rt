@@ -1,6 +1,6 @@
 // Worked rows of instructions by themselves: an instruction, and what it makes of registers, flags and memory.
 ghost use Rattle.std.specs.Prelude.{◌≡◌};
-ghost use Rattle.insn_forms.specs.Kinds.{has_good_number, is_width};
+ghost use Rattle.insn_forms.specs.Kinds.{is_width};
 
 use super::{Differing, compare_all, same};
 use crate::letters::flags;
@@ -8,7 +8,7 @@ use cases::*;
 use client_world::{Event, Regs, SegReg};
 use exec_core::{is_core, run_core};
 use guest_space::Machine;
-use insn_forms::{Insn, Op};
+use insn_forms::Insn;
 use rows::families;
 use std::test::Fail;
 use steps::{ALL_OR_NOTHING, PUSHED_AND_POPPED, REPEATED, Step};
@@ -24,19 +24,12 @@ fn has_width(i: &Insn) -> bool
     i.width == 8 || (i.width == 16 || i.width == 32)
 }
 
-fn has_number(op: Op) -> bool
-    ensures { result ≡ has_good_number op }
-{
-    match op {
-        Op::Jcc(n) | Op::Setcc(n) => n < 16,
-        Op::Movzx(n) | Op::Movsx(n) => n == 8 || n == 16,
-        _ => true,
-    }
-}
-
 // Whether an instruction of two bytes that is run has this event, or none.
 fn runs_to(m: &mut Machine, insn: &Insn, event: Option<Event>) -> bool {
-    is_core(insn) && has_width(insn) && has_number(insn.op) && run_core(m, insn, 2).err() == event
+    is_core(insn)
+        && has_width(insn)
+        && insn.op.traits().numbered
+        && run_core(m, insn, 2).err() == event
 }
 
 // The memory of a case, by the segments with which each begins.

@@ -7,7 +7,7 @@ returns-in-Ok-clause-answers g c =
     let laws = c.every_run_keeps_the_laws.ensures w c.args.timer c.requires.0.sound c.requires.0.keys in
     let end = c.run_to_end-exit in
     gives_run w end.new.h.world c.args.timer c.args.bound end.result _ _ _ _ _ laws end.ensures.world end.ensures.answer
-    c.in-Ok.ensures.whole c.status_of.ensures
+    c.in-Ok.ensures.whole c.exit_status.ensures
 
 pub returns-in-Err-clause-answers : goal.returns-in-Err-clause-answers
 returns-in-Err-clause-answers g c =

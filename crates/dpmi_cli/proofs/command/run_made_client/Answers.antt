@@ -8,7 +8,7 @@ returns-in-Ok-clause-answers g c =
     let laws = c.every_run_keeps_the_laws.ensures w None c.requires.sound c.requires.keys in
     let end = c.watched_run-exit in
     gives_summary c.args.number w end.new.h.world end.result _ _ _ _ _ laws end.ensures.world end.ensures.answer
-    c.in-Ok.ensures.whole c.status_of.ensures
+    c.in-Ok.ensures.whole c.exit_status.ensures
 
 pub returns-in-Err-clause-answers : goal.returns-in-Err-clause-answers
 returns-in-Err-clause-answers g c =

@@ -1,5 +1,5 @@
 use Rattle.std.specs.Prelude.{None, Some}
-use Rattle.client_world.specs.WatchWorld.{unwatched}
+use Rattle.client_world.specs.WatchWorld.{host_without_watches}
 use Rattle.host_run.specs.RealCalls.{from_anywhere, from_client}
 use Rattle.timer_run.specs.Rounds.{timed_rounds}
 use Rattle.watch_run.specs.Turn.{turns_with_watchpoints}
@@ -13,7 +13,7 @@ returns c = λ w timer sound keys.
     elim timer as (λ t. RunKeepsTheLaws w t) [
       | None ↦
           keeps_the_laws from_client (seen_run w)
-          (λ n. c.every_touch_of_a_watched_turn_is_held.ensures (turns_with_watchpoints (unwatched w) n))
+          (λ n. c.every_touch_of_a_watched_turn_is_held.ensures (turns_with_watchpoints (host_without_watches w) n))
           (λ n. c.every_watched_turn_changes_the_innermost_record_at_most.ensures.turns w n sound keys)
           (λ n. c.every_watched_turn_is_sound.ensures.turns w n sound keys)
           order.depth order.partner order.record_stays c.every_nested_call_hands_over.ensures.matched

@@ -1,8 +1,8 @@
-use Rattle.dpmi_io.proofs.Output.{part_longer, part_then}
+use Rattle.dpmi_report.proofs.Putting.{puts_cut, puts_then}
 use Rattle.dpmi_cli.proofs.pairs.write_client.Goals as goal
 
-pub returns-in-Err-clause-part : goal.returns-in-Err-clause-part
-returns-in-Err-clause-part g c = part_longer _ _ _ _ c.in-Err.ensures.part
+pub returns-in_err-put_client_line : goal.returns-in_err-put_client_line
+returns-in_err-put_client_line g c = puts_cut _ _ c.from_residual.ensures.0 c.in_err-put_client_line.ensures
 
-pub returns-in-Err-write_all_of-clause-part : goal.returns-in-Err-write_all_of-clause-part
-returns-in-Err-write_all_of-clause-part g c = part_then _ _ _ _ _ c.in-Ok.ensures.whole c.in-Err-write_all_of.ensures.part
+pub returns : goal.returns
+returns g c = puts_then _ c.in_ok-put_client_line.ensures c.write_all_of.ensures

@@ -1,5 +1,6 @@
 use Rattle.std.proofs.Common.{◌≡◌, ◌∙◌, map, string_bytes, sym, ap, refl}
 use Rattle.std.specs.Prelude.{Some, None, option_map}
+use Rattle.std.proofs.lemmas.Result.{IfOk-weaker}
 use Rattle.dpmi_words.specs.Meaning.{Pairs, Runs, Soaks, meaning, meaning_in, pair_in, run_in}
 use Rattle.dpmi_cli.proofs.Files.{meaning_comes, sure_comes}
 use Rattle.dpmi_cli.proofs.Ranges.{pair_ranges, run_ranges}
@@ -11,21 +12,22 @@ prepare_run-requires g c =
     sym c.in_ok-run.ensures ∙ ap (option_map meaning_in) (c.in-Some-Run.is ∙ ap Some c.in-Some-Run.field-0-is) in
     run_ranges (map string_bytes c.args.words.now) (run_in c.in-Some-Run.run') is
 
-pub returns-in-Ok-clause-verdict : goal.returns-in-Ok-clause-verdict
-returns-in-Ok-clause-verdict g c =
+pub returns-in-Some-Run-clause-verdict : goal.returns-in-Some-Run-clause-verdict
+returns-in-Some-Run-clause-verdict g c =
     let is : meaning (map string_bytes c.args.words.now) ≡ Some (Runs (run_in c.in-Some-Run.run')) =
     sym c.in_ok-run.ensures ∙ ap (option_map meaning_in) (c.in-Some-Run.is ∙ ap Some c.in-Some-Run.field-0-is) in
-    meaning_comes (map string_bytes c.args.words.now) (Some (Runs (run_in c.in-Some-Run.run'))) _ _ is c.in-Ok.ensures.verdict
+    IfOk-weaker c.prepare_run.result _ _
+    (λ p h. meaning_comes (map string_bytes c.args.words.now) (Some (Runs (run_in c.in-Some-Run.run'))) _ _ is h) c.prepare_run.ensures.verdict
 
-pub returns-in-Some-Soak-clause-verdict : goal.returns-in-Some-Soak-clause-verdict
-returns-in-Some-Soak-clause-verdict g c =
+pub returns-in_ok-prepare_soak-in-Some-Soak-clause-verdict : goal.returns-in_ok-prepare_soak-in-Some-Soak-clause-verdict
+returns-in_ok-prepare_soak-in-Some-Soak-clause-verdict g c =
     let is : meaning (map string_bytes c.args.words.now) ≡ Some (Soaks c.in-Some-Soak.number) =
     sym c.in_ok-run.ensures ∙ ap (option_map meaning_in) (c.in-Some-Soak.is ∙ ap Some c.in-Some-Soak.field-0-is) in
     sure_comes (map string_bytes c.args.words.now) (Some (Soaks c.in-Some-Soak.number)) _ _ is
     (λ first second. ap Some (sym c.in_ok-prepare_soak-in-Some-Soak.ensures.verdict))
 
-pub returns-clause-verdict : goal.returns-clause-verdict
-returns-clause-verdict g c =
+pub returns-in-None-clause-verdict : goal.returns-in-None-clause-verdict
+returns-in-None-clause-verdict g c =
     let is : meaning (map string_bytes c.args.words.now) ≡ None = sym c.in_ok-run.ensures ∙ ap (option_map meaning_in) c.in-None.is in
     sure_comes (map string_bytes c.args.words.now) None _ _ is (λ first second. refl)
 
@@ -35,8 +37,9 @@ prepare_pair-requires g c =
     sym c.in_ok-run.ensures ∙ ap (option_map meaning_in) (c.in-Some-Pair.is ∙ ap Some c.in-Some-Pair.field-0-is) in
     pair_ranges (map string_bytes c.args.words.now) (pair_in c.in-Some-Pair.pair) is
 
-pub returns-in-Ok-prepare_pair-clause-verdict : goal.returns-in-Ok-prepare_pair-clause-verdict
-returns-in-Ok-prepare_pair-clause-verdict g c =
+pub returns-in-Some-Pair-clause-verdict : goal.returns-in-Some-Pair-clause-verdict
+returns-in-Some-Pair-clause-verdict g c =
     let is : meaning (map string_bytes c.args.words.now) ≡ Some (Pairs (pair_in c.in-Some-Pair.pair)) =
     sym c.in_ok-run.ensures ∙ ap (option_map meaning_in) (c.in-Some-Pair.is ∙ ap Some c.in-Some-Pair.field-0-is) in
-    meaning_comes (map string_bytes c.args.words.now) (Some (Pairs (pair_in c.in-Some-Pair.pair))) _ _ is c.in-Ok-prepare_pair.ensures.verdict
+    IfOk-weaker c.prepare_pair.result _ _
+    (λ p h. meaning_comes (map string_bytes c.args.words.now) (Some (Pairs (pair_in c.in-Some-Pair.pair))) _ _ is h) c.prepare_pair.ensures.verdict

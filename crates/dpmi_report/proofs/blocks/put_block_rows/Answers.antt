@@ -1,7 +1,8 @@
 use Rattle.std.proofs.Common.{◌∙◌, refl}
 use Rattle.client_world.specs.declared.limits.TheConstants.{MAX_BLOCKS}
 use Rattle.dpmi_report.specs.Lines.{block_row}
-use Rattle.dpmi_report.proofs.Sequence.{gains_none, row_gained, row_failed}
+use Rattle.dpmi_report.proofs.Putting.{row_cut}
+use Rattle.dpmi_report.proofs.Sequence.{gains_none, row_gained}
 use Rattle.dpmi_report.proofs.blocks.put_block_rows.Goals as goal
 
 pub loop-place-init : goal.loop-place-init
@@ -9,10 +10,11 @@ loop-place-init g c = (gains_none (block_row c.args.machine.now.world.blocks) _,
 
 pub loop-place-preserved : goal.loop-place-preserved
 loop-place-preserved g c = (
-  row_gained (block_row c.args.machine.now.world.blocks) c.loop-place.place _ _ _ c.loop-place.invariant.0 c.in-Ok.ensures.whole,
-  c.in-Ok.ensures.quiet ∙ c.loop-place.invariant.1,
+  row_gained (block_row c.args.machine.now.world.blocks) c.loop-place.place _ _ _ c.loop-place.invariant.0 c.in_ok-put_block.ensures.whole,
+  c.in_ok-put_block.ensures.quiet ∙ c.loop-place.invariant.1,
 )
 
-pub returns-in-Err-clause-part : goal.returns-in-Err-clause-part
-returns-in-Err-clause-part g c =
-    row_failed (block_row c.args.machine.now.world.blocks) c.loop-place.place MAX_BLOCKS _ _ _ c.loop-place-test.true c.loop-place.invariant.0 c.in-Err.ensures.part
+pub returns-in_err-put_block : goal.returns-in_err-put_block
+returns-in_err-put_block g c =
+    row_cut (block_row c.args.machine.now.world.blocks) c.loop-place.place MAX_BLOCKS _ c.from_residual.ensures.0 c.loop-place-test.true c.loop-place.invariant.0
+    c.loop-place.invariant.1 c.in_err-put_block.ensures

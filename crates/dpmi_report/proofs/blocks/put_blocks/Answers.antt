@@ -1,11 +1,8 @@
-use Rattle.dpmi_io.proofs.Output.{gains_then, part_then, part_longer}
+use Rattle.dpmi_report.proofs.Putting.{puts_cut, puts_then}
 use Rattle.dpmi_report.proofs.blocks.put_blocks.Goals as goal
 
-pub returns-in-Err-clause-part : goal.returns-in-Err-clause-part
-returns-in-Err-clause-part g c = part_longer _ _ _ _ c.in-Err.ensures.part
+pub returns-in_err-put_blocks_head : goal.returns-in_err-put_blocks_head
+returns-in_err-put_blocks_head g c = puts_cut _ _ c.from_residual.ensures.0 c.in_err-put_blocks_head.ensures
 
-pub returns-in-Ok-put_block_rows-clause-whole : goal.returns-in-Ok-put_block_rows-clause-whole
-returns-in-Ok-put_block_rows-clause-whole g c = gains_then _ _ _ _ _ c.in-Ok.ensures.whole c.in-Ok-put_block_rows.ensures.whole
-
-pub returns-in-Err-put_block_rows-clause-part : goal.returns-in-Err-put_block_rows-clause-part
-returns-in-Err-put_block_rows-clause-part g c = part_then _ _ _ _ _ c.in-Ok.ensures.whole c.in-Err-put_block_rows.ensures.part
+pub returns : goal.returns
+returns g c = puts_then _ c.in_ok-put_blocks_head.ensures c.put_block_rows.ensures

@@ -1,11 +1,8 @@
-use Rattle.dpmi_io.proofs.Output.{gains_then, part_then, part_longer}
+use Rattle.dpmi_report.proofs.Putting.{puts_cut, puts_then}
 use Rattle.dpmi_report.proofs.parts.put_trace.Goals as goal
 
-pub returns-in-Err-clause-part : goal.returns-in-Err-clause-part
-returns-in-Err-clause-part g c = part_longer _ _ _ _ c.in-Err.ensures.part
+pub returns-in_err-put_trace_head : goal.returns-in_err-put_trace_head
+returns-in_err-put_trace_head g c = puts_cut _ _ c.from_residual.ensures.0 c.in_err-put_trace_head.ensures
 
-pub returns-in-Ok-put_events-clause-whole : goal.returns-in-Ok-put_events-clause-whole
-returns-in-Ok-put_events-clause-whole g c = gains_then _ _ _ _ _ c.in-Ok.ensures.whole c.in-Ok-put_events.ensures.whole
-
-pub returns-in-Err-put_events-clause-part : goal.returns-in-Err-put_events-clause-part
-returns-in-Err-put_events-clause-part g c = part_then _ _ _ _ _ c.in-Ok.ensures.whole c.in-Err-put_events.ensures.part
+pub returns : goal.returns
+returns g c = puts_then _ c.in_ok-put_trace_head.ensures c.put_events.ensures

@@ -1,17 +1,11 @@
-use Rattle.dpmi_io.proofs.Output.{gains_then, part_then, part_longer}
+use Rattle.dpmi_report.proofs.Putting.{puts_cut, puts_cut_early, puts_then}
 use Rattle.dpmi_report.proofs.report.write_all_at.Goals as goal
 
-pub returns-in-Err-clause-part : goal.returns-in-Err-clause-part
-returns-in-Err-clause-part g c = part_longer _ _ _ _ (part_longer _ _ _ _ c.in-Err.ensures.part)
+pub returns-in_err-write_run : goal.returns-in_err-write_run
+returns-in_err-write_run g c = puts_cut_early _ _ _ c.from_residual.ensures.0 c.in_err-write_run.ensures
 
-pub returns-in-Err-write_state_of-clause-part : goal.returns-in-Err-write_state_of-clause-part
-returns-in-Err-write_state_of-clause-part g c =
-    part_longer _ _ _ _ (part_then _ _ _ _ _ c.in-Ok.ensures.whole c.in-Err-write_state_of.ensures.part)
+pub returns-in_err-write_state_of : goal.returns-in_err-write_state_of
+returns-in_err-write_state_of g c = puts_cut _ _ c.from_residual-in_err-write_state_of.ensures.0 (puts_then _ c.in_ok-write_run.ensures c.in_err-write_state_of.ensures)
 
-pub returns-in-Ok-write_memory_of-clause-whole : goal.returns-in-Ok-write_memory_of-clause-whole
-returns-in-Ok-write_memory_of-clause-whole g c =
-    gains_then _ _ _ _ _ (gains_then _ _ _ _ _ c.in-Ok.ensures.whole c.in-Ok-write_state_of.ensures.whole) c.in-Ok-write_memory_of.ensures.whole
-
-pub returns-in-Err-write_memory_of-clause-part : goal.returns-in-Err-write_memory_of-clause-part
-returns-in-Err-write_memory_of-clause-part g c =
-    part_then _ _ _ _ _ (gains_then _ _ _ _ _ c.in-Ok.ensures.whole c.in-Ok-write_state_of.ensures.whole) c.in-Err-write_memory_of.ensures.part
+pub returns : goal.returns
+returns g c = puts_then _ (puts_then _ c.in_ok-write_run.ensures c.in_ok-write_state_of.ensures) c.write_memory_of.ensures

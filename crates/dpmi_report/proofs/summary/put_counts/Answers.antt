@@ -1,17 +1,11 @@
-use Rattle.dpmi_io.proofs.Output.{gains_then, part_then, part_longer}
+use Rattle.dpmi_report.proofs.Putting.{puts_cut, puts_cut_early, puts_then}
 use Rattle.dpmi_report.proofs.summary.put_counts.Goals as goal
 
-pub returns-in-Err-clause-part : goal.returns-in-Err-clause-part
-returns-in-Err-clause-part g c = part_longer _ _ _ _ (part_longer _ _ _ _ c.in-Err.ensures.part)
+pub returns-in_err-put_soak : goal.returns-in_err-put_soak
+returns-in_err-put_soak g c = puts_cut_early _ _ _ c.from_residual.ensures.0 c.in_err-put_soak.ensures
 
-pub returns-in-Err-put_exit-clause-part : goal.returns-in-Err-put_exit-clause-part
-returns-in-Err-put_exit-clause-part g c =
-    part_longer _ _ _ _ (part_then _ _ _ _ _ c.in-Ok.ensures.whole c.in-Err-put_exit.ensures.part)
+pub returns-in_err-put_exit : goal.returns-in_err-put_exit
+returns-in_err-put_exit g c = puts_cut _ _ c.from_residual-in_err-put_exit.ensures.0 (puts_then _ c.in_ok-put_soak.ensures c.in_err-put_exit.ensures)
 
-pub returns-in-Ok-put_services-clause-whole : goal.returns-in-Ok-put_services-clause-whole
-returns-in-Ok-put_services-clause-whole g c =
-    gains_then _ _ _ _ _ (gains_then _ _ _ _ _ c.in-Ok.ensures.whole c.in-Ok-put_exit.ensures.whole) c.in-Ok-put_services.ensures.whole
-
-pub returns-in-Err-put_services-clause-part : goal.returns-in-Err-put_services-clause-part
-returns-in-Err-put_services-clause-part g c =
-    part_then _ _ _ _ _ (gains_then _ _ _ _ _ c.in-Ok.ensures.whole c.in-Ok-put_exit.ensures.whole) c.in-Err-put_services.ensures.part
+pub returns : goal.returns
+returns g c = puts_then _ (puts_then _ c.in_ok-put_soak.ensures c.in_ok-put_exit.ensures) c.put_services.ensures

@@ -1,7 +1,7 @@
 use Rattle.std.proofs.Common.{◌≡◌, drop}
 use Rattle.dpmi_words.specs.Reading.{is_option_name}
-use Rattle.dpmi_words.specs.Seen.{texts}
+use Rattle.dpmi_words.specs.Seen.{names_of}
 use Rattle.dpmi_words.proofs.check.is_option_name.Given as goal
 
-abbrev pub invariant-loop-n : goal.invariant-loop-n
-invariant-loop-n l = is_option_name (texts l.names) l.name ≡ is_option_name (texts (drop l.n-index l.names)) l.name
+abbrev pub invariant-loop-option : goal.invariant-loop-option
+invariant-loop-option l = is_option_name (names_of l.options) l.name ≡ is_option_name (names_of (drop l.option-index l.options)) l.name

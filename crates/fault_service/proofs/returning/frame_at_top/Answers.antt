@@ -1,7 +1,7 @@
 use Rattle.std.proofs.Common.{rules}
-use Rattle.fault_service.specs.Return.{exception_popped}
+use Rattle.fault_service.specs.Return.{exception_frame_pop}
 use Rattle.fault_service.proofs.returning.frame_at_top.Goals as goal
 
 pub returns : goal.returns
-unfolding exception_popped
+unfolding exception_frame_pop
 returns c = search rules

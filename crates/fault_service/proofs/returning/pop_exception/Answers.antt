@@ -1,14 +1,14 @@
 use Rattle.std.proofs.Common.{rules, ◌≡◌, ◌∙◌, Ok}
-use Rattle.guest_space.specs.Pending.{first_refusal, all_written}
+use Rattle.guest_space.specs.Pending.{first_write_fault, after_writes}
 use Rattle.insn_plan.proofs.Settled.{carried_by}
 use Rattle.insn_plan.specs.Plan.{after_commit}
-use Rattle.fault_service.specs.Return.{exception_left}
+use Rattle.fault_service.specs.Return.{pending_of_exception_frame}
 use Rattle.fault_service.proofs.returning.pop_exception.Goals as goal
 
 pub returns : goal.returns
-unfolding first_refusal all_written after_commit
+unfolding first_write_fault after_writes after_commit
 returns c =
     let frame = c.in_ok-frame.frame in
-    let left = exception_left c.args.m.now.world frame.ip frame.cs frame.image frame.sp frame.ss in
+    let left = pending_of_exception_frame c.args.m.now.world frame.ip frame.cs frame.image frame.sp frame.ss in
     let made : after_commit c.args.m.now left ≡ Ok c.set_vif.new.self = search rules in
     carried_by _ _ _ c.in_ok-frame.ensures ∙ made

@@ -4,7 +4,7 @@ use Rattle.client_world.specs.DosMemory.{IsArena}
 use Rattle.guest_ram.proofs.PutLaws.{length-put}
 use Rattle.host_memory.specs.DosList.{arena_in}
 use Rattle.host_memory.specs.Layout.{arena_part}
-use Rattle.guest_space.specs.Arena.{spliced, arena_bytes}
+use Rattle.guest_space.specs.Arena.{with_replaced_entries, arena_bytes}
 use Rattle.guest_space.proofs.ArenaLists.{length-arena_in}
 use Rattle.guest_space.proofs.ArenaReads.{list_start}
 use Rattle.guest_space.proofs.ArenaSplices.{length-spliced}
@@ -29,7 +29,7 @@ pub write_headers-requires : goal.write_headers-requires
 write_headers-requires c =
     let b = c.args.ram.now in
     let es = arena_in (arena_part b) in
-    let new = spliced es c.args.place c.args.old c.args.new.now.items in
+    let new = with_replaced_entries es c.args.place c.args.old c.args.new.now.items in
     let replaced = replaced_is b c.replace_entries.new.ram es c.args.place c.args.old c.as_slice-entries.result.now c.args.new.now.items refl
     c.as_slice-entries.ensures.value c.replace_entries.ensures in
     let size = ap (λ (xs : List DosEntry). length xs) c.as_slice-entries.ensures.value in
@@ -48,7 +48,7 @@ pub returns : goal.returns
 returns c =
     let b = c.args.ram.now in
     let es = arena_in (arena_part b) in
-    written_is b c.replace_entries.new.ram c.write_headers.new.ram (spliced es c.args.place c.args.old c.args.new.now.items) c.requires.frames c.requires.sound
+    written_is b c.replace_entries.new.ram c.write_headers.new.ram (with_replaced_entries es c.args.place c.args.old c.args.new.now.items) c.requires.frames c.requires.sound
     (replaced_is b c.replace_entries.new.ram es c.args.place c.args.old c.as_slice-entries.result.now c.args.new.now.items refl
     c.as_slice-entries.ensures.value c.replace_entries.ensures)
     c.write_headers.ensures

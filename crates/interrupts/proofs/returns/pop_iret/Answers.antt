@@ -1,13 +1,13 @@
 use Rattle.std.proofs.Common.{rules}
 use Rattle.client_world.specs.declared.outcome.Exit.TheVariants.{BadFrame}
-use Rattle.interrupts.specs.Delivery.{iret_popped}
+use Rattle.interrupts.specs.Delivery.{after_iret}
 use Rattle.interrupts.proofs.Alone.{popped_ok, popped_err}
 use Rattle.interrupts.proofs.returns.pop_iret.Goals as goal
 
 pub returns-in-Ok-clause-world : goal.returns-in-Ok-clause-world
-unfolding iret_popped
+unfolding after_iret
 returns-in-Ok-clause-world c = popped_ok c.args.m.now c.pop_frame.new.m (search rules)
 
 pub returns-in-Err-clause-world : goal.returns-in-Err-clause-world
-unfolding iret_popped
+unfolding after_iret
 returns-in-Err-clause-world c = popped_err c.args.m.now BadFrame (search rules)

@@ -1,6 +1,6 @@
 use Rattle.std.proofs.Common.{ℕ, ◌+◌, ◌-◌, ◌*◌, sym, ap, ◌∙◌, arith, List}
 use Rattle.client_world.specs.World.{World}
-use Rattle.mz_loader.specs.Start.{relocated, all_relocated}
+use Rattle.mz_loader.specs.Start.{after_relocation, after_relocations}
 use Rattle.mz_loader.proofs.Relocating.{some_beyond_next, within_limit, all_relocated_next, all_relocated_end}
 use Rattle.mz_loader.proofs.DosBytes.{dos_only}
 use Rattle.mz_loader.proofs.relocations.relocate_from.Goals as goal
@@ -17,8 +17,8 @@ loop-i-preserved c =
     let within = within_limit file c.args.limit c.args.at c.args.n i c.loop-i-test.true c.loop-i.invariant.within in
     record {
       within = sym (some_beyond_next file c.args.limit c.args.at c.args.n i c.loop-i-test.true within) ∙ c.loop-i.invariant.within;
-      dos = ap (λ (w : World). all_relocated file (c.args.at + 4 * (i + 1)) (c.args.n - (i + 1)) w.dos) c.relocate_word.ensures
-          ∙ ap (λ (target : ℕ). all_relocated file (c.args.at + 4 * (i + 1)) (c.args.n - (i + 1)) (relocated c.loop-i.m.world.dos target)) c.relocation_target-target.ensures.target
+      dos = ap (λ (w : World). after_relocations file (c.args.at + 4 * (i + 1)) (c.args.n - (i + 1)) w.dos) c.relocate_word.ensures
+          ∙ ap (λ (target : ℕ). after_relocations file (c.args.at + 4 * (i + 1)) (c.args.n - (i + 1)) (after_relocation c.loop-i.m.world.dos target)) c.relocation_target-target.ensures.target
           ∙ sym (all_relocated_next file c.args.at c.args.n i c.loop-i.m.world.dos c.loop-i-test.true)
           ∙ c.loop-i.invariant.dos;
       kept = dos_only c.args.m.now.world c.loop-i.m.world c.relocate_word.new.m.world _ c.loop-i.invariant.kept c.relocate_word.ensures;

@@ -1,4 +1,5 @@
-use Rattle.std.proofs.Common.{arith, ◌∙◌, ap, sym}
+use Rattle.std.proofs.Common.{arith, ◌∙◌, ap, refl, sym}
+use Rattle.host_run.proofs.WindowStarts.{no_starts}
 use Rattle.host_run.specs.View.{HostView}
 use Rattle.timer_run.specs.Timer.{TimerState}
 use Rattle.timer_run.proofs.Runs.{bounded_exit, run_bounded, run_ended, run_goes_on, run_over, run_starts}
@@ -10,31 +11,36 @@ loop-count-init c = (
   ap (λ (t : TimerState). t.every) c.new-timer.ensures,
   omega arith,
   λ none. none,
+  no_starts _ _ refl,
 )
 
-pub round_with_timer-requires : goal.round_with_timer-requires
-round_with_timer-requires c none = let room = c.requires.room (c.loop-count.invariant.3 none) in omega arith
+pub round_in-requires : goal.round_in-requires
+round_in-requires c = record {
+  room = λ none. let room = c.requires.room (c.loop-count.invariant.3 none) in omega arith;
+  window = c.loop-count.invariant.4;
+}
 
 pub loop-count-preserved : goal.loop-count-preserved
 loop-count-preserved c = (
   run_goes_on c.args.every c.loop-count.timer.every c.args.host.now.world c.loop-count.count _ _ c.loop-count.invariant.0 c.loop-count.invariant.1
-      c.round_with_timer.ensures.world,
-  c.round_with_timer.ensures.every ∙ c.loop-count.invariant.1,
+      c.round_in.ensures.world,
+  c.round_in.ensures.every ∙ c.loop-count.invariant.1,
   omega arith,
-  λ none. c.loop-count.invariant.3 (c.round_with_timer.ensures.was_on none),
+  λ none. c.loop-count.invariant.3 (c.round_in.ensures.was_on none),
+  c.round_in.ensures.window,
 )
 
 pub returns-in-Err-clause-world : goal.returns-in-Err-clause-world
 returns-in-Err-clause-world c =
-    run_ended c.args.every c.args.host.now.world c.args.bound c.loop-count.count c.in-Err.exit _
+    run_ended c.args.every c.args.host.now.world c.args.bound c.loop-count.count c.in-Err.ending _
     (run_goes_on c.args.every c.loop-count.timer.every c.args.host.now.world c.loop-count.count _ _ c.loop-count.invariant.0 c.loop-count.invariant.1
-    c.round_with_timer.ensures.world)
+    c.round_in.ensures.world)
     c.loop-count-test.true c.in-Err.ensures.ends
 
 pub returns-in-Some-clause-world : goal.returns-in-Some-clause-world
 returns-in-Some-clause-world c =
     run_over c.args.every c.args.host.now.world c.args.bound c.loop-count.count c.in-Some.exit _ c.loop-count.invariant.0
-    (omega (arith, c.loop-count-test.false, c.loop-count.auto.count-end)) (sym c.exit.ensures ∙ c.in-Some.is)
+    (omega (arith, c.loop-count-test.false, c.loop-count.auto.count-end)) (sym c.exit-2.ensures ∙ c.in-Some.is)
 
 pub returns-in-None-clause-world : goal.returns-in-None-clause-world
 returns-in-None-clause-world c =
@@ -44,4 +50,4 @@ returns-in-None-clause-world c =
 
 pub returns-in-None-clause-answer : goal.returns-in-None-clause-answer
 returns-in-None-clause-answer c =
-    ap (λ (v : HostView). v.world.exit) c.stop_bound.ensures ∙ bounded_exit c.loop-count.host.world (sym c.exit.ensures ∙ c.in-None.is)
+    ap (λ (v : HostView). v.world.exit) c.stop_bound.ensures ∙ bounded_exit c.loop-count.host.world (sym c.exit-2.ensures ∙ c.in-None.is)

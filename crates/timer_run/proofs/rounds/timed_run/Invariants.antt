@@ -1,4 +1,6 @@
 use Rattle.std.proofs.Common.{◌≡◌, ◌≤◌, ◌+◌, None}
+use Rattle.host_run.specs.View.{machine_view}
+use Rattle.host_run.specs.Windows.{HasWindow}
 use Rattle.timer_run.specs.Rounds.{timed_rounds}
 use Rattle.timer_run.proofs.rounds.timed_run.Given as goal
 
@@ -9,3 +11,4 @@ invariant-loop-count l =
     × (l.timer.every ≡ l.every)
     × (l.host.world.steps ≤ l.fn.host.world.steps + l.count)
     × (l.host.world.exit ≡ None → l.fn.host.world.exit ≡ None)
+    × HasWindow (machine_view l.host) l.window

@@ -2,7 +2,7 @@ use Rattle.std.proofs.Common.{◌+◌, ◌≤◌, ◌∙◌, ap, subst, List, le
 use Rattle.client_world.specs.declared.dos_memory.DosEntry.{DosEntry}
 use Rattle.client_world.specs.DosMemory.{IsArena}
 use Rattle.host_memory.specs.View.{MachineView}
-use Rattle.guest_space.specs.Arena.{spliced}
+use Rattle.guest_space.specs.Arena.{with_replaced_entries}
 use Rattle.guest_space.specs.Machines.{Processor}
 use Rattle.guest_space.proofs.ArenaWrites.{with_arena, arena_of, entries_holds, entries_world, entries_sound, put_is, with_entries_rows, with_entries_blocks}
 use Rattle.client_world.specs.World.{World, MemoryBlock}
@@ -25,7 +25,7 @@ put_entries-requires-clause-sound c =
     let m = c.self.inside in
     let v = c.args.self.now in
     let k : Processor = record { budget = m.pages; mode = m.mode; regs = m.regs; vif = m.vif; width = m.width } in
-    subst (λ (es : List DosEntry). IsArena (spliced es c.args.place c.args.old c.args.new.now.items)) (arena_of k m.ram v c.self.view_is) c.requires.sound
+    subst (λ (es : List DosEntry). IsArena (with_replaced_entries es c.args.place c.args.old c.args.new.now.items)) (arena_of k m.ram v c.self.view_is) c.requires.sound
 
 pub invariant_of-self : goal.invariant_of-self
 invariant_of-self c =
@@ -50,7 +50,7 @@ invariant_of-self c =
           ∙ ap (λ (bs : List (Option MemoryBlock)). place_in bs lin) (with_entries_blocks v.world c.args.place c.args.old c.args.new.now.items)
           ∙ ap (λ (x : MachineView). place_in x.world.blocks lin) (sym c.self.view_is))
           (subst (λ (b : List ℕ). (p : Place) → address_of b p ≡ address_of m.ram p) (sym written)
-          (arena_addresses m.ram m.pages (spliced v.world.arena c.args.place c.args.old c.args.new.now.items) c.self.invariant.0 c.requires.sound))
+          (arena_addresses m.ram m.pages (with_replaced_entries v.world.arena c.args.place c.args.old c.args.new.now.items) c.self.invariant.0 c.requires.sound))
           c.self.invariant.3,
     )
 
@@ -70,4 +70,4 @@ returns-clause-bytes c =
     let k : Processor = record { budget = m.pages; mode = m.mode; regs = m.regs; vif = m.vif; width = m.width } in
     put_is c.args.self.now.world.arena _ m.ram c.put_entries.new.ram c.args.place c.args.old c.args.new.now.items
     (arena_of k m.ram v c.self.view_is) c.put_entries.ensures
-    ∙ ap (λ (x : MachineView). with_arena x.bytes (spliced v.world.arena c.args.place c.args.old c.args.new.now.items)) c.self.view_is
+    ∙ ap (λ (x : MachineView). with_arena x.bytes (with_replaced_entries v.world.arena c.args.place c.args.old c.args.new.now.items)) c.self.view_is

@@ -5,7 +5,7 @@ use Rattle.client_world.specs.DosMemory.{IsArena}
 use Rattle.client_world.specs.World.{World, MemoryBlock}
 use Rattle.host_memory.specs.Layout.{address_of}
 use Rattle.host_memory.specs.View.{MachineView}
-use Rattle.guest_space.specs.Arena.{spliced}
+use Rattle.guest_space.specs.Arena.{with_replaced_entries}
 use Rattle.guest_space.specs.Machines.{Processor}
 use Rattle.guest_space.proofs.ArenaWrites.{arena_of, entries_holds, put_is, with_entries_blocks}
 use Rattle.guest_space.proofs.CacheLaws.{kept_warm}
@@ -24,7 +24,7 @@ put_entries-requires-clause-sound c =
     let m = c.self.inside in
     let v = c.args.self.now in
     let k : Processor = record { budget = m.pages; mode = m.mode; regs = m.regs; vif = m.vif; width = m.width } in
-    subst (λ (es : List DosEntry). IsArena (spliced es c.args.place c.args.old c.args.new.now.items)) (arena_of k m.ram v c.self.view_is) c.requires.arena
+    subst (λ (es : List DosEntry). IsArena (with_replaced_entries es c.args.place c.args.old c.args.new.now.items)) (arena_of k m.ram v c.self.view_is) c.requires.arena
 
 pub put_dos_rows-requires-clause-rows : goal.put_dos_rows-requires-clause-rows
 put_dos_rows-requires-clause-rows c =

@@ -1,6 +1,6 @@
 use Rattle.std.proofs.Common.{◌-◌, arith, ap, Some}
 use Rattle.client_world.specs.World.{World, block_at}
-use Rattle.block_memory.specs.BlockSizes.{extended, fresh_block}
+use Rattle.block_memory.specs.BlockSizes.{block_with_zero_pages, fresh_block}
 use Rattle.guest_space.specs.Machines.{Processor, held_world}
 use Rattle.guest_space.proofs.BlockCalls.{block_call, held_after_make, made_block, may_make}
 use Rattle.host_memory.specs.View.{MachineView}
@@ -20,7 +20,7 @@ invariant_of-self c =
     let k : Processor = record { budget = m.pages; mode = m.mode; regs = m.regs; vif = m.vif; width = m.width } in
     let w = c.args.self.now.world in
     let done = block_call k m.ram c.args.self.now c.self.view_is c.extend_block.new.ram c.self.invariant.0 c.self.invariant.1 c.args.handle
-    (λ o. extended c.args.base o (c.args.pages - 0)) (Some (fresh_block c.args.base c.args.pages)) c.requires.some c.extend_block.ensures c.requires.width
+    (λ o. block_with_zero_pages c.args.base o (c.args.pages - 0)) (Some (fresh_block c.args.base c.args.pages)) c.requires.some c.extend_block.ensures c.requires.width
     (made_block c.args.base c.args.pages (block_at w.blocks c.args.handle) c.requires.free c.requires.room.some) in (
       done.holds,
       done.sound,
@@ -35,7 +35,7 @@ returns-clause-world c =
     let k : Processor = record { budget = m.pages; mode = m.mode; regs = m.regs; vif = m.vif; width = m.width } in
     let w = c.args.self.now.world in
     let done = block_call k m.ram c.args.self.now c.self.view_is c.extend_block.new.ram c.self.invariant.0 c.self.invariant.1 c.args.handle
-    (λ o. extended c.args.base o (c.args.pages - 0)) (Some (fresh_block c.args.base c.args.pages)) c.requires.some c.extend_block.ensures c.requires.width
+    (λ o. block_with_zero_pages c.args.base o (c.args.pages - 0)) (Some (fresh_block c.args.base c.args.pages)) c.requires.some c.extend_block.ensures c.requires.width
     (made_block c.args.base c.args.pages (block_at w.blocks c.args.handle) c.requires.free c.requires.room.some) in
     done.world
 
@@ -45,7 +45,7 @@ returns-clause-addresses c =
     let k : Processor = record { budget = m.pages; mode = m.mode; regs = m.regs; vif = m.vif; width = m.width } in
     let w = c.args.self.now.world in
     let done = block_call k m.ram c.args.self.now c.self.view_is c.extend_block.new.ram c.self.invariant.0 c.self.invariant.1 c.args.handle
-    (λ o. extended c.args.base o (c.args.pages - 0)) (Some (fresh_block c.args.base c.args.pages)) c.requires.some c.extend_block.ensures c.requires.width
+    (λ o. block_with_zero_pages c.args.base o (c.args.pages - 0)) (Some (fresh_block c.args.base c.args.pages)) c.requires.some c.extend_block.ensures c.requires.width
     (made_block c.args.base c.args.pages (block_at w.blocks c.args.handle) c.requires.free c.requires.room.some) in
     let handles = c.soundness.ensures.blocks.handles in let most = c.requires.most in
     λ p held. done.addresses p held (held_after_make w (held_world k c.extend_block.new.ram) c.args.handle (Some (fresh_block c.args.base c.args.pages)) c.requires.some

@@ -1,5 +1,5 @@
 use Rattle.std.proofs.Common.{◌∙◌, ◌+◌, sym, ap, refl, drop}
-use Rattle.guest_space.specs.Pending.{first_refusal}
+use Rattle.guest_space.specs.Pending.{first_write_fault}
 use Rattle.guest_space.proofs.Writes.{left_from, none_refused, left_none, left_written, none_left}
 use Rattle.guest_space.proofs.machine.Machine.write_probed.Goals as goal
 
@@ -9,7 +9,7 @@ loop-x-init c = record { none = sym c.first_fault.ensures ∙ c.in_default.is; l
 pub make_probed-requires : goal.make_probed-requires
 make_probed-requires c =
     (none_refused c.loop-x.self.world _ (drop (c.loop-x.x-index + 1) c.args.writes.now)
-    (sym (ap (first_refusal c.loop-x.self.world) (left_from c.args.writes.now c.loop-x.x-index _ c.loop-x-test.true)) ∙ c.loop-x.invariant.none)).first
+    (sym (ap (first_write_fault c.loop-x.self.world) (left_from c.args.writes.now c.loop-x.x-index _ c.loop-x-test.true)) ∙ c.loop-x.invariant.none)).first
 
 pub loop-x-preserved : goal.loop-x-preserved
 loop-x-preserved c = record {

@@ -1,34 +1,39 @@
 use Rattle.std.proofs.Common.{arith, refl, sym, ◌∙◌, ap, rules}
 use Rattle.host_run.specs.Run.{turns}
 use Rattle.host_run.specs.Turn.{turn}
+use Rattle.host_run.proofs.WindowStarts.{no_starts}
 use Rattle.host_run.proofs.Runs.{kept_first, kept_next, kept_none, run_ended, turns_more}
 use Rattle.host_run.proofs.host.Host.run.Goals as goal
 
 pub loop-count-init : goal.loop-count-init
 unfolding turns
-loop-count-init c = (refl, omega arith, λ h. h, kept_first c.args.self.now)
+loop-count-init c = (refl, omega arith, λ h. h, kept_first c.args.self.now, no_starts _ _ refl)
 
-pub turn-requires : goal.turn-requires
-turn-requires c none = let room = c.requires (c.loop-count.invariant.2 none) in omega arith
+pub turn_in-requires : goal.turn_in-requires
+turn_in-requires c = record {
+  room = λ none. let room = c.requires (c.loop-count.invariant.2 none) in omega arith;
+  window = c.loop-count.invariant.4;
+}
 
 pub loop-count-preserved : goal.loop-count-preserved
 loop-count-preserved c = (
-  c.turn.ensures.world ∙ ap turn c.loop-count.invariant.0 ∙ sym (turns_more c.args.self.now.world c.loop-count.count),
+  c.turn_in.ensures.world ∙ ap turn c.loop-count.invariant.0 ∙ sym (turns_more c.args.self.now.world c.loop-count.count),
   omega arith,
-  λ none. c.loop-count.invariant.2 (c.turn.ensures.was_on none),
-  kept_none c.args.self.now c.turn.new.self (c.loop-count.invariant.2 (c.turn.ensures.was_on c.in_default.ensures.goes_on)),
+  λ none. c.loop-count.invariant.2 (c.turn_in.ensures.was_on none),
+  kept_none c.args.self.now c.turn_in.new.self (c.loop-count.invariant.2 (c.turn_in.ensures.was_on c.in_default.ensures.goes_on)),
+  c.turn_in.ensures.window,
 )
 
 pub returns-in-Err-clause-world : goal.returns-in-Err-clause-world
 returns-in-Err-clause-world c =
-    run_ended c.args.self.now.world c.turn.new.self.world c.args.bound c.loop-count.count c.in-Err.exit
-    (c.turn.ensures.world ∙ ap turn c.loop-count.invariant.0 ∙ sym (turns_more c.args.self.now.world c.loop-count.count))
+    run_ended c.args.self.now.world c.turn_in.new.self.world c.args.bound c.loop-count.count c.in-Err.ending
+    (c.turn_in.ensures.world ∙ ap turn c.loop-count.invariant.0 ∙ sym (turns_more c.args.self.now.world c.loop-count.count))
     c.loop-count-test.true
     (c.in-Err.ensures.ends)
 
 pub returns-in-Err-clause-kept : goal.returns-in-Err-clause-kept
 returns-in-Err-clause-kept c =
-    kept_next c.args.self.now c.loop-count.self c.turn.new.self c.loop-count.invariant.3 c.turn.ensures.world c.in-Err.ensures.kept
+    kept_next c.args.self.now c.loop-count.self c.turn_in.new.self c.loop-count.invariant.3 c.turn_in.ensures.world c.in-Err.ensures.kept
 
 pub returns-in-Some-clause-kept : goal.returns-in-Some-clause-kept
 returns-in-Some-clause-kept c = c.loop-count.invariant.3

@@ -1,0 +1,23 @@
+use Rattle.std.proofs.Common.{rules, ◌≡◌, ◌∙◌, ◌≤◌, ◌%◌, ℕ, ◌+◌, ap, refl, sym, false, arith}
+use Rattle.client_world.specs.declared.segments.SegReg.TheVariants.{Cs}
+use Rattle.client_world.specs.declared.host_frames.TheConstants.{PAGE_SIZE}
+use Rattle.client_world.specs.Access.{linear, segment_base}
+use Rattle.guest_space.proofs.Runs.{is_in}
+use Rattle.guest_space.proofs.machine.Machine.window_from.Goals as goal
+
+pub returns : goal.returns
+returns c some =
+    let w = c.args.self.now.world in
+    let whole : c.saturating_sub.result + 14 ≡ c.args.size = omega arith in
+    let inside : linear (c.in_ok-base.base + c.args.first) % PAGE_SIZE + c.args.size ≤ PAGE_SIZE = is_in _ _ (search rules) in
+    record {
+      cs = ap (λ r. r.cs) c.registers.ensures;
+      big = c.is_big.ensures;
+      run = record {
+        base = c.in_ok-base.base;
+        allowed = ap (λ (n : ℕ). segment_base w.mode w.regs w.descriptors Cs c.args.first n false) whole ∙ c.in_ok-base.ensures;
+        room = omega arith;
+        ends = c.in_ok-address.ensures;
+      };
+      start = refl;
+    }

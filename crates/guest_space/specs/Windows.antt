@@ -1,0 +1,23 @@
+-- A window of code: bytes that may be fetched one after another, and that lie one after another in the memory. Source: own.
+use Rattle.std.specs.Prelude.{◌≡◌, ℕ, ◌+◌, ◌%◌, ◌≤◌, false, Ok}
+use Rattle.client_world.specs.declared.host_frames.TheConstants.{PAGE_SIZE}
+use Rattle.client_world.specs.declared.segments.SegReg.TheVariants.{Cs}
+use Rattle.client_world.specs.Access.{linear, segment_base}
+use Rattle.guest_space.specs.declared.windows.CodeWindow.{CodeWindow}
+use Rattle.guest_space.specs.SegmentRows.{is_big}
+use Rattle.guest_space.specs.Transfer.{translated}
+use Rattle.host_memory.specs.View.{MachineView}
+
+-- n bytes from an offset of the segment in CS on may be fetched, and lie in one page; the address in the memory is that of the first
+pub record IsCodeRun (v : MachineView) (first n address : ℕ) : Type 0 where
+  pub base : ℕ
+  pub allowed : segment_base v.world.mode v.world.regs v.world.descriptors Cs first n false ≡ Ok base
+  pub room : linear (base + first) % PAGE_SIZE + n ≤ PAGE_SIZE
+  pub ends : translated v (linear (base + first)) false ≡ Ok address
+
+-- the window is one of the machine's code: from each of its starts 15 bytes may be fetched
+pub record IsWindow (v : MachineView) (w : CodeWindow) : Type 0 where
+  pub cs : w.cs ≡ v.world.regs.cs
+  pub big : w.big ≡ is_big v.world.mode v.world.descriptors v.world.regs.cs
+  pub run : IsCodeRun v w.first (w.starts + 14) w.address
+  pub start : w.linear ≡ linear (run.base + w.first)

@@ -1,0 +1,13 @@
+use Rattle.std.proofs.Common.{rules, ap, subst, sym}
+use Rattle.guest_space.specs.declared.windows.CodeWindow.{CodeWindow}
+use Rattle.host_run.specs.Windows.{HasWindow}
+use Rattle.host_run.proofs.WindowStarts.{no_starts, outside_rom}
+use Rattle.host_run.proofs.host.Host.move_window.Goals as goal
+use Rattle.host_run.proofs.host.Host.move_window.Goals.{then-not-is_outside, else-not-is_outside}
+
+pub returns-clause-window : goal.returns-clause-window
+returns-clause-window c = elim c.if-not-is_outside.branch [
+  | then-not-is_outside w ↦ no_starts c.warm.new.self c.if-not-is_outside.window (ap (λ (x : CodeWindow). x.starts) w.window-is)
+  | else-not-is_outside w ↦ subst (λ (x : CodeWindow). HasWindow c.warm.new.self x) (sym w.window-is)
+      (outside_rom c.warm.new.self c.code_window.result c.code_window.ensures (c.is_outside.ensures (search rules)))
+]

@@ -1,0 +1,23 @@
+-- A window of the client's code, in which turns find one instruction after another. Source: own.
+use Rattle.std.specs.Prelude.{◌≡◌, ◌⊎◌, ℕ, ◌+◌, ◌<◌, ◌≤◌}
+use Rattle.client_world.specs.declared.memory_map.TheConstants.{DOS_SIZE, ROM_START}
+use Rattle.client_world.specs.World.{World}
+use Rattle.guest_space.specs.declared.windows.CodeWindow.{CodeWindow}
+use Rattle.guest_space.specs.Windows.{IsWindow}
+use Rattle.host_memory.specs.View.{MachineView}
+
+-- an address outside read-only memory, where all trap bytes are
+abbrev pub IsOutside : ℕ → Type 0
+IsOutside at = (at < ROM_START) ⊎ (DOS_SIZE ≤ at)
+
+-- the window is one of the machine's code, and has no trap
+abbrev pub IsTrapFree : MachineView → CodeWindow → Type 0
+IsTrapFree v w = IsWindow v w × IsOutside w.linear
+
+-- it is, if it has starts and CS holds what it held
+abbrev pub HasWindow : MachineView → CodeWindow → Type 0
+HasWindow v w = 0 < w.starts → w.cs ≡ v.world.regs.cs → IsTrapFree v w
+
+-- CS:EIP is that start of it
+abbrev pub IsStart : World → CodeWindow → ℕ → Type 0
+IsStart machine w from = (w.first + from ≡ machine.regs.eip) × (from < w.starts)

@@ -1,0 +1,200 @@
+// Turns in a window of code. While CS:EIP stays in one page outside read-only memory, a turn asks neither where its code is nor for a trap.
+ghost use Rattle.std.specs.Prelude.{◌≡◌, ◌+◌, ◌<◌, ◌≤◌, IfErr, IfSome, IsTrue, None, Ok, OnOk, Some};
+ghost use Rattle.client_world.specs.declared.limits.TheConstants.{MAX_STEPS};
+ghost use Rattle.host_run.specs.declared.traps.Trap.TheVariants.{NoTrap};
+ghost use Rattle.host_run.specs.Footprint.{ChangesOnly, client_footprint, client_turn, turn_footprint, work_footprint};
+ghost use Rattle.host_run.specs.Traps.{current_trap};
+ghost use Rattle.host_run.specs.Turn.{after_next_instruction, turn, work};
+ghost use Rattle.host_run.specs.View.{ComesTo, HasRoom, machine_view};
+ghost use Rattle.host_run.specs.Windows.{HasWindow, IsOutside, IsStart, IsTrapFree};
+
+use crate::ending::Ending;
+use crate::host::Host;
+use crate::serving::step_machine_in;
+use crate::traps::current_trap;
+use client_world::SegReg;
+use client_world::memory_map::{DOS_SIZE, ROM_START};
+use fault_service::a_machine_changes_only_what_is_written;
+use guest_space::CodeWindow;
+
+// Whether an address lies outside read-only memory.
+fn is_outside(at: u32) -> bool
+    ensures { IsTrue result → IsOutside at }
+{
+    at < ROM_START || DOS_SIZE <= at
+}
+
+impl Host {
+    // Puts the window of the client's page in the place of another, and says which start of it CS:EIP is; `None` where no window has it, or its page
+    // is read-only memory, where the traps are.
+    #[cold]
+    #[inline(never)]
+    #[tactic(auto, using(crate::proofs::WindowStarts::no_starts, crate::proofs::WindowStarts::outside_rom, crate::proofs::WindowStarts::start_found))]
+    fn move_window(&mut self, window: &mut CodeWindow) -> Option<u32>
+        ensures host { self.new ≡ self.old }
+        ensures window { HasWindow (machine_view self.new) window.new }
+        ensures found { IfSome result (λ from.
+            IsTrapFree (machine_view self.new) window.new × IsStart self.new.world.machine window.new from) }
+    {
+        self.machine.warm(SegReg::Cs, self.machine.registers().eip);
+        *window = self.machine.code_window();
+        if !is_outside(window.linear) {
+            *window = CodeWindow::NONE;
+        }
+        window.place_of(self.machine.registers())
+    }
+
+    /// Which start of the window CS:EIP is: of the window that is there, or else of that of its page, which takes its place. `None` where no
+    /// window has it, or a trap may be there.
+    #[inline(always)]
+    #[tactic(auto, using(crate::proofs::WindowStarts::start_found))]
+    pub fn find_start(&mut self, window: &mut CodeWindow) -> Option<u32>
+        requires { HasWindow (machine_view self.old) window.old }
+        ensures host { self.new ≡ self.old }
+        ensures window { HasWindow (machine_view self.new) window.new }
+        ensures found { IfSome result (λ from.
+            IsTrapFree (machine_view self.new) window.new × IsStart self.new.world.machine window.new from) }
+    {
+        match window.place_of(self.machine.registers()) {
+            Some(from) => Some(from),
+            None => self.move_window(window),
+        }
+    }
+
+    // The next instruction, at that start of a window.
+    #[inline(always)]
+    #[tactic(auto, unfolding(crate::specs::Turn::after_next_instruction, crate::specs::Footprint::client_turn))]
+    fn step_client_in(&mut self, window: &mut CodeWindow, from: u32) -> Result<(), Ending>
+        requires room { HasRoom self.old.world }
+        requires window { IsTrapFree (machine_view self.old) window.old }
+        requires start { IsStart self.old.world.machine window.old from }
+        ensures host { ComesTo self.old self.new result (after_next_instruction self.old.world) }
+        ensures machine { OnOk result (client_turn (machine_view self.old) ≡ Ok (machine_view self.new)) }
+        ensures window { HasWindow (machine_view self.new) window.new }
+    {
+        match step_machine_in(&mut self.machine, &mut self.memo, window, from) {
+            Ok(()) => Ok(()),
+            Err(raised) => {
+                *window = CodeWindow::NONE;
+                self.handle_event(raised)
+            }
+        }
+    }
+
+    // The next instruction, whose footprint alone changes.
+    #[inline(always)]
+    fn run_client_in(&mut self, window: &mut CodeWindow, from: u32) -> Result<(), Ending>
+        requires room { HasRoom self.old.world }
+        requires window { IsTrapFree (machine_view self.old) window.old }
+        requires start { IsStart self.old.world.machine window.old from }
+        ensures host { ComesTo self.old self.new result (after_next_instruction self.old.world) }
+        ensures bytes { ChangesOnly (client_footprint self.old.world.machine) self.old.bytes self.new.bytes }
+        ensures window { HasWindow (machine_view self.new) window.new }
+    {
+        a_machine_changes_only_what_is_written(&self.machine);
+        self.step_client_in(window, from)
+    }
+
+    /// No start of such a window is a trap.
+    #[inline(always)]
+    #[tactic(auto, using(crate::proofs::NoTraps::none_in_window))]
+    pub fn no_trap_in(&self, window: &CodeWindow, from: u32)
+        requires window { IsTrapFree (machine_view self.now) window.now }
+        requires start { IsStart self.now.world.machine window.now from }
+        ensures { current_trap self.now.world.machine ≡ NoTrap }
+    {}
+
+    // What a turn does there.
+    #[inline(always)]
+    #[tactic(auto, unfolding(crate::specs::Turn::work, crate::specs::Footprint::work_footprint))]
+    fn work_in(&mut self, window: &mut CodeWindow, from: u32) -> Result<(), Ending>
+        requires room { HasRoom self.old.world }
+        requires window { IsTrapFree (machine_view self.old) window.old }
+        requires start { IsStart self.old.world.machine window.old from }
+        ensures host { ComesTo self.old self.new result (work self.old.world) }
+        ensures bytes { ChangesOnly (work_footprint self.old.world.machine) self.old.bytes self.new.bytes }
+        ensures window { HasWindow (machine_view self.new) window.new }
+    {
+        self.no_trap_in(window, from);
+        self.run_client_in(window, from)
+    }
+
+    // The run has ended so.
+    #[cold]
+    #[inline(never)]
+    fn stop(&mut self, ending: Ending) -> Ending
+        ensures world { self.new.world ≡ record self.old.world { exit = Some ending } }
+        ensures bytes { self.new.bytes ≡ self.old.bytes }
+        ensures same { result ≡ ending }
+    {
+        self.exit = Some(ending.exit());
+        ending
+    }
+
+    /// The turn of a client that has not ended, at that start of a window.
+    #[inline(always)]
+    #[tactic(auto, unfolding(crate::specs::Turn::turn))]
+    pub fn turn_in_window(&mut self, window: &mut CodeWindow, from: u32) -> Result<(), Ending>
+        requires no_exit { self.old.world.exit ≡ None }
+        requires room { self.old.world.steps < MAX_STEPS }
+        requires window { IsTrapFree (machine_view self.old) window.old }
+        requires start { IsStart self.old.world.machine window.old from }
+        ensures world { self.new.world ≡ turn self.old.world }
+        ensures bytes { ChangesOnly (turn_footprint self.old.world) self.old.bytes self.new.bytes }
+        ensures kept { IfErr result (λ _. self.new.bytes ≡ self.old.bytes) }
+        ensures goes_on { OnOk result (self.new.world.exit ≡ None) }
+        ensures ends { IfErr result (λ exit. self.new.world.exit ≡ Some exit) }
+        ensures steps { self.new.world.steps ≡ self.old.world.steps + 1 }
+        ensures window { HasWindow (machine_view self.new) window.new }
+    {
+        self.steps += 1;
+        match self.work_in(window, from) {
+            Ok(()) => Ok(()),
+            Err(ending) => Err(self.stop(ending)),
+        }
+    }
+
+    // The turn of a client that is at no start of a window.
+    #[cold]
+    #[inline(never)]
+    fn turn_outside(&mut self, window: &mut CodeWindow) -> Result<(), Ending>
+        requires no_exit { self.old.world.exit ≡ None }
+        requires room { self.old.world.steps < MAX_STEPS }
+        ensures world { self.new.world ≡ turn self.old.world }
+        ensures bytes { ChangesOnly (turn_footprint self.old.world) self.old.bytes self.new.bytes }
+        ensures kept { IfErr result (λ _. self.new.bytes ≡ self.old.bytes) }
+        ensures goes_on { OnOk result (self.new.world.exit ≡ None) }
+        ensures ends { IfErr result (λ exit. self.new.world.exit ≡ Some exit) }
+        ensures steps { self.new.world.steps ≡ self.old.world.steps + 1 }
+        ensures window { HasWindow (machine_view self.new) window.new }
+    {
+        *window = CodeWindow::NONE;
+        let t = current_trap(&self.machine);
+        self.turn_at(t)?;
+        Ok(())
+    }
+
+    /// One turn, as `turn` makes it, with a window of code that turns hand on.
+    #[inline(always)]
+    #[tactic(auto, unfolding(crate::specs::Turn::turn))]
+    pub fn turn_in(&mut self, window: &mut CodeWindow) -> Result<(), Ending>
+        requires room { self.old.world.exit ≡ None → self.old.world.steps < MAX_STEPS }
+        requires window { HasWindow (machine_view self.old) window.old }
+        ensures world { self.new.world ≡ turn self.old.world }
+        ensures bytes { ChangesOnly (turn_footprint self.old.world) self.old.bytes self.new.bytes }
+        ensures kept { IfErr result (λ _. self.new.bytes ≡ self.old.bytes) }
+        ensures goes_on { OnOk result (self.new.world.exit ≡ None) }
+        ensures ends { IfErr result (λ exit. self.new.world.exit ≡ Some exit) }
+        ensures steps { self.new.world.steps ≤ self.old.world.steps + 1 }
+        ensures was_on { self.new.world.exit ≡ None → self.old.world.exit ≡ None }
+        ensures window { HasWindow (machine_view self.new) window.new }
+    {
+        if let Some(exit) = self.exit {
+            return Err(Ending::from(exit));
+        }
+        match self.find_start(window) {
+            Some(from) => self.turn_in_window(window, from),
+            None => self.turn_outside(window),
+        }
+    }
+}

@@ -1,7 +1,0 @@
-use Rattle.insn_plan.proofs.WrittenState.{made}
-use Rattle.insn_plan.proofs.operands.write_number.Goals as goal
-
-pub returns-then-write_one_quickly-clause-done : goal.returns-then-write_one_quickly-clause-done
-returns-then-write_one_quickly-clause-done c =
-    let done = c.write_one_quickly.ensures.made c.if-write_one_quickly.true in
-    made c.args.m.now c.write_one_quickly.new.self _ done.0 done.1
