@@ -1,0 +1,124 @@
+"""What differs between `dpmi` and the processor for a reason, by name. docs/VALIDATION.md says the reason under the same name.
+
+Each reason is a question of a case, of what it left on the processor (`one`) and under `dpmi` (`two`), and of the names of the parts that
+differ.
+"""
+
+GENERAL = {"edi", "esi", "ebp", "ebx", "edx", "ecx", "eax"}
+BOUNDS, STACK, PROTECTION = 0x05, 0x0C, 0x0D
+
+
+def adjusts_whole_ax(text, left, right):
+    """AH differs by the carry or borrow of AL."""
+    change = {"aaa": 1, "aas": -1}.get(text, 0)
+    return change != 0 and (left >> 8) & 0xFF == (right >> 8) + change & 0xFF and (left ^ right) & 0xFFFF00FF == 0
+
+
+def operation(case):
+    return case.text.split("# ")[1] if "#" in case.text else case.text.replace(".byte 0x66; ", "").split()[0]
+
+
+def width(case):
+    """The operand size of an instruction that is told by its bytes."""
+    return 48 - case.bits if "0x66" in case.text else case.bits
+
+
+def wraps_at(case):
+    return 2**32 if case.segments["ss"].is_big else 2**16
+
+
+def has_stayed(case, left):
+    """Nothing but the fault has come of the case."""
+    return left.values["eip"] == case.eip and left.changed == 0 and all(left.values[name] == case.values[name] for name in GENERAL)
+
+
+def both(one, two, vector):
+    return one.vector == two.vector == vector
+
+
+def is_aaa(case, one, two, names):
+    return names == ["eax"] and adjusts_whole_ax(case.text, one.values["eax"], two.values["eax"])
+
+
+def popa_loads_before_its_fault(case, one, two, names):
+    return operation(case) == "popa" and both(one, two, STACK) and set(names) <= GENERAL and has_stayed(case, two)
+
+
+def compare_faults_in_repetition(case, one, two, names):
+    words = operation(case).split("_")[0].split()
+    return words[0] in ("rep", "repne") and words[-1][:4] in ("cmps", "scas") and names == ["flags"] and two.values["eip"] == case.eip
+
+
+def pushes_before_its_fault(case, one, two, names):
+    return (operation(case) in ("call", "call far", "lcall", "pusha", "enter") and one.vector == two.vector in (STACK, PROTECTION)
+            and names == ["memory"] and has_stayed(case, two))
+
+
+def call_has_two_faults(case, one, two, names):
+    return (operation(case) in ("call", "call far", "lcall") and set(names) <= {"vector", "error", "memory"}
+            and (one.vector, two.vector) == (STACK, PROTECTION) and has_stayed(case, two))
+
+
+def selector_is_popped_as_word(case, one, two, names):
+    """An item of 32 bits whose lower half, the selector, lies inside the stack's limit, and the half above it outside."""
+    words = operation(case).split()
+    above = 4 if words[0] in ("retf", "iret") else 0 if words[0] == "pop" and words[-1] in ("ds", "es", "ss", "fs", "gs") else None
+    if above is None or width(case) != 32 or two.vector != STACK:
+        return False
+    stack, at = case.segments["ss"], (case.values["esp"] + above) % wraps_at(case)
+    return stack.low <= at and at + 1 <= stack.high < at + 3 and has_stayed(case, two)
+
+
+def compare_has_two_faults(case, one, two, names):
+    allowed = {"vector", "flags"} if operation(case).startswith("rep") else {"vector"}
+    return ("cmps" in operation(case) and set(names) <= allowed and (one.vector, two.vector) == (PROTECTION, STACK)
+            and one.values["eip"] == two.values["eip"] == case.eip)
+
+
+def bound_tests_lower_first(case, one, two, names):
+    return operation(case) == "bound" and one.vector == BOUNDS and two.vector in (STACK, PROTECTION) and has_stayed(case, two)
+
+
+def far_pointer_wraps(case, one, two, names):
+    """A pointer or a pair of bounds that an address of 16 bits has across offset FFFFh."""
+    if operation(case) not in ("lds", "les", "lss", "lfs", "lgs", "lcall", "ljmp", "bound"):
+        return False
+    at, size, address = case.place
+    return address == 16 and at + size > 0x10000 and two.vector in (STACK, PROTECTION) and two.error == 0 and has_stayed(case, two)
+
+
+def enter_level(case):
+    return int(case.text.split("#")[0].split(",")[-1], 16) % 32 if operation(case) == "enter" else -1
+
+
+def enter_asks_last_stack_pointer(case, one, two, names):
+    return enter_level(case) >= 0 and one.vector == STACK != two.vector and one.values["eip"] == case.eip
+
+
+def enter_reads_frames_first(case, one, two, names):
+    return enter_level(case) > 1 and names == ["memory"] and one.changed and two.changed
+
+
+def enter_frame_has_operand_size(case, one, two, names):
+    """The saved frame pointers are at EBP, or at BP."""
+    return enter_level(case) > 1 and width(case) == 32 and wraps_at(case) == 2**16 and case.values["ebp"] >= 2**16
+
+
+def enter_frame_has_high_half(case, one, two, names):
+    one_frame, two_frame = one.values["ebp"], two.values["ebp"]
+    return (enter_level(case) >= 0 and width(case) == 32 and wraps_at(case) == 2**16 and set(names) <= {"ebp", "memory"}
+            and (one_frame ^ two_frame) % 2**16 == 0 and two_frame < 2**16)
+
+
+REASONS = {
+    "adjusts_whole_ax": is_aaa,
+    **{reason.__name__: reason for reason in (
+        popa_loads_before_its_fault, compare_faults_in_repetition, compare_has_two_faults, pushes_before_its_fault, call_has_two_faults,
+        selector_is_popped_as_word, bound_tests_lower_first, far_pointer_wraps, enter_asks_last_stack_pointer, enter_reads_frames_first,
+        enter_frame_has_operand_size, enter_frame_has_high_half)},
+}
+
+
+def on_purpose(case, one, two, names):
+    """The name of the reason, or None."""
+    return next((name for name, applies in REASONS.items() if applies(case, one, two, names)), None)
