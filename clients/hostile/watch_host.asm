@@ -1,4 +1,4 @@
-; Watchpoints on the host's window, C0000000h to C00DAFFFh. They are made as any others (MODEL.md, section 10: an address is refused
+; Watchpoints on the host's window, C0000000h to C00DAFFFh. They are made as any others (MODEL.md, section 14: an address is refused
 ; only past FFFFFFFFh). A client may not touch the window: a read there is exception 0Eh with code 5, a write with code 7, and a fetch
 ; with code 5. An instruction that raises an exception hits nothing, so exception 1 never comes, and no status is set.
 ;: -DW=16
