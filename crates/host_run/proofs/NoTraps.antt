@@ -1,5 +1,5 @@
 -- Below and above read-only memory there is no trap.
-use Rattle.std.proofs.Common.{◌∙◌, ap, ◌≡◌, ◌⊎◌, inl, inr, ℕ, ◌+◌, ◌%◌, ◌^◌, ◌<◌, ◌≤◌, false, refl, subst, arith, None, Some, Result, Ok, Err}
+use Rattle.std.proofs.Common.{◌∙◌, ap, ◌≡◌, inl, inr, ℕ, ◌+◌, ◌%◌, ◌^◌, ◌<◌, ◌≤◌, false, refl, subst, arith, None, Some, Result, Ok, Err}
 use Rattle.std.proofs.lemmas.Bool.{cases_lt}
 use Rattle.client_world.specs.declared.faults.Fault.{Fault}
 use Rattle.client_world.specs.declared.host_frames.TheConstants.{PAGE_SIZE}
