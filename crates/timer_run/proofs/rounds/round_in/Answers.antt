@@ -1,5 +1,6 @@
-use Rattle.std.proofs.Common.{arith, ℕ, ◌≡◌, ◌<◌, ◌∙◌, List, None, ap, subst, sym}
+use Rattle.std.proofs.Common.{arith, ℕ, ◌≡◌, ◌<◌, ◌∙◌, List, None, ap, refl, subst, sym}
 use Rattle.host_run.specs.Windows.{HasWindow}
+use Rattle.host_run.proofs.WindowStarts.{no_starts}
 use Rattle.client_world.specs.declared.limits.TheConstants.{MAX_STEPS}
 use Rattle.client_world.specs.World.{HostWorld}
 use Rattle.timer_run.specs.Timer.{TimerState}
@@ -26,6 +27,9 @@ returns-in-Ok-true-clause-steps c =
 pub returns-in-Ok-true-clause-was_on : goal.returns-in-Ok-true-clause-was_on
 returns-in-Ok-true-clause-was_on c = λ on.
     part_was_on c.args.timer.now c.args.host.now.world (sym (ap (λ (h : HostWorld). h.exit) c.before-2.ensures.host) ∙ on)
+
+pub returns-in-Ok-true-clause-window : goal.returns-in-Ok-true-clause-window
+returns-in-Ok-true-clause-window c = no_starts _ _ refl
 
 -- ---- the turn is made
 
