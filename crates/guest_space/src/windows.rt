@@ -39,7 +39,7 @@ impl CodeWindow {
         starts: 0,
     };
 
-    /// Which of its starts CS:EIP is, if it is one.
+    /// Which of its starts CS:EIP is, where CS holds what the window's did; `None` says nothing.
     #[inline(always)]
     pub fn place_of(&self, regs: &Regs) -> Option<u32>
         ensures { IfSome result (λ from.

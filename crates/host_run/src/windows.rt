@@ -45,7 +45,7 @@ impl Host {
     }
 
     /// Which start of the window CS:EIP is: of the window that is there, or else of that of its page, which takes its place. `None` where no
-    /// window has it, or a trap may be there.
+    /// window shows it, or a trap may be there: it says nothing.
     #[inline(always)]
     #[tactic(auto, using(crate::proofs::WindowStarts::start_found))]
     pub fn find_start(&mut self, window: &mut CodeWindow) -> Option<u32>

@@ -50,7 +50,7 @@ pub(crate) fn given(r: &Regs, operand: &Operand) -> u32
     }
 }
 
-/// What an operand gives that is at hand, in a register or in the instruction; `None` of others. The sizes say what `source` would read.
+/// What an operand gives that is at hand, in a register or in the instruction; `None` says nothing. The sizes say what `source` would read.
 #[inline(always)]
 #[tactic(auto, unfolding(crate::specs::Operands::source, crate::specs::Act::value_of))]
 pub fn at_hand(m: &Machine, addr32: bool, width: u8, operand: &Operand) -> Option<u32>
