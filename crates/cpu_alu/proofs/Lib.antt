@@ -1,3 +1,4 @@
 pub mod Moves
 pub mod Rotates
+pub mod Signs
 pub mod Turns

@@ -9,7 +9,8 @@ use Rattle.cpu_alu.specs.Results.{low_bit, top_bit}
 use Rattle.cpu_alu.specs.Shifts.{Moved, bits_moved, rol_bit, ror_bit, rcl_bit, rcr_bit}
 use Rattle.cpu_alu.specs.Packed.{carry_above, from_above, turned}
 use Rattle.cpu_alu.proofs.Moves.{from_above-carry_above, half_modulus, top_bit-above}
-use Rattle.cpu_alu.proofs.Turns.{left_once, right_once, mod_past, div_past, left_once-low, left_once-high, right_once-left_once, low_bit-left_once, turned_below_all, turned-zero, turned-all, left_once-turned_mod, turned_back}
+use Rattle.cpu_alu.proofs.Turns.{left_once, right_once, mod_past, div_past, left_once-low, left_once-high, right_once-left_once}
+use Rattle.cpu_alu.proofs.Turns.{low_bit-left_once, turned_below_all, turned-zero, turned-all, left_once-turned_mod, turned_back}
 
 -- two pairs of equal parts
 pair-eq : {a b : ℕ} {c d : Bool} → a ≡ b → c ≡ d → ◌≡◌ {A = Moved} (a, c) (b, d)

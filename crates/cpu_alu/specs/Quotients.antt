@@ -1,6 +1,7 @@
 -- Quotients of a double word: DIV and IDIV. All flags are kept.
 -- Source: 80386 Programmer's Reference Manual, ch. 17, DIV and IDIV. Own: the flags, which the manual leaves undefined, are kept.
-use Rattle.std.specs.Prelude.{ℕ, ◌+◌, ◌*◌, ◌/◌, ◌%◌, ◌^◌, ℤ, pos, ◌+ℤ◌, ◌*ℤ◌, int_div, int_rem, nat_eq, nat_lt, if◌then◌else◌, Option, Some, None}
+use Rattle.std.specs.Prelude.{ℕ, ◌+◌, ◌*◌, ◌/◌, ◌%◌, ◌^◌, ℤ, pos, ◌+ℤ◌, ◌*ℤ◌, int_div, int_rem, nat_eq, nat_lt, if◌then◌else◌, Option, Some}
+use Rattle.std.specs.Prelude.{None}
 use Rattle.cpu_values.specs.Word.{signed_value}
 use Rattle.cpu_alu.specs.Results.{in_signed_range}
 use Rattle.cpu_alu.specs.Products.{signed_bits}

@@ -1,8 +1,10 @@
 // Decimal arithmetic: the adjustments of AX.
-#![tactic(auto, unfolding(crate::specs::Decimal::daa_of, crate::specs::Decimal::das_of, crate::specs::Decimal::aaa_of, crate::specs::Decimal::aas_of, crate::specs::Decimal::aam_of, crate::specs::Decimal::aad_of))]
+#![tactic(auto, unfolding(crate::specs::Decimal::daa_of, crate::specs::Decimal::das_of, crate::specs::Decimal::aaa_of, //
+crate::specs::Decimal::aas_of, crate::specs::Decimal::aam_of, crate::specs::Decimal::aad_of))]
 
 ghost use Rattle.std.specs.Prelude.{◌≡◌, ◌<◌, ◌≤◌};
-ghost use Rattle.cpu_alu.specs.Decimal.{low_adjusts, high_adjusts, adjustment, decimal_of, unpacked_of, daa_of, das_of, aaa_of, aas_of, aam_of, aad_of};
+ghost use Rattle.cpu_alu.specs.Decimal.{low_adjusts, high_adjusts, adjustment, decimal_of, unpacked_of, daa_of, das_of, aaa_of, aas_of};
+ghost use Rattle.cpu_alu.specs.Decimal.{aam_of, aad_of};
 
 use crate::results::set_result;
 use client_world::Flags;

@@ -1,5 +1,6 @@
 // The operations on bits.
-#![tactic(auto, using(std::proofs::lemmas::Nat::or_lt, std::proofs::lemmas::Nat::xor_lt), unfolding(crate::specs::Logic::and_of, crate::specs::Logic::or_of, crate::specs::Logic::xor_of, crate::specs::Logic::not_of))]
+#![tactic(auto, using(std::proofs::lemmas::Nat::or_lt, std::proofs::lemmas::Nat::xor_lt), unfolding(crate::specs::Logic::and_of, //
+crate::specs::Logic::or_of, crate::specs::Logic::xor_of, crate::specs::Logic::not_of))]
 
 ghost use Rattle.std.specs.Prelude.{◌≡◌};
 ghost use Rattle.cpu_values.specs.Word.{IsWidth};

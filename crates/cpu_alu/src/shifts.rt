@@ -1,5 +1,6 @@
 // Shifts and rotates: the moved word and its flags.
-#![tactic(auto, unfolding(crate::specs::Shifts::shl_of, crate::specs::Shifts::shr_of, crate::specs::Shifts::sar_of, crate::specs::Shifts::rol_of, crate::specs::Shifts::ror_of, crate::specs::Shifts::rcl_of, crate::specs::Shifts::rcr_of))]
+#![tactic(auto, unfolding(crate::specs::Shifts::shl_of, crate::specs::Shifts::shr_of, crate::specs::Shifts::sar_of, //
+crate::specs::Shifts::rol_of, crate::specs::Shifts::ror_of, crate::specs::Shifts::rcl_of, crate::specs::Shifts::rcr_of))]
 
 ghost use Rattle.std.specs.Prelude.{◌≡◌, ◌<◌};
 ghost use Rattle.cpu_values.specs.Word.{IsWidth};

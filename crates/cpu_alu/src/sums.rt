@@ -1,12 +1,14 @@
 // Sums and differences: one body for the additions, one for the subtractions.
-#![tactic(auto, unfolding(crate::specs::Sums::add_of, crate::specs::Sums::adc_of, crate::specs::Sums::sub_of, crate::specs::Sums::sbb_of, crate::specs::Sums::inc_of, crate::specs::Sums::dec_of, crate::specs::Sums::neg_of))]
+#![tactic(auto, unfolding(crate::specs::Sums::add_of, crate::specs::Sums::adc_of, crate::specs::Sums::sub_of, crate::specs::Sums::sbb_of, //
+crate::specs::Sums::inc_of, crate::specs::Sums::dec_of, crate::specs::Sums::neg_of))]
 
-ghost use Rattle.std.specs.Prelude.{◌≡◌, ◌+◌, ◌^◌, ◌<◌, nat_lt};
+ghost use Rattle.std.specs.Prelude.{◌≡◌, ◌+◌, ◌-◌, ◌/◌, ◌%◌, ◌^◌, ◌<◌, ◌&&◌, nat_le, nat_lt};
 ghost use Rattle.cpu_values.specs.Word.{IsWidth};
-ghost use Rattle.cpu_alu.specs.Results.{bit_of};
-ghost use Rattle.cpu_alu.specs.Sums.{word_sum, word_difference, sum_overflows, sum_with_flags, difference_overflows, difference_with_flags, add_of, adc_of, sub_of, sbb_of, inc_of, dec_of, neg_of};
+ghost use Rattle.cpu_alu.specs.Results.{bit_of, low_bit};
+ghost use Rattle.cpu_alu.specs.Sums.{word_sum, word_difference, sum_overflows, sum_with_flags, difference_overflows, difference_with_flags};
+ghost use Rattle.cpu_alu.specs.Sums.{add_of, adc_of, sub_of, sbb_of, inc_of, dec_of, neg_of};
 
-use crate::results::{is_negative, modulus, set_result};
+use crate::results::{modulus, set_result};
 use client_world::Flags;
 use cpu_values::{Word, cut};
 
@@ -20,7 +22,27 @@ fn word_sum<const W: u8>(a: Word<W>, b: Word<W>, carry: u64) -> Word<W>
     cut::<W>(u64::from(a.get()) + u64::from(b.get()) + carry)
 }
 
-// The signed sum is out of range: both signs are alike, and the result's is the other.
+// Whether the signs of two words differ, and so do those of two others.
+#[inline(always)]
+#[tactic(auto, using(crate::proofs::Signs::both_top_bits))]
+fn both_signs_differ<const W: u8>(a: Word<W>, b: Word<W>, c: Word<W>, d: Word<W>) -> bool
+    requires { IsWidth W }
+    ensures { result
+        ≡ (low_bit (a.entry / 2 ^ (W - 1) + b.entry / 2 ^ (W - 1)) && low_bit (c.entry / 2 ^ (W - 1) + d.entry / 2 ^ (W - 1))) }
+{
+    (((a.get() ^ b.get()) & (c.get() ^ d.get())) >> (W - 1)) % 2 == 1
+}
+
+// Whether the low four bits of two words carry into the bit above, or borrow from it, where `r` is their sum or difference.
+#[inline(always)]
+#[tactic(auto, using(crate::proofs::Signs::odd_above))]
+fn carries_in_middle<const W: u8>(a: Word<W>, b: Word<W>, r: Word<W>) -> bool
+    ensures { result ≡ low_bit (a.entry / 0x10 + b.entry / 0x10 + r.entry / 0x10) }
+{
+    (a.get() ^ b.get() ^ r.get()) / 0x10 % 2 == 1
+}
+
+// The signed sum is out of range: the result's sign is neither that of a nor that of b.
 #[inline(always)]
 fn sum_overflows<const W: u8>(a: Word<W>, b: Word<W>, carry: u64) -> bool
     requires width { IsWidth W }
@@ -28,7 +50,18 @@ fn sum_overflows<const W: u8>(a: Word<W>, b: Word<W>, carry: u64) -> bool
     ensures { result ≡ sum_overflows W a.entry b.entry carry }
 {
     let r = word_sum(a, b, carry);
-    is_negative(a) == is_negative(b) && is_negative(a) != is_negative(r)
+    both_signs_differ(a, r, b, r)
+}
+
+// Whether the low four bits of a sum carry.
+#[inline(always)]
+#[tactic(auto, using(crate::proofs::Signs::sum_carries))]
+fn sum_carries<const W: u8>(a: Word<W>, b: Word<W>, carry: u64) -> bool
+    requires width { IsWidth W }
+    requires carry { carry < 2 }
+    ensures { result ≡ nat_le 0x10 (a.entry % 0x10 + b.entry % 0x10 + carry) }
+{
+    carries_in_middle(a, b, word_sum(a, b, carry))
 }
 
 // a + b + carry.
@@ -41,7 +74,7 @@ fn add_carry<const W: u8>(a: Word<W>, b: Word<W>, carry: bool, f: Flags) -> (Wor
     let r = word_sum(a, b, carry);
     let flags = Flags {
         cf: x + y + carry >= modulus::<W>(),
-        af: x % 0x10 + y % 0x10 + carry >= 0x10,
+        af: sum_carries(a, b, carry),
         of: sum_overflows(a, b, carry),
         ..set_result(r, f)
     };
@@ -63,8 +96,7 @@ fn difference_overflows<const W: u8>(a: Word<W>, b: Word<W>, borrow: bool) -> bo
     requires { IsWidth W }
     ensures { result ≡ difference_overflows W a.entry b.entry (bit_of borrow) }
 {
-    let r = word_difference(a, b, borrow);
-    is_negative(a) != is_negative(b) && is_negative(a) != is_negative(r)
+    both_signs_differ(a, b, a, word_difference(a, b, borrow))
 }
 
 // More is taken off than there is.
@@ -74,6 +106,16 @@ fn borrows(x: u64, y: u64, borrow: bool) -> bool
     ensures { result ≡ nat_lt x (y + bit_of borrow) }
 {
     x < y + u64::from(borrow)
+}
+
+// Whether the low four bits of a difference borrow.
+#[inline(always)]
+#[tactic(auto, using(crate::proofs::Signs::difference_borrows))]
+fn difference_borrows<const W: u8>(a: Word<W>, b: Word<W>, borrow: bool) -> bool
+    requires { IsWidth W }
+    ensures { result ≡ nat_lt (a.entry % 0x10) (b.entry % 0x10 + bit_of borrow) }
+{
+    carries_in_middle(a, b, word_difference(a, b, borrow))
 }
 
 // a − b − borrow.
@@ -86,7 +128,7 @@ fn sub_borrow<const W: u8>(a: Word<W>, b: Word<W>, borrow: bool, f: Flags) -> (W
     let r = word_difference(a, b, borrow);
     let flags = Flags {
         cf: borrows(x, y, borrow),
-        af: borrows(x % 0x10, y % 0x10, borrow),
+        af: difference_borrows(a, b, borrow),
         of: difference_overflows(a, b, borrow),
         ..set_result(r, f)
     };

@@ -1,5 +1,6 @@
 -- The code bytes: in a sound world they are bytes, and where they are fewer than an instruction may have, the next one can't be fetched.
-use Rattle.std.proofs.Common.{◌≡◌, ℕ, zero, suc, ◌+◌, ◌<◌, ◌≤◌, false, List, [], ◌∷◌, length, slice_index, refl, ap, ◌∙◌, sym, subst, arith, Option, None, Some, Result, Ok, Err}
+use Rattle.std.proofs.Common.{◌≡◌, ℕ, zero, suc, ◌+◌, ◌<◌, ◌≤◌, false, List, [], ◌∷◌, length, slice_index, refl, ap, ◌∙◌, sym, subst, arith}
+use Rattle.std.proofs.Common.{Option, None, Some, Result, Ok, Err}
 use Rattle.client_world.specs.declared.faults.Fault.{Fault}
 use Rattle.client_world.specs.declared.place.Place.{Place}
 use Rattle.client_world.specs.declared.place.Place.TheVariants.{Dos, Block, Host, Nothing}

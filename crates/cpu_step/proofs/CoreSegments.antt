@@ -11,10 +11,12 @@ use Rattle.exec_core.specs.Decimal.{with_ax_in, adjust, aad, aam, aam_done}
 use Rattle.exec_core.specs.Dispatch.{core_row}
 use Rattle.exec_core.specs.FlagRows.{clc, stc, cmc, cld, std, lahf, sahf, wait}
 use Rattle.exec_core.specs.Moves.{mov, movzx, movsx, xchg, lea, xlat, cbw, cwd}
-use Rattle.exec_core.specs.Products.{Product, Quotient, with_double, multiply, multiply_two, multiply_three, is_empty, imul, divided, divide}
+use Rattle.exec_core.specs.Products.{Product, Quotient, with_double, multiply, multiply_two, multiply_three, is_empty, imul, divided}
+use Rattle.exec_core.specs.Products.{divide}
 use Rattle.exec_core.specs.Shifts.{DoubleFormula, shift, shift_in}
 use Rattle.exec_core.specs.Stacks.{push, pop, pusha, popa}
-use Rattle.exec_core.specs.Strings.{is_repeated, is_over, with_source_next, with_destination_next, repeated, goes_on_while, movs, cmps, stos, lods, scas}
+use Rattle.exec_core.specs.Strings.{is_repeated, is_over, with_source_next, with_destination_next, repeated, goes_on_while, movs, cmps}
+use Rattle.exec_core.specs.Strings.{stos, lods, scas}
 use Rattle.insn_forms.specs.declared.insn.Insn.{Insn}
 use Rattle.insn_forms.specs.declared.insn.Op.{Op}
 use Rattle.insn_forms.specs.declared.insn.Op.TheVariants as ops
@@ -203,7 +205,8 @@ repeated_words w i len goes_on r s = words_if (is_repeated i.rep) _ _ s s
 
 movs_leaves : (w : World) (i : Insn) (len : ℕ) → HoldWords w.regs → LeavesWords (movs w i len)
 unfolding movs
-movs_leaves w i len s = leaves_if (is_over w i) _ _ s (λ v. repeated_words w i len true (with_source_next w i (with_destination_next w i w.regs)) s)
+movs_leaves w i len s =
+    leaves_if (is_over w i) _ _ s (λ v. repeated_words w i len true (with_source_next w i (with_destination_next w i w.regs)) s)
 
 cmps_leaves : (w : World) (i : Insn) (len : ℕ) → HoldWords w.regs → LeavesWords (cmps w i len)
 unfolding cmps

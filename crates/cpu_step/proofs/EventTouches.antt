@@ -19,7 +19,8 @@ granted_back : (w : World) (front back : List Access) → AllGranted w front →
 granted_back w [] back f b = b
 granted_back w (a ∷ front) back f b = (f.0, granted_back w front back f.1 b)
 
-read_granted : (w : World) (done : List Access) (input : Input) (v : ℕ) → value_of w input ≡ Ok v → AllGranted w done → AllGranted w (and_read done input)
+read_granted : (w : World) (done : List Access) (input : Input) (v : ℕ) → value_of w input ≡ Ok v → AllGranted w done →
+    AllGranted w (and_read done input)
 read_granted w done (Given x) v e all = all
 read_granted w done (From seg off n) v e all = granted_back w done _ all (value_granted w seg off n v e, tt)
 
@@ -69,18 +70,21 @@ reads_of w done (Read input rest) p e =
     let others = reads_of w (and_read done input) (rest found.value) p found.others in
     record {
       reads = others.reads;
-      follow = ap (λ (r : Result ℕ Event). elim r as (λ _. Option (List Access)) [ Ok v ↦ accesses_after w (and_read done input) (rest v) | Err x ↦ None ]) found.is
+      follow = ap (λ (r : Result ℕ Event).
+          elim r as (λ _. Option (List Access)) [ Ok v ↦ accesses_after w (and_read done input) (rest v) | Err x ↦ None ]) found.is
           ∙ others.follow;
       granted = λ all. others.granted (read_granted w done input found.value found.is all);
     }
 
 -- ---- its writes
 
-no_refusal : (o : Option Fault) (more : Option Fault) → elim o as (λ _. Option Fault) [ Some f ↦ Some f | None ↦ more ] ≡ None → (o ≡ None) × (more ≡ None)
+no_refusal : (o : Option Fault) (more : Option Fault) → elim o as (λ _. Option Fault) [ Some f ↦ Some f | None ↦ more ] ≡ None →
+    (o ≡ None) × (more ≡ None)
 no_refusal None more e = (refl, e)
 no_refusal (Some f) more e = absurd cc
 
-writes_granted : (w : World) (done : List Access) (xs : List Write) → first_write_fault w xs ≡ None → AllGranted w done → AllGranted w (and_writes done xs)
+writes_granted : (w : World) (done : List Access) (xs : List Write) → first_write_fault w xs ≡ None → AllGranted w done →
+    AllGranted w (and_writes done xs)
 unfolding first_write_fault write_fault
 writes_granted w done [] e all = all
 writes_granted w done (x ∷ xs) e all =
@@ -104,7 +108,8 @@ not_none : (w : World) (done : List Touch) (all : List Access) → AllGranted w 
 unfolding touches_after
 not_none w done [] all e = absurd cc
 not_none w done (a ∷ rest) all e =
-    let first = ap (λ (o : Option Touch). elim o as (λ _. Option (List Touch)) [ Some t ↦ touches_after w (done ++ t ∷ []) rest | None ↦ None ]) (granted_some w a all.0) in
+    let first = ap (λ (o : Option Touch).
+    elim o as (λ _. Option (List Touch)) [ Some t ↦ touches_after w (done ++ t ∷ []) rest | None ↦ None ]) (granted_some w a all.0) in
     not_none w (done ++ touch_of w a ∷ []) rest all.1 (sym first ∙ e)
 
 -- ---- what it comes to
@@ -113,11 +118,13 @@ abbrev committed : Option Fault → MachineView → Result MachineView Event
 committed None u = Ok u
 committed (Some f) u = Err (fault f)
 
-committed_is : (o : Option Fault) (u : MachineView) → elim o as (λ _. Result MachineView Event) [ Some f ↦ Err (fault f) | None ↦ Ok u ] ≡ committed o u
+committed_is : (o : Option Fault) (u : MachineView) → elim o as (λ _. Result MachineView Event) [ Some f ↦ Err (fault f) | None ↦ Ok u ]
+    ≡ committed o u
 committed_is None u = refl
 committed_is (Some f) u = refl
 
-commit_is : (v : MachineView) (p : Pending) → after_commit v p ≡ committed (first_write_fault v.world p.writes) (with_state p.regs p.vif (after_writes v p.writes))
+commit_is : (v : MachineView) (p : Pending) →
+    after_commit v p ≡ committed (first_write_fault v.world p.writes) (with_state p.regs p.vif (after_writes v p.writes))
 unfolding after_commit
 commit_is v p = committed_is (first_write_fault v.world p.writes) (with_state p.regs p.vif (after_writes v p.writes))
 
@@ -143,7 +150,8 @@ refused v act p None is reads e =
     absurd (not_none v.world [] (and_writes reads.reads p.writes) (writes_granted v.world reads.reads p.writes is (reads.granted tt))
     (ap (touches_where v.world) (sym reads.follow) ∙ e))
 
-untouched_by : (v : MachineView) (act : Act) (r : Result Pending Event) → plan_result v.world act ≡ r → touches v.world act ≡ None → IsErr (after_plan v r)
+untouched_by : (v : MachineView) (act : Act) (r : Result Pending Event) → plan_result v.world act ≡ r → touches v.world act ≡ None →
+    IsErr (after_plan v r)
 unfolding after_plan
 untouched_by v act (Err event) is e = refl
 untouched_by v act (Ok p) is e = refused v act p (first_write_fault v.world p.writes) refl (reads_of v.world [] act p is) e
@@ -164,5 +172,6 @@ touched_by v act list (Ok p) is e =
     let all = subst (λ (all : List Access). AllGranted v.world all) same (known_touches v.world act list k).granted in
     committed_ok v p (none_refused v.world reads.reads p.writes all)
 
-pub has_touches : (v : MachineView) (act : Act) (list : List Touch) → touches v.world act ≡ Some list → IsOk (after_plan v (plan_result v.world act))
+pub has_touches : (v : MachineView) (act : Act) (list : List Touch) → touches v.world act ≡ Some list →
+    IsOk (after_plan v (plan_result v.world act))
 has_touches v act list e = touched_by v act list (plan_result v.world act) refl e

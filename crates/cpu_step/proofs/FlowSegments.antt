@@ -17,8 +17,10 @@ use Rattle.exec_flow.specs.Pointers.{offset_range}
 use Rattle.exec_flow.specs.Ports.{input, output}
 use Rattle.exec_flow.specs.Questions.{verify, descriptor_answer, load_from_descriptor, arpl}
 use Rattle.exec_flow.specs.Raising.{invalid_opcode, privileged, escape, in_protected, load_table}
-use Rattle.exec_flow.specs.Segments.{with_loaded_segment, mov_to_segment, mov_from_segment, mov_segment, push_segment, pop_into, pop_segment, load_pointer}
-use Rattle.exec_flow.specs.Transfers.{at_operand_size, near_transfer, jcc, jcxz, count_down, with_next_count, loop_while, jmp, call, immediate, ret}
+use Rattle.exec_flow.specs.Segments.{with_loaded_segment, mov_to_segment, mov_from_segment, mov_segment, push_segment, pop_into}
+use Rattle.exec_flow.specs.Segments.{pop_segment, load_pointer}
+use Rattle.exec_flow.specs.Transfers.{at_operand_size, near_transfer, jcc, jcxz, count_down, with_next_count, loop_while, jmp, call}
+use Rattle.exec_flow.specs.Transfers.{immediate, ret}
 use Rattle.insn_forms.specs.declared.insn.Insn.{Insn}
 use Rattle.insn_forms.specs.declared.insn.Op.{Op}
 use Rattle.insn_forms.specs.declared.insn.Op.TheVariants as ops
@@ -28,7 +30,8 @@ use Rattle.insn_plan.specs.Act.{Act, Pending, unchanged}
 use Rattle.insn_plan.specs.Conditions.{condition}
 use Rattle.insn_plan.specs.Counter.{counter}
 use Rattle.insn_plan.specs.Stack.{regs_after_pops}
-use Rattle.cpu_step.proofs.SegmentWords.{HoldWords, LeavesWords, leaves_if, leaves_by_mode, leaves_unless, words_register, words_put, words_pushed, words_selector, half_is_word}
+use Rattle.cpu_step.proofs.SegmentWords.{HoldWords, LeavesWords, leaves_if, leaves_by_mode, leaves_unless, words_register, words_put}
+use Rattle.cpu_step.proofs.SegmentWords.{words_pushed, words_selector, half_is_word}
 
 -- ---- near transfers
 
@@ -70,7 +73,8 @@ pub code_is_word : (w : World) (sel : ℕ) → sel < 0x10000 → code_selector w
 unfolding code_selector
 code_is_word w sel small = code_by_mode w.mode sel small
 
-far_leaves : (w : World) (sel ip : ℕ) (return : Bool) (p : Pending) → sel < 0x10000 → HoldWords p.regs → LeavesWords (far_transfer w sel ip return p)
+far_leaves : (w : World) (sel ip : ℕ) (return : Bool) (p : Pending) → sel < 0x10000 → HoldWords p.regs →
+    LeavesWords (far_transfer w sel ip return p)
 unfolding far_transfer
 far_leaves w sel ip return p small s =
     leaves_unless (transfer_fault w sel ip return) _ (words_selector p.regs Cs (code_selector w sel) s (code_is_word w sel small))
@@ -101,7 +105,8 @@ iret_leaves w i s = frame_leaves w i.width s
 
 -- ---- segment registers
 
-loaded_leaves : (w : World) (seg : SegReg) (sel : ℕ) (p : Pending) → sel < 0x10000 → HoldWords p.regs → LeavesWords (with_loaded_segment w seg sel p)
+loaded_leaves : (w : World) (seg : SegReg) (sel : ℕ) (p : Pending) → sel < 0x10000 → HoldWords p.regs →
+    LeavesWords (with_loaded_segment w seg sel p)
 unfolding with_loaded_segment
 loaded_leaves w seg sel p small s = leaves_unless (register_fault w seg sel) _ (words_selector p.regs seg sel s small)
 
@@ -125,7 +130,8 @@ by_operand (Far p) f other one rest = rest
 
 mov_segment_leaves : (w : World) (i : Insn) → HoldWords w.regs → LeavesWords (mov_segment w i)
 unfolding mov_segment
-mov_segment_leaves w i s = by_operand i.first (mov_to_segment w i) (mov_from_segment w i) (λ seg. mov_to_leaves w i seg s) (mov_from_leaves w i s)
+mov_segment_leaves w i s =
+    by_operand i.first (mov_to_segment w i) (mov_from_segment w i) (λ seg. mov_to_leaves w i seg s) (mov_from_leaves w i s)
 
 push_segment_leaves : (w : World) (i : Insn) → HoldWords w.regs → LeavesWords (push_segment w i)
 unfolding push_segment
@@ -153,7 +159,8 @@ popf_leaves : (w : World) (i : Insn) → HoldWords w.regs → LeavesWords (popf 
 unfolding popf with_popped_flags regs_after_pops
 popf_leaves w i s = λ image. s
 
-frames_leave : (w : World) (i : Insn) (level n : ℕ) (p : Pending) (rest : Pending → Act) → ((q : Pending) → HoldWords q.regs → LeavesWords (rest q)) →
+frames_leave : (w : World) (i : Insn) (level n : ℕ) (p : Pending) (rest : Pending → Act) →
+    ((q : Pending) → HoldWords q.regs → LeavesWords (rest q)) →
     HoldWords p.regs → LeavesWords (push_saved_frames w i level n p rest)
 unfolding push_saved_frames
 frames_leave w i level zero p rest leaves s = leaves p s
@@ -175,7 +182,8 @@ leave_leaves w i s = λ bp. words_register _ _ _ _ s
 
 bound_leaves : (w : World) (i : Insn) → HoldWords w.regs → LeavesWords (bound w i)
 unfolding bound
-bound_leaves w i s = λ index pair. leaves_if (is_less_signed i.width index pair || is_less_signed i.width (pair / 2 ^ i.width) index) _ _ tt s
+bound_leaves w i s = λ index pair.
+    leaves_if (is_less_signed i.width index pair || is_less_signed i.width (pair / 2 ^ i.width) index) _ _ tt s
 
 into_leaves : (w : World) (len : ℕ) → HoldWords w.regs → LeavesWords (into w len)
 unfolding into

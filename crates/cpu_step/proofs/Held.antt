@@ -1,5 +1,6 @@
 -- Every place that an instruction touches is the client's.
-use Rattle.std.proofs.Common.{◌≡◌, ℕ, zero, suc, ◌+◌, ◌*◌, Bool, true, false, List, [], ◌∷◌, refl, if◌then◌else◌, Option, None, Some, Result, Ok, Err}
+use Rattle.std.proofs.Common.{◌≡◌, ℕ, zero, suc, ◌+◌, ◌*◌, Bool, true, false, List, [], ◌∷◌, refl, if◌then◌else◌, Option, None, Some}
+use Rattle.std.proofs.Common.{Result, Ok, Err}
 use Rattle.std.specs.Prelude.{All}
 use Rattle.std.proofs.lemmas.List.Elements.{All-nil, All-cons, All-append, All-weaker}
 use Rattle.client_world.specs.declared.faults.Event.{Event}
@@ -11,7 +12,8 @@ use Rattle.client_world.specs.declared.registers.Mode.{Mode}
 use Rattle.client_world.specs.declared.registers.Mode.TheVariants.{Real, Protected}
 use Rattle.client_world.specs.declared.segments.SegReg.{SegReg}
 use Rattle.client_world.specs.declared.segments.SegReg.TheVariants.{Cs}
-use Rattle.client_world.specs.Access.{access, segment_base, places_at, places_from, place_in, linear, first_forbidden, unless_forbidden, may_touch, IsHeld}
+use Rattle.client_world.specs.Access.{access, segment_base, places_at, places_from, place_in, linear, first_forbidden, unless_forbidden}
+use Rattle.client_world.specs.Access.{may_touch, IsHeld}
 use Rattle.client_world.specs.World.{World}
 use Rattle.client_world.proofs.PlaceLaws.{held-place}
 use Rattle.exec_flow.specs.Interrupts.{interrupt_push}
@@ -25,7 +27,8 @@ use Rattle.insn_plan.specs.Accesses.{with_next_eip}
 use Rattle.insn_plan.specs.Act.{Act, End, Read, Input, Given, From, Pending, value_of}
 use Rattle.insn_plan.specs.Plan.{plan_result}
 use Rattle.cpu_step.specs.Step.{has_big_code, code, client_row}
-use Rattle.cpu_step.specs.Touched.{and_then, touched_by_fetch, input_read, read_places, write_places, vector_places, vector_read_places, places_after_reads, touched_by_instruction, touched_by_decoded, touched_by_step}
+use Rattle.cpu_step.specs.Touched.{and_then, touched_by_fetch, input_read, read_places, write_places, vector_places, vector_read_places}
+use Rattle.cpu_step.specs.Touched.{places_after_reads, touched_by_instruction, touched_by_decoded, touched_by_step}
 
 abbrev AreHeld : World → List Place → Type 0
 AreHeld w places = All (IsHeld w) places
@@ -76,7 +79,8 @@ fetched_held : (w : World) (at n : ℕ) → AreHeld w (touched_by_fetch w at n)
 unfolding touched_by_fetch
 fetched_held w at zero = All-nil (IsHeld w)
 fetched_held w at (suc n) =
-    then_held w (access w Cs (w.regs.eip + at) 1 false) (touched_by_fetch w (at + 1) n) (access_held w Cs (w.regs.eip + at) 1 false) (fetched_held w (at + 1) n)
+    then_held w (access w Cs (w.regs.eip + at) 1 false) (touched_by_fetch w (at + 1) n) (access_held w Cs (w.regs.eip + at) 1 false)
+    (fetched_held w (at + 1) n)
 
 input_held : (w : World) (input : Input) (more : List Place) → AreHeld w more → AreHeld w (input_read w input more)
 input_held w (Given v) more rest = rest
@@ -98,7 +102,8 @@ write_places_held : (w : World) (writes : List Write) → AreHeld w (write_place
 unfolding write_places
 write_places_held w [] = All-nil (IsHeld w)
 write_places_held w (x ∷ writes) =
-    then_held w (access w x.seg x.off (byte_count x.width) true) (write_places w writes) (access_held w x.seg x.off (byte_count x.width) true) (write_places_held w writes)
+    then_held w (access w x.seg x.off (byte_count x.width) true) (write_places w writes)
+    (access_held w x.seg x.off (byte_count x.width) true) (write_places_held w writes)
 
 -- ---- a software interrupt
 
@@ -136,7 +141,8 @@ places_behind_held w (Err (Soft n len)) =
 
 executed_held : (w : World) (act : Act) → AreHeld w (touched_by_instruction w act)
 executed_held w act =
-    All-append (IsHeld w) (read_places w act) (places_after_reads w (plan_result w act)) (read_places_held w act) (places_behind_held w (plan_result w act))
+    All-append (IsHeld w) (read_places w act) (places_after_reads w (plan_result w act)) (read_places_held w act)
+    (places_behind_held w (plan_result w act))
 
 back : (w : World) (len : ℕ) (p : Place) → IsHeld (with_next_eip len w) p → IsHeld w p
 back w len (Dos at) h = h
@@ -147,7 +153,8 @@ back w len Nothing h = h
 decoded_held : (w : World) (d : Decoded) → AreHeld w (touched_by_decoded w d)
 decoded_held w (Whole insn len) =
     let act = client_row (with_next_eip len w) insn len in
-    All-weaker (IsHeld (with_next_eip len w)) (IsHeld w) (back w len) (touched_by_instruction (with_next_eip len w) act) (executed_held (with_next_eip len w) act)
+    All-weaker (IsHeld (with_next_eip len w)) (IsHeld w) (back w len) (touched_by_instruction (with_next_eip len w) act)
+    (executed_held (with_next_eip len w) act)
 decoded_held w More = All-nil (IsHeld w)
 decoded_held w Invalid = All-nil (IsHeld w)
 

@@ -1,5 +1,6 @@
 -- The touches of an instruction are the places that it reads and writes.
-use Rattle.std.proofs.Common.{◌≡◌, ℕ, zero, suc, ◌+◌, ◌^◌, ◌<◌, ◌≤◌, Bool, true, false, List, [], ◌∷◌, ◌++◌, refl, ap, sym, ◌∙◌, append_assoc, append-nil, subst, if◌then◌else◌, Option, None, Some, Result, Ok, Err, arith}
+use Rattle.std.proofs.Common.{◌≡◌, ℕ, zero, suc, ◌+◌, ◌^◌, ◌<◌, ◌≤◌, Bool, true, false, List, [], ◌∷◌, ◌++◌, refl, ap, sym, ◌∙◌}
+use Rattle.std.proofs.Common.{append_assoc, append-nil, subst, if◌then◌else◌, Option, None, Some, Result, Ok, Err, arith}
 use Rattle.std.specs.Prelude.{All, nat_lt, nat_le, not, ◌&&◌, ◌*◌}
 use Rattle.std.proofs.lemmas.Bool.Decides.{nat_tests}
 use Rattle.std.proofs.lemmas.List.Elements.{All-nil, All-cons, All-append}
@@ -13,7 +14,8 @@ use Rattle.client_world.specs.declared.registers.Regs.{Regs}
 use Rattle.client_world.specs.declared.segments.SegReg.{SegReg}
 use Rattle.client_world.specs.declared.memory_map.TheConstants.{PARAGRAPH_SIZE, SEGMENT_SIZE}
 use Rattle.client_world.specs.Descriptor.{is_inside, is_writable}
-use Rattle.client_world.specs.Access.{access, suits_register, segment_base, base_in_row, places_at, places_from, place_in, linear, first_forbidden, unless_forbidden, may_touch}
+use Rattle.client_world.specs.Access.{access, suits_register, segment_base, base_in_row, places_at, places_from, place_in, linear}
+use Rattle.client_world.specs.Access.{first_forbidden, unless_forbidden, may_touch}
 use Rattle.client_world.specs.Segments.{selector}
 use Rattle.client_world.specs.Selector.{Row, is_null, row_of_selector}
 use Rattle.client_world.specs.World.{World, MemoryBlock}
@@ -26,7 +28,8 @@ use Rattle.client_world.specs.declared.watchpoints.Touch.{Touch}
 use Rattle.insn_plan.specs.Accesses.{and_read, and_writes, accesses_after, touch_of_access, touch_of, touches_after, touches_where, touches}
 use Rattle.insn_plan.specs.Act.{Act, End, Read, Done, Raise, Interrupt, Input, Given, From, Pending, value_of, number_read}
 use Rattle.insn_plan.specs.Plan.{plan_result}
-use Rattle.cpu_step.specs.Touched.{and_then, input_read, read_places, write_places, places_after_reads, touched_by_instruction, touch_places, DoesNotWrap}
+use Rattle.cpu_step.specs.Touched.{and_then, input_read, read_places, write_places, places_after_reads, touched_by_instruction}
+use Rattle.cpu_step.specs.Touched.{touch_places, DoesNotWrap}
 
 -- ---- one access
 
@@ -41,7 +44,8 @@ then_places : (r : Result (List Place) Fault) (more : List Place) → fault_of r
 then_places (Ok places) more e = refl
 then_places (Err f) more e = absurd cc
 
-granted_then : (w : World) (a : Access) (more : List Place) → IsGranted w a → and_then (access w a.seg a.off a.count a.write) more ≡ access_places w a ++ more
+granted_then : (w : World) (a : Access) (more : List Place) → IsGranted w a →
+    and_then (access w a.seg a.off a.count a.write) more ≡ access_places w a ++ more
 unfolding access_fault
 granted_then w a more e = then_places (access w a.seg a.off a.count a.write) more e
 
@@ -64,7 +68,8 @@ fourth false false false true f g h k x base e = absurd cc
 fourth false false false false f g h k x base e = cc
 
 -- the base of a segment that allows an access is where its first byte is
-row_base : (seg : SegReg) (sel : ℕ) (row : Row) (off n : ℕ) (write : Bool) (base : ℕ) → base_in_row seg sel row off n write ≡ Ok base → base ≡ base_of_row row
+row_base : (seg : SegReg) (sel : ℕ) (row : Row) (off n : ℕ) (write : Bool) (base : ℕ) → base_in_row seg sel row off n write ≡ Ok base →
+    base ≡ base_of_row row
 row_base seg sel None off n write base e = absurd cc
 row_base seg sel (Some row) off n write base e =
     fourth (not (suits_register seg row.0.kind)) (not row.0.present) (write && not (is_writable row.0.kind)) (not (is_inside row.0 off n))
@@ -151,7 +156,8 @@ record IsTouch (w : World) (a : Access) (t : Touch) : Type 0 where
   places : places_from w.blocks t.lin t.len ≡ access_places w a
   inside : DoesNotWrap t
 
-granted_by : (o : Option Fault) (t u : Touch) → elim o as (λ _. Option Touch) [ None ↦ Some u | Some f ↦ None ] ≡ Some t → (o ≡ None) × (t ≡ u)
+granted_by : (o : Option Fault) (t u : Touch) → elim o as (λ _. Option Touch) [ None ↦ Some u | Some f ↦ None ] ≡ Some t →
+    (o ≡ None) × (t ≡ u)
 granted_by None t u e = (refl, cc)
 granted_by (Some f) t u e = absurd cc
 
@@ -164,7 +170,8 @@ touch_is w a e =
     record {
       granted = e;
       places = again ∙ sym run.is;
-      inside = run_inside w.blocks (linear at) a.count a.write start (ap (λ (places : List Place). first_forbidden places a.write) again ∙ run.allowed);
+      inside = run_inside w.blocks (linear at) a.count a.write start
+          (ap (λ (places : List Place). first_forbidden places a.write) again ∙ run.allowed);
     }
 
 granted_touch : (w : World) (a : Access) (t : Touch) → touch_of_access w a ≡ Some t → IsTouch w a t
@@ -214,7 +221,8 @@ record First (w : World) (done : List Touch) (a : Access) (rest : List Access) (
   is : touch_of_access w a ≡ Some touch
   others : touches_after w (done ++ touch ∷ []) rest ≡ Some list
 
-first_by : (o : Option Touch) (w : World) (done : List Touch) (a : Access) (rest : List Access) (list : List Touch) → o ≡ touch_of_access w a →
+first_by : (o : Option Touch) (w : World) (done : List Touch) (a : Access) (rest : List Access) (list : List Touch) →
+    o ≡ touch_of_access w a →
     elim o as (λ _. Option (List Touch)) [ Some touch ↦ touches_after w (done ++ touch ∷ []) rest | None ↦ None ] ≡ Some list →
     First w done a rest list
 first_by None w done a rest list is e = absurd cc
@@ -234,12 +242,14 @@ are_touches w done (a ∷ rest) list inside e =
     let first = first_by (touch_of_access w a) w done a rest list refl e in
     let touch = granted_touch w a first.touch first.is in
     let one = All-cons DoesNotWrap first.touch [] touch.inside (All-nil DoesNotWrap) in
-    let others = are_touches w (done ++ first.touch ∷ []) rest list (All-append DoesNotWrap done (first.touch ∷ []) inside one) first.others in
+    let others =
+    are_touches w (done ++ first.touch ∷ []) rest list (All-append DoesNotWrap done (first.touch ∷ []) inside one) first.others in
     let run = places_from w.blocks first.touch.lin first.touch.len in
     record {
       granted = (touch.granted, others.granted);
       places = others.places
-          ∙ ap (λ (places : List Place). places ++ all_places w rest) (touches_append w done (first.touch ∷ []) ∙ ap (λ (places : List Place). touch_places w done ++ places) (append-nil run))
+          ∙ ap (λ (places : List Place). places ++ all_places w rest)
+          (touches_append w done (first.touch ∷ []) ∙ ap (λ (places : List Place). touch_places w done ++ places) (append-nil run))
           ∙ append_assoc (touch_places w done) run (all_places w rest)
           ∙ ap (λ (places : List Place). touch_places w done ++ (places ++ all_places w rest)) touch.places;
       inside = others.inside;
@@ -279,7 +289,8 @@ record Follows (w : World) (done : List Access) (input : Input) (rest : ℕ → 
   is : value_of w input ≡ Ok value
   others : accesses_after w (and_read done input) (rest value) ≡ Some all
 
-follow_by : (r : Result ℕ Event) (w : World) (done : List Access) (input : Input) (rest : ℕ → Act) (all : List Access) → r ≡ value_of w input →
+follow_by : (r : Result ℕ Event) (w : World) (done : List Access) (input : Input) (rest : ℕ → Act) (all : List Access) →
+    r ≡ value_of w input →
     elim r as (λ _. Option (List Access)) [ Ok v ↦ accesses_after w (and_read done input) (rest v) | Err e ↦ None ] ≡ Some all →
     Follows w done input rest all
 follow_by (Ok v) w done input rest all is e = record { value = v; is = sym is; others = e }
@@ -287,7 +298,8 @@ follow_by (Err event) w done input rest all is e = absurd cc
 
 -- what is touched, where a read gives a number
 after_value : (w : World) (input : Input) (rest : ℕ → Act) (v : ℕ) → value_of w input ≡ Ok v →
-    touched_by_instruction w (Read input rest) ≡ input_read w input (read_places w (rest v)) ++ places_after_reads w (plan_result w (rest v))
+    touched_by_instruction w (Read input rest) ≡ input_read w input (read_places w (rest v))
+    ++ places_after_reads w (plan_result w (rest v))
 unfolding read_places
 after_value w input rest v e =
     ap (λ (r : Result ℕ Event).
@@ -325,7 +337,8 @@ accesses_join w done (End (Interrupt number len)) all granted e = absurd cc
 accesses_join w done (Read input rest) all granted e =
     let found = follow_by (value_of w input) w done input rest all refl e in
     accesses_join w (and_read done input) (rest found.value) all granted found.others
-    ∙ input_joins w done input found.value (read_places w (rest found.value)) (places_after_reads w (plan_result w (rest found.value))) found.is
+    ∙ input_joins w done input found.value (read_places w (rest found.value))
+    (places_after_reads w (plan_result w (rest found.value))) found.is
     ∙ ap (λ (places : List Place). all_places w done ++ places) (sym (after_value w input rest found.value found.is))
 
 -- ---- an instruction
@@ -347,7 +360,8 @@ known w act list e = known_by (accesses_after w [] act) w act list refl e
 pub known_touches : (w : World) (act : Act) (list : List Touch) (k : Known w act list) → AreTouches w [] k.accesses list
 known_touches w act list k = are_touches w [] k.accesses list (All-nil DoesNotWrap) k.touch
 
-pub touches_join : (w : World) (act : Act) (list : List Touch) → touches w act ≡ Some list → touched_by_instruction w act ≡ touch_places w list
+pub touches_join : (w : World) (act : Act) (list : List Touch) → touches w act ≡ Some list →
+    touched_by_instruction w act ≡ touch_places w list
 touches_join w act list e =
     let k = known w act list e in
     let are = known_touches w act list k in

@@ -1,5 +1,6 @@
 -- What an instruction leaves in the segment registers are words. Here the shared words of the rows.
-use Rattle.std.proofs.Common.{◌≡◌, ℕ, ◌-◌, ◌<◌, arith, nat_eq, nat_lt, if◌then◌else◌, Bool, true, false, Option, None, Some, Result, Ok, Err}
+use Rattle.std.proofs.Common.{◌≡◌, ℕ, ◌-◌, ◌<◌, arith, nat_eq, nat_lt, if◌then◌else◌, Bool, true, false, Option, None, Some, Result, Ok}
+use Rattle.std.proofs.Common.{Err}
 use Rattle.client_world.specs.declared.faults.Event.{Event}
 use Rattle.client_world.specs.declared.faults.Fault.{Fault}
 use Rattle.client_world.specs.declared.registers.Mode.{Mode}
@@ -98,7 +99,8 @@ words_register r width n v s =
     (words_if (nat_lt n 4) _ _ (words_general r n _ s) (words_general r (n - 4) _ s))
     (words_if (nat_eq width 16) _ _ (words_general r n _ s) (words_general r n _ s))
 
-pub words_put : (r : Regs) (addr32 : Bool) (width : ℕ) (o : Operand) (v : ℕ) (p : Pending) → HoldWords p.regs → HoldWords (put_operand r addr32 width o v p).regs
+pub words_put : (r : Regs) (addr32 : Bool) (width : ℕ) (o : Operand) (v : ℕ) (p : Pending) → HoldWords p.regs →
+    HoldWords (put_operand r addr32 width o v p).regs
 unfolding put_operand
 words_put r addr32 width Empty v p s = s
 words_put r addr32 width (Reg own number) v p s = words_register p.regs own number v s
@@ -114,12 +116,18 @@ words_pushed w width v p s = s
 -- ---- a segment register, with a word
 
 pub words_selector : (r : Regs) (seg : SegReg) (sel : ℕ) → HoldWords r → sel < 0x10000 → HoldWords (with_selector r seg sel)
-words_selector r Es sel s small = record { es_fits = small; cs_fits = s.cs_fits; ss_fits = s.ss_fits; ds_fits = s.ds_fits; fs_fits = s.fs_fits; gs_fits = s.gs_fits }
-words_selector r Cs sel s small = record { es_fits = s.es_fits; cs_fits = small; ss_fits = s.ss_fits; ds_fits = s.ds_fits; fs_fits = s.fs_fits; gs_fits = s.gs_fits }
-words_selector r Ss sel s small = record { es_fits = s.es_fits; cs_fits = s.cs_fits; ss_fits = small; ds_fits = s.ds_fits; fs_fits = s.fs_fits; gs_fits = s.gs_fits }
-words_selector r Ds sel s small = record { es_fits = s.es_fits; cs_fits = s.cs_fits; ss_fits = s.ss_fits; ds_fits = small; fs_fits = s.fs_fits; gs_fits = s.gs_fits }
-words_selector r Fs sel s small = record { es_fits = s.es_fits; cs_fits = s.cs_fits; ss_fits = s.ss_fits; ds_fits = s.ds_fits; fs_fits = small; gs_fits = s.gs_fits }
-words_selector r Gs sel s small = record { es_fits = s.es_fits; cs_fits = s.cs_fits; ss_fits = s.ss_fits; ds_fits = s.ds_fits; fs_fits = s.fs_fits; gs_fits = small }
+words_selector r Es sel s small =
+    record { es_fits = small; cs_fits = s.cs_fits; ss_fits = s.ss_fits; ds_fits = s.ds_fits; fs_fits = s.fs_fits; gs_fits = s.gs_fits }
+words_selector r Cs sel s small =
+    record { es_fits = s.es_fits; cs_fits = small; ss_fits = s.ss_fits; ds_fits = s.ds_fits; fs_fits = s.fs_fits; gs_fits = s.gs_fits }
+words_selector r Ss sel s small =
+    record { es_fits = s.es_fits; cs_fits = s.cs_fits; ss_fits = small; ds_fits = s.ds_fits; fs_fits = s.fs_fits; gs_fits = s.gs_fits }
+words_selector r Ds sel s small =
+    record { es_fits = s.es_fits; cs_fits = s.cs_fits; ss_fits = s.ss_fits; ds_fits = small; fs_fits = s.fs_fits; gs_fits = s.gs_fits }
+words_selector r Fs sel s small =
+    record { es_fits = s.es_fits; cs_fits = s.cs_fits; ss_fits = s.ss_fits; ds_fits = s.ds_fits; fs_fits = small; gs_fits = s.gs_fits }
+words_selector r Gs sel s small =
+    record { es_fits = s.es_fits; cs_fits = s.cs_fits; ss_fits = s.ss_fits; ds_fits = s.ds_fits; fs_fits = s.fs_fits; gs_fits = small }
 
 pub half_is_word : (v : ℕ) → low_half v < 0x10000
 half_is_word v = omega arith

@@ -24,7 +24,8 @@ unfolding client_row
 row_leaves w insn len s = leaves_if (is_core insn.op insn.first insn.second) (core_row insn.op w insn len) (flow_row insn.op w insn len)
     (core_leaves insn.op w insn len s) (flow_leaves insn.op w insn len s)
 
-pub sound_by_plan : (v u : MachineView) (act : Act) (r : Result Pending Event) → plan_result v.world act ≡ r → LeavesWords act → IsSound v.world →
+pub sound_by_plan : (v u : MachineView) (act : Act) (r : Result Pending Event) → plan_result v.world act ≡ r → LeavesWords act →
+    IsSound v.world →
     after_plan v r ≡ Ok u → IsSound u.world
 unfolding after_plan
 sound_by_plan v u act (Ok p) plan words s e = sound_settled v u p (planned_words v.world act p words plan) s e
@@ -38,7 +39,8 @@ unfolding after_instruction
 sound_executed v u insn len s e =
     let at = view_with_next_eip len v in
     let act = client_row at.world insn len in
-    sound_by_plan at u act (plan_result at.world act) refl (row_leaves at.world insn len (words_of v.world.regs s.segments)) (sound_behind v len s) e
+    sound_by_plan at u act (plan_result at.world act) refl (row_leaves at.world insn len (words_of v.world.regs s.segments))
+    (sound_behind v len s) e
 
 sound_step_of : (v u : MachineView) (d : Decoded) → IsSound v.world → step_of v d ≡ Ok u → IsSound u.world
 sound_step_of v u (Whole insn len) s e = sound_executed v u insn len s e

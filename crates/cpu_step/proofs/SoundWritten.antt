@@ -1,5 +1,6 @@
 -- Writes leave a sound world sound, and so does a plan whose segment registers hold words.
-use Rattle.std.proofs.Common.{◌≡◌, ℕ, zero, suc, ◌/◌, ◌%◌, ◌<◌, List, [], ◌∷◌, length, slice_index, refl, sym, subst, arith, nat_eq, if◌then◌else◌, Bool, true, false, Option, None, Some, Result, Ok, Err}
+use Rattle.std.proofs.Common.{◌≡◌, ℕ, zero, suc, ◌/◌, ◌%◌, ◌<◌, List, [], ◌∷◌, length, slice_index, refl, sym, subst, arith, nat_eq}
+use Rattle.std.proofs.Common.{if◌then◌else◌, Bool, true, false, Option, None, Some, Result, Ok, Err}
 use Rattle.client_world.specs.declared.faults.Event.{Event}
 use Rattle.client_world.specs.declared.faults.Event.TheVariants.{Fault as fault}
 use Rattle.client_world.specs.declared.faults.Fault.{Fault}
@@ -51,11 +52,13 @@ number_is_bytes width value =
     either_bytes (nat_eq width 8) (value % 0x100 ∷ [])
     (if nat_eq width 16 then word % 0x100 ∷ word / 0x100 ∷ [] else long)
     (one_more (value % 0x100) [] (omega arith) no_bytes)
-    (either_bytes (nat_eq width 16) (word % 0x100 ∷ word / 0x100 ∷ []) long (word_is_bytes word (omega arith)) (dword_is_bytes dword (omega arith)))
+    (either_bytes (nat_eq width 16) (word % 0x100 ∷ word / 0x100 ∷ []) long (word_is_bytes word (omega arith))
+    (dword_is_bytes dword (omega arith)))
 
 -- ---- a write: where the access has a fault there are no places
 
-sound_at : (w : World) (r : Result (List Place) Fault) (bytes : List ℕ) → ((places : List Place) → r ≡ Ok places → MayWrite places) → IsSound w →
+sound_at : (w : World) (r : Result (List Place) Fault) (bytes : List ℕ) → ((places : List Place) → r ≡ Ok places → MayWrite places) →
+    IsSound w →
     BytesWithin bytes → IsSound (with_bytes_of w (places_of_access r) bytes)
 sound_at w (Ok places) bytes may s small = IsSound-with_bytes_of w places bytes s (may places refl) small
 sound_at w (Err f) bytes may s small = s
@@ -81,7 +84,8 @@ pub sound_state : (v : MachineView) (p : Pending) → HasSegments p.regs → IsS
 sound_state v p segments s = IsSound-vif (record v.world { regs = p.regs }) p.vif (IsSound-regs v.world p.regs s segments)
 
 sound_unless : (v u : MachineView) (p : Pending) (o : Option Fault) → HasSegments p.regs → IsSound v.world →
-    elim o as (λ _. Result MachineView Event) [ Some f ↦ Err (fault f) | None ↦ Ok (with_state p.regs p.vif (after_writes v p.writes)) ] ≡ Ok u →
+    elim o as (λ _. Result MachineView Event) [ Some f ↦ Err (fault f) | None ↦ Ok (with_state p.regs p.vif (after_writes v p.writes)) ]
+    ≡ Ok u →
     IsSound u.world
 sound_unless v u p None segments s e =
     let same : with_state p.regs p.vif (after_writes v p.writes) ≡ u = cc in

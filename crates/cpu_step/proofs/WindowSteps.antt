@@ -36,12 +36,14 @@ holds_behind v len held = record {
 }
 
 window_unless : (v u : MachineView) (p : Pending) (o : Option Fault) (w : CodeWindow) → HoldsItsWorld v → IsWindow v w →
-    elim o as (λ _. Result MachineView Event) [ Some f ↦ Err (fault f) | None ↦ Ok (with_state p.regs p.vif (after_writes v p.writes)) ] ≡ Ok u →
+    elim o as (λ _. Result MachineView Event) [ Some f ↦ Err (fault f) | None ↦ Ok (with_state p.regs p.vif (after_writes v p.writes)) ]
+    ≡ Ok u →
     u.world.regs.cs ≡ v.world.regs.cs → IsWindow u w
 window_unless v u p None w held window e same =
     let is : with_state p.regs p.vif (after_writes v p.writes) ≡ u = cc in
     let kept = ap (λ (m : MachineView). m.world.regs.cs) is ∙ same ∙ sym (ap (λ (r : Regs). r.cs) (all_state v p.writes).regs) in
-    subst (λ (m : MachineView). IsWindow m w) is (window_of_cs (after_writes v p.writes) p.regs p.vif w kept (window_written v held p.writes w window))
+    subst (λ (m : MachineView). IsWindow m w) is
+    (window_of_cs (after_writes v p.writes) p.regs p.vif w kept (window_written v held p.writes w window))
 window_unless v u p (Some f) w held window e same = absurd cc
 
 window_carried : (v u : MachineView) (r : Result Pending Event) (w : CodeWindow) → HoldsItsWorld v → IsWindow v w → after_plan v r ≡ Ok u →
@@ -50,7 +52,8 @@ unfolding after_plan after_commit
 window_carried v u (Ok p) w held window e same = window_unless v u p (first_write_fault v.world p.writes) w held window e same
 window_carried v u (Err event) w held window e same = absurd cc
 
-window_executed : (v u : MachineView) (insn : Insn) (len : ℕ) (w : CodeWindow) → HoldsItsWorld v → IsWindow v w → after_instruction v insn len ≡ Ok u →
+window_executed : (v u : MachineView) (insn : Insn) (len : ℕ) (w : CodeWindow) → HoldsItsWorld v → IsWindow v w →
+    after_instruction v insn len ≡ Ok u →
     u.world.regs.cs ≡ v.world.regs.cs → IsWindow u w
 unfolding after_instruction
 window_executed v u insn len w held window e same =
@@ -64,7 +67,8 @@ window_step_of v u (Whole insn len) w held window e same = window_executed v u i
 window_step_of v u More w held window e same = absurd cc
 window_step_of v u Invalid w held window e same = absurd cc
 
-window_step : (v u : MachineView) (w : CodeWindow) → HoldsItsWorld v → IsWindow v w → client_step v ≡ Ok u → u.world.regs.cs ≡ v.world.regs.cs →
+window_step : (v u : MachineView) (w : CodeWindow) → HoldsItsWorld v → IsWindow v w → client_step v ≡ Ok u →
+    u.world.regs.cs ≡ v.world.regs.cs →
     IsWindow u w
 unfolding client_step
 window_step v u w held window e same = window_step_of v u (decoded (has_big_code v.world) (code v.world)) w held window e same

@@ -42,7 +42,8 @@ client_row w insn len =
 
 -- the machine after it, or its event
 unfoldable pub after_instruction : MachineView → Insn → ℕ → Result MachineView Event
-after_instruction v insn len = after_plan (view_with_next_eip len v) (plan_result (view_with_next_eip len v).world (client_row (view_with_next_eip len v).world insn len))
+after_instruction v insn len = after_plan (view_with_next_eip len v)
+    (plan_result (view_with_next_eip len v).world (client_row (view_with_next_eip len v).world insn len))
 
 -- ---- what the grammar says
 

@@ -1,6 +1,6 @@
 -- The places that the client's next instruction touches, in the order of the accesses: the bytes that are fetched, what it reads, what it
--- writes; and what its software interrupt pushes, and the vector that this reads. An access that faults names no place, and nothing is accessed
--- after it. Source: own.
+-- writes; and what its software interrupt pushes, and the vector that this reads. An access that faults names no place, and nothing is
+-- accessed after it. Source: own.
 use Rattle.std.specs.Prelude.{ℕ, zero, suc, ◌+◌, ◌*◌, ◌^◌, ◌≤◌, true, false, List, [], ◌∷◌, ◌++◌, Ok, Err, None, Some}
 use Rattle.std.specs.declared.result.Result.{Result}
 use Rattle.client_world.specs.declared.faults.Event.{Event}

@@ -28,14 +28,16 @@ pub fn every_touched_place_is_held()
 
 /// The touches of an instruction are what it reads and writes: they have the same places, in the same order, and no run wraps.
 pub fn every_touch_is_an_access()
-    ensures places { (w : World) (act : Act) (list : List Touch) → touches w act ≡ Some list → touched_by_instruction w act ≡ touch_places w list }
+    ensures places { (w : World) (act : Act) (list : List Touch) → touches w act ≡ Some list →
+        touched_by_instruction w act ≡ touch_places w list }
     ensures inside { (w : World) (act : Act) (list : List Touch) → touches w act ≡ Some list → All DoesNotWrap list }
 {}
 
 /// An instruction has touches exactly where it is no event.
 pub fn only_an_event_has_no_touches()
     ensures none { (v : MachineView) (act : Act) → touches v.world act ≡ None → IsErr (after_plan v (plan_result v.world act)) }
-    ensures some { (v : MachineView) (act : Act) (list : List Touch) → touches v.world act ≡ Some list → IsOk (after_plan v (plan_result v.world act)) }
+    ensures some { (v : MachineView) (act : Act) (list : List Touch) → touches v.world act ≡ Some list →
+        IsOk (after_plan v (plan_result v.world act)) }
 {}
 
 /// A step leads from a sound world to a sound one.

@@ -56,13 +56,11 @@ fn execute(m: &mut Machine, insn: &Insn, len: u8) -> Result<(), Raised>
 {
     let start = m.registers().eip;
     move_behind(m, len);
-    match run(m, insn, len) {
-        Ok(()) => Ok(()),
-        Err(raised) => {
-            m.set_eip(start);
-            Err(raised)
-        }
+    let result = run(m, insn, len);
+    if result.is_err() {
+        m.set_eip(start);
     }
+    result
 }
 
 // The fault where the code bytes are only the first ones of an instruction.
@@ -157,23 +155,9 @@ fn step_of_words(
     }
 }
 
-/// Makes the client's next instruction as `step` does, with a memo of the instructions that were decoded before, and the event in one word. Its
-/// page is noted first.
-#[cold]
-#[inline(never)]
-pub fn step_with_memo(m: &mut Machine, memo: &mut Memo) -> Result<(), Raised>
-    ensures { Follows m.old m.new result (client_step m.old) }
-{
-    m.warm(SegReg::Cs, m.registers().eip);
-    let key = m.first_byte(SegReg::Cs).wrapping_add(m.registers().eip);
-    match m.code_words() {
-        Some(words) => step_of_words(m, memo, key, words, has_big_code(m)),
-        None => decode_and_step(m),
-    }
-}
-
-/// The same of an instruction that is known to lie in a window of code, at that start of it. The window stays one of the machine's while CS
-/// holds what it held.
+/// Makes the client's next instruction as `step` does, with a memo of the instructions that were decoded before, and the event in one word.
+/// The instruction is known to lie in a window of code, at that start of it. The window stays one of the machine's while CS holds what it
+/// held.
 #[inline(always)]
 #[tactic(auto, unfolding(crate::specs::Step::has_big_code))]
 pub fn step_in_window(

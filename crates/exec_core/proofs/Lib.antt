@@ -1,4 +1,3 @@
 pub mod BitLaws
 pub mod Parts
 pub mod Pushes
-pub mod TopItem

@@ -8,7 +8,8 @@ use Rattle.insn_plan.specs.Act.{Pending}
 use Rattle.insn_plan.specs.Registers.{register}
 use Rattle.insn_plan.specs.Stack.{has_big_stack, with_pushed_number, with_push}
 
-pub push_is : (w : World) (big : Bool) (width number v esp : ℕ) (x : Write) (after : ℕ) (p : Pending) (r : Regs) → big ≡ has_big_stack w → r ≡ w.regs →
+pub push_is : (w : World) (big : Bool) (width number v esp : ℕ) (x : Write) (after : ℕ) (p : Pending) (r : Regs) → big ≡ has_big_stack w →
+    r ≡ w.regs →
     v ≡ register r width number → p.regs.esp ≡ esp →
     ((u : World) (q : Pending) → has_big_stack u ≡ big → q.regs.esp ≡ esp → with_pushed_number u width v q ≡ with_push x after q) →
     with_pushed_register w width number p ≡ with_push x after p

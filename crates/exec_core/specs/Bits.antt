@@ -87,4 +87,5 @@ unfoldable pub bit_scan : (ℕ → ℕ → ℕ) → World → Insn → Act
 bit_scan place w i = do
   v ← source w.regs i.addr32 i.width i.second
   (if nat_eq (cut i.width v) 0 then done (with_flags (record w.regs.flags { zf = true }) w) else
-      done (put_operand w.regs i.addr32 i.width i.first (place (cut i.width v) i.width) (with_flags (record w.regs.flags { zf = false }) w)))
+      done
+      (put_operand w.regs i.addr32 i.width i.first (place (cut i.width v) i.width) (with_flags (record w.regs.flags { zf = false }) w)))

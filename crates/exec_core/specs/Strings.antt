@@ -1,6 +1,7 @@
--- Strings: MOVS, CMPS, STOS, LODS, SCAS. One step is one element, with a repeat prefix too: while there are more the instruction pointer stays.
--- Source: 80386 Programmer's Reference Manual, ch. 17, "MOVS/MOVSB/..", "CMPS/..", "STOS/..", "LODS/..", "SCAS/..", "REP/.."; that a repetition is
--- a step is own.
+-- Strings: MOVS, CMPS, STOS, LODS, SCAS. One step is one element, with a repeat prefix too: while there are more the instruction pointer
+-- stays.
+-- Source: 80386 Programmer's Reference Manual, ch. 17, "MOVS/MOVSB/..", "CMPS/..", "STOS/..", "LODS/..", "SCAS/..", "REP/.."; that a
+-- repetition is a step is own.
 use Rattle.std.specs.Prelude.{ℕ, ◌+◌, ◌-◌, ◌%◌, ◌^◌, Bool, true, false, not, ◌&&◌, nat_eq, if◌then◌else◌}
 use Rattle.client_world.specs.declared.registers.Flags.{Flags}
 use Rattle.client_world.specs.declared.registers.Regs.{Regs}

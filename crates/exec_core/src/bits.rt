@@ -84,7 +84,8 @@ fn bit_at(v: u32, n: u8) -> bool
 
 /// BT. Source: as above.
 #[inline(never)]
-#[tactic(auto, unfolding(crate::specs::Bits::bit_test, insn_plan::specs::Plan::after_plan, insn_plan::specs::Plan::after_commit, guest_space::specs::Pending::first_write_fault, guest_space::specs::Pending::after_writes))]
+#[tactic(auto, unfolding(crate::specs::Bits::bit_test, insn_plan::specs::Plan::after_plan, insn_plan::specs::Plan::after_commit, //
+guest_space::specs::Pending::first_write_fault, guest_space::specs::Pending::after_writes))]
 pub(crate) fn bit_test(m: &mut Machine, i: &Insn) -> Result<(), Raised>
     requires { IsTrue (is_width i.now.width) }
     ensures { CarriesOut m.old m.new result (bit_test m.old.world i.now) }
@@ -194,7 +195,8 @@ fn highest_bit(mut v: u32, width: u8) -> u32
 
 /// BSF. Source: as above.
 #[inline(never)]
-#[tactic(auto, unfolding(crate::specs::Bits::bit_scan, insn_plan::specs::Plan::after_plan, insn_plan::specs::Plan::after_commit, guest_space::specs::Pending::first_write_fault, guest_space::specs::Pending::after_writes))]
+#[tactic(auto, unfolding(crate::specs::Bits::bit_scan, insn_plan::specs::Plan::after_plan, insn_plan::specs::Plan::after_commit, //
+guest_space::specs::Pending::first_write_fault, guest_space::specs::Pending::after_writes))]
 pub(crate) fn bit_scan_forward(m: &mut Machine, i: &Insn) -> Result<(), Raised>
     requires { IsTrue (is_width i.now.width) }
     ensures { CarriesOut m.old m.new result (bit_scan lowest_bit m.old.world i.now) }
@@ -214,7 +216,8 @@ pub(crate) fn bit_scan_forward(m: &mut Machine, i: &Insn) -> Result<(), Raised>
 
 /// BSR. Source: as above.
 #[inline(never)]
-#[tactic(auto, unfolding(crate::specs::Bits::bit_scan, insn_plan::specs::Plan::after_plan, insn_plan::specs::Plan::after_commit, guest_space::specs::Pending::first_write_fault, guest_space::specs::Pending::after_writes))]
+#[tactic(auto, unfolding(crate::specs::Bits::bit_scan, insn_plan::specs::Plan::after_plan, insn_plan::specs::Plan::after_commit, //
+guest_space::specs::Pending::first_write_fault, guest_space::specs::Pending::after_writes))]
 pub(crate) fn bit_scan_reverse(m: &mut Machine, i: &Insn) -> Result<(), Raised>
     requires { IsTrue (is_width i.now.width) }
     ensures { CarriesOut m.old m.new result (bit_scan highest_bit m.old.world i.now) }

@@ -1,5 +1,7 @@
 // Decimal adjustment of AX.
-#![tactic(auto, unfolding(crate::specs::Decimal::adjust, crate::specs::Decimal::aad, crate::specs::Decimal::aam, insn_plan::specs::Plan::after_plan, insn_plan::specs::Plan::after_commit, guest_space::specs::Pending::first_write_fault, guest_space::specs::Pending::after_writes))]
+#![tactic(auto, unfolding(crate::specs::Decimal::adjust, crate::specs::Decimal::aad, crate::specs::Decimal::aam, //
+insn_plan::specs::Plan::after_plan, insn_plan::specs::Plan::after_commit, guest_space::specs::Pending::first_write_fault, //
+guest_space::specs::Pending::after_writes))]
 
 ghost use Rattle.std.specs.Prelude.{◌≡◌};
 ghost use Rattle.cpu_alu.specs.Decimal.{daa_of, das_of, aaa_of, aas_of};

@@ -10,7 +10,8 @@ use insn_plan::{Raised, put_register, register};
 
 /// CLC. Source: 80386 Programmer's Reference Manual, ch. 17.
 #[inline(always)]
-#[tactic(auto, unfolding(crate::specs::FlagRows::clc, insn_plan::specs::Plan::after_plan, insn_plan::specs::Plan::after_commit, guest_space::specs::Pending::first_write_fault, guest_space::specs::Pending::after_writes))]
+#[tactic(auto, unfolding(crate::specs::FlagRows::clc, insn_plan::specs::Plan::after_plan, insn_plan::specs::Plan::after_commit, //
+guest_space::specs::Pending::first_write_fault, guest_space::specs::Pending::after_writes))]
 pub(crate) fn clc(m: &mut Machine) -> Result<(), Raised>
     ensures { CarriesOut m.old m.new result (clc m.old.world) }
 {
@@ -23,7 +24,8 @@ pub(crate) fn clc(m: &mut Machine) -> Result<(), Raised>
 
 /// STC. Source: as above.
 #[inline(always)]
-#[tactic(auto, unfolding(crate::specs::FlagRows::stc, insn_plan::specs::Plan::after_plan, insn_plan::specs::Plan::after_commit, guest_space::specs::Pending::first_write_fault, guest_space::specs::Pending::after_writes))]
+#[tactic(auto, unfolding(crate::specs::FlagRows::stc, insn_plan::specs::Plan::after_plan, insn_plan::specs::Plan::after_commit, //
+guest_space::specs::Pending::first_write_fault, guest_space::specs::Pending::after_writes))]
 pub(crate) fn stc(m: &mut Machine) -> Result<(), Raised>
     ensures { CarriesOut m.old m.new result (stc m.old.world) }
 {
@@ -36,7 +38,8 @@ pub(crate) fn stc(m: &mut Machine) -> Result<(), Raised>
 
 /// CMC. Source: as above.
 #[inline(always)]
-#[tactic(auto, unfolding(crate::specs::FlagRows::cmc, insn_plan::specs::Plan::after_plan, insn_plan::specs::Plan::after_commit, guest_space::specs::Pending::first_write_fault, guest_space::specs::Pending::after_writes))]
+#[tactic(auto, unfolding(crate::specs::FlagRows::cmc, insn_plan::specs::Plan::after_plan, insn_plan::specs::Plan::after_commit, //
+guest_space::specs::Pending::first_write_fault, guest_space::specs::Pending::after_writes))]
 pub(crate) fn cmc(m: &mut Machine) -> Result<(), Raised>
     ensures { CarriesOut m.old m.new result (cmc m.old.world) }
 {
@@ -47,7 +50,8 @@ pub(crate) fn cmc(m: &mut Machine) -> Result<(), Raised>
 
 /// CLD. Source: as above.
 #[inline(always)]
-#[tactic(auto, unfolding(crate::specs::FlagRows::cld, insn_plan::specs::Plan::after_plan, insn_plan::specs::Plan::after_commit, guest_space::specs::Pending::first_write_fault, guest_space::specs::Pending::after_writes))]
+#[tactic(auto, unfolding(crate::specs::FlagRows::cld, insn_plan::specs::Plan::after_plan, insn_plan::specs::Plan::after_commit, //
+guest_space::specs::Pending::first_write_fault, guest_space::specs::Pending::after_writes))]
 pub(crate) fn cld(m: &mut Machine) -> Result<(), Raised>
     ensures { CarriesOut m.old m.new result (cld m.old.world) }
 {
@@ -60,7 +64,8 @@ pub(crate) fn cld(m: &mut Machine) -> Result<(), Raised>
 
 /// STD. Source: as above.
 #[inline(always)]
-#[tactic(auto, unfolding(crate::specs::FlagRows::std, insn_plan::specs::Plan::after_plan, insn_plan::specs::Plan::after_commit, guest_space::specs::Pending::first_write_fault, guest_space::specs::Pending::after_writes))]
+#[tactic(auto, unfolding(crate::specs::FlagRows::std, insn_plan::specs::Plan::after_plan, insn_plan::specs::Plan::after_commit, //
+guest_space::specs::Pending::first_write_fault, guest_space::specs::Pending::after_writes))]
 pub(crate) fn std(m: &mut Machine) -> Result<(), Raised>
     ensures { CarriesOut m.old m.new result (std m.old.world) }
 {
@@ -73,7 +78,8 @@ pub(crate) fn std(m: &mut Machine) -> Result<(), Raised>
 
 /// LAHF. Source: as above.
 #[inline(never)]
-#[tactic(auto, unfolding(crate::specs::FlagRows::lahf, insn_plan::specs::Plan::after_plan, insn_plan::specs::Plan::after_commit, guest_space::specs::Pending::first_write_fault, guest_space::specs::Pending::after_writes))]
+#[tactic(auto, unfolding(crate::specs::FlagRows::lahf, insn_plan::specs::Plan::after_plan, insn_plan::specs::Plan::after_commit, //
+guest_space::specs::Pending::first_write_fault, guest_space::specs::Pending::after_writes))]
 pub(crate) fn lahf(m: &mut Machine) -> Result<(), Raised>
     ensures { CarriesOut m.old m.new result (lahf m.old.world) }
 {
@@ -84,7 +90,8 @@ pub(crate) fn lahf(m: &mut Machine) -> Result<(), Raised>
 
 /// SAHF. Source: as above.
 #[inline(never)]
-#[tactic(auto, using(crate::proofs::Parts::ah_fits), unfolding(crate::specs::FlagRows::sahf, insn_plan::specs::Plan::after_plan, insn_plan::specs::Plan::after_commit, guest_space::specs::Pending::first_write_fault, guest_space::specs::Pending::after_writes))]
+#[tactic(auto, using(crate::proofs::Parts::ah_fits), unfolding(crate::specs::FlagRows::sahf, insn_plan::specs::Plan::after_plan, //
+insn_plan::specs::Plan::after_commit, guest_space::specs::Pending::first_write_fault, guest_space::specs::Pending::after_writes))]
 pub(crate) fn sahf(m: &mut Machine) -> Result<(), Raised>
     ensures { CarriesOut m.old m.new result (sahf m.old.world) }
 {
@@ -101,7 +108,8 @@ pub(crate) fn sahf(m: &mut Machine) -> Result<(), Raised>
 
 /// WAIT: nothing happens. Source: as above.
 #[inline(always)]
-#[tactic(auto, unfolding(crate::specs::FlagRows::wait, insn_plan::specs::Plan::after_plan, insn_plan::specs::Plan::after_commit, guest_space::specs::Pending::first_write_fault, guest_space::specs::Pending::after_writes))]
+#[tactic(auto, unfolding(crate::specs::FlagRows::wait, insn_plan::specs::Plan::after_plan, insn_plan::specs::Plan::after_commit, //
+guest_space::specs::Pending::first_write_fault, guest_space::specs::Pending::after_writes))]
 pub(crate) fn wait(m: &mut Machine) -> Result<(), Raised>
     ensures { CarriesOut m.old m.new result (wait m.old.world) }
 {

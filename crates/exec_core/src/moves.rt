@@ -1,5 +1,5 @@
 // Moves.
-ghost use Rattle.std.specs.Prelude.{◌≡◌, ◌<◌, ◌^◌, ◌⊎◌, IsTrue};
+ghost use Rattle.std.specs.Prelude.{◌≡◌, ◌<◌, ◌^◌, ◌⊎◌, IfNone, IfSome, IsTrue, Ok};
 ghost use Rattle.cpu_values.specs.Word.{cut};
 ghost use Rattle.exec_core.specs.Moves.{
   mov,
@@ -16,14 +16,14 @@ ghost use Rattle.exec_core.specs.Moves.{
   operand_offset,
 };
 ghost use Rattle.insn_forms.specs.Kinds.{is_width};
-ghost use Rattle.insn_plan.specs.Plan.{CarriesOut};
+ghost use Rattle.insn_plan.specs.Plan.{CarriesOut, after_plan, plan_result};
 
 use client_world::general::{EAX, EDX};
 use guest_space::Machine;
 use insn_forms::{Insn, Operand};
 use insn_plan::{
-    Next, Raised, at_hand, cut_address, offset_of, put_operand, put_register, read_width, register,
-    source,
+    Next, Raised, at_hand, cut_address, noted_place, offset_of, put_operand, put_register,
+    read_width, register, shown, source, write_there,
 };
 
 /// A number cut to a width of 8, 16 or 32 bits.
@@ -40,29 +40,57 @@ pub(crate) fn cut(width: u8, v: u32) -> u32
     }
 }
 
-// MOV of operands of any kind.
+// MOV, where the tables may have to be asked.
+#[cold]
 #[inline(never)]
 #[tactic(auto, unfolding(crate::specs::Moves::mov, insn_plan::specs::Plan::after_plan))]
-fn mov_in_general(m: &mut Machine, i: &Insn) -> Result<(), Raised>
+fn mov_by_tables(m: &mut Machine, i: &Insn) -> Result<(), Raised>
     ensures { CarriesOut m.old m.new result (mov m.old.world i.now) }
 {
     let v = source(m, i.addr32, i.width, &i.second)?;
     put_operand(m, i.addr32, i.width, &i.first, v)
 }
 
+// The same where a quick look shows that both operands may be accessed; `None` says nothing, and changes nothing.
+#[inline(always)]
+#[tactic(auto, unfolding(crate::specs::Moves::mov, insn_plan::specs::Operands::put_operand, insn_plan::specs::Plan::after_plan, //
+insn_plan::specs::Plan::after_commit, guest_space::specs::Pending::first_write_fault, guest_space::specs::Pending::after_writes))]
+fn mov_quickly<const W: u8>(m: &mut Machine, i: &Insn) -> Option<()>
+    requires { i.now.width ≡ W }
+    ensures made { IfSome result (λ _. after_plan m.old (plan_result m.old.world (mov m.old.world i.now)) ≡ Ok m.new) }
+    ensures kept { IfNone result (m.new ≡ m.old) }
+{
+    match &i.first {
+        Operand::Reg { width, number } if *width == W => {
+            let v = shown::<W>(m, i.addr32, &i.second)?;
+            put_register(m, W, *number, v);
+            Some(())
+        }
+        Operand::Mem(place) => {
+            let v = at_hand::<W>(m, i.addr32, &i.second)?;
+            let (off, at) = noted_place::<W>(m, i.addr32, place)?;
+            write_there::<W>(m, place.seg, off, at, v);
+            Some(())
+        }
+        _ => None,
+    }
+}
+
 /// MOV. Source: 80386 Programmer's Reference Manual, ch. 17.
 #[inline(never)]
-#[tactic(auto, unfolding(crate::specs::Moves::mov, insn_plan::specs::Operands::put_operand, insn_plan::specs::Plan::after_plan, insn_plan::specs::Plan::after_commit, guest_space::specs::Pending::first_write_fault, guest_space::specs::Pending::after_writes))]
 pub(crate) fn mov(m: &mut Machine, i: &Insn) -> Result<(), Raised>
     ensures { CarriesOut m.old m.new result (mov m.old.world i.now) }
 {
-    if let Operand::Reg { width, number } = &i.first {
-        if let Some(v) = at_hand(m, i.addr32, i.width, &i.second) {
-            put_register(m, *width, *number, v);
-            return Ok(());
-        }
+    let made = match i.width {
+        8 => mov_quickly::<8>(m, i),
+        16 => mov_quickly::<16>(m, i),
+        32 => mov_quickly::<32>(m, i),
+        _ => None,
+    };
+    match made {
+        Some(()) => Ok(()),
+        None => mov_by_tables(m, i),
     }
-    mov_in_general(m, i)
 }
 
 /// MOVZX. Source: as above.
@@ -143,7 +171,8 @@ pub(crate) fn lea(m: &mut Machine, i: &Insn) -> Result<(), Raised>
 
 /// XLAT. Source: as above.
 #[inline(never)]
-#[tactic(auto, unfolding(crate::specs::Moves::xlat, insn_plan::specs::Plan::after_plan, insn_plan::specs::Plan::after_commit, guest_space::specs::Pending::first_write_fault, guest_space::specs::Pending::after_writes))]
+#[tactic(auto, unfolding(crate::specs::Moves::xlat, insn_plan::specs::Plan::after_plan, insn_plan::specs::Plan::after_commit, //
+guest_space::specs::Pending::first_write_fault, guest_space::specs::Pending::after_writes))]
 pub(crate) fn xlat(m: &mut Machine, i: &Insn) -> Result<(), Raised>
     ensures { CarriesOut m.old m.new result (xlat m.old.world i.now) }
 {
@@ -164,7 +193,8 @@ fn half_width(width: u8) -> u8
 
 /// CBW and CWDE. Source: as above.
 #[inline(never)]
-#[tactic(auto, using(crate::proofs::Parts::half_fits), unfolding(crate::specs::Moves::cbw, insn_plan::specs::Plan::after_plan, insn_plan::specs::Plan::after_commit, guest_space::specs::Pending::first_write_fault, guest_space::specs::Pending::after_writes))]
+#[tactic(auto, using(crate::proofs::Parts::half_fits), unfolding(crate::specs::Moves::cbw, insn_plan::specs::Plan::after_plan, //
+insn_plan::specs::Plan::after_commit, guest_space::specs::Pending::first_write_fault, guest_space::specs::Pending::after_writes))]
 pub(crate) fn cbw(m: &mut Machine, i: &Insn) -> Result<(), Raised>
     requires { IsTrue (is_width i.now.width) }
     ensures { CarriesOut m.old m.new result (cbw m.old.world i.now) }
@@ -189,7 +219,8 @@ fn sign_bits(width: u8, v: u32) -> u32
 
 /// CWD and CDQ. Source: as above.
 #[inline(never)]
-#[tactic(auto, unfolding(crate::specs::Moves::cwd, insn_plan::specs::Plan::after_plan, insn_plan::specs::Plan::after_commit, guest_space::specs::Pending::first_write_fault, guest_space::specs::Pending::after_writes))]
+#[tactic(auto, unfolding(crate::specs::Moves::cwd, insn_plan::specs::Plan::after_plan, insn_plan::specs::Plan::after_commit, //
+guest_space::specs::Pending::first_write_fault, guest_space::specs::Pending::after_writes))]
 pub(crate) fn cwd(m: &mut Machine, i: &Insn) -> Result<(), Raised>
     requires { IsTrue (is_width i.now.width) }
     ensures { CarriesOut m.old m.new result (cwd m.old.world i.now) }

@@ -169,7 +169,8 @@ pub(crate) fn word_in(r: &Regs, width: u8, n: u8) -> u32
 
 /// MUL, and IMUL of one operand. Source: 80386 Programmer's Reference Manual, ch. 17.
 #[inline(never)]
-#[tactic(auto, unfolding(crate::specs::Products::multiply, insn_plan::specs::Plan::after_plan, insn_plan::specs::Plan::after_commit, guest_space::specs::Pending::first_write_fault, guest_space::specs::Pending::after_writes))]
+#[tactic(auto, unfolding(crate::specs::Products::multiply, insn_plan::specs::Plan::after_plan, insn_plan::specs::Plan::after_commit, //
+guest_space::specs::Pending::first_write_fault, guest_space::specs::Pending::after_writes))]
 pub(crate) fn multiply<S: Sign>(m: &mut Machine, i: &Insn) -> Result<(), Raised>
     requires { IsTrue (is_width i.now.width) }
     ensures { CarriesOut m.old m.new result (multiply S.product m.old.world i.now) }
@@ -233,7 +234,8 @@ pub(crate) fn multiply_signed(m: &mut Machine, i: &Insn) -> Result<(), Raised>
 
 /// DIV and IDIV; exception 0 where there is no quotient. Source: as above.
 #[inline(never)]
-#[tactic(auto, unfolding(crate::specs::Products::divide, insn_plan::specs::Plan::after_plan, insn_plan::specs::Plan::after_commit, guest_space::specs::Pending::first_write_fault, guest_space::specs::Pending::after_writes))]
+#[tactic(auto, unfolding(crate::specs::Products::divide, insn_plan::specs::Plan::after_plan, insn_plan::specs::Plan::after_commit, //
+guest_space::specs::Pending::first_write_fault, guest_space::specs::Pending::after_writes))]
 pub(crate) fn divide<S: Sign>(m: &mut Machine, i: &Insn) -> Result<(), Raised>
     requires { IsTrue (is_width i.now.width) }
     ensures { CarriesOut m.old m.new result (divide S.quotient m.old.world i.now) }

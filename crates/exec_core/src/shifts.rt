@@ -1,5 +1,5 @@
 // Shifts and rotates, and the double shifts.
-ghost use Rattle.std.specs.Prelude.{◌≡◌, IsTrue};
+ghost use Rattle.std.specs.Prelude.{◌≡◌, IfNone, IfSome, IsTrue, Ok};
 ghost use Rattle.cpu_alu.specs.DoubleShifts.{shld_of, shrd_of};
 ghost use Rattle.cpu_values.specs.Word.{IsWidth, cut};
 ghost use Rattle.exec_core.specs.Shifts.{DoubleFormula, shift, shift_in};
@@ -7,7 +7,7 @@ ghost use Rattle.guest_space.specs.Registers.{with_registers};
 ghost use Rattle.insn_forms.specs.Kinds.{is_width};
 ghost use Rattle.insn_plan.specs.Act.{with_flags};
 ghost use Rattle.insn_plan.specs.Operands.{and_write};
-ghost use Rattle.insn_plan.specs.Plan.{CarriesOut, Follows, after_commit};
+ghost use Rattle.insn_plan.specs.Plan.{CarriesOut, Follows, after_commit, after_plan, plan_result};
 ghost use Rattle.insn_plan.specs.Registers.{offset_of};
 
 use crate::arithmetic::at_width;
@@ -17,7 +17,10 @@ use cpu_alu::{shld, shrd};
 use cpu_values::cut;
 use guest_space::Machine;
 use insn_forms::{Insn, MemForm, Operand};
-use insn_plan::{Raised, offset_of, put_register, put_with_flags, source, write_number};
+use insn_plan::{
+    Raised, at_hand, offset_of, put_register, put_with_flags, register, register_number, source,
+    write_number,
+};
 
 // Sets the flags of a shift, and gives its result.
 #[inline(always)]
@@ -55,10 +58,12 @@ fn write_shift<const W: u8, O: ShiftAt<W>>(
     Ok(())
 }
 
-/// SHL, SHR, SAR, ROL, ROR, RCL, RCR. Source: 80386 Programmer's Reference Manual, ch. 17.
+// SHL, SHR, SAR, ROL, ROR, RCL, RCR, where the tables may have to be asked.
+#[cold]
 #[inline(never)]
-#[tactic(auto, unfolding(crate::specs::Shifts::shift, insn_plan::specs::Operands::put_operand, insn_plan::specs::Plan::after_plan, insn_plan::specs::Plan::after_commit, guest_space::specs::Pending::first_write_fault, guest_space::specs::Pending::after_writes))]
-pub(crate) fn shift<O: Shift>(m: &mut Machine, i: &Insn) -> Result<(), Raised>
+#[tactic(auto, unfolding(crate::specs::Shifts::shift, insn_plan::specs::Operands::put_operand, insn_plan::specs::Plan::after_plan, //
+insn_plan::specs::Plan::after_commit, guest_space::specs::Pending::first_write_fault, guest_space::specs::Pending::after_writes))]
+fn shift_by_tables<O: Shift>(m: &mut Machine, i: &Insn) -> Result<(), Raised>
     requires { IsTrue (is_width i.now.width) }
     ensures { CarriesOut m.old m.new result (shift O.formula m.old.world i.now) }
 {
@@ -73,6 +78,37 @@ pub(crate) fn shift<O: Shift>(m: &mut Machine, i: &Insn) -> Result<(), Raised>
             }
             Ok(())
         }
+    }
+}
+
+// The same of a register of W bits; `None` says nothing, and changes nothing.
+#[inline(always)]
+#[tactic(auto, unfolding(crate::specs::Shifts::shift, insn_plan::specs::Operands::source, insn_plan::specs::Operands::put_operand, //
+insn_plan::specs::Act::value_of, insn_plan::specs::Plan::after_plan, insn_plan::specs::Plan::after_commit, //
+guest_space::specs::Pending::first_write_fault, guest_space::specs::Pending::after_writes))]
+fn shift_quickly<const W: u8, O: ShiftAt<W>>(m: &mut Machine, i: &Insn) -> Option<()>
+    requires width { IsWidth W }
+    requires same { i.now.width ≡ W }
+    ensures made { IfSome result (λ _. after_plan m.old (plan_result m.old.world (shift O.formula m.old.world i.now)) ≡ Ok m.new) }
+    ensures kept { IfNone result (m.new ≡ m.old) }
+{
+    let number = register_number::<W>(&i.first)?;
+    let n = (at_hand::<8>(m, i.addr32, &i.second)? % 0x100) as u8;
+    let a = register(m.registers(), W, number);
+    let v = set_shift_flags::<W, O>(m, a, n);
+    put_register(m, W, number, v);
+    Some(())
+}
+
+/// SHL, SHR, SAR, ROL, ROR, RCL, RCR. Source: 80386 Programmer's Reference Manual, ch. 17.
+#[inline(never)]
+pub(crate) fn shift<O: Shift>(m: &mut Machine, i: &Insn) -> Result<(), Raised>
+    requires { IsTrue (is_width i.now.width) }
+    ensures { CarriesOut m.old m.new result (shift O.formula m.old.world i.now) }
+{
+    match at_width!(i.width, shift_quickly, O, m, i) {
+        Some(()) => Ok(()),
+        None => shift_by_tables::<O>(m, i),
     }
 }
 

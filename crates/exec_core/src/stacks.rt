@@ -1,10 +1,10 @@
 // PUSH and POP of general registers and memory, PUSHA and POPA.
-ghost use Rattle.std.specs.Prelude.{◌≡◌, ◌≢◌, ◌<◌, ℕ, Ok, false, slice_index};
+ghost use Rattle.std.specs.Prelude.{◌≡◌, ◌≢◌, ◌<◌, ℕ, IfNone, IfSome, Ok, false, slice_index};
 ghost use Rattle.exec_core.specs.Stacks.{push, pop, pusha, popa};
 ghost use Rattle.insn_plan.specs.Act.{done, unchanged, value_of, with_regs};
 ghost use Rattle.insn_plan.specs.Operands.{put_operand};
 ghost use Rattle.insn_plan.specs.Plan.{CarriesOut, Follows, after_commit, after_plan, plan_result};
-ghost use Rattle.insn_plan.specs.Stack.{has_big_stack, pending_of_pushes, stack_item};
+ghost use Rattle.insn_plan.specs.Stack.{has_big_stack, pending_of_pushes, regs_after_pops, stack_item};
 ghost use Rattle.insn_forms.specs.declared.insn.Insn.{Insn};
 ghost use Rattle.insn_forms.specs.declared.insn.Operand.TheVariants.{Mem};
 
@@ -13,36 +13,54 @@ use client_world::{Regs, SegReg};
 use guest_space::{Machine, Write, byte_count};
 use insn_forms::{Insn, MemForm, Operand};
 use insn_plan::{
-    Raised, at_hand, cut_address, eight_items, esp_up, has_big_stack, item_pushed, offset_of,
-    push_item, put_register, read_width, register, settle_pushes, settle_quickly, source,
-    stack_item, write_number,
+    Raised, eight_items, esp_up, has_big_stack, item_pushed, offset_of, push_item, push_quickly,
+    put_register, register, register_number, settle_pushes, settle_quickly, shown, shown_top_item,
+    source, stack_item, top_item, write_number,
 };
 
-// PUSH of an operand of any kind.
+// PUSH, where the tables may have to be asked.
+#[cold]
 #[inline(never)]
 #[tactic(auto, unfolding(crate::specs::Stacks::push, insn_plan::specs::Plan::after_plan))]
-fn push_in_general(m: &mut Machine, i: &Insn) -> Result<(), Raised>
+fn push_by_tables(m: &mut Machine, i: &Insn) -> Result<(), Raised>
     ensures { CarriesOut m.old m.new result (push m.old.world i.now) }
 {
     let v = source(m, i.addr32, i.width, &i.first)?;
     push_item(m, i.width, v)
 }
 
+// The same at a width of W bits, where a quick look shows that it has no fault; `None` says nothing, and changes nothing.
+#[inline(always)]
+#[tactic(auto, unfolding(crate::specs::Stacks::push, insn_plan::specs::Plan::after_plan))]
+fn push_at_width<const W: u8>(m: &mut Machine, i: &Insn) -> Option<()>
+    requires { i.now.width ≡ W }
+    ensures made { IfSome result (λ _. after_plan m.old (plan_result m.old.world (push m.old.world i.now)) ≡ Ok m.new) }
+    ensures kept { IfNone result (m.new ≡ m.old) }
+{
+    let v = shown::<W>(m, i.addr32, &i.first)?;
+    push_quickly(m, W, v)
+}
+
 /// PUSH. Source: 80386 Programmer's Reference Manual, ch. 17.
 #[inline(never)]
-#[tactic(auto, unfolding(crate::specs::Stacks::push, insn_plan::specs::Plan::after_plan))]
 pub(crate) fn push(m: &mut Machine, i: &Insn) -> Result<(), Raised>
     ensures { CarriesOut m.old m.new result (push m.old.world i.now) }
 {
-    match at_hand(m, i.addr32, i.width, &i.first) {
-        Some(v) => push_item(m, i.width, v),
-        None => push_in_general(m, i),
+    let made = match i.width {
+        16 => push_at_width::<16>(m, i),
+        32 => push_at_width::<32>(m, i),
+        _ => None,
+    };
+    match made {
+        Some(()) => Ok(()),
+        None => push_by_tables(m, i),
     }
 }
 
 // Puts a number that was popped into memory, at the address that ESP gives after the pop.
 #[inline(never)]
-#[tactic(auto, unfolding(insn_plan::specs::Operands::put_operand, insn_plan::specs::Plan::after_commit, client_world::specs::General::with_general))]
+#[tactic(auto, unfolding(insn_plan::specs::Operands::put_operand, insn_plan::specs::Plan::after_commit, //
+client_world::specs::General::with_general))]
 fn pop_into_memory(m: &mut Machine, i: &Insn, f: &MemForm, esp: u32, v: u32) -> Result<(), Raised>
     ensures { let r = record m.old.world.regs { esp = esp } in Follows m.old m.new result
         (after_commit m.old (put_operand r i.now.addr32 i.now.width (Mem f.now) v (with_regs r (unchanged m.old.world)))) }
@@ -53,17 +71,30 @@ fn pop_into_memory(m: &mut Machine, i: &Insn, f: &MemForm, esp: u32, v: u32) -> 
     Ok(())
 }
 
-/// POP. Source: as above.
+// ESP after an item of a width is popped.
+#[inline(always)]
+#[tactic(auto, unfolding(insn_plan::specs::Stack::regs_after_pops))]
+fn popped_esp(m: &Machine, width: u8) -> u32
+    ensures { result ≡ (regs_after_pops m.now.world width 1 m.now.world.regs).esp }
+{
+    esp_up(
+        has_big_stack(m),
+        u32::from(byte_count(width)),
+        m.registers().esp,
+    )
+}
+
+// POP, where the tables may have to be asked.
+#[cold]
 #[inline(never)]
-#[tactic(auto, using(crate::proofs::TopItem::top_item), unfolding(crate::specs::Stacks::pop, insn_plan::specs::Stack::regs_after_pops, insn_plan::specs::Operands::put_operand, insn_plan::specs::Plan::after_plan, insn_plan::specs::Plan::after_commit, guest_space::specs::Pending::first_write_fault, guest_space::specs::Pending::after_writes, client_world::specs::General::with_general))]
-pub(crate) fn pop(m: &mut Machine, i: &Insn) -> Result<(), Raised>
+#[tactic(auto, unfolding(crate::specs::Stacks::pop, insn_plan::specs::Stack::regs_after_pops, insn_plan::specs::Operands::put_operand, //
+insn_plan::specs::Plan::after_plan, insn_plan::specs::Plan::after_commit, guest_space::specs::Pending::first_write_fault, //
+guest_space::specs::Pending::after_writes, client_world::specs::General::with_general))]
+fn pop_by_tables(m: &mut Machine, i: &Insn) -> Result<(), Raised>
     ensures { CarriesOut m.old m.new result (pop m.old.world i.now) }
 {
-    let big = has_big_stack(m);
-    let esp = m.registers().esp;
-    let size = byte_count(i.width);
-    let v = read_width(m, SegReg::Ss, cut_address(big, u64::from(esp)), i.width)?;
-    let esp = esp_up(big, u32::from(size), esp);
+    let v = top_item(m, i.width)?;
+    let esp = popped_esp(m, i.width);
     match &i.first {
         Operand::Reg { width, number } => {
             m.set_general(ESP, esp);
@@ -75,6 +106,39 @@ pub(crate) fn pop(m: &mut Machine, i: &Insn) -> Result<(), Raised>
             m.set_general(ESP, esp);
             Ok(())
         }
+    }
+}
+
+// POP of W bits into a register, where a quick look shows the item; `None` says nothing, and changes nothing.
+#[inline(always)]
+#[tactic(auto, unfolding(crate::specs::Stacks::pop, insn_plan::specs::Stack::regs_after_pops, insn_plan::specs::Operands::put_operand, //
+insn_plan::specs::Plan::after_plan, insn_plan::specs::Plan::after_commit, guest_space::specs::Pending::first_write_fault, //
+guest_space::specs::Pending::after_writes, client_world::specs::General::with_general))]
+fn pop_quickly<const W: u8>(m: &mut Machine, i: &Insn) -> Option<()>
+    requires { i.now.width ≡ W }
+    ensures made { IfSome result (λ _. after_plan m.old (plan_result m.old.world (pop m.old.world i.now)) ≡ Ok m.new) }
+    ensures kept { IfNone result (m.new ≡ m.old) }
+{
+    let number = register_number::<W>(&i.first)?;
+    let v = shown_top_item(m, W)?;
+    m.set_general(ESP, popped_esp(m, W));
+    put_register(m, W, number, v);
+    Some(())
+}
+
+/// POP. Source: as above.
+#[inline(never)]
+pub(crate) fn pop(m: &mut Machine, i: &Insn) -> Result<(), Raised>
+    ensures { CarriesOut m.old m.new result (pop m.old.world i.now) }
+{
+    let made = match i.width {
+        16 => pop_quickly::<16>(m, i),
+        32 => pop_quickly::<32>(m, i),
+        _ => None,
+    };
+    match made {
+        Some(()) => Ok(()),
+        None => pop_by_tables(m, i),
     }
 }
 
@@ -140,7 +204,9 @@ pub(crate) fn pusha(m: &mut Machine, i: &Insn) -> Result<(), Raised>
 
 // Sets the registers to the items that POPA reads, by their places on the stack, and ESP; the item at place 3 is passed over.
 #[inline(always)]
-#[tactic(auto, unfolding(crate::specs::Stacks::popa, insn_plan::specs::Stack::regs_after_pops, insn_plan::specs::Plan::after_plan, insn_plan::specs::Plan::after_commit, guest_space::specs::Pending::first_write_fault, guest_space::specs::Pending::after_writes, client_world::specs::General::with_general))]
+#[tactic(auto, unfolding(crate::specs::Stacks::popa, insn_plan::specs::Stack::regs_after_pops, insn_plan::specs::Plan::after_plan, //
+insn_plan::specs::Plan::after_commit, guest_space::specs::Pending::first_write_fault, guest_space::specs::Pending::after_writes, //
+client_world::specs::General::with_general))]
 fn set_popped(m: &mut Machine, i: &Insn, width: u8, items: [u32; 8])
     requires width { width ≡ i.now.width }
     requires items { (k : ℕ) → k < 8 → k ≢ 3 →

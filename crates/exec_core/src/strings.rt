@@ -1,5 +1,5 @@
 // Strings. One step is one element.
-ghost use Rattle.std.specs.Prelude.{◌≡◌, IsTrue, false};
+ghost use Rattle.std.specs.Prelude.{◌≡◌, IfNone, IfSome, IsTrue, Ok};
 ghost use Rattle.exec_core.specs.Strings.{
   is_repeated,
   is_over,
@@ -17,7 +17,7 @@ ghost use Rattle.exec_core.specs.Strings.{
 };
 ghost use Rattle.insn_forms.specs.Kinds.{is_width};
 ghost use Rattle.guest_space.specs.Registers.{with_registers};
-ghost use Rattle.insn_plan.specs.Plan.{CarriesOut};
+ghost use Rattle.insn_plan.specs.Plan.{CarriesOut, after_plan, plan_result};
 ghost use Rattle.insn_plan.specs.Registers.{cut_address};
 
 use crate::arithmetic::difference_flags;
@@ -26,8 +26,8 @@ use client_world::{Flags, SegReg};
 use guest_space::{Machine, byte_count};
 use insn_forms::{Insn, Rep};
 use insn_plan::{
-    Raised, copy_quickly, cut_address, put_register, read_width, register, with_address,
-    write_number,
+    Raised, cut_address, put_register, read_quickly, read_width, register, with_address,
+    write_number, write_quickly,
 };
 
 // A row at the element's width and the address size of its instruction, both of which the compiler then knows.
@@ -172,6 +172,47 @@ fn goes_on_while(rep: Rep, f: Flags) -> bool
     }
 }
 
+// MOVS, with the ways to read and write: those that look quickly, or those that ask the tables.
+macro_rules! movs_by {
+    ($read:ident, $write:ident, $done:ident, $m:ident, $i:ident, $len:ident, $width:expr, $addr32:expr) => {{
+            if is_over($m, $i, $addr32) {
+                return $done(());
+            }
+            let from = source_offset($m, $addr32);
+            let v = $read($m, $i.seg, from, $width)?;
+            let to = destination_offset($m, $addr32);
+            $write($m, SegReg::Es, to, $width, v)?;
+            move_both($m, $i, $width, $addr32);
+            count_element($m, $i, $addr32, $len, true);
+            $done(())
+    }};
+}
+
+// MOVS at a width and an address size, where a quick look shows that it has no fault; `None` says nothing, and changes nothing.
+#[inline(always)]
+#[tactic(auto, unfolding(crate::specs::Strings::movs, insn_plan::specs::Plan::after_plan, insn_plan::specs::Plan::after_commit, //
+guest_space::specs::Pending::first_write_fault, guest_space::specs::Pending::after_writes))]
+fn movs_quickly(m: &mut Machine, i: &Insn, len: u8, width: u8, addr32: bool) -> Option<()>
+    requires width { width ≡ i.now.width }
+    requires size { addr32 ≡ i.now.addr32 }
+    ensures made { IfSome result (λ _. after_plan m.old (plan_result m.old.world (movs m.old.world i.now len)) ≡ Ok m.new) }
+    ensures kept { IfNone result (m.new ≡ m.old) }
+{
+    movs_by!(read_quickly, write_quickly, Some, m, i, len, width, addr32)
+}
+
+// MOVS, where the tables may have to be asked.
+#[cold]
+#[inline(never)]
+#[tactic(auto, unfolding(crate::specs::Strings::movs, insn_plan::specs::Plan::after_plan, insn_plan::specs::Plan::after_commit, //
+guest_space::specs::Pending::first_write_fault, guest_space::specs::Pending::after_writes))]
+fn movs_by_tables(m: &mut Machine, i: &Insn, len: u8) -> Result<(), Raised>
+    requires { IsTrue (is_width i.now.width) }
+    ensures { CarriesOut m.old m.new result (movs m.old.world i.now len) }
+{
+    movs_by!(read_width, write_number, Ok, m, i, len, i.width, i.addr32)
+}
+
 /// MOVS: the element at ES:(E)DI becomes the one at (E)SI.
 /// Source: 80386 Programmer's Reference Manual, ch. 17, "MOVS/MOVSB/MOVSW/MOVSD"; that a repetition is a step is own.
 #[inline(never)]
@@ -179,47 +220,54 @@ pub(crate) fn movs(m: &mut Machine, i: &Insn, len: u8) -> Result<(), Raised>
     requires { IsTrue (is_width i.now.width) }
     ensures { CarriesOut m.old m.new result (movs m.old.world i.now len) }
 {
-    at_size!(movs_at, m, i, len)
-}
-
-// MOVS at a width and an address size.
-#[inline(always)]
-#[tactic(auto, unfolding(crate::specs::Strings::movs, insn_plan::specs::Plan::after_plan, insn_plan::specs::Plan::after_commit, guest_space::specs::Pending::first_write_fault, guest_space::specs::Pending::after_writes))]
-fn movs_at(m: &mut Machine, i: &Insn, len: u8, width: u8, addr32: bool) -> Result<(), Raised>
-    requires width { width ≡ i.now.width }
-    requires size { addr32 ≡ i.now.addr32 }
-    ensures { CarriesOut m.old m.new result (movs m.old.world i.now len) }
-{
-    if is_over(m, i, addr32) {
-        return Ok(());
-    }
-    let source = (i.seg, source_offset(m, addr32));
-    let destination = (SegReg::Es, destination_offset(m, addr32));
-    match copy_quickly(m, width, source, destination) {
-        Some(_) => {
-            move_both(m, i, width, addr32);
-            count_element(m, i, addr32, len, true);
-            Ok(())
-        }
+    match at_size!(movs_quickly, m, i, len) {
+        Some(()) => Ok(()),
         None => movs_by_tables(m, i, len),
     }
 }
 
-// The same, where the tables have to be asked.
+// CMPS, with the ways to read: those that look quickly, or those that ask the tables.
+macro_rules! cmps_by {
+    ($read:ident, $done:ident, $m:ident, $i:ident, $len:ident, $width:expr, $addr32:expr) => {{
+            if is_over($m, $i, $addr32) {
+                return $done(());
+            }
+            let first = source_offset($m, $addr32);
+            let a = $read($m, $i.seg, first, $width)?;
+            let second = destination_offset($m, $addr32);
+            let b = $read($m, SegReg::Es, second, $width)?;
+            let flags = difference_flags($width, a, b, $m.registers().flags);
+            move_both($m, $i, $width, $addr32);
+            count_element($m, $i, $addr32, $len, goes_on_while($i.rep, flags));
+            $m.set_flags(flags);
+            $done(())
+    }};
+}
+
+// CMPS at a width and an address size, where a quick look shows that it has no fault; `None` says nothing, and changes nothing.
+#[inline(always)]
+#[tactic(auto, unfolding(crate::specs::Strings::cmps, insn_plan::specs::Plan::after_plan, insn_plan::specs::Plan::after_commit, //
+guest_space::specs::Pending::first_write_fault, guest_space::specs::Pending::after_writes))]
+fn cmps_quickly(m: &mut Machine, i: &Insn, len: u8, width: u8, addr32: bool) -> Option<()>
+    requires good { IsTrue (is_width i.now.width) }
+    requires width { width ≡ i.now.width }
+    requires size { addr32 ≡ i.now.addr32 }
+    ensures made { IfSome result (λ _. after_plan m.old (plan_result m.old.world (cmps m.old.world i.now len)) ≡ Ok m.new) }
+    ensures kept { IfNone result (m.new ≡ m.old) }
+{
+    cmps_by!(read_quickly, Some, m, i, len, width, addr32)
+}
+
+// CMPS, where the tables may have to be asked.
 #[cold]
 #[inline(never)]
-#[tactic(auto, unfolding(crate::specs::Strings::movs, insn_plan::specs::Plan::after_plan, insn_plan::specs::Plan::after_commit, guest_space::specs::Pending::first_write_fault, guest_space::specs::Pending::after_writes))]
-fn movs_by_tables(m: &mut Machine, i: &Insn, len: u8) -> Result<(), Raised>
-    requires { is_over m.old.world i.now ≡ false }
-    ensures { CarriesOut m.old m.new result (movs m.old.world i.now len) }
+#[tactic(auto, unfolding(crate::specs::Strings::cmps, insn_plan::specs::Plan::after_plan, insn_plan::specs::Plan::after_commit, //
+guest_space::specs::Pending::first_write_fault, guest_space::specs::Pending::after_writes))]
+fn cmps_by_tables(m: &mut Machine, i: &Insn, len: u8) -> Result<(), Raised>
+    requires { IsTrue (is_width i.now.width) }
+    ensures { CarriesOut m.old m.new result (cmps m.old.world i.now len) }
 {
-    let from = source_offset(m, i.addr32);
-    let v = read_width(m, i.seg, from, i.width)?;
-    let to = destination_offset(m, i.addr32);
-    write_number(m, SegReg::Es, to, i.width, v)?;
-    move_both(m, i, i.width, i.addr32);
-    count_element(m, i, i.addr32, len, true);
-    Ok(())
+    cmps_by!(read_width, Ok, m, i, len, i.width, i.addr32)
 }
 
 /// CMPS: the flags of the element at (E)SI less the one at ES:(E)DI.
@@ -229,30 +277,50 @@ pub(crate) fn cmps(m: &mut Machine, i: &Insn, len: u8) -> Result<(), Raised>
     requires { IsTrue (is_width i.now.width) }
     ensures { CarriesOut m.old m.new result (cmps m.old.world i.now len) }
 {
-    at_size!(cmps_at, m, i, len)
+    match at_size!(cmps_quickly, m, i, len) {
+        Some(()) => Ok(()),
+        None => cmps_by_tables(m, i, len),
+    }
 }
 
-// CMPS at a width and an address size.
+// STOS, with the ways to write: those that look quickly, or those that ask the tables.
+macro_rules! stos_by {
+    ($write:ident, $done:ident, $m:ident, $i:ident, $len:ident, $width:expr, $addr32:expr) => {{
+            if is_over($m, $i, $addr32) {
+                return $done(());
+            }
+            let accumulator = register($m.registers(), $width, EAX);
+            let to = destination_offset($m, $addr32);
+            $write($m, SegReg::Es, to, $width, accumulator)?;
+            move_destination($m, $i, $width, $addr32);
+            count_element($m, $i, $addr32, $len, true);
+            $done(())
+    }};
+}
+
+// STOS at a width and an address size, where a quick look shows that it has no fault; `None` says nothing, and changes nothing.
 #[inline(always)]
-#[tactic(auto, unfolding(crate::specs::Strings::cmps, insn_plan::specs::Plan::after_plan, insn_plan::specs::Plan::after_commit, guest_space::specs::Pending::first_write_fault, guest_space::specs::Pending::after_writes))]
-fn cmps_at(m: &mut Machine, i: &Insn, len: u8, width: u8, addr32: bool) -> Result<(), Raised>
-    requires good { IsTrue (is_width i.now.width) }
+#[tactic(auto, unfolding(crate::specs::Strings::stos, insn_plan::specs::Plan::after_plan, insn_plan::specs::Plan::after_commit, //
+guest_space::specs::Pending::first_write_fault, guest_space::specs::Pending::after_writes))]
+fn stos_quickly(m: &mut Machine, i: &Insn, len: u8, width: u8, addr32: bool) -> Option<()>
     requires width { width ≡ i.now.width }
     requires size { addr32 ≡ i.now.addr32 }
-    ensures { CarriesOut m.old m.new result (cmps m.old.world i.now len) }
+    ensures made { IfSome result (λ _. after_plan m.old (plan_result m.old.world (stos m.old.world i.now len)) ≡ Ok m.new) }
+    ensures kept { IfNone result (m.new ≡ m.old) }
 {
-    if is_over(m, i, addr32) {
-        return Ok(());
-    }
-    let first = source_offset(m, addr32);
-    let a = read_width(m, i.seg, first, width)?;
-    let second = destination_offset(m, addr32);
-    let b = read_width(m, SegReg::Es, second, width)?;
-    let flags = difference_flags(width, a, b, m.registers().flags);
-    move_both(m, i, width, addr32);
-    count_element(m, i, addr32, len, goes_on_while(i.rep, flags));
-    m.set_flags(flags);
-    Ok(())
+    stos_by!(write_quickly, Some, m, i, len, width, addr32)
+}
+
+// STOS, where the tables may have to be asked.
+#[cold]
+#[inline(never)]
+#[tactic(auto, unfolding(crate::specs::Strings::stos, insn_plan::specs::Plan::after_plan, insn_plan::specs::Plan::after_commit, //
+guest_space::specs::Pending::first_write_fault, guest_space::specs::Pending::after_writes))]
+fn stos_by_tables(m: &mut Machine, i: &Insn, len: u8) -> Result<(), Raised>
+    requires { IsTrue (is_width i.now.width) }
+    ensures { CarriesOut m.old m.new result (stos m.old.world i.now len) }
+{
+    stos_by!(write_number, Ok, m, i, len, i.width, i.addr32)
 }
 
 /// STOS: the element at ES:(E)DI becomes the accumulator.
@@ -262,26 +330,52 @@ pub(crate) fn stos(m: &mut Machine, i: &Insn, len: u8) -> Result<(), Raised>
     requires { IsTrue (is_width i.now.width) }
     ensures { CarriesOut m.old m.new result (stos m.old.world i.now len) }
 {
-    at_size!(stos_at, m, i, len)
+    match at_size!(stos_quickly, m, i, len) {
+        Some(()) => Ok(()),
+        None => stos_by_tables(m, i, len),
+    }
 }
 
-// STOS at a width and an address size.
+// LODS, with the ways to read: those that look quickly, or those that ask the tables.
+macro_rules! lods_by {
+    ($read:ident, $done:ident, $m:ident, $i:ident, $len:ident, $width:expr, $addr32:expr) => {{
+            if is_over($m, $i, $addr32) {
+                return $done(());
+            }
+            let from = source_offset($m, $addr32);
+            let v = $read($m, $i.seg, from, $width)?;
+            put_register($m, $width, EAX, v);
+            move_source($m, $i, $width, $addr32);
+            count_element($m, $i, $addr32, $len, true);
+            $done(())
+    }};
+}
+
+// LODS at a width and an address size, where a quick look shows that it has no fault; `None` says nothing, and changes nothing.
 #[inline(always)]
-#[tactic(auto, unfolding(crate::specs::Strings::stos, insn_plan::specs::Plan::after_plan, insn_plan::specs::Plan::after_commit, guest_space::specs::Pending::first_write_fault, guest_space::specs::Pending::after_writes))]
-fn stos_at(m: &mut Machine, i: &Insn, len: u8, width: u8, addr32: bool) -> Result<(), Raised>
+#[tactic(auto, unfolding(crate::specs::Strings::lods, insn_plan::specs::Plan::after_plan, insn_plan::specs::Plan::after_commit, //
+guest_space::specs::Pending::first_write_fault, guest_space::specs::Pending::after_writes, client_world::specs::General::with_general, //
+insn_plan::specs::Registers::with_register))]
+fn lods_quickly(m: &mut Machine, i: &Insn, len: u8, width: u8, addr32: bool) -> Option<()>
     requires width { width ≡ i.now.width }
     requires size { addr32 ≡ i.now.addr32 }
-    ensures { CarriesOut m.old m.new result (stos m.old.world i.now len) }
+    ensures made { IfSome result (λ _. after_plan m.old (plan_result m.old.world (lods m.old.world i.now len)) ≡ Ok m.new) }
+    ensures kept { IfNone result (m.new ≡ m.old) }
 {
-    if is_over(m, i, addr32) {
-        return Ok(());
-    }
-    let accumulator = register(m.registers(), width, EAX);
-    let to = destination_offset(m, addr32);
-    write_number(m, SegReg::Es, to, width, accumulator)?;
-    move_destination(m, i, width, addr32);
-    count_element(m, i, addr32, len, true);
-    Ok(())
+    lods_by!(read_quickly, Some, m, i, len, width, addr32)
+}
+
+// LODS, where the tables may have to be asked.
+#[cold]
+#[inline(never)]
+#[tactic(auto, unfolding(crate::specs::Strings::lods, insn_plan::specs::Plan::after_plan, insn_plan::specs::Plan::after_commit, //
+guest_space::specs::Pending::first_write_fault, guest_space::specs::Pending::after_writes, client_world::specs::General::with_general, //
+insn_plan::specs::Registers::with_register))]
+fn lods_by_tables(m: &mut Machine, i: &Insn, len: u8) -> Result<(), Raised>
+    requires { IsTrue (is_width i.now.width) }
+    ensures { CarriesOut m.old m.new result (lods m.old.world i.now len) }
+{
+    lods_by!(read_width, Ok, m, i, len, i.width, i.addr32)
 }
 
 /// LODS: the accumulator becomes the element at (E)SI.
@@ -291,26 +385,53 @@ pub(crate) fn lods(m: &mut Machine, i: &Insn, len: u8) -> Result<(), Raised>
     requires { IsTrue (is_width i.now.width) }
     ensures { CarriesOut m.old m.new result (lods m.old.world i.now len) }
 {
-    at_size!(lods_at, m, i, len)
+    match at_size!(lods_quickly, m, i, len) {
+        Some(()) => Ok(()),
+        None => lods_by_tables(m, i, len),
+    }
 }
 
-// LODS at a width and an address size.
+// SCAS, with the ways to read: those that look quickly, or those that ask the tables.
+macro_rules! scas_by {
+    ($read:ident, $done:ident, $m:ident, $i:ident, $len:ident, $width:expr, $addr32:expr) => {{
+            if is_over($m, $i, $addr32) {
+                return $done(());
+            }
+            let from = destination_offset($m, $addr32);
+            let b = $read($m, SegReg::Es, from, $width)?;
+            let a = register($m.registers(), $width, EAX);
+            let flags = difference_flags($width, a, b, $m.registers().flags);
+            move_destination($m, $i, $width, $addr32);
+            count_element($m, $i, $addr32, $len, goes_on_while($i.rep, flags));
+            $m.set_flags(flags);
+            $done(())
+    }};
+}
+
+// SCAS at a width and an address size, where a quick look shows that it has no fault; `None` says nothing, and changes nothing.
 #[inline(always)]
-#[tactic(auto, unfolding(crate::specs::Strings::lods, insn_plan::specs::Plan::after_plan, insn_plan::specs::Plan::after_commit, guest_space::specs::Pending::first_write_fault, guest_space::specs::Pending::after_writes, client_world::specs::General::with_general, insn_plan::specs::Registers::with_register))]
-fn lods_at(m: &mut Machine, i: &Insn, len: u8, width: u8, addr32: bool) -> Result<(), Raised>
+#[tactic(auto, unfolding(crate::specs::Strings::scas, insn_plan::specs::Plan::after_plan, insn_plan::specs::Plan::after_commit, //
+guest_space::specs::Pending::first_write_fault, guest_space::specs::Pending::after_writes))]
+fn scas_quickly(m: &mut Machine, i: &Insn, len: u8, width: u8, addr32: bool) -> Option<()>
+    requires good { IsTrue (is_width i.now.width) }
     requires width { width ≡ i.now.width }
     requires size { addr32 ≡ i.now.addr32 }
-    ensures { CarriesOut m.old m.new result (lods m.old.world i.now len) }
+    ensures made { IfSome result (λ _. after_plan m.old (plan_result m.old.world (scas m.old.world i.now len)) ≡ Ok m.new) }
+    ensures kept { IfNone result (m.new ≡ m.old) }
 {
-    if is_over(m, i, addr32) {
-        return Ok(());
-    }
-    let from = source_offset(m, addr32);
-    let v = read_width(m, i.seg, from, width)?;
-    put_register(m, width, EAX, v);
-    move_source(m, i, width, addr32);
-    count_element(m, i, addr32, len, true);
-    Ok(())
+    scas_by!(read_quickly, Some, m, i, len, width, addr32)
+}
+
+// SCAS, where the tables may have to be asked.
+#[cold]
+#[inline(never)]
+#[tactic(auto, unfolding(crate::specs::Strings::scas, insn_plan::specs::Plan::after_plan, insn_plan::specs::Plan::after_commit, //
+guest_space::specs::Pending::first_write_fault, guest_space::specs::Pending::after_writes))]
+fn scas_by_tables(m: &mut Machine, i: &Insn, len: u8) -> Result<(), Raised>
+    requires { IsTrue (is_width i.now.width) }
+    ensures { CarriesOut m.old m.new result (scas m.old.world i.now len) }
+{
+    scas_by!(read_width, Ok, m, i, len, i.width, i.addr32)
 }
 
 /// SCAS: the flags of the accumulator less the element at ES:(E)DI.
@@ -320,27 +441,8 @@ pub(crate) fn scas(m: &mut Machine, i: &Insn, len: u8) -> Result<(), Raised>
     requires { IsTrue (is_width i.now.width) }
     ensures { CarriesOut m.old m.new result (scas m.old.world i.now len) }
 {
-    at_size!(scas_at, m, i, len)
-}
-
-// SCAS at a width and an address size.
-#[inline(always)]
-#[tactic(auto, unfolding(crate::specs::Strings::scas, insn_plan::specs::Plan::after_plan, insn_plan::specs::Plan::after_commit, guest_space::specs::Pending::first_write_fault, guest_space::specs::Pending::after_writes))]
-fn scas_at(m: &mut Machine, i: &Insn, len: u8, width: u8, addr32: bool) -> Result<(), Raised>
-    requires good { IsTrue (is_width i.now.width) }
-    requires width { width ≡ i.now.width }
-    requires size { addr32 ≡ i.now.addr32 }
-    ensures { CarriesOut m.old m.new result (scas m.old.world i.now len) }
-{
-    if is_over(m, i, addr32) {
-        return Ok(());
+    match at_size!(scas_quickly, m, i, len) {
+        Some(()) => Ok(()),
+        None => scas_by_tables(m, i, len),
     }
-    let from = destination_offset(m, addr32);
-    let b = read_width(m, SegReg::Es, from, width)?;
-    let a = register(m.registers(), width, EAX);
-    let flags = difference_flags(width, a, b, m.registers().flags);
-    move_destination(m, i, width, addr32);
-    count_element(m, i, addr32, len, goes_on_while(i.rep, flags));
-    m.set_flags(flags);
-    Ok(())
 }

@@ -1,4 +1,5 @@
-// What the instructions of this crate access. Each function has a pattern of accesses, which is that of all the rows that its contract names.
+// What the instructions of this crate access. Each function has a pattern of accesses, which is that of all the rows that its contract
+// names.
 ghost use Rattle.std.specs.Prelude.{◌≡◌, ◌<◌, ◌+◌, ◌++◌, ◌∷◌, [], true, MatchOption, IsTrue, None, Some, ℕ, length};
 ghost use Rattle.exec_core.specs.Arithmetic.{Formula, SingleFormula, binary, compare, unary};
 ghost use Rattle.exec_core.specs.Bits.{setcc, bit_test, bit_change, bit_scan};
@@ -28,7 +29,8 @@ use insn_forms::{Insn, Op, Operand, Rep};
 use insn_plan::{Accesses, MAX_ACCESSES, Raised, cut_address, esp_up};
 
 // Reads the first two operands, and puts into the first.
-#[tactic(auto, unfolding(crate::specs::Arithmetic::binary, crate::specs::Products::multiply_two, insn_plan::specs::Accesses::accesses_after), using(insn_plan::proofs::AccessLists::put_accesses))]
+#[tactic(auto, unfolding(crate::specs::Arithmetic::binary, crate::specs::Products::multiply_two, //
+insn_plan::specs::Accesses::accesses_after), using(insn_plan::proofs::AccessLists::put_accesses))]
 fn both_into_first(a: &mut Accesses<'_>, i: &Insn) -> Result<(), Raised>
     requires { length a.old.accesses ≡ 0 }
     ensures arithmetic { (formula : Formula) → Notes a.old a.new result (binary formula a.old.world i.now) }
@@ -52,7 +54,8 @@ fn both(a: &mut Accesses<'_>, i: &Insn) -> Result<(), Raised>
 }
 
 // Reads the first operand, and puts into it.
-#[tactic(auto, unfolding(crate::specs::Arithmetic::unary, insn_plan::specs::Accesses::accesses_after), using(insn_plan::proofs::AccessLists::put_accesses))]
+#[tactic(auto, unfolding(crate::specs::Arithmetic::unary, insn_plan::specs::Accesses::accesses_after), //
+using(insn_plan::proofs::AccessLists::put_accesses))]
 fn first_into_first(a: &mut Accesses<'_>, i: &Insn) -> Result<(), Raised>
     requires { length a.old.accesses ≡ 0 }
     ensures { (formula : SingleFormula) → Notes a.old a.new result (unary formula a.old.world i.now) }
@@ -63,7 +66,8 @@ fn first_into_first(a: &mut Accesses<'_>, i: &Insn) -> Result<(), Raised>
 }
 
 // Puts into the first operand, at a width.
-#[tactic(auto, unfolding(crate::specs::Bits::setcc, crate::specs::Moves::lea, insn_plan::specs::Accesses::accesses_after), using(insn_plan::proofs::AccessLists::put_accesses))]
+#[tactic(auto, unfolding(crate::specs::Bits::setcc, crate::specs::Moves::lea, insn_plan::specs::Accesses::accesses_after), //
+using(insn_plan::proofs::AccessLists::put_accesses))]
 fn into_first(a: &mut Accesses<'_>, i: &Insn, width: u8) -> Result<(), Raised>
     requires { length a.old.accesses ≡ 0 }
     ensures byte { width ≡ 8 → (n : ℕ) → Notes a.old a.new result (setcc a.old.world i.now n) }
@@ -74,7 +78,8 @@ fn into_first(a: &mut Accesses<'_>, i: &Insn, width: u8) -> Result<(), Raised>
 }
 
 // Reads the second operand at a width, and puts into the first.
-#[tactic(auto, unfolding(crate::specs::Moves::mov, crate::specs::Moves::movzx, crate::specs::Moves::movsx, insn_plan::specs::Accesses::accesses_after), using(insn_plan::proofs::AccessLists::put_accesses))]
+#[tactic(auto, unfolding(crate::specs::Moves::mov, crate::specs::Moves::movzx, crate::specs::Moves::movsx, //
+insn_plan::specs::Accesses::accesses_after), using(insn_plan::proofs::AccessLists::put_accesses))]
 fn second_into_first(a: &mut Accesses<'_>, i: &Insn, from: u8) -> Result<(), Raised>
     requires { length a.old.accesses ≡ 0 }
     ensures same { from ≡ i.now.width → Notes a.old a.new result (mov a.old.world i.now) }
@@ -87,7 +92,8 @@ fn second_into_first(a: &mut Accesses<'_>, i: &Insn, from: u8) -> Result<(), Rai
 }
 
 // XCHG.
-#[tactic(auto, unfolding(crate::specs::Moves::xchg, insn_plan::specs::Accesses::accesses_after), using(insn_plan::proofs::AccessLists::put_accesses))]
+#[tactic(auto, unfolding(crate::specs::Moves::xchg, insn_plan::specs::Accesses::accesses_after), //
+using(insn_plan::proofs::AccessLists::put_accesses))]
 fn xchg(a: &mut Accesses<'_>, i: &Insn) -> Result<(), Raised>
     requires { length a.old.accesses ≡ 0 }
     ensures { Notes a.old a.new result (xchg a.old.world i.now) }
@@ -122,7 +128,8 @@ fn multiply(a: &mut Accesses<'_>, i: &Insn) -> Result<(), Raised>
 }
 
 // IMUL of three operands.
-#[tactic(auto, unfolding(crate::specs::Products::multiply_three, insn_plan::specs::Accesses::accesses_after), using(insn_plan::proofs::AccessLists::put_accesses))]
+#[tactic(auto, unfolding(crate::specs::Products::multiply_three, insn_plan::specs::Accesses::accesses_after), //
+using(insn_plan::proofs::AccessLists::put_accesses))]
 fn multiply_three(a: &mut Accesses<'_>, i: &Insn) -> Result<(), Raised>
     requires { length a.old.accesses ≡ 0 }
     ensures { Notes a.old a.new result (multiply_three a.old.world i.now) }
@@ -190,7 +197,8 @@ fn aam(a: &mut Accesses<'_>, i: &Insn) -> Result<(), Raised>
 }
 
 // SHL, SHR, SAR, ROL, ROR, RCL, RCR.
-#[tactic(auto, unfolding(crate::specs::Shifts::shift, insn_plan::specs::Accesses::accesses_after), using(insn_plan::proofs::AccessLists::put_accesses))]
+#[tactic(auto, unfolding(crate::specs::Shifts::shift, insn_plan::specs::Accesses::accesses_after), //
+using(insn_plan::proofs::AccessLists::put_accesses))]
 fn shift(a: &mut Accesses<'_>, i: &Insn) -> Result<(), Raised>
     requires { length a.old.accesses ≡ 0 }
     ensures { (formula : Formula) → Notes a.old a.new result (shift formula a.old.world i.now) }
@@ -202,7 +210,8 @@ fn shift(a: &mut Accesses<'_>, i: &Insn) -> Result<(), Raised>
 }
 
 // SHLD, SHRD.
-#[tactic(auto, unfolding(crate::specs::Shifts::shift_in, insn_plan::specs::Accesses::accesses_after), using(insn_plan::proofs::AccessLists::put_accesses))]
+#[tactic(auto, unfolding(crate::specs::Shifts::shift_in, insn_plan::specs::Accesses::accesses_after), //
+using(insn_plan::proofs::AccessLists::put_accesses))]
 fn shift_in(a: &mut Accesses<'_>, i: &Insn) -> Result<(), Raised>
     requires { length a.old.accesses ≡ 0 }
     ensures { (formula : DoubleFormula) → Notes a.old a.new result (shift_in formula a.old.world i.now) }
@@ -228,7 +237,8 @@ fn bit_test(a: &mut Accesses<'_>, i: &Insn) -> Result<(), Raised>
 }
 
 // BTS, BTR, BTC.
-#[tactic(auto, unfolding(crate::specs::Bits::bit_change, insn_plan::specs::Accesses::accesses_after), using(insn_plan::proofs::AccessLists::put_accesses))]
+#[tactic(auto, unfolding(crate::specs::Bits::bit_change, insn_plan::specs::Accesses::accesses_after), //
+using(insn_plan::proofs::AccessLists::put_accesses))]
 fn bit_change(a: &mut Accesses<'_>, i: &Insn) -> Result<(), Raised>
     requires width { IsTrue (is_width i.now.width) }
     requires start { length a.old.accesses ≡ 0 }
@@ -242,7 +252,8 @@ fn bit_change(a: &mut Accesses<'_>, i: &Insn) -> Result<(), Raised>
 }
 
 // BSF and BSR.
-#[tactic(auto, unfolding(crate::specs::Bits::bit_scan, insn_plan::specs::Accesses::accesses_after), using(insn_plan::proofs::AccessLists::put_accesses))]
+#[tactic(auto, unfolding(crate::specs::Bits::bit_scan, insn_plan::specs::Accesses::accesses_after), //
+using(insn_plan::proofs::AccessLists::put_accesses))]
 fn bit_scan(a: &mut Accesses<'_>, i: &Insn) -> Result<(), Raised>
     requires width { IsTrue (is_width i.now.width) }
     requires start { length a.old.accesses ≡ 0 }
@@ -256,7 +267,8 @@ fn bit_scan(a: &mut Accesses<'_>, i: &Insn) -> Result<(), Raised>
 }
 
 // PUSH.
-#[tactic(auto, unfolding(crate::specs::Stacks::push, insn_plan::specs::Accesses::accesses_after), using(insn_plan::proofs::AccessLists::pushed_accesses))]
+#[tactic(auto, unfolding(crate::specs::Stacks::push, insn_plan::specs::Accesses::accesses_after), //
+using(insn_plan::proofs::AccessLists::pushed_accesses))]
 fn push(a: &mut Accesses<'_>, i: &Insn) -> Result<(), Raised>
     requires { length a.old.accesses ≡ 0 }
     ensures { Notes a.old a.new result (push a.old.world i.now) }
@@ -277,7 +289,8 @@ fn popped(a: &Accesses<'_>, width: u8) -> Regs
 }
 
 // POP.
-#[tactic(auto, unfolding(crate::specs::Stacks::pop, insn_plan::specs::Accesses::accesses_after), using(insn_plan::proofs::AccessLists::put_accesses))]
+#[tactic(auto, unfolding(crate::specs::Stacks::pop, insn_plan::specs::Accesses::accesses_after), //
+using(insn_plan::proofs::AccessLists::put_accesses))]
 fn pop(a: &mut Accesses<'_>, i: &Insn) -> Result<(), Raised>
     requires { length a.old.accesses ≡ 0 }
     ensures { Notes a.old a.new result (pop a.old.world i.now) }
@@ -288,7 +301,8 @@ fn pop(a: &mut Accesses<'_>, i: &Insn) -> Result<(), Raised>
 }
 
 // PUSHA.
-#[tactic(auto, unfolding(crate::specs::Stacks::pusha, insn_plan::specs::Accesses::accesses_after), using(insn_plan::proofs::AccessLists::pushed_accesses, insn_plan::proofs::AccessLists::pushed_esp))]
+#[tactic(auto, unfolding(crate::specs::Stacks::pusha, insn_plan::specs::Accesses::accesses_after), //
+using(insn_plan::proofs::AccessLists::pushed_accesses, insn_plan::proofs::AccessLists::pushed_esp))]
 fn pusha(a: &mut Accesses<'_>, i: &Insn) -> Result<(), Raised>
     requires { length a.old.accesses ≡ 0 }
     ensures { Notes a.old a.new result (pusha a.old.world i.now) }
@@ -428,7 +442,10 @@ fn scas(a: &mut Accesses<'_>, i: &Insn, len: u8) -> Result<(), Raised>
 }
 
 // Follows an instruction of this crate.
-#[tactic(auto, unfolding(crate::specs::Dispatch::is_core, crate::specs::Dispatch::core_row, crate::specs::Decimal::adjust, crate::specs::Moves::cbw, crate::specs::Moves::cwd, crate::specs::FlagRows::lahf, crate::specs::FlagRows::sahf, crate::specs::FlagRows::clc, crate::specs::FlagRows::stc, crate::specs::FlagRows::cmc, crate::specs::FlagRows::cld, crate::specs::FlagRows::std, crate::specs::FlagRows::wait, insn_plan::specs::Accesses::accesses_after))]
+#[tactic(auto, unfolding(crate::specs::Dispatch::is_core, crate::specs::Dispatch::core_row, crate::specs::Decimal::adjust, //
+crate::specs::Moves::cbw, crate::specs::Moves::cwd, crate::specs::FlagRows::lahf, crate::specs::FlagRows::sahf, //
+crate::specs::FlagRows::clc, crate::specs::FlagRows::stc, crate::specs::FlagRows::cmc, crate::specs::FlagRows::cld, //
+crate::specs::FlagRows::std, crate::specs::FlagRows::wait, insn_plan::specs::Accesses::accesses_after))]
 fn follow(a: &mut Accesses<'_>, insn: &Insn, len: u8) -> Result<(), Raised>
     requires core { IsCore insn.now }
     requires width { IsTrue (is_width insn.now.width) }

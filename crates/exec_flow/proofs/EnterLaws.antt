@@ -37,7 +37,8 @@ pub reads_next : (w : World) (i : Insn) (level n v : ℕ) (list : List Access) �
 unfolding frame_reads
 reads_next w i level n v list e = rw (frame_reads, e) refl
 
-pub reads_stop : (w : World) (i : Insn) (level n : ℕ) (event : Event) (list : List Access) → value_of w (frame_input w i level) ≡ Err event →
+pub reads_stop : (w : World) (i : Insn) (level n : ℕ) (event : Event) (list : List Access) →
+    value_of w (frame_input w i level) ≡ Err event →
     frame_reads w i level (suc n) list ≡ None
 unfolding frame_reads
 reads_stop w i level n event list e = rw (frame_reads, e) refl
@@ -89,7 +90,8 @@ one_push w width v p n (Some list) =
     ap (λ (esp : ℕ). Some (and_pushes w width n esp (and_writes list (with_pushed_number w width v p).writes))) (pushed_esp w width v p)
     ∙ ap (λ (all : List Access). Some (and_pushes w width n (esp_down w width p.regs.esp) all)) (pushed_accesses list w width v p)
 
-by_value : (r : Result ℕ Event) (f : ℕ → Option (List Access)) (g : Option (List Access)) (h : Option (List Access) → Option (List Access)) →
+by_value : (r : Result ℕ Event) (f : ℕ → Option (List Access)) (g : Option (List Access))
+    (h : Option (List Access) → Option (List Access)) →
     h None ≡ None → ((v : ℕ) → f v ≡ h g) → elim r [ Ok v ↦ f v | Err e ↦ None ] ≡ h (elim r [ Ok v ↦ g | Err e ↦ None ])
 by_value (Ok v) f g h none some = some v
 by_value (Err e) f g h none some = sym none
@@ -103,10 +105,12 @@ frames_follow w i frame level (suc n) p list =
     let input = frame_input w i level in
     let read = frame_reads w i (level + 1) n (and_read list input) in
     by_value (value_of w input)
-    (λ (v : ℕ). accesses_after w (and_read list input) (push_saved_frames w i (level + 1) n (with_pushed_number w i.width v p) (frame_end w i frame)))
+    (λ (v : ℕ). accesses_after w (and_read list input)
+    (push_saved_frames w i (level + 1) n (with_pushed_number w i.width v p) (frame_end w i frame)))
     read
     (with_pushes w i.width (suc (suc n)) p) refl
-    (λ (v : ℕ). frames_follow w i frame (level + 1) n (with_pushed_number w i.width v p) (and_read list input) ∙ one_push w i.width v p (suc n) read)
+    (λ (v : ℕ). frames_follow w i frame (level + 1) n (with_pushed_number w i.width v p) (and_read list input)
+    ∙ one_push w i.width v p (suc n) read)
 
 -- ---- ENTER
 

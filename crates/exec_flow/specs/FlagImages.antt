@@ -1,5 +1,6 @@
 -- Flags images on the stack, and the virtual interrupt flag: PUSHF, POPF, CLI, STI.
--- Source: 80386 Programmer's Reference Manual, ch. 17, PUSHF, POPF, CLI, STI; what takes the place of IF is DPMI 0.9, "Interrupt State", and own.
+-- Source: 80386 Programmer's Reference Manual, ch. 17, PUSHF, POPF, CLI, STI; what takes the place of IF is DPMI 0.9, "Interrupt State",
+-- and own.
 use Rattle.std.specs.Prelude.{ℕ, Bool, true, false}
 use Rattle.client_world.specs.declared.registers.Mode.TheVariants.{Real, Protected}
 use Rattle.client_world.specs.declared.registers.TheConstants.{INTERRUPT_BIT}

@@ -1,6 +1,6 @@
 -- Instructions that only raise an exception. The client runs at privilege level 3, with I/O privilege level 0, and without a coprocessor.
--- Source: 80386 Programmer's Reference Manual, ch. 17, each under its name, and ch. 15, "Sensitive Instructions"; that SLDT, STR, SGDT, SIDT and
--- SMSW are invalid is own.
+-- Source: 80386 Programmer's Reference Manual, ch. 17, each under its name, and ch. 15, "Sensitive Instructions"; that SLDT, STR, SGDT,
+-- SIDT and SMSW are invalid is own.
 use Rattle.client_world.specs.declared.faults.TheConstants.{INVALID_OPCODE, COPROCESSOR_NOT_AVAILABLE, GENERAL_PROTECTION}
 use Rattle.client_world.specs.declared.registers.Mode.TheVariants.{Real, Protected}
 use Rattle.client_world.specs.Access.{fault_with}

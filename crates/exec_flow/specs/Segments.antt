@@ -1,6 +1,6 @@
 -- Segment registers loaded and stored: MOV, PUSH and POP with one of them, and LES, LDS, LSS, LFS, LGS.
--- Source: 80386 Programmer's Reference Manual, ch. 17, MOV, PUSH, POP, and LGS/LSS/LDS/LES/LFS; that MOV to a register of 32 bits clears its
--- upper half, and PUSH of 32 bits pushes zeros there, is own.
+-- Source: 80386 Programmer's Reference Manual, ch. 17, MOV, PUSH, POP, and LGS/LSS/LDS/LES/LFS; that MOV to a register of 32 bits clears
+-- its upper half, and PUSH of 32 bits pushes zeros there, is own.
 use Rattle.std.specs.Prelude.{ℕ}
 use Rattle.client_world.specs.declared.segments.SegReg.{SegReg}
 use Rattle.client_world.specs.Loading.{register_fault}

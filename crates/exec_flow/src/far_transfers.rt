@@ -1,7 +1,8 @@
 // Far transfers.
 ghost use Rattle.std.specs.Prelude.{◌≡◌, MatchResult, OnOk, IfErr, None, Some, Ok, Err, is_ok};
 ghost use Rattle.client_world.specs.Loading.{transfer_fault};
-ghost use Rattle.exec_flow.specs.FarTransfers.{call_far, code_selector, far_frame_pop, pending_of_interrupt_frame, interrupt_frame_pop, iret, jump_far, retf};
+ghost use Rattle.exec_flow.specs.FarTransfers.{call_far, code_selector, far_frame_pop, pending_of_interrupt_frame, interrupt_frame_pop};
+ghost use Rattle.exec_flow.specs.FarTransfers.{iret, jump_far, retf};
 ghost use Rattle.guest_space.specs.Registers.{with_registers};
 ghost use Rattle.insn_plan.specs.Plan.{CarriesOut, plan_result};
 
@@ -55,7 +56,9 @@ fn far_transfer(m: &mut Machine, sel: u16, ip: u32, ret: bool) -> Result<(), Fau
 
 /// JMP far. Source: 80386 Programmer's Reference Manual, ch. 17.
 #[inline(never)]
-#[tactic(auto, unfolding(crate::specs::FarTransfers::jump_far, crate::specs::FarTransfers::far_transfer, insn_plan::specs::Plan::after_plan, insn_plan::specs::Plan::after_commit, guest_space::specs::Pending::first_write_fault, guest_space::specs::Pending::after_writes))]
+#[tactic(auto, unfolding(crate::specs::FarTransfers::jump_far, crate::specs::FarTransfers::far_transfer, //
+insn_plan::specs::Plan::after_plan, insn_plan::specs::Plan::after_commit, guest_space::specs::Pending::first_write_fault, //
+guest_space::specs::Pending::after_writes))]
 pub(crate) fn jump_far(m: &mut Machine, i: &Insn) -> Result<(), Raised>
     ensures { CarriesOut m.old m.new result (jump_far m.old.world i.now) }
 {
@@ -66,7 +69,8 @@ pub(crate) fn jump_far(m: &mut Machine, i: &Insn) -> Result<(), Raised>
 
 /// CALL far. Source: as above.
 #[inline(never)]
-#[tactic(auto, unfolding(crate::specs::FarTransfers::call_far, crate::specs::FarTransfers::far_transfer, insn_plan::specs::Plan::after_plan))]
+#[tactic(auto, unfolding(crate::specs::FarTransfers::call_far, crate::specs::FarTransfers::far_transfer, //
+insn_plan::specs::Plan::after_plan))]
 pub(crate) fn call_far(m: &mut Machine, i: &Insn) -> Result<(), Raised>
     ensures { CarriesOut m.old m.new result (call_far m.old.world i.now) }
 {
@@ -85,10 +89,12 @@ pub(crate) fn call_far(m: &mut Machine, i: &Insn) -> Result<(), Raised>
     next.settle(m)
 }
 
-/// Pops the frame of a far return, in items of n bits: the instruction pointer and CS; and drops a number of bytes after it. Or gives the event,
-/// which changes nothing. Source: 80386 Programmer's Reference Manual, ch. 17, RET.
+/// Pops the frame of a far return, in items of n bits: the instruction pointer and CS; and drops a number of bytes after it. Or gives the
+/// event, which changes nothing. Source: 80386 Programmer's Reference Manual, ch. 17, RET.
 #[inline(always)]
-#[tactic(auto, unfolding(crate::specs::FarTransfers::far_frame_pop, crate::specs::FarTransfers::far_transfer, insn_plan::specs::Plan::after_plan, insn_plan::specs::Plan::after_commit, guest_space::specs::Pending::first_write_fault, guest_space::specs::Pending::after_writes, client_world::specs::General::with_general, insn_plan::specs::Stack::regs_after_pops))]
+#[tactic(auto, unfolding(crate::specs::FarTransfers::far_frame_pop, crate::specs::FarTransfers::far_transfer, //
+insn_plan::specs::Plan::after_plan, insn_plan::specs::Plan::after_commit, guest_space::specs::Pending::first_write_fault, //
+guest_space::specs::Pending::after_writes, client_world::specs::General::with_general, insn_plan::specs::Stack::regs_after_pops))]
 pub fn pop_far_frame(m: &mut Machine, bits: u8, bytes: u32) -> Result<(), Raised>
     ensures { CarriesOut m.old m.new result (far_frame_pop m.old.world bits bytes) }
 {

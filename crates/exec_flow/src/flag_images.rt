@@ -9,7 +9,7 @@ use client_world::general::ESP;
 use client_world::{Flags, Mode, is_interrupt_set, low_half};
 use guest_space::Machine;
 use insn_forms::Insn;
-use insn_plan::{Raised, push_item, stack_item};
+use insn_plan::{Raised, push_item, top_item};
 
 // IF as PUSHF shows it.
 #[inline(always)]
@@ -57,11 +57,13 @@ pub(crate) fn set_popped_flags(m: &mut Machine, image: u32)
 
 /// POPF. Source: as above.
 #[inline(never)]
-#[tactic(auto, unfolding(crate::specs::FlagImages::popf, crate::specs::FlagImages::with_popped_flags, insn_plan::specs::Plan::after_plan, insn_plan::specs::Plan::after_commit, guest_space::specs::Pending::first_write_fault, guest_space::specs::Pending::after_writes, client_world::specs::General::with_general, insn_plan::specs::Stack::regs_after_pops))]
+#[tactic(auto, unfolding(crate::specs::FlagImages::popf, crate::specs::FlagImages::with_popped_flags, insn_plan::specs::Plan::after_plan, //
+insn_plan::specs::Plan::after_commit, guest_space::specs::Pending::first_write_fault, guest_space::specs::Pending::after_writes, //
+client_world::specs::General::with_general, insn_plan::specs::Stack::regs_after_pops))]
 pub(crate) fn popf(m: &mut Machine, i: &Insn) -> Result<(), Raised>
     ensures { CarriesOut m.old m.new result (popf m.old.world i.now) }
 {
-    let image = stack_item(m, i.width, 0)?;
+    let image = top_item(m, i.width)?;
     m.set_general(ESP, popped_esp(m, i.width, 1));
     set_popped_flags(m, image);
     Ok(())
@@ -69,7 +71,8 @@ pub(crate) fn popf(m: &mut Machine, i: &Insn) -> Result<(), Raised>
 
 /// CLI. Source: DPMI 0.9, "Interrupt State".
 #[inline(never)]
-#[tactic(auto, unfolding(crate::specs::FlagImages::cli, insn_plan::specs::Plan::after_plan, insn_plan::specs::Plan::after_commit, guest_space::specs::Pending::first_write_fault, guest_space::specs::Pending::after_writes))]
+#[tactic(auto, unfolding(crate::specs::FlagImages::cli, insn_plan::specs::Plan::after_plan, insn_plan::specs::Plan::after_commit, //
+guest_space::specs::Pending::first_write_fault, guest_space::specs::Pending::after_writes))]
 pub(crate) fn cli(m: &mut Machine) -> Result<(), Raised>
     ensures { CarriesOut m.old m.new result (cli m.old.world) }
 {
@@ -79,7 +82,8 @@ pub(crate) fn cli(m: &mut Machine) -> Result<(), Raised>
 
 /// STI. Source: as above.
 #[inline(never)]
-#[tactic(auto, unfolding(crate::specs::FlagImages::sti, insn_plan::specs::Plan::after_plan, insn_plan::specs::Plan::after_commit, guest_space::specs::Pending::first_write_fault, guest_space::specs::Pending::after_writes))]
+#[tactic(auto, unfolding(crate::specs::FlagImages::sti, insn_plan::specs::Plan::after_plan, insn_plan::specs::Plan::after_commit, //
+guest_space::specs::Pending::first_write_fault, guest_space::specs::Pending::after_writes))]
 pub(crate) fn sti(m: &mut Machine) -> Result<(), Raised>
     ensures { CarriesOut m.old m.new result (sti m.old.world) }
 {

@@ -110,7 +110,9 @@ pub(crate) fn enter(m: &mut Machine, i: &Insn) -> Result<(), Raised>
 
 /// LEAVE. Source: 80386 Programmer's Reference Manual, ch. 17.
 #[inline(never)]
-#[tactic(auto, unfolding(crate::specs::Frames::leave, insn_plan::specs::Plan::after_plan, insn_plan::specs::Plan::after_commit, guest_space::specs::Pending::first_write_fault, guest_space::specs::Pending::after_writes, client_world::specs::General::with_general, insn_plan::specs::Stack::regs_after_pops))]
+#[tactic(auto, unfolding(crate::specs::Frames::leave, insn_plan::specs::Plan::after_plan, insn_plan::specs::Plan::after_commit, //
+guest_space::specs::Pending::first_write_fault, guest_space::specs::Pending::after_writes, client_world::specs::General::with_general, //
+insn_plan::specs::Stack::regs_after_pops))]
 pub(crate) fn leave(m: &mut Machine, i: &Insn) -> Result<(), Raised>
     ensures { CarriesOut m.old m.new result (leave m.old.world i.now) }
 {
@@ -146,7 +148,8 @@ pub(crate) fn is_less_signed(width: u8, a: u64, b: u64) -> bool
 
 /// BOUND. Source: 80386 Programmer's Reference Manual, ch. 17; that the pair is one access is own.
 #[inline(never)]
-#[tactic(auto, unfolding(crate::specs::Frames::bound, insn_plan::specs::Plan::after_plan, insn_plan::specs::Plan::after_commit, guest_space::specs::Pending::first_write_fault, guest_space::specs::Pending::after_writes))]
+#[tactic(auto, unfolding(crate::specs::Frames::bound, insn_plan::specs::Plan::after_plan, insn_plan::specs::Plan::after_commit, //
+guest_space::specs::Pending::first_write_fault, guest_space::specs::Pending::after_writes))]
 pub(crate) fn bound(m: &mut Machine, i: &Insn) -> Result<(), Raised>
     requires { IsTrue (is_width i.now.width) }
     ensures { CarriesOut m.old m.new result (bound m.old.world i.now) }

@@ -31,7 +31,8 @@ pub(crate) fn int3(len: u8) -> Result<(), Raised>
 
 /// INTO. Source: as above; that it is the client's interrupt 4 is own.
 #[inline(never)]
-#[tactic(auto, unfolding(crate::specs::Interrupts::into, insn_plan::specs::Plan::after_plan, insn_plan::specs::Plan::after_commit, guest_space::specs::Pending::first_write_fault, guest_space::specs::Pending::after_writes))]
+#[tactic(auto, unfolding(crate::specs::Interrupts::into, insn_plan::specs::Plan::after_plan, insn_plan::specs::Plan::after_commit, //
+guest_space::specs::Pending::first_write_fault, guest_space::specs::Pending::after_writes))]
 pub(crate) fn into(m: &Machine, len: u8) -> Result<(), Raised>
     ensures { CarriesOut m.now m.now result (into m.now.world len) }
 {

@@ -28,7 +28,8 @@ pub(crate) fn input(m: &mut Machine, i: &Insn) -> Result<(), Raised>
 
 /// OUT. Source: as above.
 #[inline(never)]
-#[tactic(auto, unfolding(crate::specs::Ports::output, insn_plan::specs::Plan::after_plan, insn_plan::specs::Plan::after_commit, guest_space::specs::Pending::first_write_fault, guest_space::specs::Pending::after_writes))]
+#[tactic(auto, unfolding(crate::specs::Ports::output, insn_plan::specs::Plan::after_plan, insn_plan::specs::Plan::after_commit, //
+guest_space::specs::Pending::first_write_fault, guest_space::specs::Pending::after_writes))]
 pub(crate) fn output(m: &Machine) -> Result<(), Raised>
     ensures { CarriesOut m.now m.now result (output m.now.world) }
 {

@@ -20,7 +20,7 @@ use client_world::general::ESP;
 use client_world::{Fault, Mode, SegReg, low_half};
 use guest_space::Machine;
 use insn_forms::{Insn, Operand};
-use insn_plan::{Raised, push_item, put_operand, source, stack_item};
+use insn_plan::{Raised, push_item, put_operand, source, top_item};
 
 /// Whether a selector may be loaded into a segment register; in real mode every word may.
 #[inline(always)]
@@ -49,7 +49,9 @@ fn load_segment(m: &mut Machine, seg: SegReg, sel: u16) -> Result<(), Fault>
 
 // MOV into a segment register.
 #[inline(always)]
-#[tactic(auto, unfolding(crate::specs::Segments::mov_to_segment, crate::specs::Segments::with_loaded_segment, insn_plan::specs::Plan::after_plan, insn_plan::specs::Plan::after_commit, guest_space::specs::Pending::first_write_fault, guest_space::specs::Pending::after_writes))]
+#[tactic(auto, unfolding(crate::specs::Segments::mov_to_segment, crate::specs::Segments::with_loaded_segment, //
+insn_plan::specs::Plan::after_plan, insn_plan::specs::Plan::after_commit, guest_space::specs::Pending::first_write_fault, //
+guest_space::specs::Pending::after_writes))]
 fn mov_to_segment(m: &mut Machine, i: &Insn, seg: SegReg) -> Result<(), Raised>
     ensures { CarriesOut m.old m.new result (mov_to_segment m.old.world i.now seg) }
 {
@@ -96,11 +98,13 @@ pub(crate) fn push_segment(m: &mut Machine, i: &Insn) -> Result<(), Raised>
 
 // POP into a segment register.
 #[inline(always)]
-#[tactic(auto, unfolding(crate::specs::Segments::pop_into, crate::specs::Segments::with_loaded_segment, insn_plan::specs::Plan::after_plan, insn_plan::specs::Plan::after_commit, guest_space::specs::Pending::first_write_fault, guest_space::specs::Pending::after_writes, client_world::specs::General::with_general, insn_plan::specs::Stack::regs_after_pops))]
+#[tactic(auto, unfolding(crate::specs::Segments::pop_into, crate::specs::Segments::with_loaded_segment, //
+insn_plan::specs::Plan::after_plan, insn_plan::specs::Plan::after_commit, guest_space::specs::Pending::first_write_fault, //
+guest_space::specs::Pending::after_writes, client_world::specs::General::with_general, insn_plan::specs::Stack::regs_after_pops))]
 fn pop_into(m: &mut Machine, i: &Insn, seg: SegReg) -> Result<(), Raised>
     ensures { CarriesOut m.old m.new result (pop_into m.old.world i.now seg) }
 {
-    let v = stack_item(m, i.width, 0)?;
+    let v = top_item(m, i.width)?;
     let sel = low_half(v);
     check_load(m, seg, sel)?;
     m.set_general(ESP, popped_esp(m, i.width, 1));
@@ -110,7 +114,8 @@ fn pop_into(m: &mut Machine, i: &Insn, seg: SegReg) -> Result<(), Raised>
 
 /// POP of a segment register. Source: as above.
 #[inline(never)]
-#[tactic(auto, unfolding(crate::specs::Segments::pop_segment, insn_plan::specs::Plan::after_plan, insn_plan::specs::Plan::after_commit, guest_space::specs::Pending::first_write_fault, guest_space::specs::Pending::after_writes))]
+#[tactic(auto, unfolding(crate::specs::Segments::pop_segment, insn_plan::specs::Plan::after_plan, insn_plan::specs::Plan::after_commit, //
+guest_space::specs::Pending::first_write_fault, guest_space::specs::Pending::after_writes))]
 pub(crate) fn pop_segment(m: &mut Machine, i: &Insn) -> Result<(), Raised>
     ensures { CarriesOut m.old m.new result (pop_segment m.old.world i.now) }
 {
@@ -126,7 +131,8 @@ pub(crate) fn pop_segment(m: &mut Machine, i: &Insn) -> Result<(), Raised>
 
 /// LES, LDS, LSS, LFS, LGS. Source: 80386 Programmer's Reference Manual, ch. 17, LGS/LSS/LDS/LES/LFS.
 #[inline(never)]
-#[tactic(auto, unfolding(crate::specs::Segments::load_pointer, crate::specs::Segments::with_loaded_segment, insn_plan::specs::Plan::after_plan), using(crate::proofs::Loaded::settled_with_selector, insn_plan::proofs::Settled::refused_with))]
+#[tactic(auto, unfolding(crate::specs::Segments::load_pointer, crate::specs::Segments::with_loaded_segment, //
+insn_plan::specs::Plan::after_plan), using(crate::proofs::Loaded::settled_with_selector, insn_plan::proofs::Settled::refused_with))]
 pub(crate) fn load_pointer(m: &mut Machine, i: &Insn, seg: SegReg) -> Result<(), Raised>
     ensures { CarriesOut m.old m.new result (load_pointer seg m.old.world i.now) }
 {

@@ -11,7 +11,8 @@ ghost use Rattle.exec_flow.specs.Interrupts.{into};
 ghost use Rattle.exec_flow.specs.Pointers.{memory_bytes, pointer};
 ghost use Rattle.exec_flow.specs.Ports.{input};
 ghost use Rattle.exec_flow.specs.Questions.{arpl, load_from_descriptor, verify};
-ghost use Rattle.exec_flow.specs.Segments.{load_pointer, mov_from_segment, mov_segment, mov_to_segment, pop_into, pop_segment, push_segment};
+ghost use Rattle.exec_flow.specs.Segments.{load_pointer, mov_from_segment, mov_segment, mov_to_segment, pop_into, pop_segment};
+ghost use Rattle.exec_flow.specs.Segments.{push_segment};
 ghost use Rattle.exec_flow.specs.Transfers.{at_operand_size, call, jcc, jcxz, jmp, loop_while, ret, target};
 ghost use Rattle.client_world.specs.Selector.{Row};
 ghost use Rattle.insn_forms.specs.Kinds.{has_good_number, is_width};
@@ -121,7 +122,8 @@ fn jcc(a: &mut Accesses<'_>, i: &Insn, n: u8) -> Result<(), Raised>
 }
 
 // JCXZ.
-#[tactic(auto, unfolding(crate::specs::Transfers::jcxz, crate::specs::Transfers::near_transfer, insn_plan::specs::Accesses::accesses_after))]
+#[tactic(auto, unfolding(crate::specs::Transfers::jcxz, crate::specs::Transfers::near_transfer, //
+insn_plan::specs::Accesses::accesses_after))]
 fn jcxz(a: &mut Accesses<'_>, i: &Insn) -> Result<(), Raised>
     requires { length a.old.accesses ≡ 0 }
     ensures { Notes a.old a.new result (jcxz a.old.world i.now) }
@@ -134,7 +136,8 @@ fn jcxz(a: &mut Accesses<'_>, i: &Insn) -> Result<(), Raised>
 }
 
 // LOOP, and LOOPE and LOOPNE with their condition.
-#[tactic(auto, unfolding(crate::specs::Transfers::loop_while, crate::specs::Transfers::near_transfer, insn_plan::specs::Accesses::accesses_after))]
+#[tactic(auto, unfolding(crate::specs::Transfers::loop_while, crate::specs::Transfers::near_transfer, //
+insn_plan::specs::Accesses::accesses_after))]
 fn loop_while(a: &mut Accesses<'_>, i: &Insn, holds: bool) -> Result<(), Raised>
     requires { length a.old.accesses ≡ 0 }
     ensures { Notes a.old a.new result (loop_while holds a.old.world i.now) }
@@ -159,7 +162,8 @@ fn jmp(a: &mut Accesses<'_>, i: &Insn) -> Result<(), Raised>
 }
 
 // CALL.
-#[tactic(auto, unfolding(crate::specs::Transfers::call, crate::specs::Transfers::near_transfer, insn_plan::specs::Accesses::accesses_after), using(insn_plan::proofs::AccessLists::pushed_accesses))]
+#[tactic(auto, unfolding(crate::specs::Transfers::call, crate::specs::Transfers::near_transfer, //
+insn_plan::specs::Accesses::accesses_after), using(insn_plan::proofs::AccessLists::pushed_accesses))]
 fn call(a: &mut Accesses<'_>, i: &Insn) -> Result<(), Raised>
     requires { length a.old.accesses ≡ 0 }
     ensures { Notes a.old a.new result (call a.old.world i.now) }
@@ -182,7 +186,8 @@ fn ret(a: &mut Accesses<'_>, i: &Insn) -> Result<(), Raised>
 }
 
 // JMP far.
-#[tactic(auto, unfolding(crate::specs::FarTransfers::jump_far, crate::specs::FarTransfers::far_transfer, insn_plan::specs::Accesses::accesses_after))]
+#[tactic(auto, unfolding(crate::specs::FarTransfers::jump_far, crate::specs::FarTransfers::far_transfer, //
+insn_plan::specs::Accesses::accesses_after))]
 fn jump_far(a: &mut Accesses<'_>, i: &Insn) -> Result<(), Raised>
     requires { length a.old.accesses ≡ 0 }
     ensures { Notes a.old a.new result (jump_far a.old.world i.now) }
@@ -193,7 +198,9 @@ fn jump_far(a: &mut Accesses<'_>, i: &Insn) -> Result<(), Raised>
 }
 
 // CALL far.
-#[tactic(auto, unfolding(crate::specs::FarTransfers::call_far, crate::specs::FarTransfers::far_transfer, insn_plan::specs::Accesses::accesses_after), using(insn_plan::proofs::AccessLists::pushed_accesses, insn_plan::proofs::AccessLists::pushed_esp))]
+#[tactic(auto, unfolding(crate::specs::FarTransfers::call_far, crate::specs::FarTransfers::far_transfer, //
+insn_plan::specs::Accesses::accesses_after), using(insn_plan::proofs::AccessLists::pushed_accesses, //
+insn_plan::proofs::AccessLists::pushed_esp))]
 fn call_far(a: &mut Accesses<'_>, i: &Insn) -> Result<(), Raised>
     requires { length a.old.accesses ≡ 0 }
     ensures { Notes a.old a.new result (call_far a.old.world i.now) }
@@ -206,7 +213,8 @@ fn call_far(a: &mut Accesses<'_>, i: &Insn) -> Result<(), Raised>
 }
 
 // RETF.
-#[tactic(auto, unfolding(crate::specs::FarTransfers::retf, crate::specs::FarTransfers::far_frame_pop, crate::specs::FarTransfers::far_transfer, insn_plan::specs::Accesses::accesses_after))]
+#[tactic(auto, unfolding(crate::specs::FarTransfers::retf, crate::specs::FarTransfers::far_frame_pop, //
+crate::specs::FarTransfers::far_transfer, insn_plan::specs::Accesses::accesses_after))]
 fn retf(a: &mut Accesses<'_>, i: &Insn) -> Result<(), Raised>
     requires { length a.old.accesses ≡ 0 }
     ensures { Notes a.old a.new result (retf a.old.world i.now) }
@@ -218,7 +226,8 @@ fn retf(a: &mut Accesses<'_>, i: &Insn) -> Result<(), Raised>
 }
 
 // IRET.
-#[tactic(auto, unfolding(crate::specs::FarTransfers::iret, crate::specs::FarTransfers::interrupt_frame_pop, crate::specs::FarTransfers::far_transfer, crate::specs::FlagImages::with_popped_flags, insn_plan::specs::Accesses::accesses_after))]
+#[tactic(auto, unfolding(crate::specs::FarTransfers::iret, crate::specs::FarTransfers::interrupt_frame_pop, //
+crate::specs::FarTransfers::far_transfer, crate::specs::FlagImages::with_popped_flags, insn_plan::specs::Accesses::accesses_after))]
 fn iret(a: &mut Accesses<'_>, i: &Insn) -> Result<(), Raised>
     requires { length a.old.accesses ≡ 0 }
     ensures { Notes a.old a.new result (iret a.old.world i.now) }
@@ -231,7 +240,8 @@ fn iret(a: &mut Accesses<'_>, i: &Insn) -> Result<(), Raised>
 }
 
 // PUSHF.
-#[tactic(auto, unfolding(crate::specs::FlagImages::pushf, insn_plan::specs::Accesses::accesses_after), using(insn_plan::proofs::AccessLists::pushed_accesses))]
+#[tactic(auto, unfolding(crate::specs::FlagImages::pushf, insn_plan::specs::Accesses::accesses_after), //
+using(insn_plan::proofs::AccessLists::pushed_accesses))]
 fn pushf(a: &mut Accesses<'_>, i: &Insn) -> Result<(), Raised>
     requires { length a.old.accesses ≡ 0 }
     ensures { Notes a.old a.new result (pushf a.old.world i.now) }
@@ -241,7 +251,8 @@ fn pushf(a: &mut Accesses<'_>, i: &Insn) -> Result<(), Raised>
 }
 
 // POPF.
-#[tactic(auto, unfolding(crate::specs::FlagImages::popf, crate::specs::FlagImages::with_popped_flags, insn_plan::specs::Accesses::accesses_after))]
+#[tactic(auto, unfolding(crate::specs::FlagImages::popf, crate::specs::FlagImages::with_popped_flags, //
+insn_plan::specs::Accesses::accesses_after))]
 fn popf(a: &mut Accesses<'_>, i: &Insn) -> Result<(), Raised>
     requires { length a.old.accesses ≡ 0 }
     ensures { Notes a.old a.new result (popf a.old.world i.now) }
@@ -264,7 +275,8 @@ fn into(a: &mut Accesses<'_>, len: u8) -> Result<(), Raised>
 }
 
 // IN.
-#[tactic(auto, unfolding(crate::specs::Ports::input, insn_plan::specs::Accesses::accesses_after), using(insn_plan::proofs::AccessLists::put_accesses))]
+#[tactic(auto, unfolding(crate::specs::Ports::input, insn_plan::specs::Accesses::accesses_after), //
+using(insn_plan::proofs::AccessLists::put_accesses))]
 fn input(a: &mut Accesses<'_>, i: &Insn) -> Result<(), Raised>
     requires { length a.old.accesses ≡ 0 }
     ensures { Notes a.old a.new result (input a.old.world i.now) }
@@ -274,7 +286,8 @@ fn input(a: &mut Accesses<'_>, i: &Insn) -> Result<(), Raised>
 }
 
 // VERR and VERW.
-#[tactic(auto, unfolding(crate::specs::Questions::verify, crate::specs::Raising::in_protected, crate::specs::Raising::invalid_opcode, insn_plan::specs::Accesses::accesses_after))]
+#[tactic(auto, unfolding(crate::specs::Questions::verify, crate::specs::Raising::in_protected, crate::specs::Raising::invalid_opcode, //
+insn_plan::specs::Accesses::accesses_after))]
 fn verify(a: &mut Accesses<'_>, i: &Insn) -> Result<(), Raised>
     requires { length a.old.accesses ≡ 0 }
     ensures { (test : Row → Bool) → Notes a.old a.new result (verify test a.old.world i.now) }
@@ -287,7 +300,8 @@ fn verify(a: &mut Accesses<'_>, i: &Insn) -> Result<(), Raised>
 }
 
 // LAR and LSL.
-#[tactic(auto, unfolding(crate::specs::Questions::load_from_descriptor, crate::specs::Raising::in_protected, crate::specs::Raising::invalid_opcode, insn_plan::specs::Accesses::accesses_after), using(insn_plan::proofs::AccessLists::put_accesses))]
+#[tactic(auto, unfolding(crate::specs::Questions::load_from_descriptor, crate::specs::Raising::in_protected, //
+crate::specs::Raising::invalid_opcode, insn_plan::specs::Accesses::accesses_after), using(insn_plan::proofs::AccessLists::put_accesses))]
 fn load_from_descriptor(a: &mut Accesses<'_>, i: &Insn) -> Result<(), Raised>
     requires { length a.old.accesses ≡ 0 }
     ensures { (number : ADesc → ℕ) → Notes a.old a.new result (load_from_descriptor number a.old.world i.now) }
@@ -303,7 +317,8 @@ fn load_from_descriptor(a: &mut Accesses<'_>, i: &Insn) -> Result<(), Raised>
 }
 
 // ARPL.
-#[tactic(auto, unfolding(crate::specs::Questions::arpl, crate::specs::Raising::in_protected, crate::specs::Raising::invalid_opcode, insn_plan::specs::Accesses::accesses_after), using(insn_plan::proofs::AccessLists::put_accesses))]
+#[tactic(auto, unfolding(crate::specs::Questions::arpl, crate::specs::Raising::in_protected, crate::specs::Raising::invalid_opcode, //
+insn_plan::specs::Accesses::accesses_after), using(insn_plan::proofs::AccessLists::put_accesses))]
 fn arpl(a: &mut Accesses<'_>, i: &Insn) -> Result<(), Raised>
     requires { length a.old.accesses ≡ 0 }
     ensures { Notes a.old a.new result (arpl a.old.world i.now) }
@@ -320,7 +335,8 @@ fn arpl(a: &mut Accesses<'_>, i: &Insn) -> Result<(), Raised>
 }
 
 // MOV into a segment register.
-#[tactic(auto, unfolding(crate::specs::Segments::mov_to_segment, crate::specs::Segments::with_loaded_segment, insn_plan::specs::Accesses::accesses_after))]
+#[tactic(auto, unfolding(crate::specs::Segments::mov_to_segment, crate::specs::Segments::with_loaded_segment, //
+insn_plan::specs::Accesses::accesses_after))]
 fn mov_to_segment(a: &mut Accesses<'_>, i: &Insn, seg: SegReg) -> Result<(), Raised>
     requires { length a.old.accesses ≡ 0 }
     ensures { Notes a.old a.new result (mov_to_segment a.old.world i.now seg) }
@@ -331,7 +347,8 @@ fn mov_to_segment(a: &mut Accesses<'_>, i: &Insn, seg: SegReg) -> Result<(), Rai
 }
 
 // MOV from a segment register.
-#[tactic(auto, unfolding(crate::specs::Segments::mov_from_segment, insn_plan::specs::Accesses::accesses_after), using(insn_plan::proofs::AccessLists::put_accesses))]
+#[tactic(auto, unfolding(crate::specs::Segments::mov_from_segment, insn_plan::specs::Accesses::accesses_after), //
+using(insn_plan::proofs::AccessLists::put_accesses))]
 fn mov_from_segment(a: &mut Accesses<'_>, i: &Insn) -> Result<(), Raised>
     requires { length a.old.accesses ≡ 0 }
     ensures { Notes a.old a.new result (mov_from_segment a.old.world i.now) }
@@ -358,7 +375,8 @@ fn mov_segment(a: &mut Accesses<'_>, i: &Insn) -> Result<(), Raised>
 }
 
 // PUSH of a segment register.
-#[tactic(auto, unfolding(crate::specs::Segments::push_segment, insn_plan::specs::Accesses::accesses_after), using(insn_plan::proofs::AccessLists::pushed_accesses))]
+#[tactic(auto, unfolding(crate::specs::Segments::push_segment, insn_plan::specs::Accesses::accesses_after), //
+using(insn_plan::proofs::AccessLists::pushed_accesses))]
 fn push_segment(a: &mut Accesses<'_>, i: &Insn) -> Result<(), Raised>
     requires { length a.old.accesses ≡ 0 }
     ensures { Notes a.old a.new result (push_segment a.old.world i.now) }
@@ -369,7 +387,8 @@ fn push_segment(a: &mut Accesses<'_>, i: &Insn) -> Result<(), Raised>
 }
 
 // POP into a segment register.
-#[tactic(auto, unfolding(crate::specs::Segments::pop_into, crate::specs::Segments::with_loaded_segment, insn_plan::specs::Accesses::accesses_after))]
+#[tactic(auto, unfolding(crate::specs::Segments::pop_into, crate::specs::Segments::with_loaded_segment, //
+insn_plan::specs::Accesses::accesses_after))]
 fn pop_into(a: &mut Accesses<'_>, i: &Insn, seg: SegReg) -> Result<(), Raised>
     requires { length a.old.accesses ≡ 0 }
     ensures { Notes a.old a.new result (pop_into a.old.world i.now seg) }
@@ -396,7 +415,8 @@ fn pop_segment(a: &mut Accesses<'_>, i: &Insn) -> Result<(), Raised>
 }
 
 // LES, LDS, LSS, LFS, LGS.
-#[tactic(auto, unfolding(crate::specs::Segments::load_pointer, crate::specs::Segments::with_loaded_segment, insn_plan::specs::Accesses::accesses_after), using(insn_plan::proofs::AccessLists::put_accesses))]
+#[tactic(auto, unfolding(crate::specs::Segments::load_pointer, crate::specs::Segments::with_loaded_segment, //
+insn_plan::specs::Accesses::accesses_after), using(insn_plan::proofs::AccessLists::put_accesses))]
 fn load_pointer(a: &mut Accesses<'_>, i: &Insn, seg: SegReg) -> Result<(), Raised>
     requires { length a.old.accesses ≡ 0 }
     ensures { Notes a.old a.new result (load_pointer seg a.old.world i.now) }
@@ -489,7 +509,10 @@ fn enter(a: &mut Accesses<'_>, i: &Insn) -> Result<(), Raised>
 }
 
 // Follows an instruction of this crate.
-#[tactic(auto, unfolding(crate::specs::Dispatch::is_flow, crate::specs::Dispatch::flow_row, crate::specs::FlagImages::cli, crate::specs::FlagImages::sti, crate::specs::Ports::output, crate::specs::Interrupts::int, crate::specs::Interrupts::int3, crate::specs::Raising::invalid_opcode, crate::specs::Raising::privileged, crate::specs::Raising::escape, crate::specs::Raising::load_table, crate::specs::Raising::in_protected, insn_plan::specs::Accesses::accesses_after))]
+#[tactic(auto, unfolding(crate::specs::Dispatch::is_flow, crate::specs::Dispatch::flow_row, crate::specs::FlagImages::cli, //
+crate::specs::FlagImages::sti, crate::specs::Ports::output, crate::specs::Interrupts::int, crate::specs::Interrupts::int3, //
+crate::specs::Raising::invalid_opcode, crate::specs::Raising::privileged, crate::specs::Raising::escape, //
+crate::specs::Raising::load_table, crate::specs::Raising::in_protected, insn_plan::specs::Accesses::accesses_after))]
 fn follow(a: &mut Accesses<'_>, insn: &Insn, len: u8) -> Result<(), Raised>
     requires flow { IsFlow insn.now }
     requires width { IsTrue (is_width insn.now.width) }

@@ -1,5 +1,5 @@
 -- An access through a segment register is an access from the linear address that the segment gives.
-use Rattle.std.proofs.Common.{◌≡◌, ℕ, ◌+◌, ◌%◌, ◌^◌, Bool, true, false, List, refl, ap, ◌∙◌, sym, None, Some, Result, Ok, Err}
+use Rattle.std.proofs.Common.{◌≡◌, ℕ, ◌+◌, ◌%◌, ◌^◌, Bool, true, false, List, refl, ap, ◌∙◌, sym, None, Some, Result, Ok, Err, arith}
 use Rattle.std.specs.Prelude.{OnOk, IfErr}
 use Rattle.std.specs.declared.option.Option.{Option}
 use Rattle.client_world.specs.declared.faults.Fault.{Fault}
@@ -8,20 +8,20 @@ use Rattle.client_world.specs.declared.segments.SegReg.{SegReg}
 use Rattle.client_world.specs.Access.{access, segment_base, places_from, places_at, touched_places, first_forbidden, unless_forbidden}
 use Rattle.client_world.specs.World.{World}
 use Rattle.host_memory.specs.View.{MachineView}
-use Rattle.guest_space.specs.Transfer.{read_result, access_fault, after_store, linear_access, bytes_at, fault_of, with_places, places_of_access}
+use Rattle.guest_space.specs.Transfer.{read_result, access_fault, after_store, linear_access, bytes_at, fault_of, with_places}
+use Rattle.guest_space.specs.Transfer.{places_of_access}
 use Rattle.guest_space.proofs.Runs.{linear_run}
 
 -- the places from a base and an offset are those from the linear address
 pub places_linear : (w : World) (base offset n : ℕ) (write : Bool) →
     places_at w.blocks (Ok base) offset n write ≡ linear_access w ((base + offset) % 2 ^ 32) n write
-places_linear w base offset n write = ap (λ (places : List Place). touched_places places write) (sym (linear_run w.blocks (base + offset) n))
+places_linear w base offset n write = grind (arith, linear_run)
 
 pub access_linear : (w : World) (seg : SegReg) (offset n base : ℕ) (write : Bool) →
     segment_base w.mode w.regs w.descriptors seg offset n write ≡ Ok base →
     access w seg offset n write ≡ linear_access w ((base + offset) % 2 ^ 32) n write
 unfolding access
-access_linear w seg offset n base write e =
-    ap (λ (r : Result ℕ Fault). places_at w.blocks r offset n write) e ∙ places_linear w base offset n write
+access_linear w seg offset n base write e = grind (arith, places_linear)
 
 pub access_refused : (w : World) (seg : SegReg) (offset n : ℕ) (write : Bool) (f : Fault) →
     segment_base w.mode w.regs w.descriptors seg offset n write ≡ Err f → access w seg offset n write ≡ Err f
@@ -53,16 +53,14 @@ places_unless (Some p) places write e = absurd cc
 
 pub places_linear_access : (w : World) (lin n : ℕ) (write : Bool) → fault_of (linear_access w lin n write) ≡ None →
     places_of_access (linear_access w lin n write) ≡ places_from w.blocks lin n
-places_linear_access w lin n write e = places_unless (first_forbidden (places_from w.blocks lin n) write) (places_from w.blocks lin n) write e
+places_linear_access w lin n write e = grind (arith, places_unless)
 
 pub stored_linear : (v : MachineView) (seg : SegReg) (offset n base : ℕ) (bytes : List ℕ) →
     segment_base v.world.mode v.world.regs v.world.descriptors seg offset n true ≡ Ok base →
     fault_of (linear_access v.world ((base + offset) % 2 ^ 32) n true) ≡ None →
     with_places v (places_from v.world.blocks ((base + offset) % 2 ^ 32) n) bytes ≡ after_store v seg offset n bytes
 unfolding after_store
-stored_linear v seg offset n base bytes e none =
-    ap (λ (places : List Place). with_places v places bytes)
-    (sym (ap places_of_access (access_linear v.world seg offset n base true e) ∙ places_linear_access v.world ((base + offset) % 2 ^ 32) n true none))
+stored_linear v seg offset n base bytes e none = grind (arith, access_linear, places_linear_access)
 
 -- the answer of a store is that of a write
 pub write_done : (v new : MachineView) (seg : SegReg) (offset n base : ℕ) (bytes : List ℕ) (r : Result (Unit {0}) Fault) →
@@ -70,8 +68,7 @@ pub write_done : (v new : MachineView) (seg : SegReg) (offset n base : ℕ) (byt
     OnOk r ((fault_of (linear_access v.world ((base + offset) % 2 ^ 32) n true) ≡ None)
     × (new ≡ with_places v (places_from v.world.blocks ((base + offset) % 2 ^ 32) n) bytes)) →
     OnOk r ((access_fault v.world seg offset n true ≡ None) × (new ≡ after_store v seg offset n bytes))
-write_done v new seg offset n base bytes (Ok u) e done =
-    (refusal_linear v.world seg offset n base true e ∙ done.0, done.1 ∙ stored_linear v seg offset n base bytes e done.0)
+write_done v new seg offset n base bytes (Ok u) e done = grind (arith, refusal_linear, stored_linear)
 write_done v new seg offset n base bytes (Err f) e done = tt
 
 pub write_refused : (v new : MachineView) (seg : SegReg) (offset n base : ℕ) (r : Result (Unit {0}) Fault) →

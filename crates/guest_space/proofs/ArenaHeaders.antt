@@ -1,5 +1,6 @@
 -- The headers of all entries written into the memory: they change the megabyte alone, below its read-only part, and leave it sound.
-use Rattle.std.proofs.Common.{◌≡◌, ℕ, zero, suc, ◌+◌, ◌*◌, ◌<◌, ◌≤◌, inl, inr, nat_eq, if◌then◌else◌, List, [], ◌∷◌, length, get_or, set, slice_index, drop, refl, ap, ◌∙◌, sym, arith, length-drop, drop-cons}
+use Rattle.std.proofs.Common.{◌≡◌, ℕ, zero, suc, ◌+◌, ◌*◌, ◌<◌, ◌≤◌, inl, inr, nat_eq, if◌then◌else◌, List, [], ◌∷◌, length, get_or, set}
+use Rattle.std.proofs.Common.{slice_index, drop, refl, ap, ◌∙◌, sym, arith, length-drop, drop-cons}
 use Rattle.std.proofs.lemmas.Bool.{cases_eq, eq-eqb, ne_eqb}
 use Rattle.client_world.specs.declared.dos_memory.DosEntry.{DosEntry}
 use Rattle.client_world.specs.declared.dos_memory.DosState.{DosState}
@@ -42,7 +43,8 @@ owner_small Dpmi = omega arith
 zero_fits : 0 < 0x100
 zero_fits = omega arith
 
-header_fits : (letter : ℕ) (entry : DosEntry) → letter < 0x100 → entry.paras < 0x10000 → (k : ℕ) → slice_index (dos_header letter entry) k < 0x100
+header_fits : (letter : ℕ) (entry : DosEntry) → letter < 0x100 → entry.paras < 0x10000 → (k : ℕ) →
+    slice_index (dos_header letter entry) k < 0x100
 unfolding dos_header
 header_fits letter entry small paras =
     let owner = owner_small entry.state in
@@ -86,13 +88,15 @@ letter_fits [] = omega arith
 letter_fits (e ∷ es) = omega arith
 
 -- bytes below read-only memory leave the megabyte sound
-SoundMegabyte-put : (dos : List ℕ) (at : ℕ) (xs : List ℕ) → SoundMegabyte dos → at + length xs ≤ ROM_START → ((k : ℕ) → slice_index xs k < 0x100) →
+SoundMegabyte-put : (dos : List ℕ) (at : ℕ) (xs : List ℕ) → SoundMegabyte dos → at + length xs ≤ ROM_START →
+    ((k : ℕ) → slice_index xs k < 0x100) →
     SoundMegabyte (put dos at xs)
 SoundMegabyte-put dos at [] sound low fits = sound
 SoundMegabyte-put dos at (x ∷ xs) sound low fits =
     SoundMegabyte-put (set dos at x) (at + 1) xs (SoundMegabyte-set dos at x sound (omega arith) (fits 0)) (omega arith) (λ k. fits (suc k))
 
-pub SoundMegabyte-headers : (dos : List ℕ) (es : List DosEntry) (from : ℕ) → SoundMegabyte dos → Fills from es ARENA_END → SoundMegabyte (with_headers dos es)
+pub SoundMegabyte-headers : (dos : List ℕ) (es : List DosEntry) (from : ℕ) → SoundMegabyte dos → Fills from es ARENA_END →
+    SoundMegabyte (with_headers dos es)
 SoundMegabyte-headers dos [] from sound fills = sound
 SoundMegabyte-headers dos (e ∷ es) from sound fills =
     let room = fills_at (e ∷ es) from ARENA_END 0 e fills (omega arith) in
@@ -124,7 +128,8 @@ headers_parts b budget (e ∷ es) from size fills =
 
 -- where the header of the entry that is read is
 pub header_room : (b c : List ℕ) (place : ℕ) (entry : DosEntry) → IsArena (arena_in (arena_part b)) → arena_part c ≡ arena_part b →
-    place < entry_count (arena_part b) → entry ≡ entry_at c (PAGE_SIZE * DOS_LIST + entry_size * place) → PARAGRAPH_SIZE * entry.at + 16 ≤ PARAGRAPH_SIZE * ARENA_END
+    place < entry_count (arena_part b) → entry ≡ entry_at c (PAGE_SIZE * DOS_LIST + entry_size * place) →
+    PARAGRAPH_SIZE * entry.at + 16 ≤ PARAGRAPH_SIZE * ARENA_END
 header_room b c place entry arena same small is =
     let long = length-arena_in (arena_part b) in
     let room = fills_at (arena_in (arena_part b)) ARENA_START ARENA_END place entry arena.fills (omega arith) in
@@ -133,11 +138,9 @@ header_room b c place entry arena same small is =
     omega arith
 
 -- the letter by the entries after
-letter_is : (es : List DosEntry) (place n : ℕ) → length es ≡ n → place < n → (if nat_eq (place + 1) n then 0x5A else 0x4D) ≡ header_letter (drop (place + 1) es)
-letter_is es place n e small = elim (cases_eq (place + 1) n) [
-  | inl last ↦ rw (eq-eqb (place + 1) n last) (none (drop (place + 1) es) (omega (arith, length-drop (place + 1) es)))
-  | inr more ↦ rw (ne_eqb (place + 1) n more) (some (drop (place + 1) es) (omega (arith, length-drop (place + 1) es)))
-]
+letter_is : (es : List DosEntry) (place n : ℕ) → length es ≡ n → place < n →
+    (if nat_eq (place + 1) n then 0x5A else 0x4D) ≡ header_letter (drop (place + 1) es)
+letter_is es place n e small = grind (arith, cases_eq, eq-eqb, length-drop, ne_eqb, none, some)
   where
     none : (xs : List DosEntry) → length xs ≡ 0 → 0x5A ≡ header_letter xs
     none [] long = refl
@@ -148,7 +151,8 @@ letter_is es place n e small = elim (cases_eq (place + 1) n) [
     some (x ∷ xs) long = refl
 
 pub one_header : (b c last : List ℕ) (n place : ℕ) (entry : DosEntry) (letter : ℕ) → n ≡ entry_count (arena_part b) → place < n →
-    arena_part c ≡ arena_part b → entry ≡ entry_at c (PAGE_SIZE * DOS_LIST + entry_size * place) → letter ≡ (if nat_eq (place + 1) n then 0x5A else 0x4D) →
+    arena_part c ≡ arena_part b → entry ≡ entry_at c (PAGE_SIZE * DOS_LIST + entry_size * place) →
+    letter ≡ (if nat_eq (place + 1) n then 0x5A else 0x4D) →
     with_headers c (drop place (arena_in (arena_part b))) ≡ last →
     with_headers (put c (PARAGRAPH_SIZE * entry.at) (dos_header letter entry)) (drop (place + 1) (arena_in (arena_part b))) ≡ last
 one_header b c last n place entry letter count small same is by so_far =
@@ -159,16 +163,15 @@ one_header b c last n place entry letter count small same is by so_far =
     let rest : drop place es ≡ get_or es place entry ∷ drop (place + 1) es = drop-cons es place entry (omega arith)
     ∙ ap (λ (k : ℕ). get_or es place entry ∷ drop k es) (let next : suc place ≡ place + 1 = omega arith in next) in
     ap (λ (l : ℕ). with_headers (put c (PARAGRAPH_SIZE * entry.at) (dos_header l entry)) (drop (place + 1) es)) letter_here
-    ∙ ap (λ (e : DosEntry). with_headers (put c (PARAGRAPH_SIZE * e.at) (dos_header (header_letter (drop (place + 1) es)) e)) (drop (place + 1) es)) here
+    ∙ ap (λ (e : DosEntry).
+    with_headers (put c (PARAGRAPH_SIZE * e.at) (dos_header (header_letter (drop (place + 1) es)) e)) (drop (place + 1) es)) here
     ∙ ap (with_headers c) (sym rest)
     ∙ so_far
 
 -- it leaves the list
 pub header_away : (c : List ℕ) (at letter : ℕ) (entry : DosEntry) → HasFrames c → at + 16 ≤ PARAGRAPH_SIZE * ARENA_END →
     arena_part (put c at (dos_header letter entry)) ≡ arena_part c
-header_away c at letter entry frames low =
-    let long = length-header letter entry in
-    region-put_below c at (dos_header letter entry) (PAGE_SIZE * DOS_LIST) (PAGE_SIZE * DOS_LIST_FRAMES) (omega arith) (omega arith)
+header_away c at letter entry frames low = grind (arith, length-header, region-put_below)
 
 -- and after the last entry nothing is left
 pub no_header_left : (c : List ℕ) (es : List DosEntry) (place : ℕ) → length es ≤ place → with_headers c (drop place es) ≡ c

@@ -1,5 +1,6 @@
 -- The bytes that a list of entries of DOS memory has in its frames, and that the entries are read from them again.
-use Rattle.std.proofs.Common.{◌≡◌, ◌≢◌, ℕ, zero, suc, ◌+◌, ◌-◌, ◌*◌, ◌/◌, ◌%◌, ◌<◌, ◌≤◌, ◌⊎◌, inl, inr, List, [], ◌∷◌, ◌++◌, length, get_or, take, drop, refl, ap, ◌∙◌, sym, arith, add-zero, zero-add, add_assoc, length-append}
+use Rattle.std.proofs.Common.{◌≡◌, ◌≢◌, ℕ, zero, suc, ◌+◌, ◌-◌, ◌*◌, ◌/◌, ◌%◌, ◌<◌, ◌≤◌, ◌⊎◌, inl, inr, List, [], ◌∷◌, ◌++◌, length, get_or}
+use Rattle.std.proofs.Common.{take, drop, refl, ap, ◌∙◌, sym, arith, add-zero, zero-add, add_assoc, length-append}
 use Rattle.std.proofs.lemmas.Bool.{cases_lt, eq-eqb, ne_eqb}
 use Rattle.std.proofs.lemmas.Grind.{same_number_lists}
 use Rattle.std.proofs.lemmas.List.{length-take, take-append-drop, get_or_append_left, get_or-append_right, get_or_past}
@@ -8,19 +9,15 @@ use Rattle.client_world.specs.declared.dos_memory.DosState.{DosState}
 use Rattle.client_world.specs.declared.dos_memory.DosState.TheVariants.{Free, Used, Dpmi}
 use Rattle.guest_ram.specs.Listed.{zeros}
 use Rattle.guest_ram.proofs.ListedLaws.{length-listed, at_listed, is_listed, length-zeros, at_zeros}
-use Rattle.host_memory.specs.DosList.{entry_at, entry_bytes, state_of, state_code, entries_from, entry_count, entry_room, entry_size, list_size, arena_in, KeepsArena}
+use Rattle.host_memory.specs.DosList.{entry_at, entry_bytes, state_of, state_code, entries_from, entry_count, entry_room, entry_size}
+use Rattle.host_memory.specs.DosList.{list_size, arena_in, KeepsArena}
 use Rattle.guest_space.specs.Arena.{list_bytes, arena_bytes}
 
 -- eight bytes that are the same are the same entry
-pub same_entry : (a b : List ℕ) (p q : ℕ) → ((i : ℕ) → i < entry_size → get_or a (p + i) 0 ≡ get_or b (q + i) 0) → entry_at a p ≡ entry_at b q
+pub same_entry : (a b : List ℕ) (p q : ℕ) → ((i : ℕ) → i < entry_size → get_or a (p + i) 0 ≡ get_or b (q + i) 0) →
+    entry_at a p ≡ entry_at b q
 unfolding entry_at
-same_entry a b p q h =
-    let e0 : get_or a p 0 ≡ get_or b q 0 = rw (← add-zero p, ← add-zero q) (h 0 (omega arith)) in
-    let e1 : get_or a (p + 1) 0 ≡ get_or b (q + 1) 0 = h 1 (omega arith) in
-    let e2 : get_or a (p + 2) 0 ≡ get_or b (q + 2) 0 = h 2 (omega arith) in
-    let e3 : get_or a (p + 2 + 1) 0 ≡ get_or b (q + 2 + 1) 0 = rw (add_assoc p 2 1, add_assoc q 2 1) (h 3 (omega arith)) in
-    let e4 : get_or a (p + 4) 0 ≡ get_or b (q + 4) 0 = h 4 (omega arith) in
-    rw (e0, e1, e2, e3, e4) refl
+same_entry a b p q h = grind (arith, add-zero, add_assoc)
 
 state_back : (state : DosState) → state_of (state_code state) ≡ state
 state_back Free = refl
@@ -37,12 +34,7 @@ entry_back entry = rw (word_back entry.at, word_back entry.paras, state_back ent
 
 -- and none has the state 0
 code_some : (entry : DosEntry) → get_or (entry_bytes entry) 4 0 ≢ 0
-code_some entry = some entry.state
-  where
-    some : (state : DosState) → state_code state ≢ 0
-    some Free = λ h. omega (arith, h)
-    some Used = λ h. omega (arith, h)
-    some Dpmi = λ h. omega (arith, h)
+code_some entry = grind arith
 
 -- the bytes of entries, one after another
 pub length-list_bytes : (es : List DosEntry) → length (list_bytes es) ≡ entry_size * length es
@@ -74,53 +66,41 @@ list_bytes-append : (xs ys : List DosEntry) → list_bytes (xs ++ ys) ≡ list_b
 list_bytes-append [] ys = refl
 list_bytes-append (x ∷ xs) ys = ap (λ (bytes : List ℕ). entry_bytes x ++ bytes) (list_bytes-append xs ys)
 
-pub bytes_left : (xs ys : List DosEntry) (at : ℕ) → at < entry_size * length xs → get_or (list_bytes (xs ++ ys)) at 0 ≡ get_or (list_bytes xs) at 0
-bytes_left xs ys at small =
-    ap (λ (bytes : List ℕ). get_or bytes at 0) (list_bytes-append xs ys)
-    ∙ get_or_append_left (list_bytes xs) (list_bytes ys) 0 at (omega (arith, length-list_bytes xs))
+pub bytes_left : (xs ys : List DosEntry) (at : ℕ) → at < entry_size * length xs →
+    get_or (list_bytes (xs ++ ys)) at 0 ≡ get_or (list_bytes xs) at 0
+bytes_left xs ys at small = grind (arith, get_or_append_left, length-list_bytes, list_bytes-append)
 
 pub bytes_right : (xs ys : List DosEntry) (at : ℕ) → entry_size * length xs ≤ at →
     get_or (list_bytes (xs ++ ys)) at 0 ≡ get_or (list_bytes ys) (at - entry_size * length xs) 0
-bytes_right xs ys at from =
-    ap (λ (bytes : List ℕ). get_or bytes at 0) (list_bytes-append xs ys)
-    ∙ get_or-append_right (list_bytes xs) (list_bytes ys) (entry_size * length xs) at 0 (length-list_bytes xs) from
+bytes_right xs ys at from = grind (arith, get_or-append_right, length-list_bytes, list_bytes-append)
 
 -- those of a list's first part, and of what follows it
-pub bytes_take : (es : List DosEntry) (n at : ℕ) → n ≤ length es → at < entry_size * n → get_or (list_bytes (take n es)) at 0 ≡ get_or (list_bytes es) at 0
+pub bytes_take : (es : List DosEntry) (n at : ℕ) → n ≤ length es → at < entry_size * n →
+    get_or (list_bytes (take n es)) at 0 ≡ get_or (list_bytes es) at 0
 bytes_take es n at few small =
     sym (bytes_left (take n es) (drop n es) at (omega (arith, length-take n es)))
     ∙ ap (λ (xs : List DosEntry). get_or (list_bytes xs) at 0) (take-append-drop n es)
 
-pub bytes_drop : (es : List DosEntry) (n at : ℕ) → n ≤ length es → get_or (list_bytes (drop n es)) at 0 ≡ get_or (list_bytes es) (entry_size * n + at) 0
+pub bytes_drop : (es : List DosEntry) (n at : ℕ) → n ≤ length es →
+    get_or (list_bytes (drop n es)) at 0 ≡ get_or (list_bytes es) (entry_size * n + at) 0
 bytes_drop es n at few =
     let long : length (take n es) ≡ n = omega (arith, length-take n es) in
-    ap (λ (k : ℕ). get_or (list_bytes (drop n es)) k 0) (let same : at ≡ entry_size * n + at - entry_size * length (take n es) = omega arith in same)
+    ap (λ (k : ℕ). get_or (list_bytes (drop n es)) k 0) (let same : at ≡ entry_size * n + at - entry_size * length (take n es) =
+    omega arith in same)
     ∙ sym (bytes_right (take n es) (drop n es) (entry_size * n + at) (omega arith))
     ∙ ap (λ (xs : List DosEntry). get_or (list_bytes xs) (entry_size * n + at) 0) (take-append-drop n es)
 
 -- the bytes of the frames: those of the entries, and zeros
 pub length-arena_bytes : (es : List DosEntry) → length es ≤ entry_room → length (arena_bytes es) ≡ list_size
 unfolding arena_bytes
-length-arena_bytes es few =
-    let size = length-list_bytes es in
-    let rest = length-zeros (list_size - entry_size * length es) in
-    length-append (list_bytes es) (zeros (list_size - entry_size * length es)) ∙ omega arith
+length-arena_bytes es few = grind (arith, length-append, length-list_bytes, length-zeros)
 
 past_zeros : (n at : ℕ) → get_or (zeros n) at 0 ≡ 0
-past_zeros n at = elim (cases_lt at n) [
-  | inl within ↦ at_zeros n at within
-  | inr past ↦ get_or_past (zeros n) at 0 (omega (arith, length-zeros n))
-]
+past_zeros n at = grind (arith, at_zeros, cases_lt, get_or_past, length-zeros)
 
 pub at_arena_bytes : (es : List DosEntry) (at : ℕ) → get_or (arena_bytes es) at 0 ≡ get_or (list_bytes es) at 0
 unfolding arena_bytes
-at_arena_bytes es at = elim (cases_lt at (length (list_bytes es))) [
-  | inl within ↦ get_or_append_left (list_bytes es) (zeros (list_size - entry_size * length es)) 0 at within
-  | inr past ↦
-      get_or-append_right (list_bytes es) (zeros (list_size - entry_size * length es)) (length (list_bytes es)) at 0 refl past
-      ∙ past_zeros (list_size - entry_size * length es) (at - length (list_bytes es))
-      ∙ sym (get_or_past (list_bytes es) at 0 past)
-]
+at_arena_bytes es at = grind (arith, cases_lt, get_or-append_right, get_or_append_left, get_or_past, past_zeros)
 
 pub past_arena_bytes : (es : List DosEntry) (at : ℕ) → entry_size * length es ≤ at → get_or (arena_bytes es) at 0 ≡ 0
 past_arena_bytes es at past = at_arena_bytes es at ∙ get_or_past (list_bytes es) at 0 (omega (arith, length-list_bytes es))
@@ -129,7 +109,8 @@ byte_of_entry : (es : List DosEntry) (place at : ℕ) (d : DosEntry) → place <
     get_or (arena_bytes es) (entry_size * place + at) 0 ≡ get_or (entry_bytes (get_or es place d)) at 0
 byte_of_entry es place at d within small = at_arena_bytes es (entry_size * place + at) ∙ at_list_bytes es place at d within small
 
-entry_read : (es : List DosEntry) (place : ℕ) (d : DosEntry) → place < length es → entry_at (arena_bytes es) (entry_size * place) ≡ get_or es place d
+entry_read : (es : List DosEntry) (place : ℕ) (d : DosEntry) → place < length es →
+    entry_at (arena_bytes es) (entry_size * place) ≡ get_or es place d
 entry_read es place d within =
     same_entry (arena_bytes es) (entry_bytes (get_or es place d)) (entry_size * place) 0
     (λ i small. byte_of_entry es place i d within small ∙ ap (λ (k : ℕ). get_or (entry_bytes (get_or es place d)) k 0) (sym (zero-add i)))
@@ -140,20 +121,14 @@ pub entries_are : (part : List ℕ) (place room n : ℕ) → n ≤ room → ((j 
     (room ≡ n) ⊎ (get_or part (entry_size * (place + n) + 4) 0 ≡ 0) → entries_from part place room ≡ n
 unfolding entries_from
 entries_are part place zero n few some ends = omega arith
-entries_are part place (suc room) zero few some ends = elim ends [
-  | inl full ↦ absurd (omega arith)
-  | inr none ↦ (let here : get_or part (entry_size * place + 4) 0 ≡ 0 = ap (λ (j : ℕ). get_or part (entry_size * j + 4) 0) (sym (add-zero place)) ∙ none in
-      rw (eq-eqb (get_or part (entry_size * place + 4) 0) 0 here) refl)
-]
+entries_are part place (suc room) zero few some ends = grind (arith, add-zero, eq-eqb)
 entries_are part place (suc room) (suc n) few some ends =
-    let here : get_or part (entry_size * place + 4) 0 ≢ 0 = λ e. some 0 (omega arith) (ap (λ (j : ℕ). get_or part (entry_size * j + 4) 0) (add-zero place) ∙ e) in
+    let here : get_or part (entry_size * place + 4) 0 ≢ 0 =
+    λ e. some 0 (omega arith) (ap (λ (j : ℕ). get_or part (entry_size * j + 4) 0) (add-zero place) ∙ e) in
     let next : (j : ℕ) → place + 1 + j ≡ place + suc j = λ j. omega arith in
     let rest = entries_are part (place + 1) room n (omega arith)
     (λ j small e. some (suc j) (omega arith) (ap (λ (x : ℕ). get_or part (entry_size * x + 4) 0) (sym (next j)) ∙ e))
-    (elim ends [
-      | inl full ↦ inl (omega arith)
-      | inr none ↦ inr (ap (λ (x : ℕ). get_or part (entry_size * x + 4) 0) (next n) ∙ none)
-    ]) in
+    (grind arith) in
     rw (ne_eqb (get_or part (entry_size * place + 4) 0) 0 here) (omega (arith, rest))
 
 count_back : (es : List DosEntry) → length es ≤ entry_room → entry_count (arena_bytes es) ≡ length es
@@ -166,10 +141,7 @@ count_back es few = entries_are (arena_bytes es) 0 entry_room (length es) few
 -- the entries are read from these bytes, which are exactly theirs
 pub arena_back : (es : List DosEntry) → length es ≤ entry_room → arena_in (arena_bytes es) ≡ es
 unfolding arena_in
-arena_back es few =
-    let count = count_back es few in
-    sym (is_listed es (entry_count (arena_bytes es)) (λ place. entry_at (arena_bytes es) (entry_size * place)) (sym count)
-    (λ place d small. sym (entry_read es place d (omega arith))))
+arena_back es few = grind (arith, count_back, entry_read, is_listed)
 
 pub arena_keeps : (es : List DosEntry) → length es ≤ entry_room → KeepsArena (arena_bytes es)
 arena_keeps es few =
@@ -185,12 +157,14 @@ pub length-arena_in : (part : List ℕ) → length (arena_in part) ≡ entry_cou
 unfolding arena_in
 length-arena_in part = length-listed (entry_count part) (λ place. entry_at part (entry_size * place))
 
-pub at_arena_in : (part : List ℕ) (place : ℕ) (d : DosEntry) → place < entry_count part → get_or (arena_in part) place d ≡ entry_at part (entry_size * place)
+pub at_arena_in : (part : List ℕ) (place : ℕ) (d : DosEntry) → place < entry_count part →
+    get_or (arena_in part) place d ≡ entry_at part (entry_size * place)
 unfolding arena_in
 at_arena_in part place d small = at_listed (entry_count part) (λ n. entry_at part (entry_size * n)) place d small
 
 -- bytes that are exactly those of their entries are these
-pub arena_bytes_are : (part : List ℕ) → length part ≡ list_size → entry_count part ≤ entry_room → KeepsArena part → part ≡ arena_bytes (arena_in part)
+pub arena_bytes_are : (part : List ℕ) → length part ≡ list_size → entry_count part ≤ entry_room → KeepsArena part →
+    part ≡ arena_bytes (arena_in part)
 arena_bytes_are part size few keeps = same_number_lists part (arena_bytes (arena_in part)) (size ∙ sym long) each
   where
     count : length (arena_in part) ≡ entry_count part

@@ -1,6 +1,7 @@
--- The three writes that put entries of DOS memory in place of others stay in the frames of the list, and leave there the bytes of the entries
--- after them.
-use Rattle.std.proofs.Common.{◌≡◌, ℕ, ◌+◌, ◌-◌, ◌*◌, ◌<◌, ◌≤◌, ◌⊎◌, inl, inr, List, length, get_or, refl, ap, ◌∙◌, sym, arith, zero-add, add_assoc}
+-- The three writes that put entries of DOS memory in place of others stay in the frames of the list, and leave there the bytes of the
+-- entries after them.
+use Rattle.std.proofs.Common.{◌≡◌, ℕ, ◌+◌, ◌-◌, ◌*◌, ◌<◌, ◌≤◌, ◌⊎◌, inl, inr, List, length, get_or, refl, ap, ◌∙◌, sym, arith, zero-add}
+use Rattle.std.proofs.Common.{add_assoc}
 use Rattle.std.proofs.lemmas.Bool.{cases_lt}
 use Rattle.std.proofs.lemmas.Grind.{same_number_lists}
 use Rattle.client_world.specs.declared.dos_memory.DosEntry.{DosEntry}
@@ -33,12 +34,7 @@ is_put b c xs lo n long size room part others = same_number_lists c (put b lo xs
     ])
 
 region-region : (b : List ℕ) (lo n at m : ℕ) → lo + n ≤ length b → at + m ≤ n → region (region b lo n) at m ≡ region b (lo + at) m
-region-region b lo n at m room within =
-    let outer : length (region b lo n) ≡ n = length-region b lo n room in
-    let inner : length (region (region b lo n) at m) ≡ m = length-region (region b lo n) at m (omega arith) in
-    same_number_lists (region (region b lo n) at m) (region b (lo + at) m) (inner ∙ sym (length-region b (lo + at) m (omega arith))) (λ k small.
-    at_region (region b lo n) at m k (omega arith) ∙ at_region b lo n (at + k) (omega arith)
-    ∙ ap (λ (j : ℕ). get_or b j 0) (sym (add_assoc lo at k)) ∙ sym (at_region b (lo + at) m k (omega arith)))
+region-region b lo n at m room within = grind (arith, add_assoc, at_region, length-region, same_number_lists)
 
 -- the three writes stay in the part of the list
 record IsSplice (b c : List ℕ) (n place old : ℕ) (new : List DosEntry) : Type 0 where
@@ -46,7 +42,8 @@ record IsSplice (b c : List ℕ) (n place old : ℕ) (new : List DosEntry) : Typ
   pub part : arena_part c ≡ spliced_bytes (arena_part b) 0 n place old new
   pub others : (at : ℕ) → (at < list_start) ⊎ (list_start + list_size ≤ at) → get_or c at 0 ≡ get_or b at 0
 
-is_splice : (b : List ℕ) (n place old : ℕ) (new : List DosEntry) → HasFrames b → n ≤ entry_room → place + old ≤ n → n + length new ≤ entry_room + old →
+is_splice : (b : List ℕ) (n place old : ℕ) (new : List DosEntry) → HasFrames b → n ≤ entry_room → place + old ≤ n →
+    n + length new ≤ entry_room + old →
     IsSplice b (spliced_bytes b list_start n place old new) n place old new
 is_splice b n place old new frames few within fits =
     let count = length new in
@@ -68,26 +65,27 @@ is_splice b n place old new frames few within fits =
           ∙ ap (λ (a : List ℕ). put a (entry_size * (n - old + count)) none)
           (region-put b1 (list_start + entry_size * place) bytes list_start list_size (entry_size * place) refl (omega arith)
           ∙ ap (λ (a : List ℕ). put a (entry_size * place) bytes)
-          (region-put b (list_start + entry_size * (place + count)) moved list_start list_size (entry_size * (place + count)) refl (omega arith)
+          (region-put b (list_start + entry_size * (place + count)) moved list_start list_size (entry_size * (place + count)) refl
+          (omega arith)
           ∙ ap (λ (xs : List ℕ). put (arena_part b) (entry_size * (place + count)) xs)
-          (sym (region-region b list_start list_size (entry_size * (place + old)) (entry_size * (n - (place + old))) (omega arith) (omega arith)))))
-          ∙ no_start (arena_part b) (entry_size * (place + old)) (entry_size * (place + count)) (entry_size * place) (entry_size * (n - old + count)) (entry_size * (n - (place + old))) bytes none;
-      others = λ at away. elim away [
-        | inl low ↦ put_below b2 end none at (omega arith) ∙ put_below b1 (list_start + entry_size * place) bytes at (omega arith)
-            ∙ put_below b (list_start + entry_size * (place + count)) moved at (omega arith)
-        | inr high ↦ put_above b2 end none at (omega arith) ∙ put_above b1 (list_start + entry_size * place) bytes at (omega arith)
-            ∙ put_above b (list_start + entry_size * (place + count)) moved at (omega arith)
-      ];
+          (sym (region-region b list_start list_size (entry_size * (place + old)) (entry_size * (n - (place + old))) (omega arith)
+          (omega arith)))))
+          ∙ no_start (arena_part b) (entry_size * (place + old)) (entry_size * (place + count)) (entry_size * place)
+          (entry_size * (n - old + count)) (entry_size * (n - (place + old))) bytes none;
+      others = grind (arith, list_start, put_above, put_below);
     }
   where
     no_start : (a : List ℕ) (from to here end n : ℕ) (bytes none : List ℕ) →
-        put (put (put a to (region a from n)) here bytes) end none ≡ put (put (put a (0 + to) (region a (0 + from) n)) (0 + here) bytes) (0 + end) none
+        put (put (put a to (region a from n)) here bytes) end none
+        ≡ put (put (put a (0 + to) (region a (0 + from) n)) (0 + here) bytes) (0 + end) none
     no_start a from to here end n bytes none = rw (zero-add to, zero-add from, zero-add here, zero-add end) refl
 
 -- so they put the bytes of the entries after it
-pub splice_put : (b : List ℕ) (n place old : ℕ) (new : List DosEntry) → HasFrames b → KeepsArena (arena_part b) → n ≡ entry_count (arena_part b) →
+pub splice_put : (b : List ℕ) (n place old : ℕ) (new : List DosEntry) → HasFrames b → KeepsArena (arena_part b) →
+    n ≡ entry_count (arena_part b) →
     place + old ≤ n → n + length new ≤ entry_room + old →
-    spliced_bytes b list_start n place old new ≡ put b list_start (arena_bytes (with_replaced_entries (arena_in (arena_part b)) place old new))
+    spliced_bytes b list_start n place old new
+    ≡ put b list_start (arena_bytes (with_replaced_entries (arena_in (arena_part b)) place old new))
 splice_put b n place old new frames keeps count within fits =
     let few = entries_few (arena_part b) 0 entry_room in
     let es = arena_in (arena_part b) in

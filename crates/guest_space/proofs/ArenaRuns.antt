@@ -1,6 +1,7 @@
 -- Entries in place of others, where INT 31h function 0100h made none of either: those that it made are the same, and so the descriptors of
 -- DOS blocks belong to entries still.
 use Rattle.std.proofs.Common.{◌≡◌, ℕ, zero, suc, ◌+◌, ◌⊎◌, inl, inr, true, List, [], ◌∷◌, ◌++◌, Some, take, drop, ap, ◌∙◌, sym, subst}
+use Rattle.std.proofs.Common.{arith}
 use Rattle.std.specs.List.{slice_get}
 use Rattle.std.proofs.lemmas.Option.{same_Some}
 use Rattle.std.proofs.lemmas.List.{take-append-drop, drop-drop}
@@ -64,7 +65,8 @@ parts_are es place old =
 kept_made : (entry : DosEntry) (es : List DosEntry) (place old : ℕ) (new : List DosEntry) → NoneMade (take old (drop place es)) →
     is_dpmi entry.state ≡ true → Has entry es → Has entry (with_replaced_entries es place old new)
 kept_made entry es place old new none made h =
-    let all : Has entry (take place es ++ (take old (drop place es) ++ drop (place + old) es)) = subst (Has entry) (sym (parts_are es place old)) h in
+    let all : Has entry (take place es ++ (take old (drop place es) ++ drop (place + old) es)) =
+    subst (Has entry) (sym (parts_are es place old)) h in
     elim (has_either entry (take place es) (take old (drop place es) ++ drop (place + old) es) all) [
       | inl front ↦ has_left entry (take place es) (new ++ drop (place + old) es) front
       | inr rest ↦ elim (has_either entry (take old (drop place es)) (drop (place + old) es) rest) [
@@ -80,8 +82,7 @@ was_made entry es place old new none made h = subst (Has entry) (parts_are es pl
       | inl front ↦ has_left entry (take place es) (take old (drop place es) ++ drop (place + old) es) front
       | inr rest ↦ elim (has_either entry new (drop (place + old) es) rest) [
         | inl fresh ↦ absurd (none_made entry new none made fresh)
-        | inr behind ↦ has_right entry (take place es) (take old (drop place es) ++ drop (place + old) es)
-            (has_right entry (take old (drop place es)) (drop (place + old) es) behind)
+        | inr behind ↦ grind (arith, has_right)
       ]
     ])
 
@@ -89,10 +90,12 @@ pub SoundRuns-spliced : (rows : List Row) (es : List DosEntry) (place old : ℕ)
     NoneMade (take old (drop place es)) → NoneMade new → SoundRuns rows (with_replaced_entries es place old new)
 SoundRuns-spliced rows es place old new sound gone none = record {
   runs = λ at entry there made.
-      (let was = stands entry es (was_made entry es place old new none made (has_there entry (with_replaced_entries es place old new) at there)) in
+      (let was =
+      stands entry es (was_made entry es place old new none made (has_there entry (with_replaced_entries es place old new) at there)) in
       sound.runs was.place entry was.there made);
   entries = λ index segment has.
       (let was = sound.entries index segment has in
-      let kept = stands was.entry (with_replaced_entries es place old new) (kept_made was.entry es place old new gone was.made (has_there was.entry es was.place was.there)) in
+      let kept = stands was.entry (with_replaced_entries es place old new)
+      (kept_made was.entry es place old new gone was.made (has_there was.entry es was.place was.there)) in
       record { place = kept.place; entry = was.entry; there = kept.there; made = was.made; starts = was.starts });
 }

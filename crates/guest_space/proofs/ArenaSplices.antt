@@ -1,6 +1,7 @@
 -- What moving the entries after, writing the new ones and filling up with zeros does to the bytes of the frames: they are those of the
 -- entries after it.
-use Rattle.std.proofs.Common.{◌≡◌, ℕ, ◌+◌, ◌-◌, ◌*◌, ◌<◌, ◌≤◌, inl, inr, List, ◌++◌, length, get_or, take, drop, ap, ◌∙◌, sym, arith, length-append, length-drop}
+use Rattle.std.proofs.Common.{◌≡◌, ℕ, ◌+◌, ◌-◌, ◌*◌, ◌<◌, ◌≤◌, inl, inr, List, ◌++◌, length, get_or, take, drop, ap, ◌∙◌, sym, arith}
+use Rattle.std.proofs.Common.{length-append, length-drop}
 use Rattle.std.proofs.lemmas.Bool.{cases_lt}
 use Rattle.std.proofs.lemmas.Grind.{same_number_lists}
 use Rattle.std.proofs.lemmas.List.{length-take}
@@ -11,56 +12,35 @@ use Rattle.guest_ram.proofs.ListedLaws.{length-copies, at_copies}
 use Rattle.guest_ram.proofs.PutLaws.{length-put, put_above, put_below, put_within, length-region, at_region}
 use Rattle.host_memory.specs.DosList.{entry_room, list_size, entry_size}
 use Rattle.guest_space.specs.Arena.{with_replaced_entries, list_bytes, arena_bytes}
-use Rattle.guest_space.proofs.ArenaLists.{length-list_bytes, length-arena_bytes, at_arena_bytes, past_arena_bytes, bytes_left, bytes_right, bytes_take, bytes_drop}
+use Rattle.guest_space.proofs.ArenaLists.{length-list_bytes, length-arena_bytes, at_arena_bytes, past_arena_bytes, bytes_left, bytes_right}
+use Rattle.guest_space.proofs.ArenaLists.{bytes_take, bytes_drop}
 
 pub length-spliced : (es : List DosEntry) (place old : ℕ) (new : List DosEntry) → place + old ≤ length es →
     length (with_replaced_entries es place old new) + old ≡ length es + length new
-length-spliced es place old new within =
-    let all : length (take place es ++ (new ++ drop (place + old) es)) ≡ length (take place es) + length (new ++ drop (place + old) es) =
-    length-append (take place es) (new ++ drop (place + old) es) in
-    let more : length (new ++ drop (place + old) es) ≡ length new + length (drop (place + old) es) = length-append new (drop (place + old) es) in
-    let front : length (take place es) ≡ place = omega (arith, length-take place es) in
-    let behind = length-drop (place + old) es in
-    omega arith
+length-spliced es place old new within = grind (arith, length-append, length-drop, length-take)
 
 -- n entries are there from `start` on
 abbrev pub spliced_bytes : List ℕ → ℕ → ℕ → ℕ → ℕ → List DosEntry → List ℕ
 spliced_bytes b start n place old new =
-    put (put (put b (start + entry_size * (place + length new)) (region b (start + entry_size * (place + old)) (entry_size * (n - (place + old)))))
+    put (put (put b (start + entry_size * (place + length new))
+    (region b (start + entry_size * (place + old)) (entry_size * (n - (place + old)))))
     (start + entry_size * place) (list_bytes new))
     (start + entry_size * (n - old + length new)) (copies (entry_size * (old - length new)) 0)
 
 -- the bytes of the entries after it, by those of the old ones and of the new ones
 bytes_before : (es : List DosEntry) (place old : ℕ) (new : List DosEntry) (at : ℕ) → place + old ≤ length es → at < entry_size * place →
     get_or (arena_bytes (with_replaced_entries es place old new)) at 0 ≡ get_or (arena_bytes es) at 0
-bytes_before es place old new at within small =
-    let front : length (take place es) ≡ place = omega (arith, length-take place es) in
-    at_arena_bytes (with_replaced_entries es place old new) at
-    ∙ bytes_left (take place es) (new ++ drop (place + old) es) at (omega arith)
-    ∙ bytes_take es place at (omega arith) small
-    ∙ sym (at_arena_bytes es at)
+bytes_before es place old new at within small = grind (arith, at_arena_bytes, bytes_left, bytes_take, length-take)
 
-bytes_new : (es : List DosEntry) (place old : ℕ) (new : List DosEntry) (at i : ℕ) → place + old ≤ length es → at ≡ entry_size * place + i → i < entry_size * length new →
+bytes_new : (es : List DosEntry) (place old : ℕ) (new : List DosEntry) (at i : ℕ) → place + old ≤ length es → at ≡ entry_size * place + i →
+    i < entry_size * length new →
     get_or (arena_bytes (with_replaced_entries es place old new)) at 0 ≡ get_or (list_bytes new) i 0
-bytes_new es place old new at i within e small =
-    let front : length (take place es) ≡ place = omega (arith, length-take place es) in
-    at_arena_bytes (with_replaced_entries es place old new) at
-    ∙ bytes_right (take place es) (new ++ drop (place + old) es) at (omega arith)
-    ∙ bytes_left new (drop (place + old) es) (at - entry_size * length (take place es)) (omega arith)
-    ∙ ap (λ (k : ℕ). get_or (list_bytes new) k 0) (let same : at - entry_size * length (take place es) ≡ i = omega arith in same)
+bytes_new es place old new at i within e small = grind (arith, at_arena_bytes, bytes_left, bytes_right, length-take)
 
 bytes_behind : (es : List DosEntry) (place old : ℕ) (new : List DosEntry) (at i : ℕ) → place + old ≤ length es →
     entry_size * (place + length new) ≤ at → at + entry_size * old ≡ i + entry_size * length new →
     get_or (arena_bytes (with_replaced_entries es place old new)) at 0 ≡ get_or (arena_bytes es) i 0
-bytes_behind es place old new at i within from e =
-    let front : length (take place es) ≡ place = omega (arith, length-take place es) in
-    at_arena_bytes (with_replaced_entries es place old new) at
-    ∙ bytes_right (take place es) (new ++ drop (place + old) es) at (omega arith)
-    ∙ bytes_right new (drop (place + old) es) (at - entry_size * length (take place es)) (omega arith)
-    ∙ bytes_drop es (place + old) (at - entry_size * length (take place es) - entry_size * length new) within
-    ∙ ap (λ (k : ℕ). get_or (list_bytes es) k 0)
-    (let same : entry_size * (place + old) + (at - entry_size * length (take place es) - entry_size * length new) ≡ i = omega arith in same)
-    ∙ sym (at_arena_bytes es i)
+bytes_behind es place old new at i within from e = grind (arith, at_arena_bytes, bytes_drop, bytes_right, length-take)
 
 -- so they are the bytes that the three writes leave
 pub splice_is : (es : List DosEntry) (place old : ℕ) (new : List DosEntry) → place + old ≤ length es → length es ≤ entry_room →
@@ -77,7 +57,8 @@ splice_is es place old new within few fits =
     let from = 0 + entry_size * (place + old) in
     let to = 0 + entry_size * (place + count) in
     let moved = region a from (entry_size * (n - (place + old))) in
-    let size-moved : length moved ≡ entry_size * (n - (place + old)) = length-region a from (entry_size * (n - (place + old))) (omega arith) in
+    let size-moved : length moved ≡ entry_size * (n - (place + old)) =
+    length-region a from (entry_size * (n - (place + old))) (omega arith) in
     let a1 = put a to moved in
     let size1 : length a1 ≡ list_size = length-put a to moved ∙ size in
     let bytes = list_bytes new in
@@ -90,12 +71,11 @@ splice_is es place old new within few fits =
     let size-none : length none ≡ entry_size * (old - count) = length-copies (entry_size * (old - count)) 0 in
     let size3 : length (put a2 end none) ≡ list_size = length-put a2 end none ∙ size2 in
     same_number_lists (put a2 end none) after (size3 ∙ sym long) (λ at small. elim (cases_lt at (entry_size * place)) [
-      | inl low ↦
-          put_below a2 end none at (omega arith) ∙ put_below a1 here bytes at (omega arith) ∙ put_below a to moved at (omega arith)
-          ∙ sym (bytes_before es place old new at within low)
+      | inl low ↦ grind (arith, bytes_before, put_below)
       | inr high ↦ elim (cases_lt at (entry_size * (place + count))) [
         | inl fresh ↦
-            put_below a2 end none at (omega arith) ∙ put_within a1 here bytes (at - entry_size * place) at (omega arith) (omega arith) (omega arith)
+            put_below a2 end none at (omega arith)
+            ∙ put_within a1 here bytes (at - entry_size * place) at (omega arith) (omega arith) (omega arith)
             ∙ sym (bytes_new es place old new at (at - entry_size * place) within (omega arith) (omega arith))
         | inr above ↦ elim (cases_lt at end) [
           | inl kept ↦
@@ -108,10 +88,7 @@ splice_is es place old new within few fits =
                 put_within a2 end none (at - end) at (omega arith) (omega arith) (omega arith)
                 ∙ at_copies (entry_size * (old - count)) 0 (at - end) (omega arith)
                 ∙ sym (past_arena_bytes (with_replaced_entries es place old new) at (omega arith))
-            | inr behind ↦
-                put_above a2 end none at (omega arith) ∙ put_above a1 here bytes at (omega arith) ∙ put_above a to moved at (omega arith)
-                ∙ past_arena_bytes es at (omega arith)
-                ∙ sym (past_arena_bytes (with_replaced_entries es place old new) at (omega arith))
+            | inr behind ↦ grind (arith, past_arena_bytes, put_above)
           ]
         ]
       ]

@@ -37,8 +37,7 @@ abbrev pub with_arena : List ℕ → List DosEntry → List ℕ
 with_arena b es = with_headers (put b list_start (arena_bytes es)) es
 
 put_all : (b xs : List ℕ) → length xs ≡ length b → put b 0 xs ≡ xs
-put_all b xs size = same_number_lists (put b 0 xs) xs (length-put b 0 xs ∙ sym size) (λ at small.
-    put_within b 0 xs at at (omega arith) (omega (arith, length-put b 0 xs)) (omega arith))
+put_all b xs size = grind (arith, length-put, put_within, same_number_lists)
 
 pub arena_parts : (b : List ℕ) (budget : ℕ) (es : List DosEntry) → HasSize b budget → IsArena es →
     parts_of (with_arena b es) budget ≡ record (parts_of b budget) { arena = arena_bytes es; dos = with_headers (dos_part b) es }
@@ -52,16 +51,12 @@ arena_parts b budget es size arena =
     (put_arena b budget list_start 0 xs size (omega arith) (omega arith)
     ∙ ap (λ (a : List ℕ). record (parts_of b budget) { arena = a }) (put_all (arena_part b) xs (long ∙ sym part)))
 
-pub arena_world : (b : List ℕ) (budget : ℕ) → Holds b budget → (mode : Mode) (regs : Regs) (vif : Bool) (width : Option Width) (es : List DosEntry) → IsArena es →
+pub arena_world : (b : List ℕ) (budget : ℕ) → Holds b budget →
+    (mode : Mode) (regs : Regs) (vif : Bool) (width : Option Width) (es : List DosEntry) → IsArena es →
     world_of (with_arena b es) budget mode regs vif width
     ≡ record (world_of b budget mode regs vif width) { arena = es; dos = with_headers (world_of b budget mode regs vif width).dos es }
 unfolding world_of
-arena_world b budget holds mode regs vif width es arena =
-    let few = arena_few es arena in
-    world_by (with_arena b es) budget (record (parts_of b budget) { arena = arena_bytes es; dos = with_headers (dos_part b) es })
-    (arena_parts b budget es holds.size arena) mode regs vif width
-    ∙ ap (λ (xs : List DosEntry). record (world_of b budget mode regs vif width) { arena = xs; dos = with_headers (dos_part b) es })
-    (arena_back es (omega arith))
+arena_world b budget holds mode regs vif width es arena = grind (arith, arena_back, arena_few, arena_parts, parts_of, world_by)
 
 pub arena_holds : (b : List ℕ) (budget : ℕ) → Holds b budget → (es : List DosEntry) → IsArena es → Holds (with_arena b es) budget
 arena_holds b budget holds es arena =
@@ -73,11 +68,13 @@ arena_holds b budget holds es arena =
     (holds_with_arena (parts_of b budget) budget (arena_bytes es) (arena_keeps es (omega arith)) (holds_parts b budget holds)))
 
 -- the world after it is sound
-keeps_width : (width : Option Width) (w : World) (es : List DosEntry) (dos : List ℕ) → SoundWidth width w → SoundWidth width (record w { arena = es; dos = dos })
-keeps_width None w es dos s = record { mode = s.mode; descriptors = s.descriptors; blocks = s.blocks; callbacks = s.callbacks; calls = s.calls }
+keeps_width : (width : Option Width) (w : World) (es : List DosEntry) (dos : List ℕ) → SoundWidth width w →
+    SoundWidth width (record w { arena = es; dos = dos })
+keeps_width None w es dos s = grind arith
 keeps_width (Some width) w es dos s = s
 
-pub IsSound-entries : (w : World) (place old : ℕ) (new : List DosEntry) → IsSound w → NoneMade (take old (drop place w.arena)) → NoneMade new →
+pub IsSound-entries : (w : World) (place old : ℕ) (new : List DosEntry) → IsSound w → NoneMade (take old (drop place w.arena)) →
+    NoneMade new →
     IsArena (with_replaced_entries w.arena place old new) → IsSound (with_entries w place old new)
 unfolding with_entries
 IsSound-entries w place old new s gone none arena = record {
@@ -93,12 +90,13 @@ IsSound-entries w place old new s gone none arena = record {
   exception_vectors = s.exception_vectors;
   callbacks = s.callbacks;
   depth = s.depth;
-  width = keeps_width w.width w (with_replaced_entries w.arena place old new) (with_headers w.dos (with_replaced_entries w.arena place old new)) s.width;
+  width = grind (arith, keeps_width);
 }
 
 -- what a machine's view shows of the list
 
-pub arena_of : (k : Processor) (b : List ℕ) (v : MachineView) → record { world = held_world k b; bytes = b } ≡ v → v.world.arena ≡ arena_in (arena_part b)
+pub arena_of : (k : Processor) (b : List ℕ) (v : MachineView) → record { world = held_world k b; bytes = b } ≡ v →
+    v.world.arena ≡ arena_in (arena_part b)
 arena_of k b v is = ap (λ (x : MachineView). x.world.arena) (sym is) ∙ arena_is b k.budget k.mode k.regs k.vif k.width
 
 pub count_of : (k : Processor) (b : List ℕ) (v : MachineView) → record { world = held_world k b; bytes = b } ≡ v →
@@ -106,7 +104,8 @@ pub count_of : (k : Processor) (b : List ℕ) (v : MachineView) → record { wor
 count_of k b v is = ap (λ (es : List DosEntry). length es) (arena_of k b v is) ∙ length-arena_in (arena_part b)
 
 -- the entries after it have room
-pub splice_fits : (es : List DosEntry) (place old : ℕ) (new : List DosEntry) → place + old ≤ length es → IsArena (with_replaced_entries es place old new) →
+pub splice_fits : (es : List DosEntry) (place old : ℕ) (new : List DosEntry) → place + old ≤ length es →
+    IsArena (with_replaced_entries es place old new) →
     ARENA_START + (length es + length new) ≤ ARENA_END + old
 splice_fits es place old new within arena =
     let total = length-spliced es place old new within in
@@ -114,7 +113,8 @@ splice_fits es place old new within arena =
     omega arith
 
 -- the memory before the headers are written
-pub part_after : (b : List ℕ) (es : List DosEntry) → HasFrames b → IsArena es → arena_part (put b list_start (arena_bytes es)) ≡ arena_bytes es
+pub part_after : (b : List ℕ) (es : List DosEntry) → HasFrames b → IsArena es →
+    arena_part (put b list_start (arena_bytes es)) ≡ arena_bytes es
 part_after b es frames arena =
     let few = arena_few es arena in
     let xs = arena_bytes es in
@@ -122,12 +122,12 @@ part_after b es frames arena =
     let part : length (arena_part b) ≡ list_size = length-region b list_start list_size (omega arith) in
     region-put b list_start xs list_start list_size 0 (omega arith) (omega arith) ∙ put_all (arena_part b) xs (long ∙ sym part)
 
-pub arena_after : (b : List ℕ) (es : List DosEntry) → HasFrames b → IsArena es → arena_in (arena_part (put b list_start (arena_bytes es))) ≡ es
-arena_after b es frames arena =
-    let few = arena_few es arena in
-    ap arena_in (part_after b es frames arena) ∙ arena_back es (omega arith)
+pub arena_after : (b : List ℕ) (es : List DosEntry) → HasFrames b → IsArena es →
+    arena_in (arena_part (put b list_start (arena_bytes es))) ≡ es
+arena_after b es frames arena = grind (arith, arena_back, arena_few, part_after)
 
-pub count_after : (b a : List ℕ) (es : List DosEntry) → HasFrames b → IsArena es → a ≡ put b list_start (arena_bytes es) → entry_count (arena_part a) ≡ length es
+pub count_after : (b a : List ℕ) (es : List DosEntry) → HasFrames b → IsArena es → a ≡ put b list_start (arena_bytes es) →
+    entry_count (arena_part a) ≡ length es
 count_after b a es frames arena is =
     sym (length-arena_in (arena_part a))
     ∙ ap (λ (x : List ℕ). length (arena_in (arena_part x))) is
@@ -135,43 +135,47 @@ count_after b a es frames arena is =
 
 -- what the writes put is said of the machine's entries
 pub replaced_is : (b a : List ℕ) (es : List DosEntry) (place old : ℕ) (xs new : List DosEntry) → es ≡ arena_in (arena_part b) → xs ≡ new →
-    a ≡ put b list_start (arena_bytes (with_replaced_entries (arena_in (arena_part b)) place old xs)) → a ≡ put b list_start (arena_bytes (with_replaced_entries es place old new))
+    a ≡ put b list_start (arena_bytes (with_replaced_entries (arena_in (arena_part b)) place old xs)) →
+    a ≡ put b list_start (arena_bytes (with_replaced_entries es place old new))
 replaced_is b a es place old xs new of is put_there = rw (of, ← is) put_there
 
 pub written_is : (b a c : List ℕ) (es : List DosEntry) → HasFrames b → IsArena es → a ≡ put b list_start (arena_bytes es) →
     c ≡ with_headers a (arena_in (arena_part a)) → c ≡ with_arena b es
-written_is b a c es frames arena is headers =
-    headers ∙ ap (λ (x : List ℕ). with_headers x (arena_in (arena_part x))) is
-    ∙ ap (with_headers (put b list_start (arena_bytes es))) (arena_after b es frames arena)
+written_is b a c es frames arena is headers = grind (arith, arena_after, list_start)
 
 -- the memory after it holds the world with these entries, which is sound
-pub entries_holds : (k : Processor) (b c : List ℕ) (v : MachineView) (place old : ℕ) (new : List DosEntry) → record { world = held_world k b; bytes = b } ≡ v →
-    Holds b k.budget → IsArena (with_replaced_entries v.world.arena place old new) → c ≡ with_arena b (with_replaced_entries v.world.arena place old new) → Holds c k.budget
-entries_holds k b c v place old new view holds arena is = rw is (arena_holds b k.budget holds (with_replaced_entries v.world.arena place old new) arena)
+pub entries_holds : (k : Processor) (b c : List ℕ) (v : MachineView) (place old : ℕ) (new : List DosEntry) →
+    record { world = held_world k b; bytes = b } ≡ v →
+    Holds b k.budget → IsArena (with_replaced_entries v.world.arena place old new) →
+    c ≡ with_arena b (with_replaced_entries v.world.arena place old new) → Holds c k.budget
+entries_holds k b c v place old new view holds arena is =
+    rw is (arena_holds b k.budget holds (with_replaced_entries v.world.arena place old new) arena)
 
 with_entries_is : (w : World) (place old : ℕ) (new : List DosEntry) →
-    record w { arena = with_replaced_entries w.arena place old new; dos = with_headers w.dos (with_replaced_entries w.arena place old new) } ≡ with_entries w place old new
+    record w { arena = with_replaced_entries w.arena place old new; dos = with_headers w.dos (with_replaced_entries w.arena place old new) }
+    ≡ with_entries w place old new
 unfolding with_entries
 with_entries_is w place old new = refl
 
-pub entries_world : (k : Processor) (b c : List ℕ) (v : MachineView) (place old : ℕ) (new : List DosEntry) → record { world = held_world k b; bytes = b } ≡ v →
-    Holds b k.budget → IsArena (with_replaced_entries v.world.arena place old new) → c ≡ with_arena b (with_replaced_entries v.world.arena place old new) →
+pub entries_world : (k : Processor) (b c : List ℕ) (v : MachineView) (place old : ℕ) (new : List DosEntry) →
+    record { world = held_world k b; bytes = b } ≡ v →
+    Holds b k.budget → IsArena (with_replaced_entries v.world.arena place old new) →
+    c ≡ with_arena b (with_replaced_entries v.world.arena place old new) →
     held_world k c ≡ with_entries v.world place old new
-entries_world k b c v place old new view holds arena is =
-    ap (held_world k) is
-    ∙ arena_world b k.budget holds k.mode k.regs k.vif k.width (with_replaced_entries v.world.arena place old new) arena
-    ∙ ap (λ (x : MachineView). record x.world { arena = with_replaced_entries v.world.arena place old new; dos = with_headers x.world.dos (with_replaced_entries v.world.arena place old new) }) view
-    ∙ with_entries_is v.world place old new
+entries_world k b c v place old new view holds arena is = grind (arith, arena_world, with_entries_is)
 
-pub entries_sound : (k : Processor) (b c : List ℕ) (v : MachineView) (place old : ℕ) (new : List DosEntry) → record { world = held_world k b; bytes = b } ≡ v →
+pub entries_sound : (k : Processor) (b c : List ℕ) (v : MachineView) (place old : ℕ) (new : List DosEntry) →
+    record { world = held_world k b; bytes = b } ≡ v →
     Holds b k.budget → IsSound (held_world k b) → NoneMade (take old (drop place v.world.arena)) → NoneMade new →
-    IsArena (with_replaced_entries v.world.arena place old new) → c ≡ with_arena b (with_replaced_entries v.world.arena place old new) → IsSound (held_world k c)
+    IsArena (with_replaced_entries v.world.arena place old new) → c ≡ with_arena b (with_replaced_entries v.world.arena place old new) →
+    IsSound (held_world k c)
 entries_sound k b c v place old new view holds sound gone none arena is =
     subst IsSound (sym (entries_world k b c v place old new view holds arena is))
     (IsSound-entries v.world place old new (subst (λ (x : MachineView). IsSound x.world) view sound) gone none arena)
 
 -- what was put is said of the machine's entries
-pub put_is : (es xs : List DosEntry) (b c : List ℕ) (place old : ℕ) (new : List DosEntry) → es ≡ xs → c ≡ with_arena b (with_replaced_entries xs place old new) →
+pub put_is : (es xs : List DosEntry) (b c : List ℕ) (place old : ℕ) (new : List DosEntry) → es ≡ xs →
+    c ≡ with_arena b (with_replaced_entries xs place old new) →
     c ≡ with_arena b (with_replaced_entries es place old new)
 put_is es xs b c place old new same is = rw same is
 

@@ -1,5 +1,6 @@
 -- Blocks made, freed and resized by their handles: what each call asks of the memory, and the machine after it.
-use Rattle.std.proofs.Common.{◌≡◌, ◌≢◌, ℕ, zero, suc, ◌-◌, ◌<◌, ◌≤◌, List, length, slice_index_or, slice_set, length-set, get_or-set_same, refl, ap, ◌∙◌, sym, subst, arith, Option, None, Some}
+use Rattle.std.proofs.Common.{◌≡◌, ◌≢◌, ℕ, zero, suc, ◌-◌, ◌<◌, ◌≤◌, List, length, slice_index_or, slice_set, length-set, get_or-set_same}
+use Rattle.std.proofs.Common.{refl, ap, ◌∙◌, sym, subst, arith, Option, None, Some}
 use Rattle.std.proofs.lemmas.List.{set-set, set-get_or}
 use Rattle.client_world.specs.declared.limits.TheConstants.{MAX_BLOCKS}
 use Rattle.client_world.specs.declared.place.Place.{Place}
@@ -14,20 +15,28 @@ use Rattle.block_memory.specs.BlockSizes.{CanHold, CanMake, CanSize, block_with_
 use Rattle.block_memory.proofs.BlockSteps.{becomes, held_still}
 use Rattle.block_memory.proofs.PageChanges.{held_in, is_held}
 use Rattle.block_memory.proofs.SizedBlocks.{extended_fresh}
+use Rattle.guest_space.specs.declared.machine.Machine.TheInside.{Inside}
+use Rattle.guest_space.specs.declared.pages.CacheEntry.{CacheEntry}
+use Rattle.guest_space.specs.Cache.{Warm}
 use Rattle.guest_space.specs.Machines.{Processor, held_world}
+use Rattle.guest_space.proofs.HiddenLaws.{kept}
+use Rattle.guest_space.proofs.Insides.{processor_of, view_of, IsWhole}
 use Rattle.guest_space.proofs.BlockViews.{IsView, ReplacedMachine, held_blocks, holds_blocks, in_memory, replaced_machine}
 
 -- the block of a handle lies at the index before it
-pub at_handle : (blocks : List (Option MemoryBlock)) (handle : ℕ) → 0 < handle → slice_index_or blocks (handle - 1) None ≡ block_at blocks handle
+pub at_handle : (blocks : List (Option MemoryBlock)) (handle : ℕ) → 0 < handle →
+    slice_index_or blocks (handle - 1) None ≡ block_at blocks handle
 at_handle blocks zero some = absurd (omega arith)
 at_handle blocks (suc place) some = ap (λ (k : ℕ). slice_index_or blocks k None) (let e : suc place - 1 ≡ place = omega arith in e)
 
-pub put_handle : (blocks : List (Option MemoryBlock)) (handle : ℕ) (x : Option MemoryBlock) → 0 < handle → slice_set blocks (handle - 1) x ≡ with_block_at blocks handle x
+pub put_handle : (blocks : List (Option MemoryBlock)) (handle : ℕ) (x : Option MemoryBlock) → 0 < handle →
+    slice_set blocks (handle - 1) x ≡ with_block_at blocks handle x
 put_handle blocks zero x some = absurd (omega arith)
 put_handle blocks (suc place) x some = ap (λ (k : ℕ). slice_set blocks k x) (let e : suc place - 1 ≡ place = omega arith in e)
 
 -- a block that may be made
-pub can_make : (blocks : List (Option MemoryBlock)) (budget handle base pages : ℕ) → length blocks ≡ MAX_BLOCKS → 0 < handle → handle ≤ MAX_BLOCKS →
+pub can_make : (blocks : List (Option MemoryBlock)) (budget handle base pages : ℕ) → length blocks ≡ MAX_BLOCKS → 0 < handle →
+    handle ≤ MAX_BLOCKS →
     block_at blocks handle ≡ None → CanMake blocks budget base pages → CanHold blocks budget (handle - 1) base 0 pages
 can_make blocks budget handle base pages long some most free can =
     let room = can.room in
@@ -45,15 +54,19 @@ can_make blocks budget handle base pages long some most free can =
 
 -- what the calls ask of the memory
 
-pub may_make : (k : Processor) (b : List ℕ) (v : MachineView) → IsView k b v → Holds b k.budget → IsSound (held_world k b) → (handle base pages : ℕ) → 0 < handle → handle ≤ MAX_BLOCKS →
-    block_at v.world.blocks handle ≡ None → length v.world.blocks ≡ MAX_BLOCKS → CanMake v.world.blocks v.world.budget base pages → CanHoldIn b (handle - 1) base 0 pages
+pub may_make : (k : Processor) (b : List ℕ) (v : MachineView) → IsView k b v → Holds b k.budget → IsSound (held_world k b) →
+    (handle base pages : ℕ) → 0 < handle → handle ≤ MAX_BLOCKS →
+    block_at v.world.blocks handle ≡ None → length v.world.blocks ≡ MAX_BLOCKS → CanMake v.world.blocks v.world.budget base pages →
+    CanHoldIn b (handle - 1) base 0 pages
 may_make k b v is holds sound handle base pages some most free long can = record {
   budget = k.budget;
   holds = holds_blocks k b holds sound;
-  can = in_memory k b v is (λ blocks budget. CanHold blocks budget (handle - 1) base 0 pages) (can_make v.world.blocks v.world.budget handle base pages long some most free can);
+  can = in_memory k b v is (λ blocks budget. CanHold blocks budget (handle - 1) base 0 pages)
+      (can_make v.world.blocks v.world.budget handle base pages long some most free can);
 }
 
-pub may_drop : (k : Processor) (b : List ℕ) (v : MachineView) → IsView k b v → Holds b k.budget → IsSound (held_world k b) → (handle : ℕ) → 0 < handle → handle ≤ MAX_BLOCKS →
+pub may_drop : (k : Processor) (b : List ℕ) (v : MachineView) → IsView k b v → Holds b k.budget → IsSound (held_world k b) → (handle : ℕ) →
+    0 < handle → handle ≤ MAX_BLOCKS →
     block_at v.world.blocks handle ≢ None → HasBlockIn b (handle - 1)
 may_drop k b v is holds sound handle some most held = record {
   budget = k.budget;
@@ -63,7 +76,8 @@ may_drop k b v is holds sound handle some most held = record {
       (subst (λ (o : Option MemoryBlock). o ≢ None) (sym (at_handle v.world.blocks handle some)) held);
 }
 
-pub may_size : (k : Processor) (b : List ℕ) (v : MachineView) → IsView k b v → Holds b k.budget → IsSound (held_world k b) → (handle base pages : ℕ) → 0 < handle → handle ≤ MAX_BLOCKS →
+pub may_size : (k : Processor) (b : List ℕ) (v : MachineView) → IsView k b v → Holds b k.budget → IsSound (held_world k b) →
+    (handle base pages : ℕ) → 0 < handle → handle ≤ MAX_BLOCKS →
     CanSize v.world.blocks v.world.budget handle base pages → CanSizeIn b (handle - 1) base pages
 may_size k b v is holds sound handle base pages some most can = record {
   budget = k.budget;
@@ -75,54 +89,61 @@ may_size k b v is holds sound handle base pages some most can = record {
 
 -- the machine with another block, or none, for a handle
 pub with_handle : (k : Processor) (b c : List ℕ) → Holds b k.budget → IsSound (held_world k b) → (held_world k b).width ≢ None →
-    (handle : ℕ) (change : Option MemoryBlock → Option MemoryBlock) (x : Option MemoryBlock) → 0 < handle → ReplacesBlock b c (handle - 1) change →
+    (handle : ℕ) (change : Option MemoryBlock → Option MemoryBlock) (x : Option MemoryBlock) → 0 < handle →
+    ReplacesBlock b c (handle - 1) change →
     change (block_at (held_world k b).blocks handle) ≡ x → ReplacedMachine k b c (with_block_at (held_world k b).blocks handle x)
 with_handle k b c holds sound width handle change x some replaces e =
     let blocks = blocks_held b k.budget in
     let same : with_at blocks (handle - 1) change ≡ with_block_at (held_world k b).blocks handle x =
     ap (λ (bs : List (Option MemoryBlock)). with_at bs (handle - 1) change) (sym (held_blocks k b))
-    ∙ ap (λ (o : Option MemoryBlock). slice_set (held_world k b).blocks (handle - 1) (change o)) (at_handle (held_world k b).blocks handle some)
+    ∙ ap (λ (o : Option MemoryBlock). slice_set (held_world k b).blocks (handle - 1) (change o))
+    (at_handle (held_world k b).blocks handle some)
     ∙ ap (slice_set (held_world k b).blocks (handle - 1)) e
     ∙ put_handle (held_world k b).blocks handle x some in
-    replaced_machine k b c (with_block_at (held_world k b).blocks handle x) sound width (becomes b c k.budget _ _ (replaces k.budget holds) same)
+    replaced_machine k b c (with_block_at (held_world k b).blocks handle x) sound width
+    (becomes b c k.budget _ _ (replaces k.budget holds) same)
 
--- what is known of the machine after a call, of its view before the call
-pub record BlockCall (k : Processor) (v : MachineView) (c : List ℕ) (handle : ℕ) (x : Option MemoryBlock) : Type 0 where
-  pub holds : Holds c k.budget
-  pub sound : IsSound (held_world k c)
-  pub world : held_world k c ≡ record v.world { blocks = with_block_at v.world.blocks handle x }
-  pub addresses : (p : Place) → IsHeld v.world p → IsHeld (held_world k c) p → address_of c p ≡ address_of v.bytes p
+-- the machine after a call, which empties the cache; its world and addresses are said of its view before the call
+pub record BlockCall (m : Inside) (v : MachineView) (c : List ℕ) (cache : List CacheEntry) (handle : ℕ) (x : Option MemoryBlock)
+    : Type 0 where
+  pub whole : IsWhole (record m { ram = c; cache = cache })
+  pub world : held_world (processor_of m) c ≡ record v.world { blocks = with_block_at v.world.blocks handle x }
+  pub addresses : (p : Place) → IsHeld v.world p → IsHeld (held_world (processor_of m) c) p → address_of c p ≡ address_of v.bytes p
 
-pub block_call : (k : Processor) (b : List ℕ) (v : MachineView) → IsView k b v → (c : List ℕ) → Holds b k.budget → IsSound (held_world k b) →
-    (handle : ℕ) (change : Option MemoryBlock → Option MemoryBlock) (x : Option MemoryBlock) → 0 < handle → ReplacesBlock b c (handle - 1) change →
-    v.world.width ≢ None → change (block_at v.world.blocks handle) ≡ x → BlockCall k v c handle x
-block_call k b v is c holds sound handle change x some replaces width e =
-    subst (λ (u : MachineView). u.world.width ≢ None → change (block_at u.world.blocks handle) ≡ x → BlockCall k u c handle x) is (λ own_width own.
-    let m = with_handle k b c holds sound own_width handle change x some replaces own in
-    record { holds = m.holds; sound = m.sound; world = m.world; addresses = m.addresses }) width e
+pub block_call : (m : Inside) (v : MachineView) → view_of m ≡ v → IsWhole m → (c : List ℕ) (cache : List CacheEntry) →
+    ((b : List ℕ) → Warm b cache) →
+    (handle : ℕ) (change : Option MemoryBlock → Option MemoryBlock) (x : Option MemoryBlock) → 0 < handle →
+    ReplacesBlock m.ram c (handle - 1) change →
+    v.world.width ≢ None → change (block_at v.world.blocks handle) ≡ x → BlockCall m v c cache handle x
+block_call m v is whole c cache warm handle change x some replaces width e =
+    subst (λ (u : MachineView). u.world.width ≢ None → change (block_at u.world.blocks handle) ≡ x → BlockCall m u c cache handle x) is
+    (λ own_width own.
+    let k = processor_of m in
+    let after = with_handle k m.ram c whole.0 whole.1 own_width handle change x some replaces own in
+    let rows = kept k m.ram c m.hidden _ refl (ap (λ (w : World). w.descriptors) after.world) whole.2 in
+    record { whole = (after.holds, after.sound, rows, warm c); world = after.world; addresses = after.addresses }) width e
 
 -- what a free handle gets takes no place away
-pub held_after_make : (w now : World) (handle : ℕ) (x : Option MemoryBlock) → 0 < handle → handle ≤ length w.blocks → block_at w.blocks handle ≡ None →
+pub held_after_make : (w now : World) (handle : ℕ) (x : Option MemoryBlock) → 0 < handle → handle ≤ length w.blocks →
+    block_at w.blocks handle ≡ None →
     now.blocks ≡ with_block_at w.blocks handle x → (p : Place) → IsHeld w p → IsHeld now p
-held_after_make w now handle x some most free e p held =
-    is_held now (slice_set w.blocks (handle - 1) x) p (e ∙ sym (put_handle w.blocks handle x some))
-    (held_still w.blocks (handle - 1) x (omega arith)
-    (λ at has. absurd (subst (λ (o : Option MemoryBlock). HasByte o at) (at_handle w.blocks handle some ∙ free) has)) p (held_in w w.blocks p refl held))
+held_after_make w now handle x some most free e p held = grind (arith, at_handle, held_in, held_still, is_held, put_handle)
 
 -- and what is held without a block is held with it
-pub held_before_drop : (w now : World) (handle : ℕ) → 0 < handle → handle ≤ length w.blocks → now.blocks ≡ with_block_at w.blocks handle None →
+pub held_before_drop : (w now : World) (handle : ℕ) → 0 < handle → handle ≤ length w.blocks →
+    now.blocks ≡ with_block_at w.blocks handle None →
     (p : Place) → IsHeld now p → IsHeld w p
 held_before_drop w now handle some most e p held =
     let place = handle - 1 in
     let less = slice_set w.blocks place None in
     let own = slice_index_or w.blocks place None in
     let size : length less ≡ length w.blocks = length-set w.blocks place None in
-    is_held w w.blocks p refl (subst (λ (bs : List (Option MemoryBlock)). IsHeldIn bs p) (set-set w.blocks place None own ∙ set-get_or w.blocks place None)
+    is_held w w.blocks p refl
+    (subst (λ (bs : List (Option MemoryBlock)). IsHeldIn bs p) (set-set w.blocks place None own ∙ set-get_or w.blocks place None)
     (held_still less place own (omega arith)
     (λ at has. absurd (subst (λ (o : Option MemoryBlock). HasByte o at) (get_or-set_same w.blocks place None None (omega arith)) has)) p
     (held_in now less p (e ∙ sym (put_handle w.blocks handle None some)) held)))
 
-pub made_block : (base pages : ℕ) (o : Option MemoryBlock) → o ≡ None → 0 < pages → block_with_zero_pages base o (pages - 0) ≡ Some (fresh_block base pages)
-made_block base pages o free some =
-    ap (λ (x : Option MemoryBlock). block_with_zero_pages base x (pages - 0)) free ∙ ap (block_with_zero_pages base None) (let e : pages - 0 ≡ pages = omega arith in e)
-    ∙ extended_fresh base pages (omega arith)
+pub made_block : (base pages : ℕ) (o : Option MemoryBlock) → o ≡ None → 0 < pages →
+    block_with_zero_pages base o (pages - 0) ≡ Some (fresh_block base pages)
+made_block base pages o free some = grind (arith, extended_fresh)

@@ -1,5 +1,5 @@
 -- The blocks that a machine's memory holds are those of its world; and the machine once they are replaced.
-use Rattle.std.proofs.Common.{◌≡◌, ◌≢◌, ℕ, List, ap, sym, subst, Option, None}
+use Rattle.std.proofs.Common.{◌≡◌, ◌≢◌, ℕ, List, ap, sym, subst, Option, None, arith}
 use Rattle.client_world.specs.declared.place.Place.{Place}
 use Rattle.client_world.specs.Access.{IsHeld}
 use Rattle.client_world.specs.Soundness.{IsSound, SoundBlocks, HoldBytes}
@@ -27,9 +27,7 @@ pub held_budget : (k : Processor) (b : List ℕ) → (held_world k b).budget ≡
 held_budget k b = budget_is b k.budget k.mode k.regs k.vif k.width
 
 pub memory_blocks : (k : Processor) (b : List ℕ) → IsSound (held_world k b) → SoundBlocks (blocks_held b k.budget) k.budget
-memory_blocks k b sound =
-    subst (λ (n : ℕ). SoundBlocks (blocks_held b k.budget) n) (held_budget k b)
-    (subst (λ (bs : List (Option MemoryBlock)). SoundBlocks bs (held_world k b).budget) (held_blocks k b) sound.blocks)
+memory_blocks k b sound = grind (arith, held_blocks, held_budget)
 
 pub memory_bytes : (k : Processor) (b : List ℕ) → IsSound (held_world k b) → HoldBytes (blocks_held b k.budget)
 memory_bytes k b sound = subst HoldBytes (held_blocks k b) sound.block_bytes
@@ -40,9 +38,7 @@ memory_ranges k b sound = ranges_of b k.budget (held_world k b).budget k.mode k.
 -- what is true of the blocks and the budget of the world is true of those of the memory
 pub in_memory : (k : Processor) (b : List ℕ) (v : MachineView) → IsView k b v → (P : List (Option MemoryBlock) → ℕ → Type 0) →
     P v.world.blocks v.world.budget → P (blocks_held b k.budget) k.budget
-in_memory k b v is P own =
-    subst (P (blocks_held b k.budget)) (held_budget k b)
-    (subst (λ (bs : List (Option MemoryBlock)). P bs (held_world k b).budget) (held_blocks k b) (subst (λ (x : MachineView). P x.world.blocks x.world.budget) (sym is) own))
+in_memory k b v is P own = grind (arith, held_blocks, held_budget)
 
 pub holds_blocks : (k : Processor) (b : List ℕ) → Holds b k.budget → IsSound (held_world k b) → HoldsSoundBlocks b k.budget
 holds_blocks k b holds sound = record { holds = holds; sound = memory_blocks k b sound; fits = memory_bytes k b sound }
@@ -54,16 +50,7 @@ pub record ReplacedMachine (k : Processor) (b c : List ℕ) (blocks : List (Opti
   pub world : held_world k c ≡ record (held_world k b) { blocks = blocks }
   pub addresses : (p : Place) → IsHeld (held_world k b) p → IsHeld (held_world k c) p → address_of c p ≡ address_of b p
 
-pub replaced_machine : (k : Processor) (b c : List ℕ) (blocks : List (Option MemoryBlock)) → IsSound (held_world k b) → (held_world k b).width ≢ None →
+pub replaced_machine : (k : Processor) (b c : List ℕ) (blocks : List (Option MemoryBlock)) → IsSound (held_world k b) →
+    (held_world k b).width ≢ None →
     ReplacesBlocks b c k.budget blocks → ReplacedMachine k b c blocks
-replaced_machine k b c blocks sound some replaces =
-    let world : held_world k c ≡ record (held_world k b) { blocks = blocks } = replaces.world k.mode k.regs k.vif k.width in
-    let after : SoundBlocks blocks k.budget = subst (λ (bs : List (Option MemoryBlock)). SoundBlocks bs k.budget) replaces.are replaces.after.sound in
-    record {
-      holds = replaces.after.holds;
-      sound = subst IsSound (sym world) (sound_blocks (held_world k b) blocks sound some (subst (SoundBlocks blocks) (sym (held_budget k b)) after)
-          (subst HoldBytes replaces.are replaces.after.fits));
-      world = world;
-      addresses = λ p one two. replaces.addresses p (held_in (held_world k b) (blocks_held b k.budget) p (held_blocks k b) one)
-          (held_in (held_world k c) blocks p (ap (λ (w : World). w.blocks) world) two);
-    }
+replaced_machine k b c blocks sound some replaces = grind (arith, held_blocks, held_budget, held_in, sound_blocks)

@@ -1,10 +1,13 @@
--- The cache of translations: a page that is walked once is walked so at each of its bytes, and the walks of a memory stay the same where the
--- places of linear addresses and the addresses of places do.
-use Rattle.std.proofs.Common.{◌≡◌, ◌≢◌, ℕ, zero, suc, [], ◌∷◌, ◌+◌, ◌*◌, ◌/◌, ◌%◌, ◌<◌, ◌≤◌, ◌^◌, ◌⊎◌, inl, inr, Bool, true, false, not, ◌&&◌, ◌||◌, if◌then◌else◌, List, length, slice_index_or, replicate, set, length-set, refl, ap, ◌∙◌, sym, subst, arith, Result, Ok, Err}
+-- The cache of translations: a page that is walked once is walked so at each of its bytes, and the walks of a memory stay the same where
+-- the places of linear addresses and the addresses of places do.
+use Rattle.std.proofs.Common.{◌≡◌, ◌≢◌, ℕ, zero, suc, [], ◌∷◌, ◌+◌, ◌*◌, ◌/◌, ◌%◌, ◌<◌, ◌≤◌, ◌^◌, ◌⊎◌, inl, inr, Bool, true, false, not}
+use Rattle.std.proofs.Common.{◌&&◌, ◌||◌, if◌then◌else◌, List, length, slice_index_or, replicate, set, length-set, refl, ap, ◌∙◌, sym}
+use Rattle.std.proofs.Common.{subst, arith, Result, Ok, Err}
 use Rattle.std.proofs.lemmas.Bool.{cases_lt}
 use Rattle.std.proofs.lemmas.List.{get_or-set_other, get_or-set_same}
 use Rattle.client_world.specs.declared.faults.PageFault.{PageFault}
-use Rattle.client_world.specs.declared.host_frames.TheConstants.{PAGE_SIZE, PAGE_DIRECTORY, TABLE_ENTRIES, BUDGET_FRAMES, BLOCK_TABLES, BLOCK_TABLE_FRAMES, BLOCK_ROWS, BLOCK_ROW_FRAMES, DESCRIPTORS}
+use Rattle.client_world.specs.declared.host_frames.TheConstants.{PAGE_SIZE, PAGE_DIRECTORY, TABLE_ENTRIES, BUDGET_FRAMES, BLOCK_TABLES}
+use Rattle.client_world.specs.declared.host_frames.TheConstants.{BLOCK_TABLE_FRAMES, BLOCK_ROWS, BLOCK_ROW_FRAMES, DESCRIPTORS}
 use Rattle.client_world.specs.declared.limits.TheConstants.{GREATEST_DEPTH}
 use Rattle.client_world.specs.declared.dos_memory.DosEntry.{DosEntry}
 use Rattle.client_world.specs.DosMemory.{IsArena}
@@ -27,9 +30,9 @@ use Rattle.host_memory.proofs.WalkLaw.{walk_agrees}
 use Rattle.page_tables.specs.Entry.{allows}
 use Rattle.page_tables.specs.Walk.{walked, walk_end, fault, frame_of, directory_entry, table_entry}
 use Rattle.page_tables.specs.declared.entry.TheConstants.{TABLE_SPAN, PRESENT}
-use Rattle.guest_space.specs.declared.cache.CacheEntry.{CacheEntry}
+use Rattle.guest_space.specs.declared.pages.CacheEntry.{CacheEntry}
 use Rattle.guest_space.specs.Cache.{ends, Hit, cached_answer, Warm, empty_entry}
-use Rattle.guest_space.specs.declared.cache.TheConstants.{CACHE_SIZE}
+use Rattle.guest_space.specs.declared.pages.TheConstants.{CACHE_SIZE}
 use Rattle.guest_space.specs.Machines.{Processor, IsMachine, held_world}
 use Rattle.guest_space.specs.Records.{record_place}
 use Rattle.guest_space.specs.Transfer.{translated, with_places}
@@ -62,17 +65,15 @@ empty_warm b = record {
 }
 
 -- an entry that serves says where the walk ends
-noted_ends : (e : CacheEntry) (at : ℕ) (write : Bool) → (write ≡ true → e.writable ≡ true) → cached_answer e at write ≡ Ok (PAGE_SIZE * e.frame + at)
+noted_ends : (e : CacheEntry) (at : ℕ) (write : Bool) → (write ≡ true → e.writable ≡ true) →
+    cached_answer e at write ≡ Ok (PAGE_SIZE * e.frame + at)
 noted_ends e at true may = rw (may refl) refl
 noted_ends e at false may = refl
 
-pub hit_ends : (b : List ℕ) (e : CacheEntry) (lin : ℕ) (write : Bool) → Hit b e → e.page ≡ lin / PAGE_SIZE → (write ≡ true → e.writable ≡ true) →
+pub hit_ends : (b : List ℕ) (e : CacheEntry) (lin : ℕ) (write : Bool) → Hit b e → e.page ≡ lin / PAGE_SIZE →
+    (write ≡ true → e.writable ≡ true) →
     walked b PAGE_DIRECTORY lin write ≡ Ok (PAGE_SIZE * e.frame + lin % PAGE_SIZE)
-hit_ends b e lin write hit page may =
-    let whole : lin ≡ PAGE_SIZE * e.page + lin % PAGE_SIZE = omega arith in
-    ap (λ (at : ℕ). walked b PAGE_DIRECTORY at write) whole
-    ∙ hit.same (lin % PAGE_SIZE) write (omega arith)
-    ∙ noted_ends e (lin % PAGE_SIZE) write may
+hit_ends b e lin write hit page may = grind (arith, noted_ends)
 
 -- a walk that ends at one byte of a page ends at each
 
@@ -94,28 +95,17 @@ tests_moved : (absent allowed : Bool) (frame lin other p : ℕ) → by_tests abs
     by_tests absent allowed frame other ≡ end_at (PAGE_SIZE * (p / PAGE_SIZE) + other % PAGE_SIZE)
 tests_moved true allowed frame lin other p e = absurd (subst IsEnd (sym e) tt)
 tests_moved false false frame lin other p e = absurd (subst IsEnd (sym e) tt)
-tests_moved false true frame lin other p e =
-    let ends : PAGE_SIZE * frame + lin % PAGE_SIZE ≡ p = ap (end_or 0) e in
-    let same : frame ≡ p / PAGE_SIZE = omega arith in
-    ap (λ (f : ℕ). end_at (PAGE_SIZE * f + other % PAGE_SIZE)) same
+tests_moved false true frame lin other p e = grind arith
 
 end_moved : (directory table lin other p : ℕ) (write : Bool) → walk_end directory table lin write ≡ end_at p →
     walk_end directory table other write ≡ end_at (PAGE_SIZE * (p / PAGE_SIZE) + other % PAGE_SIZE)
 unfolding walk_end
-end_moved directory table lin other p write e =
-    tests_moved (not (has_bit directory PRESENT) || not (has_bit table PRESENT)) (allows directory write && allows table write) (frame_of table) lin other p e
+end_moved directory table lin other p write e = grind (arith, tests_moved)
 
 same_page : (b : List ℕ) (lin at p : ℕ) (write : Bool) → at < PAGE_SIZE → walked b PAGE_DIRECTORY lin write ≡ end_at p →
     walked b PAGE_DIRECTORY (PAGE_SIZE * (lin / PAGE_SIZE) + at) write ≡ end_at (PAGE_SIZE * (p / PAGE_SIZE) + at)
 unfolding walked
-same_page b lin at p write within e =
-    let other = PAGE_SIZE * (lin / PAGE_SIZE) + at in
-    let directory : other / TABLE_SPAN ≡ lin / TABLE_SPAN = omega arith in
-    let table : other / PAGE_SIZE % TABLE_ENTRIES ≡ lin / PAGE_SIZE % TABLE_ENTRIES = omega arith in
-    let rest : other % PAGE_SIZE ≡ at = omega arith in
-    rw (directory, table) (subst (λ (x : ℕ).
-    walk_end (directory_entry b PAGE_DIRECTORY lin) (table_entry b PAGE_DIRECTORY lin) other write ≡ end_at (PAGE_SIZE * (p / PAGE_SIZE) + x)) rest
-    (end_moved (directory_entry b PAGE_DIRECTORY lin) (table_entry b PAGE_DIRECTORY lin) lin other p write e))
+same_page b lin at p write within e = grind (arith, end_moved)
 
 -- and a write, which ends at each byte of the page or fails at each
 
@@ -131,9 +121,7 @@ end_noted : (directory table lin other p : ℕ) → walk_end directory table lin
     walk_end directory table other true
     ≡ if ends (walk_end directory table lin true) then end_at (PAGE_SIZE * (p / PAGE_SIZE) + other % PAGE_SIZE) else fault true
 unfolding walk_end
-end_noted directory table lin other p e =
-    tests_noted (not (has_bit directory PRESENT) || not (has_bit table PRESENT)) (allows directory false && allows table false)
-    (allows directory true && allows table true) (frame_of table) lin other p e
+end_noted directory table lin other p e = grind (arith, tests_noted)
 
 page_noted : (b : List ℕ) (lin at p : ℕ) → at < PAGE_SIZE → walked b PAGE_DIRECTORY lin false ≡ end_at p →
     walked b PAGE_DIRECTORY (PAGE_SIZE * (lin / PAGE_SIZE) + at) true
@@ -153,15 +141,7 @@ page_noted b lin at p within e =
 pub entry_hits : (b : List ℕ) (lin p : ℕ) (on : Bool) → lin < 2 ^ 32 → p < 2 ^ 32 → walked b PAGE_DIRECTORY lin false ≡ end_at p →
     on ≡ ends (walked b PAGE_DIRECTORY lin true) →
     Hit b (record { used = true; page = lin / PAGE_SIZE; frame = p / PAGE_SIZE; writable = on })
-entry_hits b lin p on small low reads writes =
-    record { page = omega arith; frame = omega arith; same = λ at write within. by_kind at write within }
-  where
-    by_kind : (at : ℕ) (write : Bool) → at < PAGE_SIZE → walked b PAGE_DIRECTORY (PAGE_SIZE * (lin / PAGE_SIZE) + at) write
-        ≡ cached_answer (record { used = true; page = lin / PAGE_SIZE; frame = p / PAGE_SIZE; writable = on }) at write
-    by_kind at true within =
-        subst (λ (x : Bool). walked b PAGE_DIRECTORY (PAGE_SIZE * (lin / PAGE_SIZE) + at) true
-        ≡ if x then end_at (PAGE_SIZE * (p / PAGE_SIZE) + at) else fault true) (sym writes) (page_noted b lin at p within reads)
-    by_kind at false within = same_page b lin at p false within reads
+entry_hits b lin p on small low reads writes = grind (arith, page_noted, same_page)
 
 -- one entry set: what holds of each entry in use at its place
 
@@ -170,23 +150,7 @@ AllUsed Q cache = (i : ℕ) → i < 64 → (slice_index_or cache i empty_entry).
 
 all_set : (Q : ℕ → CacheEntry → Type 0) (cache : List CacheEntry) (j : ℕ) (e : CacheEntry) → j < length cache → AllUsed Q cache → Q j e →
     AllUsed Q (set cache j e)
-all_set Q cache j e low all its = λ i within used. by_place i within used (cases_lt i j)
-  where
-    beside : (i : ℕ) → i < 64 → i ≢ j → (slice_index_or (set cache j e) i empty_entry).used ≡ true → Q i (slice_index_or (set cache j e) i empty_entry)
-    beside i within other used =
-        let same = get_or-set_other cache j i e empty_entry other in
-        subst (Q i) (sym same) (all i within (sym (ap (λ (x : CacheEntry). x.used) same) ∙ used))
-
-    by_place : (i : ℕ) → i < 64 → (slice_index_or (set cache j e) i empty_entry).used ≡ true → (i < j) ⊎ (j ≤ i) →
-        Q i (slice_index_or (set cache j e) i empty_entry)
-    by_place i within used (inl below) = beside i within (λ same. absurd (omega (arith, below, same))) used
-    by_place i within used (inr from) = elim (cases_lt j i) [
-      | inl above ↦ beside i within (λ same. absurd (omega (arith, above, same))) used
-      | inr to ↦ (
-          let same : i ≡ j = omega arith in
-          subst (λ (x : ℕ). Q x (slice_index_or (set cache j e) x empty_entry)) (sym same)
-          (subst (Q j) (sym (get_or-set_same cache j e empty_entry low)) its))
-    ]
+all_set Q cache j e low all its = grind (arith, cases_lt, get_or-set_other, get_or-set_same)
 
 pub set_warm : (b : List ℕ) (cache : List CacheEntry) (j : ℕ) (e : CacheEntry) → j < 64 → Warm b cache → Hit b e → e.page % CACHE_SIZE ≡ j →
     Warm b (set cache j e)
@@ -204,18 +168,10 @@ abbrev pub SameWalks : List ℕ → List ℕ → Type 0
 SameWalks b c = (lin : ℕ) (write : Bool) → lin < 2 ^ 32 → walked c PAGE_DIRECTORY lin write ≡ walked b PAGE_DIRECTORY lin write
 
 hit_kept : (b c : List ℕ) (e : CacheEntry) → SameWalks b c → Hit b e → Hit c e
-hit_kept b c e walks hit = record {
-  page = hit.page;
-  frame = hit.frame;
-  same = λ at write within. walks (PAGE_SIZE * e.page + at) write (omega (arith, hit.page, within)) ∙ hit.same at write within;
-}
+hit_kept b c e walks hit = grind arith
 
 warm_kept : (b c : List ℕ) (cache : List CacheEntry) → SameWalks b c → Warm b cache → Warm c cache
-warm_kept b c cache walks warm = record {
-  long = warm.long;
-  hit = λ i within used. hit_kept b c (slice_index_or cache i empty_entry) walks (warm.hit i within used);
-  place = warm.place;
-}
+warm_kept b c cache walks warm = grind (arith, hit_kept)
 
 walk_of : (k : Processor) (b : List ℕ) → Holds b k.budget → IsSound (held_world k b) → (lin : ℕ) (write : Bool) → lin < 2 ^ 32 →
     walked b PAGE_DIRECTORY lin write ≡ walk_result b (place_of (held_world k b) lin) write
@@ -229,7 +185,8 @@ unfolding walk_result
 told_same b c p q write same addresses = rw (same, addresses p) refl
 
 -- two machines with the same places and addresses
-pub kept_warm_of : (k j : Processor) (b c : List ℕ) (cache : List CacheEntry) → Holds b k.budget → IsSound (held_world k b) → Holds c j.budget →
+pub kept_warm_of : (k j : Processor) (b c : List ℕ) (cache : List CacheEntry) → Holds b k.budget → IsSound (held_world k b) →
+    Holds c j.budget →
     IsSound (held_world j c) → ((lin : ℕ) → place_in (held_world j c).blocks lin ≡ place_in (held_world k b).blocks lin) →
     ((p : Place) → address_of c p ≡ address_of b p) → Warm b cache → Warm c cache
 kept_warm_of k j b c cache holds sound held sounds places addresses =
@@ -250,15 +207,10 @@ pub record IsBeside (at n : ℕ) : Type 0 where
 
 pub put_beside : (b : List ℕ) (at : ℕ) (xs : List ℕ) → IsBeside at (length xs) → PAGE_SIZE * BUDGET_FRAMES ≤ length b → (p : Place) →
     address_of (put b at xs) p ≡ address_of b p
-put_beside b at xs beside size =
-    addresses_by b (put b at xs)
-    (region-put_away b at xs (PAGE_SIZE * BLOCK_ROWS) (PAGE_SIZE * BLOCK_ROW_FRAMES) beside.handles (omega (arith, size)))
-    (region-put_away b at xs (PAGE_SIZE * BLOCK_TABLES) (PAGE_SIZE * BLOCK_TABLE_FRAMES) beside.tables (omega (arith, size)))
+put_beside b at xs beside size = grind (arith, addresses_by, region-put_away)
 
 pub row_beside : (index : ℕ) (row : Row) → index < DESCRIPTORS → IsBeside (row_address index) (length (row_bytes row))
-row_beside index row small =
-    let size = length-row_bytes row in
-    record { tables = inr (omega arith); handles = inl (omega arith) }
+row_beside index row small = grind (arith, length-row_bytes)
 
 pub record_beside : (place : ℕ) (xs : List ℕ) → place < GREATEST_DEPTH → length xs ≡ record_size → IsBeside (record_place place) (length xs)
 record_beside place xs small size = record { tables = inr (omega arith); handles = inl (omega arith) }
@@ -282,10 +234,7 @@ pub written_warm : (k : Processor) (b c : List ℕ) (cache : List CacheEntry) (p
     IsSound (held_world k b) → Holds c k.budget → IsSound (held_world k c) →
     record { world = held_world k c; bytes = c } ≡ with_places (record { world = held_world k b; bytes = b }) places bytes →
     ((q : Place) → address_of c q ≡ address_of b q) → Warm b cache → Warm c cache
-written_warm k b c cache places bytes holds sound held sounds is addresses =
-    kept_warm k b c cache holds sound held sounds
-    (λ lin. ap (λ (v : MachineView). place_in v.world.blocks lin) is
-    ∙ (same_places (record { world = held_world k b; bytes = b }) places bytes).places lin) addresses
+written_warm k b c cache places bytes holds sound held sounds is addresses = grind (arith, kept_warm, same_places)
 
 pub byte_alone : (x : ℕ) → x < 0x100 → AllBytes (x ∷ [])
 byte_alone x small zero within = small

@@ -8,7 +8,8 @@ use Rattle.host_memory.specs.Layout.{world_of}
 use Rattle.host_memory.specs.View.{MachineView}
 use Rattle.guest_space.specs.Registers.{with_registers}
 
-pub changed_regs : (b : List ℕ) (budget : ℕ) (mode : Mode) (regs : Regs) (vif : Bool) (width : Option Width) (f : Regs → Regs) (v : MachineView) →
+pub changed_regs : (b : List ℕ) (budget : ℕ) (mode : Mode) (regs : Regs) (vif : Bool) (width : Option Width) (f : Regs → Regs)
+    (v : MachineView) →
     record { world = world_of b budget mode regs vif width; bytes = b } ≡ v →
     record { world = world_of b budget mode (f regs) vif width; bytes = b } ≡ with_registers (f v.world.regs) v
 unfolding world_of

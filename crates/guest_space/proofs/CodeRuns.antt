@@ -1,32 +1,23 @@
 -- The code bytes as words of the memory.
-use Rattle.std.proofs.Common.{◌≡◌, ℕ, ◌+◌, ◌%◌, ◌^◌, ◌<◌, ◌≤◌, ◌++◌, List, length, false, Ok, None, Some, take, drop, get_or, ap, ◌∙◌, sym, refl, arith, ◌⊎◌, inl, inr}
+use Rattle.std.proofs.Common.{◌≡◌, ℕ, ◌+◌, ◌<◌, ◌≤◌, ◌++◌, List, length, take, drop, get_or, ap, ◌∙◌, sym, refl, arith, ◌⊎◌, inl, inr}
 use Rattle.std.proofs.lemmas.List.{drop-take, drop-drop, get_or_past}
 use Rattle.std.proofs.lemmas.Bool.{cases_lt}
 use Rattle.std.proofs.lemmas.Nat.{le_bytes_8}
 use Rattle.std.proofs.Math.Seq.{take-add}
 use Rattle.std.specs.Int.{w64, from_le_bytes, to_le_bytes}
-use Rattle.std.specs.Prelude.{IfSome}
-use Rattle.std.specs.declared.option.Option.{Option}
 use Rattle.client_world.specs.declared.code.CodeWords.{CodeWords}
-use Rattle.client_world.specs.declared.segments.SegReg.TheVariants.{Cs}
-use Rattle.client_world.specs.Access.{segment_base}
 use Rattle.client_world.specs.CodeWords.{code_bytes}
-use Rattle.client_world.specs.World.{World}
 use Rattle.guest_ram.specs.Bytes.{AreBytes, region}
 use Rattle.guest_ram.proofs.PutLaws.{length-region, at_region}
-use Rattle.guest_space.specs.Code.{code_from}
-use Rattle.guest_space.specs.Transfer.{read_result, bytes_at, linear_access}
-use Rattle.guest_space.proofs.Accesses.{loaded_linear}
-use Rattle.guest_space.proofs.Codes.{whole_code}
 
 -- a byte of a region, or 0 after it
 byte_of_region : (b : List ℕ) (at n i : ℕ) → AreBytes b → at + n ≤ length b → (i < n) ⊎ (n ≤ i) → get_or (region b at n) i 0 < 256
 byte_of_region b at n i bytes inside (inl within) = let same = at_region b at n i within in let small = bytes (at + i) in omega arith
-byte_of_region b at n i bytes inside (inr past) =
-    let none : get_or (region b at n) i 0 ≡ 0 = get_or_past (region b at n) i 0 (omega (arith, length-region b at n inside)) in omega arith
+byte_of_region b at n i bytes inside (inr past) = grind (arith, get_or_past, length-region)
 
 -- eight bytes are those of their number
-bytes_of_region : (b : List ℕ) (at : ℕ) → AreBytes b → at + 8 ≤ length b → to_le_bytes w64 (from_le_bytes w64 (region b at 8)) ≡ region b at 8
+bytes_of_region : (b : List ℕ) (at : ℕ) → AreBytes b → at + 8 ≤ length b →
+    to_le_bytes w64 (from_le_bytes w64 (region b at 8)) ≡ region b at 8
 bytes_of_region b at bytes inside =
     le_bytes_8 (region b at 8) _ (length-region b at 8 inside) (λ i. byte_of_region b at 8 i bytes inside (cases_lt i 8)) refl
 
@@ -56,13 +47,3 @@ words_of_region b at low high bytes inside first second =
 length-code_bytes : (words : CodeWords) → length (code_bytes words) ≡ 15
 unfolding code_bytes
 length-code_bytes words = refl
-
--- words that hold what is read at CS:EIP hold the code bytes
-pub code_in_words : (w : World) (eip base : ℕ) (o : Option CodeWords) → eip ≡ w.regs.eip →
-    segment_base w.mode w.regs w.descriptors Cs eip 15 false ≡ Ok base →
-    IfSome o (λ words. bytes_at w (linear_access w ((base + eip) % 2 ^ 32) 15 false) ≡ Ok (code_bytes words)) →
-    IfSome o (λ words. code_from w 0 15 ≡ code_bytes words)
-code_in_words w eip base None same e read = tt
-code_in_words w eip base (Some words) same e read =
-    whole_code w 15 (code_bytes words) (length-code_bytes words)
-    (ap (λ (offset : ℕ). read_result w Cs offset 15) (sym same) ∙ sym (loaded_linear w Cs eip 15 base e) ∙ read)

@@ -1,5 +1,6 @@
 -- Code bytes: one by one, and all at once where they can be read together.
-use Rattle.std.proofs.Common.{◌≡◌, ℕ, zero, suc, ◌+◌, ◌-◌, ◌%◌, ◌<◌, ◌≤◌, ◌^◌, false, List, [], ◌∷◌, ◌++◌, length, slice_index, refl, ap, ◌∙◌, sym, arith, None, Some, Result, Ok, Err, add-zero, append_assoc}
+use Rattle.std.proofs.Common.{◌≡◌, ℕ, zero, suc, ◌+◌, ◌-◌, ◌%◌, ◌<◌, ◌≤◌, ◌^◌, false, List, [], ◌∷◌, ◌++◌, length, slice_index, refl, ap}
+use Rattle.std.proofs.Common.{◌∙◌, sym, arith, None, Some, Result, Ok, Err, add-zero, append_assoc}
 use Rattle.std.proofs.lemmas.List.{append-nil}
 use Rattle.std.specs.declared.option.Option.{Option}
 use Rattle.client_world.specs.declared.faults.Fault.{Fault}
@@ -7,7 +8,8 @@ use Rattle.client_world.specs.declared.place.Place.{Place}
 use Rattle.client_world.specs.declared.place.Place.TheVariants.{Nothing}
 use Rattle.client_world.specs.declared.segments.SegReg.{SegReg}
 use Rattle.client_world.specs.declared.segments.SegReg.TheVariants.{Cs}
-use Rattle.client_world.specs.Access.{access, segment_base, places_at, places_from, place_in, first_forbidden, unless_forbidden, byte_of, bytes_of, linear}
+use Rattle.client_world.specs.Access.{access, segment_base, places_at, places_from, place_in, first_forbidden, unless_forbidden, byte_of}
+use Rattle.client_world.specs.Access.{bytes_of, linear}
 use Rattle.client_world.specs.World.{World}
 use Rattle.client_world.proofs.PlaceLaws.{length-places_from, places_from-at}
 use Rattle.client_world.proofs.SoundWrites.{at_bytes_of}
@@ -26,7 +28,8 @@ fetched w at base e =
     ap (λ (lin : ℕ). one_byte (bytes_at w (linear_access w lin 1 false))) same
     ∙ ap one_byte (loaded_linear w Cs (w.regs.eip + at) 1 base (sym (code_base w.mode w.regs w.descriptors w.regs.eip at) ∙ e))
 
-loaded_refused : (w : World) (seg : SegReg) (offset n : ℕ) (f : Fault) → segment_base w.mode w.regs w.descriptors seg offset n false ≡ Err f →
+loaded_refused : (w : World) (seg : SegReg) (offset n : ℕ) (f : Fault) →
+    segment_base w.mode w.regs w.descriptors seg offset n false ≡ Err f →
     read_result w seg offset n ≡ Err f
 unfolding read_result
 loaded_refused w seg offset n f e = ap (bytes_at w) (access_refused w seg offset n false f e)
@@ -34,26 +37,17 @@ loaded_refused w seg offset n f e = ap (bytes_at w) (access_refused w seg offset
 pub not_fetched : (w : World) (at : ℕ) (f : Fault) → segment_base w.mode w.regs w.descriptors Cs w.regs.eip (at + 1) false ≡ Err f →
     code_byte w at ≡ Err f
 unfolding code_byte
-not_fetched w at f e =
-    ap one_byte (loaded_refused w Cs (w.regs.eip + at) 1 f (sym (code_base w.mode w.regs w.descriptors w.regs.eip at) ∙ e))
+not_fetched w at f e = grind (arith, code_base, loaded_refused)
 
 -- the same, as the code counts
 pub fetched_by : (w : World) (at eip m o base : ℕ) → eip ≡ w.regs.eip → m ≡ at → o ≡ at →
     segment_base w.mode w.regs w.descriptors Cs eip (m + 1) false ≡ Ok base →
     one_byte (bytes_at w (linear_access w ((((base + eip) % 2 ^ 32) + o) % 2 ^ 32) 1 false)) ≡ code_byte w at
-fetched_by w at eip m o base same count more e =
-    let is : segment_base w.mode w.regs w.descriptors Cs w.regs.eip (at + 1) false ≡ Ok base =
-    ap (λ (off : ℕ). segment_base w.mode w.regs w.descriptors Cs off (at + 1) false) (sym same)
-    ∙ ap (λ (k : ℕ). segment_base w.mode w.regs w.descriptors Cs eip (k + 1) false) (sym count) ∙ e in
-    ap (λ (off : ℕ). one_byte (bytes_at w (linear_access w ((((base + off) % 2 ^ 32) + o) % 2 ^ 32) 1 false))) same
-    ∙ ap (λ (k : ℕ). one_byte (bytes_at w (linear_access w ((((base + w.regs.eip) % 2 ^ 32) + k) % 2 ^ 32) 1 false))) more
-    ∙ fetched w at base is
+fetched_by w at eip m o base same count more e = grind (arith, fetched)
 
 pub not_fetched_by : (w : World) (at eip m : ℕ) (f : Fault) → eip ≡ w.regs.eip → m ≡ at →
     segment_base w.mode w.regs w.descriptors Cs eip (m + 1) false ≡ Err f → code_byte w at ≡ Err f
-not_fetched_by w at eip m f same count e =
-    not_fetched w at f (ap (λ (off : ℕ). segment_base w.mode w.regs w.descriptors Cs off (at + 1) false) (sym same)
-    ∙ ap (λ (k : ℕ). segment_base w.mode w.regs w.descriptors Cs eip (k + 1) false) (sym count) ∙ e)
+not_fetched_by w at eip m f same count e = grind (arith, not_fetched)
 
 -- bytes that were read together
 pub record WholeRun (w : World) (seg : SegReg) (offset n : ℕ) (bytes : List ℕ) : Type 0 where
@@ -66,7 +60,8 @@ record Allowed (o : Option Place) (w : World) (places : List Place) (bytes : Lis
   none : o ≡ None
   read : bytes_of w places ≡ bytes
 
-allowed_by : (o : Option Place) (w : World) (places : List Place) (bytes : List ℕ) → bytes_at w (unless_forbidden o places false) ≡ Ok bytes →
+allowed_by : (o : Option Place) (w : World) (places : List Place) (bytes : List ℕ) →
+    bytes_at w (unless_forbidden o places false) ≡ Ok bytes →
     Allowed o w places bytes
 allowed_by None w places bytes e = record { none = refl; read = cc }
 allowed_by (Some p) w places bytes e = absurd cc
@@ -85,7 +80,8 @@ whole_by w seg offset n bytes (Ok base) is e =
     }
 whole_by w seg offset n bytes (Err fault) is e = absurd cc
 
-pub whole_run : (w : World) (seg : SegReg) (offset n : ℕ) (bytes : List ℕ) → read_result w seg offset n ≡ Ok bytes → WholeRun w seg offset n bytes
+pub whole_run : (w : World) (seg : SegReg) (offset n : ℕ) (bytes : List ℕ) → read_result w seg offset n ≡ Ok bytes →
+    WholeRun w seg offset n bytes
 unfolding read_result access
 whole_run w seg offset n bytes e = whole_by w seg offset n bytes (segment_base w.mode w.regs w.descriptors seg offset n false) refl e
 
@@ -123,7 +119,8 @@ pub code_stops : (w : World) (at n : ℕ) (f : Fault) → code_byte w at ≡ Err
 unfolding code_from
 code_stops w at n f e = rw (e, code_from) refl
 
-all_code : (w : World) (at n : ℕ) (bytes : List ℕ) → length bytes ≡ n → ((i : ℕ) → i < n → code_byte w (at + i) ≡ Ok (slice_index bytes i)) →
+all_code : (w : World) (at n : ℕ) (bytes : List ℕ) → length bytes ≡ n →
+    ((i : ℕ) → i < n → code_byte w (at + i) ≡ Ok (slice_index bytes i)) →
     code_from w at n ≡ bytes
 all_code w at zero [] size each = code_none w at
 all_code w at zero (x ∷ bytes) size each = absurd cc
@@ -133,10 +130,12 @@ all_code w at (suc n) (x ∷ bytes) size each =
     ∙ ap (λ (xs : List ℕ). x ∷ xs) (all_code w (at + 1) n bytes (omega arith)
     (λ i within. (let same : at + 1 + i ≡ at + suc i = omega arith in ap (code_byte w) same ∙ each (suc i) (omega arith))))
 
-pub whole_code : (w : World) (n : ℕ) (bytes : List ℕ) → length bytes ≡ n → read_result w Cs w.regs.eip n ≡ Ok bytes → code_from w 0 n ≡ bytes
+pub whole_code : (w : World) (n : ℕ) (bytes : List ℕ) → length bytes ≡ n → read_result w Cs w.regs.eip n ≡ Ok bytes →
+    code_from w 0 n ≡ bytes
 whole_code w n bytes size e =
     let run = whole_run w Cs w.regs.eip n bytes e in
-    all_code w 0 n bytes size (λ i within. (let same : 0 + i ≡ i = omega arith in ap (code_byte w) same ∙ whole_byte w n i bytes run within))
+    all_code w 0 n bytes size
+    (λ i within. (let same : 0 + i ≡ i = omega arith in ap (code_byte w) same ∙ whole_byte w n i bytes run within))
 
 -- code bytes that are fetched one by one: those before, and what is left
 pub more_code : (w : World) (before all : List ℕ) (at byte : ℕ) → at < 15 → code_byte w at ≡ Ok byte →
@@ -156,6 +155,4 @@ code_ends w before all at f within e left =
     ∙ left
 
 pub code_full : (w : World) (before all : List ℕ) (at : ℕ) → 15 ≤ at → before ++ code_from w at (15 - at) ≡ all → before ≡ all
-code_full w before all at done left =
-    let rest : 15 - at ≡ 0 = omega arith in
-    sym (append-nil before) ∙ ap (λ (xs : List ℕ). before ++ xs) (sym (ap (code_from w at) rest ∙ code_none w at)) ∙ left
+code_full w before all at done left = grind (arith, append-nil, code_none)

@@ -1,5 +1,6 @@
 -- Two bytes of a short run that the client may write are at two places, so what was written there is read again.
-use Rattle.std.proofs.Common.{◌≡◌, ℕ, suc, ◌+◌, ◌-◌, ◌%◌, ◌<◌, ◌≤◌, ◌^◌, ◌⊎◌, inl, inr, true, false, List, [], ◌∷◌, get_or, refl, ap, ◌∙◌, sym, arith, None, Some, Option}
+use Rattle.std.proofs.Common.{◌≡◌, ℕ, suc, ◌+◌, ◌-◌, ◌%◌, ◌<◌, ◌≤◌, ◌^◌, ◌⊎◌, inl, inr, true, false, List, [], ◌∷◌, get_or, refl, ap, ◌∙◌}
+use Rattle.std.proofs.Common.{sym, arith, None, Some, Option}
 use Rattle.std.proofs.lemmas.Bool.{cases_Bool, cases_lt}
 use Rattle.std.proofs.lemmas.Bool.Decides.{nat_tests}
 use Rattle.client_world.specs.declared.place.Place.{Place}
@@ -25,7 +26,8 @@ covers_from block l e = grind (arith, nat_tests)
 same_block : (a b c d : ℕ) → Block a b ≡ Block c d → (a ≡ c) × (b ≡ d)
 same_block a b c d e = (cc, cc)
 
-of_block : (blocks : List (Option MemoryBlock)) (start l number at : ℕ) → block_place blocks start l ≡ Block number at → OfBlock blocks start l number at
+of_block : (blocks : List (Option MemoryBlock)) (start l number at : ℕ) → block_place blocks start l ≡ Block number at →
+    OfBlock blocks start l number at
 of_block [] start l number at e = absurd cc
 of_block (None ∷ blocks) start l number at e =
     let later = of_block blocks (start + 1) l number at e in
@@ -39,24 +41,16 @@ of_block (Some block ∷ blocks) start l number at e = elim (cases_Bool (covers 
   | inr not_here ↦ (
       let later = of_block blocks (start + 1) l number at (rw not_here at e) in
       let is = later.is in
-      record { place = suc later.place; is = omega arith; block = later.block; there = later.there; from = later.from; offset = later.offset })
+      record
+      { place = suc later.place; is = omega arith; block = later.block; there = later.there; from = later.from; offset = later.offset })
 ]
 
 same_some : (a b : MemoryBlock) → Some a ≡ Some b → a.base ≡ b.base
 same_some a b e = let same : a ≡ b = cc in ap (λ (m : MemoryBlock). m.base) same
 
-same_offset : (blocks : List (Option MemoryBlock)) (start l k number at : ℕ) → OfBlock blocks start l number at → OfBlock blocks start k number at → l ≡ k
-same_offset blocks start l k number at one other =
-    let i = one.is in
-    let j = other.is in
-    let place : one.place ≡ other.place = omega arith in
-    let base : one.block.base ≡ other.block.base =
-    same_some one.block other.block (sym one.there ∙ ap (λ (n : ℕ). get_or blocks n None) place ∙ other.there) in
-    let from = one.from in
-    let to = other.from in
-    let offset = one.offset in
-    let end = other.offset in
-    omega arith
+same_offset : (blocks : List (Option MemoryBlock)) (start l k number at : ℕ) → OfBlock blocks start l number at →
+    OfBlock blocks start k number at → l ≡ k
+same_offset blocks start l k number at one other = grind (arith, same_some)
 
 -- the place of an address that the client may write, by the memory map
 pub record InDos (blocks : List (Option MemoryBlock)) (l : ℕ) : Type 0 where
@@ -69,23 +63,10 @@ pub record InBlocks (blocks : List (Option MemoryBlock)) (l : ℕ) : Type 0 wher
 barred : (p q : Place) → p ≡ q → may_touch q true ≡ false → may_touch p true ≡ true → ⊥
 barred p q e closed may = let same = ap (λ (r : Place). may_touch r true) e in absurd cc
 
-pub where_writable : (blocks : List (Option MemoryBlock)) (l : ℕ) → may_touch (place_in blocks l) true ≡ true → InDos blocks l ⊎ InBlocks blocks l
-where_writable blocks l may = elim (cases_lt l DOS_VIEW_END) [
-  | inl dos ↦ inl (record { below = dos; is = place-dos blocks l dos })
-  | inr a ↦ elim (cases_lt l BLOCK_REGION) [
-    | inl gap ↦ absurd (barred (place_in blocks l) Nothing (place-gap blocks l a gap) refl may)
-    | inr b ↦ elim (cases_lt l BLOCK_REGION_END) [
-      | inl block ↦ inr (record { is = place-block blocks l b block })
-      | inr c ↦ elim (cases_lt l HOST_WINDOW) [
-        | inl below ↦ absurd (barred (place_in blocks l) Nothing (place-gap_above_blocks blocks l c below) refl may)
-        | inr d ↦ elim (cases_lt l HOST_WINDOW_END) [
-          | inl host ↦ absurd (barred (place_in blocks l) Host (place-host blocks l d host) refl may)
-          | inr above ↦ absurd (barred (place_in blocks l) Nothing (place-above blocks l above) refl may)
-        ]
-      ]
-    ]
-  ]
-]
+pub where_writable : (blocks : List (Option MemoryBlock)) (l : ℕ) → may_touch (place_in blocks l) true ≡ true →
+    InDos blocks l ⊎ InBlocks blocks l
+where_writable blocks l may =
+    grind (arith, barred, cases_lt, place-above, place-block, place-dos, place-gap, place-gap_above_blocks, place-host)
 
 -- a place of a block is none of the megabyte
 dos_not_block : (blocks : List (Option MemoryBlock)) (start l at : ℕ) → block_place blocks start l ≡ Dos at → ⊥
@@ -100,28 +81,15 @@ same_dos : (a b : ℕ) → Dos a ≡ Dos b → a ≡ b
 same_dos a b e = cc
 
 -- two addresses that lie close together and have one place are one
-blocks_apart : (blocks : List (Option MemoryBlock)) (l k : ℕ) (p : Place) → may_touch p true ≡ true → block_place blocks 1 l ≡ p → block_place blocks 1 k ≡ p → l ≡ k
+blocks_apart : (blocks : List (Option MemoryBlock)) (l k : ℕ) (p : Place) → may_touch p true ≡ true → block_place blocks 1 l ≡ p →
+    block_place blocks 1 k ≡ p → l ≡ k
 blocks_apart blocks l k (Dos at) may e f = absurd (dos_not_block blocks 1 l at e)
-blocks_apart blocks l k (Block number at) may e f = same_offset blocks 1 l k number at (of_block blocks 1 l number at e) (of_block blocks 1 k number at f)
+blocks_apart blocks l k (Block number at) may e f =
+    same_offset blocks 1 l k number at (of_block blocks 1 l number at e) (of_block blocks 1 k number at f)
 blocks_apart blocks l k Host may e f = absurd cc
 blocks_apart blocks l k Nothing may e f = absurd cc
 
 pub addresses_apart : (blocks : List (Option MemoryBlock)) (a i j : ℕ) → i < PAGE_SIZE → j < PAGE_SIZE →
-    may_touch (place_in blocks ((a + i) % 2 ^ 32)) true ≡ true → place_in blocks ((a + i) % 2 ^ 32) ≡ place_in blocks ((a + j) % 2 ^ 32) → i ≡ j
-addresses_apart blocks a i j small less may same =
-    elim (where_writable blocks ((a + i) % 2 ^ 32) may) [
-      | inl dos ↦ elim (where_writable blocks ((a + j) % 2 ^ 32) (ap (λ (p : Place). may_touch p true) (sym same) ∙ may)) [
-        | inl other ↦ (
-            let address = same_dos (dos_address ((a + i) % 2 ^ 32)) (dos_address ((a + j) % 2 ^ 32)) (sym dos.is ∙ same ∙ other.is) in
-            let one = dos.below in
-            let two = other.below in
-            omega arith)
-        | inr block ↦ absurd (dos_not_block blocks 1 ((a + j) % 2 ^ 32) (dos_address ((a + i) % 2 ^ 32)) (sym block.is ∙ sym same ∙ dos.is))
-      ]
-      | inr block ↦ elim (where_writable blocks ((a + j) % 2 ^ 32) (ap (λ (p : Place). may_touch p true) (sym same) ∙ may)) [
-        | inl dos ↦ absurd (dos_not_block blocks 1 ((a + i) % 2 ^ 32) (dos_address ((a + j) % 2 ^ 32)) (sym block.is ∙ same ∙ dos.is))
-        | inr other ↦ (
-            let apart = blocks_apart blocks ((a + i) % 2 ^ 32) ((a + j) % 2 ^ 32) (place_in blocks ((a + i) % 2 ^ 32)) may (sym block.is) (sym other.is ∙ sym same) in
-            omega arith)
-      ]
-    ]
+    may_touch (place_in blocks ((a + i) % 2 ^ 32)) true ≡ true →
+    place_in blocks ((a + i) % 2 ^ 32) ≡ place_in blocks ((a + j) % 2 ^ 32) → i ≡ j
+addresses_apart blocks a i j small less may same = grind (arith, blocks_apart, dos_not_block, same_dos, where_writable)

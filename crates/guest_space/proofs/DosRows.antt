@@ -1,5 +1,6 @@
 -- The descriptors of a block of DOS memory put one after another: the memory holds the same rows as the world.
-use Rattle.std.proofs.Common.{◌≡◌, ℕ, zero, suc, ◌+◌, ◌-◌, ◌^◌, ◌<◌, ◌≤◌, ◌⊎◌, inl, inr, Bool, List, length, slice_set, refl, ap, ◌∙◌, sym, subst, arith, Option, None, Some, get_or-set_same, get_or-set_other, length-set}
+use Rattle.std.proofs.Common.{◌≡◌, ℕ, zero, suc, ◌+◌, ◌-◌, ◌^◌, ◌<◌, ◌≤◌, ◌⊎◌, inl, inr, Bool, List, length, slice_set, refl, ap, ◌∙◌, sym}
+use Rattle.std.proofs.Common.{subst, arith, Option, None, Some, get_or-set_same, get_or-set_other, length-set}
 use Rattle.std.proofs.lemmas.Bool.{cases_eq, cases_lt, eq-eqb, ne_eqb, lt-ltb, le-ltb}
 use Rattle.client_world.specs.declared.descriptors.Origin.{Origin}
 use Rattle.client_world.specs.declared.descriptors.Origin.TheVariants.{Dos}
@@ -29,23 +30,15 @@ unfolding dos_row
 row_missing segment n j beyond = rw (le-ltb j (descriptors_for n) beyond) refl
 
 limit_fits : (n j : ℕ) → n < 0x10000 → dos_limit n j < 2 ^ 20
-limit_fits n j small = elim (cases_eq j 0) [
-  | inl first ↦ rw (eq-eqb j 0 first) (omega arith)
-  | inr later ↦ rw (ne_eqb j 0 later) (omega arith)
-]
+limit_fits n j small = grind (arith, cases_eq, eq-eqb, ne_eqb)
 
 pub fits_dos_row : (segment n j : ℕ) → segment < 0x10000 → n < 0x10000 → FitsRow (dos_row segment n j)
-fits_dos_row segment n j segment_fits n_fits = elim (cases_lt j (descriptors_for n)) [
-  | inl small ↦ rw (row_there segment n j small) (record { base = omega arith; limit = limit_fits n j n_fits })
-  | inr beyond ↦ rw (row_missing segment n j beyond) tt
-]
+fits_dos_row segment n j segment_fits n_fits = grind (arith, cases_lt, limit_fits, row_missing, row_there)
 
 -- a row with an origin is one of the block's
-pub dos_row_tells : (segment n j : ℕ) (origin : Origin) → HasOrigin (dos_row segment n j) origin → (Dos segment ≡ origin) × (j < descriptors_for n)
-dos_row_tells segment n j origin has = elim (cases_lt j (descriptors_for n)) [
-  | inl small ↦ (subst (λ (r : Row). HasOrigin r origin) (row_there segment n j small) has, small)
-  | inr beyond ↦ absurd (subst (λ (r : Row). HasOrigin r origin) (row_missing segment n j beyond) has)
-]
+pub dos_row_tells : (segment n j : ℕ) (origin : Origin) → HasOrigin (dos_row segment n j) origin → (Dos segment ≡ origin)
+    × (j < descriptors_for n)
+dos_row_tells segment n j origin has = grind (arith, cases_lt, row_missing, row_there)
 
 pub dos_row_has : (segment n j : ℕ) → j < descriptors_for n → HasOrigin (dos_row segment n j) (Dos segment)
 dos_row_has segment n j small = subst (λ (r : Row). HasOrigin r (Dos segment)) (sym (row_there segment n j small)) refl
@@ -72,10 +65,9 @@ pub row_inside : (rows : List Row) (run : DosRun) (k j : ℕ) → run.first + k 
 unfolding with_dos_rows
 row_inside rows run zero j room small = absurd (omega arith)
 row_inside rows run (suc k) j room small = elim (cases_eq j k) [
-  | inl same ↦ ap (λ (i : ℕ). row_at_index (slice_set (with_dos_rows rows run k) (run.first + k) (dos_row run.seg run.after k)) (run.first + i)) same
-      ∙ get_or-set_same (with_dos_rows rows run k) (run.first + k) (dos_row run.seg run.after k) None (omega (arith, length-dos_rows rows run k))
-      ∙ ap (dos_row run.seg run.after) (sym same)
-  | inr other ↦ get_or-set_other (with_dos_rows rows run k) (run.first + k) (run.first + j) (dos_row run.seg run.after k) None (λ e. other (omega arith))
+  | inl same ↦ grind (arith, get_or-set_same, length-dos_rows)
+  | inr other ↦ get_or-set_other (with_dos_rows rows run k) (run.first + k) (run.first + j) (dos_row run.seg run.after k) None
+      (λ e. other (omega arith))
       ∙ row_inside rows run k j (omega arith) (omega arith)
 ]
 
@@ -109,8 +101,7 @@ run_bytes_next b run k = ap (with_run_bytes b run) (let next : k + 1 ≡ suc k =
 -- one row more
 pub row_put_next : (b a c : List ℕ) (run : DosRun) (k : ℕ) (row : Row) → a ≡ with_run_bytes b run k → row ≡ dos_row run.seg run.after k →
     c ≡ put a (row_address (run.first + k)) (row_bytes row) → c ≡ with_run_bytes b run (k + 1)
-row_put_next b a c run k row before is written = written ∙ ap (λ (x : List ℕ). put x (row_address (run.first + k)) (row_bytes row)) before
-    ∙ ap (λ (r : Row). put (with_run_bytes b run k) (row_address (run.first + k)) (row_bytes r)) is ∙ sym (run_bytes_next b run k)
+row_put_next b a c run k row before is written = grind (arith, run_bytes_next)
 
 pub run_bytes_none : (b : List ℕ) (run : DosRun) → with_run_bytes b run 0 ≡ b
 unfolding with_run_bytes
@@ -124,14 +115,17 @@ run_holds b budget holds run (suc k) segment after room =
     row_holds (with_run_bytes b run k) budget (run_holds b budget holds run k segment after (omega arith)) (run.first + k)
     (dos_row run.seg run.after k) (omega arith) (fits_dos_row run.seg run.after k segment after)
 
-pub run_world : (b : List ℕ) (budget : ℕ) → Holds b budget → (mode : Mode) (regs : Regs) (vif : Bool) (width : Option Width) (run : DosRun) (k : ℕ) →
+pub run_world : (b : List ℕ) (budget : ℕ) → Holds b budget →
+    (mode : Mode) (regs : Regs) (vif : Bool) (width : Option Width) (run : DosRun) (k : ℕ) →
     run.seg < 0x10000 → run.after < 0x10000 → run.first + k ≤ DESCRIPTORS →
     world_of (with_run_bytes b run k) budget mode regs vif width
-    ≡ record (world_of b budget mode regs vif width) { descriptors = with_dos_rows (world_of b budget mode regs vif width).descriptors run k }
+    ≡ record (world_of b budget mode regs vif
+    width) { descriptors = with_dos_rows (world_of b budget mode regs vif width).descriptors run k }
 unfolding with_run_bytes with_dos_rows
 run_world b budget holds mode regs vif width run zero segment after room = refl
 run_world b budget holds mode regs vif width run (suc k) segment after room =
-    row_world (with_run_bytes b run k) budget (run_holds b budget holds run k segment after (omega arith)) mode regs vif width (run.first + k)
+    row_world (with_run_bytes b run k) budget (run_holds b budget holds run k segment after (omega arith)) mode regs vif width
+    (run.first + k)
     (dos_row run.seg run.after k) (omega arith) (fits_dos_row run.seg run.after k segment after)
     ∙ ap (λ (w : World). record w { descriptors = slice_set w.descriptors (run.first + k) (dos_row run.seg run.after k) })
     (run_world b budget holds mode regs vif width run k segment after (omega arith))

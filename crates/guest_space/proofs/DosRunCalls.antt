@@ -1,28 +1,35 @@
 -- The memory after entries of DOS memory were put together with the descriptors of a block: it holds the world with them, which is sound.
-use Rattle.std.proofs.Common.{◌≡◌, ℕ, zero, suc, ◌+◌, ◌<◌, ◌≤◌, List, ap, ◌∙◌, sym, subst, arith}
+use Rattle.std.proofs.Common.{◌≡◌, ℕ, zero, suc, ◌+◌, ◌<◌, ◌≤◌, List, ap, ◌∙◌, sym, subst, arith, Option}
 use Rattle.client_world.specs.declared.dos_memory.DosEntry.{DosEntry}
 use Rattle.client_world.specs.declared.dos_memory.DosRun.{DosRun}
 use Rattle.client_world.specs.declared.host_frames.TheConstants.{DESCRIPTORS}
 use Rattle.client_world.specs.declared.place.Place.{Place}
 use Rattle.client_world.specs.Soundness.{IsSound}
-use Rattle.client_world.specs.World.{World}
+use Rattle.client_world.specs.Access.{place_in}
+use Rattle.client_world.specs.World.{World, MemoryBlock}
 use Rattle.desc_table.specs.Rows.{row_address, row_bytes}
 use Rattle.host_memory.specs.Holds.{Holds}
-use Rattle.host_memory.specs.Layout.{address_of}
+use Rattle.host_memory.specs.DosList.{arena_in}
+use Rattle.host_memory.specs.Layout.{address_of, arena_part}
 use Rattle.host_memory.specs.View.{MachineView}
 use Rattle.client_world.specs.Selector.{Row}
 use Rattle.guest_space.specs.Arena.{with_replaced_entries, with_entries}
 use Rattle.guest_space.specs.DosRuns.{CanPutRun, dos_row, rows_of_run, with_dos_rows, with_entries_and_run, with_run_bytes}
-use Rattle.guest_space.specs.Machines.{Processor, held_world}
-use Rattle.guest_space.proofs.ArenaWrites.{with_arena, entries_holds, entries_world, with_entries_rows}
-use Rattle.guest_space.proofs.CacheLaws.{arena_addresses, put_beside, row_beside}
+use Rattle.guest_space.specs.declared.machine.Machine.TheInside.{Inside}
+use Rattle.guest_space.specs.Cache.{Warm}
+use Rattle.guest_space.specs.Machines.{held_world}
+use Rattle.guest_space.proofs.ArenaCalls.{put_there}
+use Rattle.guest_space.proofs.ArenaWrites.{with_arena, entries_holds, entries_world, with_entries_rows, with_entries_blocks}
+use Rattle.guest_space.proofs.CacheLaws.{arena_addresses, put_beside, row_beside, kept_warm}
 use Rattle.guest_space.proofs.DosRows.{run_bytes_none, run_bytes_suc, run_holds, run_world}
 use Rattle.guest_space.proofs.DosRunsSound.{IsSound-run}
+use Rattle.guest_space.proofs.Insides.{processor_of, view_of, IsWhole}
 
-pub record RunMachine (k : Processor) (v : MachineView) (c : List ℕ) (place old : ℕ) (new : List DosEntry) (run : DosRun) : Type 0 where
-  pub holds : Holds c k.budget
-  pub world : held_world k c ≡ with_entries_and_run v.world place old new run
-  pub sound : IsSound (held_world k c)
+pub record RunMachine (m : Inside) (v : MachineView) (c : List ℕ) (place old : ℕ) (new : List DosEntry) (run : DosRun) : Type 0 where
+  pub holds : Holds c m.pages
+  pub world : held_world (processor_of m) c ≡ with_entries_and_run v.world place old new run
+  pub sound : IsSound (held_world (processor_of m) c)
+  pub warm : Warm c m.cache
   pub addresses : (p : Place) → address_of c p ≡ address_of v.bytes p
 
 -- the rows of a run lie beside the tables of pages
@@ -36,11 +43,14 @@ run_addresses b budget holds run (suc n) segment after room p =
     (row_beside (run.first + n) (dos_row run.seg run.after n) (omega arith)) (omega (arith, held.size)) p
     ∙ run_addresses b budget holds run n segment after (omega arith) p
 
-pub run_machine : (k : Processor) (b a c : List ℕ) (v : MachineView) (place old : ℕ) (new : List DosEntry) (run : DosRun) →
-    record { world = held_world k b; bytes = b } ≡ v → Holds b k.budget → IsSound (held_world k b) → run.seg < 0x10000 → run.after < 0x10000 →
-    CanPutRun v.world place old new run → a ≡ with_arena b (with_replaced_entries v.world.arena place old new) → c ≡ with_run_bytes a run (rows_of_run run) →
-    RunMachine k v c place old new run
-run_machine k b a c v place old new run view holds sound segment after can entries rows =
+pub run_machine : (m : Inside) (v : MachineView) → view_of m ≡ v → IsWhole m →
+    (a c : List ℕ) (place old : ℕ) (new : List DosEntry) (run : DosRun) →
+    run.seg < 0x10000 → run.after < 0x10000 → CanPutRun v.world place old new run →
+    a ≡ with_arena m.ram (with_replaced_entries (arena_in (arena_part m.ram)) place old new) → c ≡ with_run_bytes a run (rows_of_run run) →
+    RunMachine m v c place old new run
+run_machine m v view whole a c place old new run segment after can put_entries rows =
+    let k = processor_of m in let b = m.ram in let holds = whole.0 in let sound = whole.1 in
+    let entries = put_there m v a place old new view put_entries in
     let before : IsSound v.world = subst (λ (x : MachineView). IsSound x.world) view sound in
     let size = before.descriptors.indices in
     let added = can.added.within in
@@ -51,14 +61,21 @@ run_machine k b a c v place old new run view holds sound segment after can entri
     ∙ run_world a k.budget held k.mode k.regs k.vif k.width run (rows_of_run run) segment after room
     ∙ ap (λ (w : World). record w { descriptors = with_dos_rows w.descriptors run (rows_of_run run) })
     (entries_world k b a v place old new view holds can.arena entries)
-    ∙ ap (λ (rs : List Row). record (with_entries v.world place old new) { descriptors = with_dos_rows rs run (rows_of_run run) }) (with_entries_rows v.world place old new) in
+    ∙ ap (λ (rs : List Row). record (with_entries v.world place old new) { descriptors = with_dos_rows rs run (rows_of_run run) })
+    (with_entries_rows v.world place old new) in
+    let now : Holds c k.budget = rw rows (run_holds a k.budget held run (rows_of_run run) segment after room) in
+    let sound_now = subst IsSound (sym world) (IsSound-run v.world place old new run segment after before can) in
+    let addresses : (p : Place) → address_of c p ≡ address_of v.bytes p = λ p. ap (λ (x : List ℕ). address_of x p) rows
+    ∙ run_addresses a k.budget held run (rows_of_run run) segment after room p
+    ∙ ap (λ (x : List ℕ). address_of x p) entries
+    ∙ arena_addresses b k.budget (with_replaced_entries v.world.arena place old new) holds can.arena p
+    ∙ ap (λ (x : MachineView). address_of x.bytes p) view in
     record {
-      holds = rw rows (run_holds a k.budget held run (rows_of_run run) segment after room);
+      holds = now;
       world = world;
-      sound = subst IsSound (sym world) (IsSound-run v.world place old new run segment after before can);
-      addresses = λ p. ap (λ (x : List ℕ). address_of x p) rows
-          ∙ run_addresses a k.budget held run (rows_of_run run) segment after room p
-          ∙ ap (λ (x : List ℕ). address_of x p) entries
-          ∙ arena_addresses b k.budget (with_replaced_entries v.world.arena place old new) holds can.arena p
-          ∙ ap (λ (x : MachineView). address_of x.bytes p) view;
+      sound = sound_now;
+      warm = kept_warm k b c m.cache holds sound now sound_now
+          (λ lin. grind (arith, with_entries_blocks))
+          (λ p. addresses p ∙ ap (λ (x : MachineView). address_of x.bytes p) (sym view)) whole.3;
+      addresses = addresses;
     }

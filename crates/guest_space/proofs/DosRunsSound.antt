@@ -1,5 +1,6 @@
 -- Entries of DOS memory put together with the descriptors of a block leave a sound world sound.
-use Rattle.std.proofs.Common.{◌≡◌, ◌≢◌, ℕ, ◌+◌, ◌<◌, ◌≤◌, ◌⊎◌, inl, inr, Bool, true, false, if◌then◌else◌, List, [], ◌∷◌, ◌++◌, length, take, drop, refl, ap, ◌∙◌, sym, subst, arith, Option, None, Some}
+use Rattle.std.proofs.Common.{◌≡◌, ◌≢◌, ℕ, ◌+◌, ◌<◌, ◌≤◌, ◌⊎◌, inl, inr, Bool, true, false, if◌then◌else◌, List, [], ◌∷◌, ◌++◌, length}
+use Rattle.std.proofs.Common.{take, drop, refl, ap, ◌∙◌, sym, subst, arith, Option, None, Some}
 use Rattle.std.proofs.lemmas.Bool.{cases_eq, cases_lt, eq-eqb, ne_eqb}
 use Rattle.client_world.specs.declared.descriptors.Origin.{Origin}
 use Rattle.client_world.specs.declared.descriptors.Origin.TheVariants.{Segment, Dos, Host}
@@ -11,7 +12,8 @@ use Rattle.client_world.specs.declared.registers.Width.{Width}
 use Rattle.client_world.specs.declared.selectors.TheConstants.{HOST_CODE, HOST_STACKS}
 use Rattle.client_world.specs.DosMemory.{Fills, is_dpmi, block_segment}
 use Rattle.client_world.specs.Selector.{Row, FitsRow, row_at_index}
-use Rattle.client_world.specs.Soundness.{IsSound, SoundDescriptors, SoundRuns, SoundWidth, HostRows, HasEntry, HasOrigin, HasRun, IsRunOf, descriptors_for}
+use Rattle.client_world.specs.Soundness.{IsSound, SoundDescriptors, SoundRuns, SoundWidth, HostRows, HasEntry, HasOrigin, HasRun, IsRunOf}
+use Rattle.client_world.specs.Soundness.{descriptors_for}
 use Rattle.client_world.specs.World.{World}
 use Rattle.guest_space.specs.Arena.{with_replaced_entries, with_entries}
 use Rattle.guest_space.specs.DosRuns.{CanPutRun, block_alone, made_blocks, rows_of_run, with_dos_rows, with_entries_and_run, dos_row}
@@ -26,11 +28,13 @@ abbrev IsAmong : ℕ × ℕ → List (ℕ × ℕ) → Type 0
 IsAmong block [] = ⊥
 IsAmong block (other ∷ others) = (other ≡ block) ⊎ IsAmong block others
 
-among_rest : (made : Bool) (block other : ℕ × ℕ) (others : List (ℕ × ℕ)) → IsAmong block others → IsAmong block (if made then other ∷ others else others)
+among_rest : (made : Bool) (block other : ℕ × ℕ) (others : List (ℕ × ℕ)) → IsAmong block others →
+    IsAmong block (if made then other ∷ others else others)
 among_rest true block other others h = inr h
 among_rest false block other others h = h
 
-among_made : (entry : DosEntry) (es : List DosEntry) → is_dpmi entry.state ≡ true → Has entry es → IsAmong (block_segment entry, entry.paras) (made_blocks es)
+among_made : (entry : DosEntry) (es : List DosEntry) → is_dpmi entry.state ≡ true → Has entry es →
+    IsAmong (block_segment entry, entry.paras) (made_blocks es)
 among_made entry [] made h = absurd h
 among_made entry (e ∷ es) made (inl same) = rw same (rw made (inl refl))
 among_made entry (e ∷ es) made (inr h) = among_rest (is_dpmi e.state) _ _ (made_blocks es) (among_made entry es made h)
@@ -45,17 +49,9 @@ record IsMade (segment n : ℕ) (es : List DosEntry) : Type 0 where
 made_first : (made : Bool) (segment n : ℕ) (e : DosEntry) (es : List DosEntry) → is_dpmi e.state ≡ made →
     IsAmong (segment, n) (if made then (block_segment e, e.paras) ∷ made_blocks es else made_blocks es) →
     (IsAmong (segment, n) (made_blocks es) → IsMade segment n es) → IsMade segment n (e ∷ es)
-made_first true segment n e es made (inl same) rest = record {
-  entry = e;
-  has = inl refl;
-  made = made;
-  starts = ap (λ (b : ℕ × ℕ). b.0) same;
-  size = ap (λ (b : ℕ × ℕ). b.1) same;
-}
-made_first true segment n e es made (inr h) rest =
-    let there = rest h in record { entry = there.entry; has = inr there.has; made = there.made; starts = there.starts; size = there.size }
-made_first false segment n e es made h rest =
-    let there = rest h in record { entry = there.entry; has = inr there.has; made = there.made; starts = there.starts; size = there.size }
+made_first true segment n e es made (inl same) rest = grind arith
+made_first true segment n e es made (inr h) rest = grind arith
+made_first false segment n e es made h rest = grind arith
 
 made_among : (segment n : ℕ) (es : List DosEntry) → IsAmong (segment, n) (made_blocks es) → IsMade segment n es
 made_among segment n [] h = absurd h
@@ -67,27 +63,16 @@ record IsThatBlock (entry : DosEntry) (segment n : ℕ) : Type 0 where
   pub size : entry.paras ≡ n
   pub some : 0 < n
 
-that_block : (entry : DosEntry) (segment n : ℕ) → IsAmong (block_segment entry, entry.paras) (block_alone segment n) → IsThatBlock entry segment n
-that_block entry segment n h = elim (cases_eq n 0) [
-  | inl none ↦ absurd (let no : IsAmong (block_segment entry, entry.paras) [] = rw (eq-eqb n 0 none) at h in no)
-  | inr some ↦ alone (rw (ne_eqb n 0 some) at h) some
-]
-  where
-    alone : IsAmong (block_segment entry, entry.paras) ((segment, n) ∷ []) → n ≢ 0 → IsThatBlock entry segment n
-    alone (inl same) some = record {
-      starts = ap (λ (b : ℕ × ℕ). b.0) (sym same);
-      size = ap (λ (b : ℕ × ℕ). b.1) (sym same);
-      some = omega arith;
-    }
-    alone (inr none) some = absurd none
+that_block : (entry : DosEntry) (segment n : ℕ) → IsAmong (block_segment entry, entry.paras) (block_alone segment n) →
+    IsThatBlock entry segment n
+that_block entry segment n h = grind (arith, cases_eq, eq-eqb, ne_eqb)
 
 made_tells : (entry : DosEntry) (es : List DosEntry) (segment n : ℕ) → made_blocks es ≡ block_alone segment n → is_dpmi entry.state ≡ true →
     Has entry es → IsThatBlock entry segment n
-made_tells entry es segment n alone made h = that_block entry segment n (subst (IsAmong (block_segment entry, entry.paras)) alone (among_made entry es made h))
+made_tells entry es segment n alone made h = grind (arith, among_made, that_block)
 
 made_there : (es : List DosEntry) (segment n : ℕ) → made_blocks es ≡ block_alone segment n → n ≢ 0 → IsMade segment n es
-made_there es segment n alone some =
-    made_among segment n es (subst (IsAmong (segment, n)) (sym alone) (rw (ne_eqb n 0 some) (inl refl)))
+made_there es segment n alone some = grind (arith, made_among, ne_eqb)
 
 -- ---- where the entries are
 
@@ -97,23 +82,14 @@ fills_parts (x ∷ xs) ys from to f = let rest = fills_parts xs ys (from + 1 + x
 
 has_within : (entry : DosEntry) (es : List DosEntry) (from to : ℕ) → Fills from es to → Has entry es → (from ≤ entry.at) × (entry.at < to)
 has_within entry [] from to f h = absurd h
-has_within entry (e ∷ es) from to f (inl same) =
-    let long = fills_long es (from + 1 + e.paras) to f.1 in
-    let at = ap (λ (x : DosEntry). x.at) same in
-    let first = f.0 in
-    (omega arith, omega arith)
-has_within entry (e ∷ es) from to f (inr h) = let rest = has_within entry es (from + 1 + e.paras) to f.1 h in (omega (arith, rest.0), rest.1)
+has_within entry (e ∷ es) from to f (inl same) = grind (arith, fills_long)
+has_within entry (e ∷ es) from to f (inr h) = let rest = has_within entry es (from + 1 + e.paras) to f.1 h in
+    (omega (arith, rest.0), rest.1)
 
-apart : (entry other : DosEntry) (xs ys zs : List DosEntry) (from to : ℕ) → Fills from (xs ++ (ys ++ zs)) to → Has other ys → Has entry xs ⊎ Has entry zs →
+apart : (entry other : DosEntry) (xs ys zs : List DosEntry) (from to : ℕ) → Fills from (xs ++ (ys ++ zs)) to → Has other ys →
+    Has entry xs ⊎ Has entry zs →
     entry.at ≢ other.at
-apart entry other xs ys zs from to f here there same =
-    let front = fills_parts xs (ys ++ zs) from to f in
-    let back = fills_parts ys zs front.0 to front.2 in
-    let in_ys = has_within other ys front.0 back.0 back.1 here in
-    elim there [
-      | inl left ↦ (let in_xs = has_within entry xs from front.0 front.1 left in omega (arith, in_xs.1, in_ys.0, same))
-      | inr right ↦ (let in_zs = has_within entry zs back.0 to back.2 right in omega (arith, in_zs.0, in_ys.1, same))
-    ]
+apart entry other xs ys zs from to f here there same = grind (arith, fills_parts, has_within)
 
 -- ---- the rows after it
 
@@ -123,20 +99,14 @@ one_origin (Some row) one other h k = sym h ∙ k
 
 pub record HasRunRows (rows : List Row) (run : DosRun) : Type 0 where
   pub room : run.first + rows_of_run run ≤ length rows
-  pub touched : (index : ℕ) (origin : Origin) → run.first ≤ index → index < run.first + rows_of_run run → HasOrigin (row_at_index rows index) origin →
+  pub touched : (index : ℕ) (origin : Origin) → run.first ≤ index → index < run.first + rows_of_run run →
+      HasOrigin (row_at_index rows index) origin →
       origin ≡ Dos run.seg
 
-run_rows : (w : World) (place old : ℕ) (new : List DosEntry) (run : DosRun) → length w.descriptors ≡ DESCRIPTORS → CanPutRun w place old new run →
+run_rows : (w : World) (place old : ℕ) (new : List DosEntry) (run : DosRun) → length w.descriptors ≡ DESCRIPTORS →
+    CanPutRun w place old new run →
     HasRunRows w.descriptors run
-run_rows w place old new run size can =
-    let added = can.added.within in
-    record {
-      room = omega arith;
-      touched = λ index origin from to has. elim (cases_lt index (run.first + descriptors_for run.before)) [
-        | inl old_one ↦ one_origin (row_at_index w.descriptors index) origin (Dos run.seg) has (can.old_run.have index from old_one)
-        | inr new_one ↦ absurd (subst (λ (r : Row). HasOrigin r origin) (can.added.free index new_one (omega arith)) has)
-      ];
-    }
+run_rows w place old new run size can = grind (arith, cases_lt, one_origin)
 
 was_origin : (rows : List Row) (run : DosRun) (origin : Origin) → HasRunRows rows run → Dos run.seg ≢ origin → (index : ℕ) →
     HasOrigin (row_at_index (with_dos_rows rows run (rows_of_run run)) index) origin → HasOrigin (row_at_index rows index) origin
@@ -165,22 +135,15 @@ rows_sound rows run s h segment after = record {
   indices = length-dos_rows rows run (rows_of_run run) ∙ s.indices;
   fits = of_each_row rows run (rows_of_run run) (λ (k : ℕ) (r : Row). FitsRow r) h.room
       (λ j small. fits_dos_row run.seg run.after j segment after) (λ k away. s.fits k);
-  segments = λ one other named e f. s.segments one other named
-      (was_origin rows run (Segment named) h (not_segment run.seg named) one e)
-      (was_origin rows run (Segment named) h (not_segment run.seg named) other f);
+  segments = grind (arith, not_segment, was_origin);
 }
 
 rows_host : (rows : List Row) (run : DosRun) (width : Width) → HostRows rows width → HasRunRows rows run → 64 ≤ run.first →
     HostRows (with_dos_rows rows run (rows_of_run run)) width
-rows_host rows run width s h from = record {
-  code = row_outside rows run (rows_of_run run) HOST_CODE (inl (omega arith)) ∙ s.code;
-  stacks = row_outside rows run (rows_of_run run) HOST_STACKS (inl (omega arith)) ∙ s.stacks;
-  others = λ index has. s.others index (was_origin rows run Host h (not_host run.seg) index has);
-  callbacks = λ index row stack e. (let to = stack.1 in
-      s.callbacks index row stack (sym (row_outside rows run (rows_of_run run) index (inl (omega arith))) ∙ e));
-}
+rows_host rows run width s h from = grind (arith, not_host, row_outside, was_origin)
 
-width_sound : (width : Option Width) (w v : World) (run : DosRun) → SoundWidth width w → width ≢ None → HasRunRows w.descriptors run → 64 ≤ run.first →
+width_sound : (width : Option Width) (w v : World) (run : DosRun) → SoundWidth width w → width ≢ None → HasRunRows w.descriptors run →
+    64 ≤ run.first →
     v.descriptors ≡ with_dos_rows w.descriptors run (rows_of_run run) → SoundWidth width v
 width_sound None w v run s some h from is = absurd (some refl)
 width_sound (Some width) w v run s some h from is = rw is (rows_host w.descriptors run width s h from)
@@ -189,18 +152,7 @@ width_sound (Some width) w v run s some h from is = rw is (rows_host w.descripto
 
 other_run : (rows : List Row) (run : DosRun) (entry : DosEntry) → HasRunRows rows run → block_segment entry ≢ run.seg → HasRun rows entry →
     HasRun (with_dos_rows rows run (rows_of_run run)) entry
-other_run rows run entry h other has =
-    let unlike : Dos run.seg ≢ Dos (block_segment entry) = λ e. other (sym (same_segment run.seg (block_segment entry) e)) in
-    record {
-      some = has.some;
-      first = has.first;
-      free = has.free;
-      run = record {
-        have = λ k from to. stays_origin rows run (Dos (block_segment entry)) h unlike k (has.run.have k from to);
-        from = λ k e. has.run.from k (was_origin rows run (Dos (block_segment entry)) h unlike k e);
-        to = λ k e. has.run.to k (was_origin rows run (Dos (block_segment entry)) h unlike k e);
-      };
-    }
+other_run rows run entry h other has = grind (arith, same_segment, stays_origin, was_origin)
 
 run_after : (rows : List Row) (run : DosRun) → HasRunRows rows run → IsRunOf rows (Dos run.seg) run.first (descriptors_for run.before) →
     IsRunOf (with_dos_rows rows run (rows_of_run run)) (Dos run.seg) run.first (descriptors_for run.after)
@@ -234,18 +186,21 @@ block_run rows run entry h from old is =
     }
 
 -- the entries that stay are of other segments: those of the block itself are taken out, or there are none
-others_apart : (w : World) (place old : ℕ) (new : List DosEntry) (run : DosRun) (entry : DosEntry) → IsSound w → CanPutRun w place old new run →
+others_apart : (w : World) (place old : ℕ) (new : List DosEntry) (run : DosRun) (entry : DosEntry) → IsSound w →
+    CanPutRun w place old new run →
     is_dpmi entry.state ≡ true → Has entry (take place w.arena) ⊎ Has entry (drop (place + old) w.arena) → HasRun w.descriptors entry →
     block_segment entry ≢ run.seg
 others_apart w place old new run entry s can made there has same = elim (cases_eq run.before 0) [
   | inl none ↦ (let some = has.some in
       let here : HasOrigin (row_at_index w.descriptors has.first) (Dos run.seg) =
-      subst (λ (n : ℕ). HasOrigin (row_at_index w.descriptors has.first) (Dos n)) same (has.run.have has.first (omega arith) (omega arith)) in
+      subst (λ (n : ℕ). HasOrigin (row_at_index w.descriptors has.first) (Dos n)) same
+      (has.run.have has.first (omega arith) (omega arith)) in
       omega (arith, none, can.old_run.from has.first here, can.old_run.to has.first here))
   | inr some ↦ (let out = made_there (take old (drop place w.arena)) run.seg run.before can.old_block some in
       let starts = out.starts in
       apart entry out.entry (take place w.arena) (take old (drop place w.arena)) (drop (place + old) w.arena) ARENA_START ARENA_END
-      (subst (λ (es : List DosEntry). Fills ARENA_START es ARENA_END) (sym (parts_are w.arena place old)) s.arena.fills) out.has there (omega arith))
+      (subst (λ (es : List DosEntry). Fills ARENA_START es ARENA_END) (sym (parts_are w.arena place old)) s.arena.fills) out.has there
+      (omega arith))
 ]
 
 -- an entry is before those that are taken out, one of them, or after them
@@ -255,26 +210,20 @@ record IsPart (entry : DosEntry) (es : List DosEntry) (place old : ℕ) : Type 0
 part_of : (entry : DosEntry) (es : List DosEntry) (place old : ℕ) → Has entry es → IsPart entry es place old
 part_of entry es place old h = elim (has_either entry (take place es) _ (subst (Has entry) (sym (parts_are es place old)) h)) [
   | inl front ↦ record { part = inr (inl front) }
-  | inr rest ↦ elim (has_either entry (take old (drop place es)) (drop (place + old) es) rest) [
-    | inl out ↦ record { part = inl out }
-    | inr after ↦ record { part = inr (inr after) }
-  ]
+  | inr rest ↦ grind (arith, has_either)
 ]
 
-was_before : (entry : DosEntry) (es : List DosEntry) (place old : ℕ) → Has entry (take place es) ⊎ Has entry (drop (place + old) es) → Has entry es
-was_before entry es place old there = subst (Has entry) (parts_are es place old) (elim there [
-  | inl front ↦ has_left entry (take place es) _ front
-  | inr after ↦ has_right entry (take place es) _ (has_right entry (take old (drop place es)) _ after)
-])
+was_before : (entry : DosEntry) (es : List DosEntry) (place old : ℕ) → Has entry (take place es) ⊎ Has entry (drop (place + old) es) →
+    Has entry es
+was_before entry es place old there = subst (Has entry) (parts_are es place old) (grind (arith, has_left, has_right))
 
-is_after : (entry : DosEntry) (es : List DosEntry) (place old : ℕ) (new : List DosEntry) → Has entry (take place es) ⊎ Has entry (drop (place + old) es) →
+is_after : (entry : DosEntry) (es : List DosEntry) (place old : ℕ) (new : List DosEntry) → Has entry (take place es)
+    ⊎ Has entry (drop (place + old) es) →
     Has entry (with_replaced_entries es place old new)
-is_after entry es place old new there = elim there [
-  | inl front ↦ has_left entry (take place es) _ front
-  | inr after ↦ has_right entry (take place es) _ (has_right entry new _ after)
-]
+is_after entry es place old new there = grind (arith, has_left, has_right)
 
-entry_run : (w : World) (place old : ℕ) (new : List DosEntry) (run : DosRun) (entry : DosEntry) → IsSound w → CanPutRun w place old new run →
+entry_run : (w : World) (place old : ℕ) (new : List DosEntry) (run : DosRun) (entry : DosEntry) → IsSound w →
+    CanPutRun w place old new run →
     HasRunRows w.descriptors run → is_dpmi entry.state ≡ true → Has entry (with_replaced_entries w.arena place old new) →
     HasRun (with_dos_rows w.descriptors run (rows_of_run run)) entry
 entry_run w place old new run entry s can h made there = elim (has_either entry (take place w.arena) _ there) [
@@ -285,51 +234,48 @@ entry_run w place old new run entry s can h made there = elim (has_either entry 
   ]
 ]
   where
-    kept : Has entry (take place w.arena) ⊎ Has entry (drop (place + old) w.arena) → HasRun (with_dos_rows w.descriptors run (rows_of_run run)) entry
+    kept : Has entry (take place w.arena) ⊎ Has entry (drop (place + old) w.arena) →
+        HasRun (with_dos_rows w.descriptors run (rows_of_run run)) entry
     kept part =
         let was = stands entry w.arena (was_before entry w.arena place old part) in
         let has = s.runs.runs was.place entry was.there made in
         other_run w.descriptors run entry h (others_apart w place old new run entry s can made part has) has
 
-entry_of_row : (w : World) (place old : ℕ) (new : List DosEntry) (run : DosRun) (index segment : ℕ) → IsSound w → CanPutRun w place old new run →
+entry_of_row : (w : World) (place old : ℕ) (new : List DosEntry) (run : DosRun) (index segment : ℕ) → IsSound w →
+    CanPutRun w place old new run →
     (index < run.first) ⊎ (run.first + rows_of_run run ≤ index) → HasOrigin (row_at_index w.descriptors index) (Dos segment) →
     HasEntry (with_replaced_entries w.arena place old new) segment
 entry_of_row w place old new run index segment s can away has =
     let was = s.runs.entries index segment has in
     let part = part_of was.entry w.arena place old (has_there was.entry w.arena was.place was.there) in
     elim part.part [
-      | inl out ↦ absurd (other (sym was.starts ∙ (made_tells was.entry (take old (drop place w.arena)) run.seg run.before can.old_block was.made out).starts))
-      | inr kept ↦ (let there = stands was.entry (with_replaced_entries w.arena place old new) (is_after was.entry w.arena place old new kept) in
+      | inl out ↦ grind (arith, made_tells, other)
+      | inr kept ↦
+          (let there = stands was.entry (with_replaced_entries w.arena place old new) (is_after was.entry w.arena place old new kept) in
           record { place = there.place; entry = was.entry; there = there.there; made = was.made; starts = was.starts })
     ]
   where
     other : segment ≢ run.seg
-    other same =
-        let here : HasOrigin (row_at_index w.descriptors index) (Dos run.seg) =
-        subst (λ (n : ℕ). HasOrigin (row_at_index w.descriptors index) (Dos n)) same has in
-        elim away [ inl below ↦ omega (arith, can.old_run.from index here) | inr beyond ↦ omega (arith, can.old_run.to index here) ]
+    other same = grind arith
 
-runs_sound : (w : World) (place old : ℕ) (new : List DosEntry) (run : DosRun) → IsSound w → CanPutRun w place old new run → HasRunRows w.descriptors run →
+runs_sound : (w : World) (place old : ℕ) (new : List DosEntry) (run : DosRun) → IsSound w → CanPutRun w place old new run →
+    HasRunRows w.descriptors run →
     SoundRuns (with_dos_rows w.descriptors run (rows_of_run run)) (with_replaced_entries w.arena place old new)
 runs_sound w place old new run s can h = record {
-  runs = λ at entry there made. entry_run w place old new run entry s can h made (has_there entry (with_replaced_entries w.arena place old new) at there);
+  runs = λ at entry there made.
+      entry_run w place old new run entry s can h made (has_there entry (with_replaced_entries w.arena place old new) at there);
   entries = λ index segment. of_each_row w.descriptors run (rows_of_run run)
       (λ (k : ℕ) (r : Row). HasOrigin r (Dos segment) → HasEntry (with_replaced_entries w.arena place old new) segment) h.room
       (λ j small has. fresh j segment has) (λ k away has. entry_of_row w place old new run k segment s can away has) index;
 }
   where
-    fresh : (j segment : ℕ) → HasOrigin (dos_row run.seg run.after j) (Dos segment) → HasEntry (with_replaced_entries w.arena place old new) segment
+    fresh : (j segment : ℕ) → HasOrigin (dos_row run.seg run.after j) (Dos segment) →
+        HasEntry (with_replaced_entries w.arena place old new) segment
     fresh j segment has =
         let tells = dos_row_tells run.seg run.after j (Dos segment) has in
         let put = made_there new run.seg run.after can.new_block (λ none. omega (arith, tells.1, none)) in
-        let there = stands put.entry (with_replaced_entries w.arena place old new) (has_right put.entry (take place w.arena) _ (has_left put.entry new _ put.has)) in
-        record {
-          place = there.place;
-          entry = put.entry;
-          there = there.there;
-          made = put.made;
-          starts = put.starts ∙ same_segment run.seg segment tells.0;
-        }
+        let there = stands put.entry (with_replaced_entries w.arena place old new)
+        (has_right put.entry (take place w.arena) _ (has_left put.entry new _ put.has)) in grind (arith, same_segment)
 
 pub IsSound-run : (w : World) (place old : ℕ) (new : List DosEntry) (run : DosRun) → run.seg < 0x10000 → run.after < 0x10000 → IsSound w →
     CanPutRun w place old new run → IsSound (with_entries_and_run w place old new run)

@@ -16,7 +16,8 @@ use Rattle.host_memory.specs.View.{MachineView}
 use Rattle.guest_space.specs.Far.{far_bytes, after_far_write, further}
 use Rattle.guest_space.specs.Transfer.{places_of_access, with_places}
 use Rattle.guest_space.proofs.DistinctPlaces.{addresses_apart}
-use Rattle.guest_space.proofs.Fars.{Reached, reached, reachable_where, reachable_linear, far_places, far_bytes_linear, far_written_linear, parts_reachable}
+use Rattle.guest_space.proofs.Fars.{Reached, reached, reachable_where, reachable_linear, far_places, far_bytes_linear, far_written_linear}
+use Rattle.guest_space.proofs.Fars.{parts_reachable}
 use Rattle.guest_space.proofs.KeptAccess.{far_access_same, same_places}
 use Rattle.guest_space.proofs.Machines.{with_places_world}
 use Rattle.guest_space.proofs.Parts.{protected_part, protected_read}
@@ -25,12 +26,7 @@ use Rattle.guest_space.proofs.Runs.{AllTouch, can_write_run, bytes_read}
 
 -- the places of a short run are distinct
 run_distinct : (w : World) (lin n : ℕ) → n ≤ PAGE_SIZE → AllTouch w.blocks lin n true → AreDistinct (places_from w.blocks lin n)
-run_distinct w lin n few all i j one two e =
-    let size = length-places_from w.blocks lin n in
-    let first : i < n = omega arith in
-    let second : j < n = omega arith in
-    addresses_apart w.blocks lin i j (omega arith) (omega arith) (all i first)
-    (sym (places_from-at w.blocks lin n i Nothing first) ∙ e ∙ places_from-at w.blocks lin n j Nothing second)
+run_distinct w lin n few all i j one two e = grind (arith, addresses_apart, length-places_from, places_from-at)
 
 -- what may be written may be read
 may_read : (p : Place) → may_touch p true ≡ true → may_touch p false ≡ true
@@ -41,11 +37,7 @@ may_read Nothing may = absurd cc
 
 read_places : (w : World) (p : FarPtr) (n : ℕ) (run : Reached w p n true) →
     places_of_access (far_access w p n false) ≡ places_from w.blocks ((run.base + p.off) % 2 ^ 32) n
-read_places w p n run =
-    let base = protected_read w.descriptors Es p.sel p.off n run.base run.is in
-    far_places w p n run.base false base
-    (reachable_linear w p n run.base false base
-    (reachable_where w p n run.base false base (λ i within. may_read (place_in w.blocks (linear ((run.base + p.off) % 2 ^ 32 + i))) (run.all i within))))
+read_places w p n run = grind (arith, far_places, may_read, protected_read, reachable_linear, reachable_where)
 
 far_bytes_is : (w : World) (p : FarPtr) (n : ℕ) → far_bytes w p n ≡ bytes_of w (places_of_access (far_access w p n false))
 unfolding far_bytes
@@ -61,7 +53,8 @@ written_is_read v p n bytes sound few size e =
     let megabyte = sound.megabyte in
     ap (λ (u : MachineView). far_bytes u.world p n) (sym (far_written_linear v p n run.base bytes run.is e))
     ∙ far_bytes_is (with_places v places bytes).world p n
-    ∙ ap (λ (x : Result (List Place) Rattle.client_world.specs.declared.faults.Fault.Fault). bytes_of (with_places v places bytes).world (places_of_access x))
+    ∙ ap (λ (x : Result (List Place) Rattle.client_world.specs.declared.faults.Fault.Fault).
+    bytes_of (with_places v places bytes).world (places_of_access x))
     (far_access_same w (with_places v places bytes).world (same_places v places bytes) p n false)
     ∙ ap (bytes_of (with_places v places bytes).world) (read_places w p n run)
     ∙ ap (λ (u : World). bytes_of u places) (with_places_world v places bytes)
@@ -82,8 +75,5 @@ part_is_read w p n k m e within =
     let base = protected_part w.descriptors Es p.sel p.off n k m false run.base within run.is in
     sym (far_bytes_linear w (further p k) m run.base base (parts_reachable w p n k m false e within))
     ∙ sym (bytes_read w part m (region (bytes_of w places) k m) (length-region (bytes_of w places) k m (omega arith))
-    (λ i less. (let same : linear (lin + (k + i)) ≡ linear (part + i) = omega arith in
-    let inside : k + i < n = omega arith in
-    at_region (bytes_of w places) k m i less ∙ at_bytes_of w places (k + i) (omega arith)
-    ∙ ap (byte_of w) (places_from-at w.blocks lin n (k + i) Nothing inside) ∙ ap (λ (a : ℕ). byte_of w (place_in w.blocks a)) same)))
+    (λ i less. grind (arith, at_bytes_of, at_region, places_from-at)))
     ∙ ap (λ (xs : List ℕ). region xs k m) whole

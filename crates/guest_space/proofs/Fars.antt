@@ -5,7 +5,8 @@ use Rattle.client_world.specs.declared.faults.Fault.{Fault}
 use Rattle.client_world.specs.declared.place.Place.{Place}
 use Rattle.client_world.specs.declared.segments.FarPtr.{FarPtr}
 use Rattle.client_world.specs.declared.segments.SegReg.TheVariants.{Es}
-use Rattle.client_world.specs.Access.{far_access, is_reachable, protected_base, places_at, places_from, place_in, may_touch, linear, bytes_of}
+use Rattle.client_world.specs.Access.{far_access, is_reachable, protected_base, places_at, places_from, place_in, may_touch, linear}
+use Rattle.client_world.specs.Access.{bytes_of}
 use Rattle.client_world.specs.World.{World}
 use Rattle.host_memory.specs.View.{MachineView}
 use Rattle.guest_space.specs.Far.{far_bytes, after_far_write, further}
@@ -18,16 +19,17 @@ use Rattle.guest_space.proofs.Runs.{AllTouch, all_touch, access_ends}
 pub far_linear : (w : World) (p : FarPtr) (n base : ℕ) (write : Bool) → protected_base w.descriptors Es p.sel p.off n write ≡ Ok base →
     far_access w p n write ≡ linear_access w ((base + p.off) % 2 ^ 32) n write
 unfolding far_access
-far_linear w p n base write e =
-    ap (λ (r : Result ℕ Fault). places_at w.blocks r p.off n write) e ∙ places_linear w base p.off n write
+far_linear w p n base write e = grind (arith, places_linear)
 
-pub far_refused : (w : World) (p : FarPtr) (n : ℕ) (write : Bool) (f : Fault) → protected_base w.descriptors Es p.sel p.off n write ≡ Err f →
+pub far_refused : (w : World) (p : FarPtr) (n : ℕ) (write : Bool) (f : Fault) →
+    protected_base w.descriptors Es p.sel p.off n write ≡ Err f →
     far_access w p n write ≡ Err f
 unfolding far_access
 far_refused w p n write f e = ap (λ (r : Result ℕ Fault). places_at w.blocks r p.off n write) e
 
 -- a check says whether it has a fault
-checked : (r : Result (Unit {0}) Fault) (x : Result (List Place) Fault) → MatchResult r (λ _. fault_of x ≡ None) (λ fault. fault_of x ≡ Some fault) →
+checked : (r : Result (Unit {0}) Fault) (x : Result (List Place) Fault) →
+    MatchResult r (λ _. fault_of x ≡ None) (λ fault. fault_of x ≡ Some fault) →
     is_ok r ≡ is_ok x
 checked (Ok u) (Ok places) h = refl
 checked (Ok u) (Err f) h = absurd cc
@@ -39,10 +41,10 @@ pub reachable_checked : (w : World) (p : FarPtr) (n base : ℕ) (write : Bool) (
     MatchResult r (λ _. fault_of (linear_access w ((base + p.off) % 2 ^ 32) n write) ≡ None)
     (λ fault. fault_of (linear_access w ((base + p.off) % 2 ^ 32) n write) ≡ Some fault) →
     is_ok r ≡ is_reachable w p n write
-reachable_checked w p n base write r e h =
-    checked r (linear_access w ((base + p.off) % 2 ^ 32) n write) h ∙ ap is_ok (sym (far_linear w p n base write e))
+reachable_checked w p n base write r e h = grind (arith, checked, far_linear)
 
-pub not_reachable : (w : World) (p : FarPtr) (n : ℕ) (write : Bool) (f : Fault) → protected_base w.descriptors Es p.sel p.off n write ≡ Err f →
+pub not_reachable : (w : World) (p : FarPtr) (n : ℕ) (write : Bool) (f : Fault) →
+    protected_base w.descriptors Es p.sel p.off n write ≡ Err f →
     false ≡ is_reachable w p n write
 not_reachable w p n write f e = ap is_ok (sym (far_refused w p n write f e))
 
@@ -51,39 +53,33 @@ no_fault_where : (x : Result (List Place) Fault) → is_ok x ≡ true → fault_
 no_fault_where (Ok places) e = refl
 no_fault_where (Err f) e = absurd cc
 
-pub reachable_linear : (w : World) (p : FarPtr) (n base : ℕ) (write : Bool) → protected_base w.descriptors Es p.sel p.off n write ≡ Ok base →
+pub reachable_linear : (w : World) (p : FarPtr) (n base : ℕ) (write : Bool) →
+    protected_base w.descriptors Es p.sel p.off n write ≡ Ok base →
     IsTrue (is_reachable w p n write) → fault_of (linear_access w ((base + p.off) % 2 ^ 32) n write) ≡ None
-reachable_linear w p n base write e reachable =
-    no_fault_where (linear_access w ((base + p.off) % 2 ^ 32) n write)
-    (ap is_ok (sym (far_linear w p n base write e)) ∙ reachable)
+reachable_linear w p n base write e reachable = grind (arith, far_linear, no_fault_where)
 
-pub reachable_not_refused : (w : World) (p : FarPtr) (n : ℕ) (write : Bool) (f : Fault) → protected_base w.descriptors Es p.sel p.off n write ≡ Err f →
+pub reachable_not_refused : (w : World) (p : FarPtr) (n : ℕ) (write : Bool) (f : Fault) →
+    protected_base w.descriptors Es p.sel p.off n write ≡ Err f →
     IsTrue (is_reachable w p n write) → ⊥
-reachable_not_refused w p n write f e reachable =
-    let one = not_reachable w p n write f e in
-    let other = reachable in
-    cc
+reachable_not_refused w p n write f e reachable = grind (arith, not_reachable)
 
 -- the bytes there, and those that are written there
 pub far_places : (w : World) (p : FarPtr) (n base : ℕ) (write : Bool) → protected_base w.descriptors Es p.sel p.off n write ≡ Ok base →
     fault_of (linear_access w ((base + p.off) % 2 ^ 32) n write) ≡ None →
     places_of_access (far_access w p n write) ≡ places_from w.blocks ((base + p.off) % 2 ^ 32) n
-far_places w p n base write e none =
-    ap places_of_access (far_linear w p n base write e) ∙ places_linear_access w ((base + p.off) % 2 ^ 32) n write none
+far_places w p n base write e none = grind (arith, far_linear, places_linear_access)
 
 pub far_bytes_linear : (w : World) (p : FarPtr) (n base : ℕ) → protected_base w.descriptors Es p.sel p.off n false ≡ Ok base →
     IsTrue (is_reachable w p n false) → bytes_of w (places_from w.blocks ((base + p.off) % 2 ^ 32) n) ≡ far_bytes w p n
 unfolding far_bytes
-far_bytes_linear w p n base e reachable =
-    ap (bytes_of w) (sym (far_places w p n base false e (reachable_linear w p n base false e reachable)))
+far_bytes_linear w p n base e reachable = grind (arith, far_places, reachable_linear)
 
-pub far_written_linear : (v : MachineView) (p : FarPtr) (n base : ℕ) (bytes : List ℕ) → protected_base v.world.descriptors Es p.sel p.off n true ≡ Ok base →
+pub far_written_linear : (v : MachineView) (p : FarPtr) (n base : ℕ) (bytes : List ℕ) →
+    protected_base v.world.descriptors Es p.sel p.off n true ≡ Ok base →
     IsTrue (is_reachable v.world p n true) →
     with_places v (places_from v.world.blocks ((base + p.off) % 2 ^ 32) n) bytes ≡ after_far_write v p n bytes
 unfolding after_far_write
-far_written_linear v p n base bytes e reachable =
-    ap (λ (places : List Place). with_places v places bytes)
-    (sym (far_places v.world p n base true e (reachable_linear v.world p n base true e reachable)))
+far_written_linear v p n base bytes e reachable = grind (arith, far_places, reachable_linear)
 
 -- a run that is reachable: its segment allows it, and each of its bytes may be touched
 pub record Reached (w : World) (p : FarPtr) (n : ℕ) (write : Bool) : Type 0 where
@@ -91,7 +87,8 @@ pub record Reached (w : World) (p : FarPtr) (n : ℕ) (write : Bool) : Type 0 wh
   pub is : protected_base w.descriptors Es p.sel p.off n write ≡ Ok base
   pub all : AllTouch w.blocks ((base + p.off) % 2 ^ 32) n write
 
-reached_by : (w : World) (p : FarPtr) (n : ℕ) (write : Bool) (r : Result ℕ Fault) → protected_base w.descriptors Es p.sel p.off n write ≡ r →
+reached_by : (w : World) (p : FarPtr) (n : ℕ) (write : Bool) (r : Result ℕ Fault) →
+    protected_base w.descriptors Es p.sel p.off n write ≡ r →
     is_reachable w p n write ≡ true → Reached w p n write
 reached_by w p n write (Ok base) is e = record {
   base = base;

@@ -13,12 +13,10 @@ pub record IsWithin (entry : DosEntry) (from to : ℕ) : Type 0 where
   pub starts : from ≤ entry.at
   pub ends : entry.at + 1 + entry.paras ≤ to
 
-pub fills_at : (es : List DosEntry) (from to place : ℕ) (d : DosEntry) → Fills from es to → place < length es → IsWithin (get_or es place d) from to
+pub fills_at : (es : List DosEntry) (from to place : ℕ) (d : DosEntry) → Fills from es to → place < length es →
+    IsWithin (get_or es place d) from to
 fills_at [] from to place d f small = absurd (omega arith)
-fills_at (e ∷ es) from to zero d f small =
-    let long = fills_long es (from + 1 + e.paras) to f.1 in
-    let first = f.0 in
-    record { starts = omega arith; ends = omega arith }
+fills_at (e ∷ es) from to zero d f small = grind (arith, fills_long)
 fills_at (e ∷ es) from to (suc place) d f small =
     let rest = fills_at es (from + 1 + e.paras) to place d f.1 (omega arith) in
     let starts = rest.starts in

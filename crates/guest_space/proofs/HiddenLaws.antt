@@ -1,6 +1,7 @@
--- An access is decided from the hidden part of its segment register where there is one, and changes that keep the selectors, the mode and the
--- rows keep the parts.
-use Rattle.std.proofs.Common.{◌≡◌, ℕ, ◌+◌, ◌*◌, ◌^◌, Bool, true, false, ◌&&◌, not, cond, if◌then◌else◌, List, refl, ap, ◌∙◌, sym, subst, arith, Option, None, Some, Result, Ok, Err}
+-- An access is decided from the hidden part of its segment register where there is one, and changes that keep the selectors, the mode and
+-- the rows keep the parts.
+use Rattle.std.proofs.Common.{◌≡◌, ℕ, ◌+◌, ◌*◌, ◌^◌, Bool, true, false, ◌&&◌, not, cond, if◌then◌else◌, List, refl, ap, ◌∙◌, sym, subst}
+use Rattle.std.proofs.Common.{arith, Option, None, Some, Result, Ok, Err}
 use Rattle.std.proofs.lemmas.Bool.Decides.{nat_tests}
 use Rattle.std.specs.Prelude.{nat_eq, nat_le, slice_index_or, slice_set}
 use Rattle.client_world.specs.declared.descriptors.Desc.{Desc}
@@ -81,7 +82,8 @@ abbrev or_else : Hidden → Option Hidden → Hidden
 or_else x None = x
 or_else x (Some part) = part
 
-peel : (a b : Bool) (x part : Hidden) → (if a then None else if b then None else Some x) ≡ Some part → (a ≡ false) × ((b ≡ false) × (x ≡ part))
+peel : (a b : Bool) (x part : Hidden) → (if a then None else if b then None else Some x) ≡ Some part →
+    (a ≡ false) × ((b ≡ false) × (x ≡ part))
 peel true b x part e = absurd (subst IsNothing e tt)
 peel false true x part e = absurd (subst IsNothing e tt)
 peel false false x part e = (refl, (refl, ap (or_else x) e))
@@ -89,9 +91,7 @@ peel false false x part e = (refl, (refl, ap (or_else x) e))
 in_row : (seg : SegReg) (sel : ℕ) (row : Row) (offset n : ℕ) (write : Bool) (part : Hidden) → part_in_row seg row ≡ Some part →
     base_in_row seg sel row offset n write ≡ base_within part seg offset n write
 in_row seg sel None offset n write part e = absurd (subst IsNothing e tt)
-in_row seg sel (Some r) offset n write part e =
-    let p = peel (not (suits_register seg r.0.kind)) (not r.0.present) (part_of r.0) part e in
-    rw (p.0, p.1.0) (of_descriptor r.0 seg offset n write ∙ ap (λ (k : Hidden). base_within k seg offset n write) p.1.1)
+in_row seg sel (Some r) offset n write part e = grind (arith, of_descriptor, peel)
 
 -- in real mode
 both : (x : ℕ) → (nat_le x 0x10000 && nat_le x (2 ^ 32)) ≡ nat_le x 0x10000
@@ -104,10 +104,9 @@ flip true false base fault = refl
 flip false true base fault = refl
 flip false false base fault = refl
 
-in_real : (seg : SegReg) (segment offset n : ℕ) (write : Bool) → real_base seg segment offset n ≡ base_within (real_part segment) seg offset n write
-in_real seg segment offset n write =
-    rw (both (offset + n))
-    (flip write (nat_le (offset + n) SEGMENT_SIZE) (segment * PARAGRAPH_SIZE) (fault_with (stack_or seg GENERAL_PROTECTION) 0))
+in_real : (seg : SegReg) (segment offset n : ℕ) (write : Bool) →
+    real_base seg segment offset n ≡ base_within (real_part segment) seg offset n write
+in_real seg segment offset n write = grind (arith, both, flip)
 
 unless_null : (rows : List Row) (seg : SegReg) (sel offset n : ℕ) (write null : Bool) (part : Hidden) →
     (if null then None else part_in_row seg (row_of_selector rows sel)) ≡ Some part →
@@ -120,11 +119,8 @@ unless_null rows seg sel offset n write false part e = in_row seg sel (row_of_se
 pub base_by_part : (mode : Mode) (r : Regs) (rows : List Row) (seg : SegReg) (offset n : ℕ) (write : Bool) (part : Hidden) →
     found mode r rows seg ≡ Some part → segment_base mode r rows seg offset n write ≡ base_within part seg offset n write
 unfolding part_of_selector segment_base
-base_by_part Real r rows seg offset n write part e =
-    in_real seg (selector r seg) offset n write
-    ∙ ap (λ (k : Hidden). base_within k seg offset n write) (ap (or_else part) e)
-base_by_part Protected r rows seg offset n write part e =
-    unless_null rows seg (selector r seg) offset n write (is_null (selector r seg)) part e
+base_by_part Real r rows seg offset n write part e = grind (arith, in_real)
+base_by_part Protected r rows seg offset n write part e = grind (arith, unless_null)
 
 -- and of one that has none, which protected mode alone has
 pub base_by_row : (mode : Mode) (r : Regs) (rows : List Row) (seg : SegReg) (offset n : ℕ) (write : Bool) →
@@ -137,9 +133,7 @@ base_by_row Protected r rows seg offset n write e = refl
 said_in_row : (seg : SegReg) (row : Row) (part : Hidden) → part_in_row seg row ≡ Some part →
     (part.size ≡ has_size_bit row) × (part.base ≡ base_of_row row)
 said_in_row seg None part e = absurd (subst IsNothing e tt)
-said_in_row seg (Some r) part e =
-    let p = peel (not (suits_register seg r.0.kind)) (not r.0.present) (part_of r.0) part e in
-    (ap (λ (k : Hidden). k.size) (sym p.1.1), ap (λ (k : Hidden). k.base) (sym p.1.1))
+said_in_row seg (Some r) part e = grind (arith, peel)
 
 said_unless_null : (seg : SegReg) (row : Row) (null : Bool) (part : Hidden) → (if null then None else part_in_row seg row) ≡ Some part →
     (part.size ≡ has_size_bit row) × (part.base ≡ base_of_row row)
@@ -149,8 +143,7 @@ said_unless_null seg row false part e = said_in_row seg row part e
 pub said_by_part : (mode : Mode) (r : Regs) (rows : List Row) (seg : SegReg) (part : Hidden) → found mode r rows seg ≡ Some part →
     (part.size ≡ is_big mode rows (selector r seg)) × (part.base ≡ first_byte mode rows (selector r seg))
 unfolding part_of_selector
-said_by_part Real r rows seg part e =
-    let p = ap (or_else part) (sym e) in (ap (λ (k : Hidden). k.size) p, ap (λ (k : Hidden). k.base) p)
+said_by_part Real r rows seg part e = grind arith
 said_by_part Protected r rows seg part e = said_unless_null seg (row_of_selector rows (selector r seg)) (is_null (selector r seg)) part e
 
 -- where there is no part, the row alone says it
@@ -204,24 +197,21 @@ found_same mode r s rows e = rw (e Es, e Cs, e Ss, e Ds, e Fs, e Gs) refl
 pub kept : (k : Processor) (b c : List ℕ) (parts : List (Option Hidden)) (rows : List Row) → (held_world k b).descriptors ≡ rows →
     (held_world k c).descriptors ≡ rows → parts ≡ all_found k.mode k.regs (rows_from b rows_start) →
     parts ≡ all_found k.mode k.regs (rows_from c rows_start)
-kept k b c parts rows before after is =
-    is ∙ ap (λ (rows : List Row). all_found k.mode k.regs rows)
-    (rows_are b k.budget k.mode k.regs k.vif k.width ∙ before ∙ sym after ∙ sym (rows_are c k.budget k.mode k.regs k.vif k.width))
+kept k b c parts rows before after is = grind (arith, rows_are)
 
 -- as after a write at places of the client
 pub kept_places : (k : Processor) (b c : List ℕ) (places : List Place) (bytes : List ℕ) (parts : List (Option Hidden)) →
     record { world = held_world k c; bytes = c } ≡ with_places (record { world = held_world k b; bytes = b }) places bytes →
     parts ≡ all_found k.mode k.regs (rows_from b rows_start) → parts ≡ all_found k.mode k.regs (rows_from c rows_start)
-kept_places k b c places bytes parts is =
-    kept k b c parts (held_world k b).descriptors refl
-    (ap (λ (v : MachineView). v.world.descriptors) is
-    ∙ ap (λ (w : World). w.descriptors) (other_places (record { world = held_world k b; bytes = b }) places bytes))
+kept_places k b c places bytes parts is = grind (arith, kept, other_places)
 
 -- the part that the machine's world has for a register
-pub part_there : (b : List ℕ) (budget : ℕ) (mode : Mode) (r : Regs) (vif : Bool) (width : Option Width) (parts : List (Option Hidden)) (seg : SegReg) (or : Option Hidden) →
+pub part_there : (b : List ℕ) (budget : ℕ) (mode : Mode) (r : Regs) (vif : Bool) (width : Option Width) (parts : List (Option Hidden))
+    (seg : SegReg) (or : Option Hidden) →
     parts ≡ all_found mode r (rows_from b rows_start) →
     slice_index_or parts (number seg) or
-    ≡ found (world_of b budget mode r vif width).mode (world_of b budget mode r vif width).regs (world_of b budget mode r vif width).descriptors seg
+    ≡ found (world_of b budget mode r vif width).mode (world_of b budget mode r vif width).regs
+    (world_of b budget mode r vif width).descriptors seg
 unfolding world_of
 part_there b budget mode r vif width parts seg or is =
     ap (λ (xs : List (Option Hidden)). slice_index_or xs (number seg) or) is ∙ at_number mode r (rows_from b rows_start) seg or
@@ -235,11 +225,4 @@ of_either mode rows parts false r s a b = b
 
 pub found_general : (mode : Mode) (r : Regs) (rows : List Row) (n v : ℕ) → all_found mode r rows ≡ all_found mode (with_general r n v) rows
 unfolding with_general
-found_general mode r rows n v =
-    of_either mode rows _ (nat_eq n EAX) _ _ refl
-    (of_either mode rows _ (nat_eq n ECX) _ _ refl
-    (of_either mode rows _ (nat_eq n EDX) _ _ refl
-    (of_either mode rows _ (nat_eq n EBX) _ _ refl
-    (of_either mode rows _ (nat_eq n ESP) _ _ refl
-    (of_either mode rows _ (nat_eq n EBP) _ _ refl
-    (of_either mode rows _ (nat_eq n ESI) _ _ refl refl))))))
+found_general mode r rows n v = grind (arith, of_either)

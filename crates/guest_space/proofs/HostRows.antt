@@ -1,5 +1,6 @@
 -- The entry to protected mode makes the two descriptors of the host. Before it there are none, so the world with them is sound.
-use Rattle.std.proofs.Common.{◌≡◌, ◌≢◌, ℕ, List, length, slice_set, ◌∙◌, subst, arith, Option, None, Some, get_or-set_same, get_or-set_other, length-set}
+use Rattle.std.proofs.Common.{◌≡◌, ◌≢◌, ℕ, List, length, slice_set, ◌∙◌, subst, arith, Option, None, Some, get_or-set_same}
+use Rattle.std.proofs.Common.{get_or-set_other, length-set}
 use Rattle.client_world.specs.declared.descriptors.Origin.TheVariants.{Host}
 use Rattle.client_world.specs.declared.registers.Width.{Width}
 use Rattle.client_world.specs.declared.host_frames.TheConstants.{DESCRIPTORS}
@@ -22,22 +23,11 @@ fits_stacks width = record { base = omega arith; limit = omega arith }
 -- besides these two there are none
 pub no_others : (rows : List Row) (width : Width) → ((index : ℕ) → row_at_index rows index ≡ None) → (index : ℕ) → index ≢ HOST_CODE →
     index ≢ HOST_STACKS → row_at_index (with_host_rows rows width) index ≡ None
-no_others rows width none index code stacks =
-    get_or-set_other (slice_set rows HOST_CODE host_code) HOST_STACKS index (host_stacks width) None stacks
-    ∙ get_or-set_other rows HOST_CODE index host_code None code
-    ∙ none index
+no_others rows width none index code stacks = grind (arith, get_or-set_other)
 
 host_rows : (rows : List Row) (width : Width) → length rows ≡ DESCRIPTORS → ((index : ℕ) → row_at_index rows index ≡ None) →
     HostRows (with_host_rows rows width) width
-host_rows rows width size none = record {
-  code = get_or-set_other (slice_set rows HOST_CODE host_code) HOST_STACKS HOST_CODE (host_stacks width) None (omega arith)
-      ∙ get_or-set_same rows HOST_CODE host_code None (omega arith);
-  stacks = get_or-set_same (slice_set rows HOST_CODE host_code) HOST_STACKS (host_stacks width) None
-      (omega (arith, length-set rows HOST_CODE host_code));
-  others = λ index e code stacks. absurd (subst (λ (row : Row). HasOrigin row Host) (no_others rows width none index code stacks) e);
-  callbacks = λ index row stack e. (let from = stack.0 in
-      let free = no_others rows width none index (omega arith) (omega arith) in cc);
-}
+host_rows rows width size none = grind (arith, get_or-set_other, get_or-set_same, length-set, no_others)
 
 pub before : (width : Option Width) (w : World) → width ≡ None → SoundWidth width w → BeforeEntry w
 before None w e s = s
@@ -53,7 +43,9 @@ IsSound-width w width s e =
     let free = get_or-set_other w.descriptors HOST_CODE HOST_STACKS host_code None (omega arith) ∙ entry.descriptors HOST_STACKS in
     let stacks = host_stands rows HOST_STACKS _ (omega arith) (fits_stacks width) (none_not_dos _ free) in
     let both = sound_descriptors w.descriptors HOST_CODE host_code s.descriptors code in
-    sound_with_rows w (Some width) (with_host_rows w.descriptors width) s (sound_descriptors rows HOST_STACKS (host_stacks width) both stacks)
-    (sound_runs rows HOST_STACKS (host_stacks width) w.arena (sound_runs w.descriptors HOST_CODE host_code w.arena s.runs s.descriptors.indices code)
+    sound_with_rows w (Some width) (with_host_rows w.descriptors width) s
+    (sound_descriptors rows HOST_STACKS (host_stacks width) both stacks)
+    (sound_runs rows HOST_STACKS (host_stacks width) w.arena
+    (sound_runs w.descriptors HOST_CODE host_code w.arena s.runs s.descriptors.indices code)
     both.indices stacks)
     (host_rows w.descriptors width s.descriptors.indices entry.descriptors)

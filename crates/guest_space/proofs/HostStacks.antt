@@ -1,6 +1,7 @@
 -- The host's protected-mode stacks are writable memory of every client that has entered protected mode; and what a write at a far pointer
 -- leaves.
-use Rattle.std.proofs.Common.{◌≡◌, ◌≢◌, ℕ, ◌+◌, ◌*◌, ◌%◌, ◌<◌, ◌≤◌, ◌^◌, Bool, true, false, List, [], ◌∷◌, refl, ap, ◌∙◌, sym, arith, Option, None, Some, Result, Ok, Err, slice_index_or}
+use Rattle.std.proofs.Common.{◌≡◌, ◌≢◌, ℕ, ◌+◌, ◌*◌, ◌%◌, ◌<◌, ◌≤◌, ◌^◌, Bool, true, false, List, [], ◌∷◌, refl, ap, ◌∙◌, sym, arith}
+use Rattle.std.proofs.Common.{Option, None, Some, Result, Ok, Err, slice_index_or}
 use Rattle.std.specs.Prelude.{nat_le, ◌&&◌, is_ok}
 use Rattle.std.proofs.lemmas.Bool.{lt-ltb, le-leb}
 use Rattle.client_world.specs.declared.faults.Fault.{Fault}
@@ -16,7 +17,8 @@ use Rattle.client_world.specs.declared.registers.Width.{Width}
 use Rattle.client_world.specs.declared.segments.FarPtr.{FarPtr}
 use Rattle.client_world.specs.declared.segments.SegReg.TheVariants.{Es, Ss}
 use Rattle.client_world.specs.declared.selectors.TheConstants.{HOST_STACKS}
-use Rattle.client_world.specs.Access.{access, base_in_row, byte_of, bytes_of, far_access, is_reachable, linear, may_touch, place_in, places_at, places_from, protected_base, segment_base}
+use Rattle.client_world.specs.Access.{access, base_in_row, byte_of, bytes_of, far_access, is_reachable, linear, may_touch, place_in}
+use Rattle.client_world.specs.Access.{places_at, places_from, protected_base, segment_base}
 use Rattle.client_world.specs.Selector.{Row, selector_of}
 use Rattle.client_world.specs.Soundness.{IsSound, SoundWidth, host_stacks}
 use Rattle.client_world.specs.World.{World, MemoryBlock}
@@ -38,38 +40,38 @@ may_low at false low = refl
 may_low at true low = lt-ltb at ROM_START low
 
 low_place : (blocks : List (Option MemoryBlock)) (lin : ℕ) (write : Bool) → lin < ROM_START → may_touch (place_in blocks lin) write ≡ true
-low_place blocks lin write low =
-    let same : lin % DOS_SIZE ≡ lin = omega arith in
-    ap (λ (p : Place). may_touch p write) (place-dos blocks lin (omega arith) ∙ ap Dos same) ∙ may_low lin write low
+low_place blocks lin write low = grind (arith, may_low, place-dos)
 
 -- an access to them, by their row
-inside_stacks : (off n : ℕ) → off + n ≤ GREATEST_DEPTH * PROTECTED_STACK_SIZE → (nat_le (off + n) (GREATEST_DEPTH * PROTECTED_STACK_SIZE) && nat_le (off + n) (2 ^ 32)) ≡ true
-inside_stacks off n room = rw (le-leb (off + n) (GREATEST_DEPTH * PROTECTED_STACK_SIZE) (omega arith), le-leb (off + n) (2 ^ 32) (omega arith)) refl
+inside_stacks : (off n : ℕ) → off + n ≤ GREATEST_DEPTH * PROTECTED_STACK_SIZE →
+    (nat_le (off + n) (GREATEST_DEPTH * PROTECTED_STACK_SIZE) && nat_le (off + n) (2 ^ 32)) ≡ true
+inside_stacks off n room = grind (arith, le-leb)
 
 base_in_stacks : (width : Width) (off n : ℕ) (write : Bool) → off + n ≤ GREATEST_DEPTH * PROTECTED_STACK_SIZE →
     base_in_row Es (selector_of HOST_STACKS) (host_stacks width) off n write ≡ Ok PROTECTED_STACKS
 base_in_stacks width off n true room = rw (inside_stacks off n room) refl
 base_in_stacks width off n false room = rw (inside_stacks off n room) refl
 
-stacks_base : (width : Option Width) (w : World) (off n : ℕ) (write : Bool) → SoundWidth width w → width ≢ None → off + n ≤ GREATEST_DEPTH * PROTECTED_STACK_SIZE →
+stacks_base : (width : Option Width) (w : World) (off n : ℕ) (write : Bool) → SoundWidth width w → width ≢ None →
+    off + n ≤ GREATEST_DEPTH * PROTECTED_STACK_SIZE →
     protected_base w.descriptors Es (selector_of HOST_STACKS) off n write ≡ Ok PROTECTED_STACKS
 stacks_base None w off n write s some room = absurd (some refl)
-stacks_base (Some width) w off n write s some room =
-    ap (λ (row : Row). base_in_row Es (selector_of HOST_STACKS) row off n write) s.stacks ∙ base_in_stacks width off n write room
+stacks_base (Some width) w off n write s some room = grind (arith, base_in_stacks)
 
 abbrev pub stacks_at : ℕ → FarPtr
 stacks_at off = record { sel = selector_of HOST_STACKS; off = off }
 
-pub stacks_reachable : (w : World) (off n : ℕ) (write : Bool) → IsSound w → w.width ≢ None → off + n ≤ GREATEST_DEPTH * PROTECTED_STACK_SIZE →
+pub stacks_reachable : (w : World) (off n : ℕ) (write : Bool) → IsSound w → w.width ≢ None →
+    off + n ≤ GREATEST_DEPTH * PROTECTED_STACK_SIZE →
     is_reachable w (stacks_at off) n write ≡ true
 stacks_reachable w off n write s some room =
     reachable_where w (stacks_at off) n PROTECTED_STACKS write (stacks_base w.width w off n write s.width some room)
-    (λ i less. (let same : linear ((PROTECTED_STACKS + off) % 2 ^ 32 + i) ≡ PROTECTED_STACKS + off + i = omega arith in
-    ap (λ (a : ℕ). may_touch (place_in w.blocks a) write) same ∙ low_place w.blocks (PROTECTED_STACKS + off + i) write (omega arith)))
+    (λ i less. grind (arith, low_place))
 
 -- a write at a far pointer changes the memory's bytes at its places alone
 only_where : (k : Processor) (v : MachineView) (r : Result (List Place) Fault) (bytes : List ℕ) → HoldsBlocks k v →
-    ((places : List Place) → r ≡ Ok places → CanWriteAll v.world places) → OnlyAt (places_of_access r) v.bytes (with_places v (places_of_access r) bytes).bytes
+    ((places : List Place) → r ≡ Ok places → CanWriteAll v.world places) →
+    OnlyAt (places_of_access r) v.bytes (with_places v (places_of_access r) bytes).bytes
 only_where k v (Ok places) bytes h can = only_places k v places bytes h (can places refl)
 only_where k v (Err f) bytes h can = only_places k v [] bytes h (λ i within. absurd (omega arith))
 
@@ -87,7 +89,8 @@ only_far b budget mode regs vif width holds sound p n bytes =
     let w = world_of b budget mode regs vif width in
     let v : MachineView = record { world = w; bytes = b } in
     let blocks = sound.blocks in
-    let holds_blocks : HoldsBlocks k v = record { holds = holds; is = refl; blocks = rw (budget_is b budget mode regs vif width) at blocks } in
+    let holds_blocks : HoldsBlocks k v =
+    record { holds = holds; is = refl; blocks = rw (budget_is b budget mode regs vif width) at blocks } in
     only_where k v (far_access w p n true) bytes holds_blocks (far_can_write w p n)
 
 -- ---- they are read through SS as at a far pointer
@@ -96,11 +99,11 @@ ss_in_stacks : (width : Width) (off n : ℕ) → off + n ≤ GREATEST_DEPTH * PR
     base_in_row Ss (selector_of HOST_STACKS) (host_stacks width) off n false ≡ Ok PROTECTED_STACKS
 ss_in_stacks width off n room = rw (inside_stacks off n room) refl
 
-ss_base : (width : Option Width) (w : World) (off n : ℕ) → SoundWidth width w → width ≢ None → off + n ≤ GREATEST_DEPTH * PROTECTED_STACK_SIZE →
+ss_base : (width : Option Width) (w : World) (off n : ℕ) → SoundWidth width w → width ≢ None →
+    off + n ≤ GREATEST_DEPTH * PROTECTED_STACK_SIZE →
     protected_base w.descriptors Ss (selector_of HOST_STACKS) off n false ≡ Ok PROTECTED_STACKS
 ss_base None w off n s some room = absurd (some refl)
-ss_base (Some width) w off n s some room =
-    ap (λ (row : Row). base_in_row Ss (selector_of HOST_STACKS) row off n false) s.stacks ∙ ss_in_stacks width off n room
+ss_base (Some width) w off n s some room = grind (arith, ss_in_stacks)
 
 ss_segment : (mode : Mode) (r : Regs) (rows : List Row) (off n : ℕ) → mode ≡ Protected → r.ss ≡ selector_of HOST_STACKS →
     segment_base mode r rows Ss off n false ≡ protected_base rows Ss (selector_of HOST_STACKS) off n false
@@ -115,20 +118,16 @@ ok_bytes w (Err f) e = absurd cc
 stacks_access : (w : World) (off n : ℕ) → IsSound w → w.mode ≡ Protected → w.regs.ss ≡ selector_of HOST_STACKS → w.width ≢ None →
     off + n ≤ GREATEST_DEPTH * PROTECTED_STACK_SIZE → access w Ss off n false ≡ far_access w (stacks_at off) n false
 unfolding access far_access
-stacks_access w off n s mode ss some room =
-    ap (λ (r : Result ℕ Fault). places_at w.blocks r off n false)
-    (ss_segment w.mode w.regs w.descriptors off n mode ss ∙ ss_base w.width w off n s.width some room
-    ∙ sym (stacks_base w.width w off n false s.width some room))
+stacks_access w off n s mode ss some room = grind (arith, ss_base, ss_segment, stacks_base)
 
 pub stacks_loaded : (w : World) (off n : ℕ) → IsSound w → w.mode ≡ Protected → w.regs.ss ≡ selector_of HOST_STACKS → w.width ≢ None →
     off + n ≤ GREATEST_DEPTH * PROTECTED_STACK_SIZE → read_result w Ss off n ≡ Ok (far_bytes w (stacks_at off) n)
 unfolding read_result far_bytes
-stacks_loaded w off n s mode ss some room =
-    ap (bytes_at w) (stacks_access w off n s mode ss some room)
-    ∙ ok_bytes w (far_access w (stacks_at off) n false) (stacks_reachable w off n false s some room)
+stacks_loaded w off n s mode ss some room = grind (arith, ok_bytes, stacks_access, stacks_reachable)
 
 -- what is read at a far pointer is told by the memory and the descriptors
-byte_same : (w : World) (calls : List Record) (r : Regs) (on : Bool) (p : Place) → byte_of (record w { calls = calls; regs = r; vif = on }) p ≡ byte_of w p
+byte_same : (w : World) (calls : List Record) (r : Regs) (on : Bool) (p : Place) →
+    byte_of (record w { calls = calls; regs = r; vif = on }) p ≡ byte_of w p
 byte_same w calls r on (Dos at) = refl
 byte_same w calls r on (Block number at) = refl
 byte_same w calls r on Host = refl
@@ -142,7 +141,7 @@ bytes_same w calls r on (p ∷ places) = rw (byte_same w calls r on p, bytes_sam
 pub far_same : (w : World) (calls : List Record) (r : Regs) (on : Bool) (p : FarPtr) (n : ℕ) →
     far_bytes (record w { calls = calls; regs = r; vif = on }) p n ≡ far_bytes w p n
 unfolding far_bytes far_access
-far_same w calls r on p n = bytes_same w calls r on (places_of_access (places_at w.blocks (protected_base w.descriptors Es p.sel p.off n false) p.off n false))
+far_same w calls r on p n = grind (arith, bytes_same)
 
 -- their places, one after the other in the megabyte
 pub stacks_places : (w : World) (off n : ℕ) → IsSound w → w.width ≢ None → off + n ≤ GREATEST_DEPTH * PROTECTED_STACK_SIZE →
@@ -156,8 +155,4 @@ stacks_places w off n s some room =
 
 pub stacks_place : (w : World) (off n i : ℕ) → i < n → off + n ≤ GREATEST_DEPTH * PROTECTED_STACK_SIZE →
     slice_index_or (places_from w.blocks (PROTECTED_STACKS + off) n) i Nothing ≡ Dos (PROTECTED_STACKS + off + i)
-stacks_place w off n i less room =
-    let lin : linear (PROTECTED_STACKS + off + i) ≡ PROTECTED_STACKS + off + i = omega arith in
-    let same : (PROTECTED_STACKS + off + i) % DOS_SIZE ≡ PROTECTED_STACKS + off + i = omega arith in
-    places_from-at w.blocks (PROTECTED_STACKS + off) n i Nothing less
-    ∙ ap (place_in w.blocks) lin ∙ place-dos w.blocks (PROTECTED_STACKS + off + i) (omega arith) ∙ ap Dos same
+stacks_place w off n i less room = grind (arith, place-dos, places_from-at)

@@ -1,15 +1,15 @@
 -- A write moves no place: the same accesses are allowed after it, at the same places, and the same are refused.
-use Rattle.std.proofs.Common.{◌≡◌, ℕ, ◌+◌, Bool, List, [], ◌∷◌, refl, ap, ◌∙◌, Result, Ok, Err}
+use Rattle.std.proofs.Common.{◌≡◌, ℕ, ◌+◌, Bool, List, [], ◌∷◌, refl, ap, ◌∙◌, Result, Ok, Err, arith}
 use Rattle.std.specs.Prelude.{is_ok}
 use Rattle.client_world.specs.declared.faults.Fault.{Fault}
 use Rattle.client_world.specs.declared.place.Place.{Place}
-use Rattle.client_world.specs.declared.place.Place.TheVariants.{Dos, Block, Host, Nothing}
 use Rattle.client_world.specs.declared.registers.Mode.{Mode}
 use Rattle.client_world.specs.declared.registers.Regs.{Regs}
 use Rattle.client_world.specs.declared.segments.FarPtr.{FarPtr}
 use Rattle.client_world.specs.declared.segments.SegReg.{SegReg}
 use Rattle.client_world.specs.declared.segments.SegReg.TheVariants.{Es}
-use Rattle.client_world.specs.Access.{access, far_access, is_reachable, segment_base, protected_base, place_in, places_at, touched_places, with_byte_of, with_bytes_of}
+use Rattle.client_world.specs.Access.{access, far_access, is_reachable, segment_base, protected_base, place_in, places_at, touched_places}
+use Rattle.client_world.specs.Access.{with_byte_of, with_bytes_of}
 use Rattle.client_world.specs.Selector.{Row}
 use Rattle.client_world.specs.World.{World, MemoryBlock}
 use Rattle.client_world.proofs.PlaceLaws.{place_in-with_byte_of, places_from-same}
@@ -17,6 +17,7 @@ use Rattle.std.specs.declared.option.Option.{Option}
 use Rattle.host_memory.specs.View.{MachineView}
 use Rattle.guest_space.specs.Transfer.{with_places, after_store, access_fault, fault_of}
 use Rattle.guest_space.proofs.Machines.{with_places_world}
+use Rattle.guest_space.proofs.MemoryAlone.{other_bytes}
 
 -- two worlds that an access can't tell apart
 pub record SameAccess (w u : World) : Type 0 where
@@ -25,78 +26,44 @@ pub record SameAccess (w u : World) : Type 0 where
   pub descriptors : u.descriptors ≡ w.descriptors
   pub places : (at : ℕ) → place_in u.blocks at ≡ place_in w.blocks at
 
-same_world : (w : World) → SameAccess w w
-same_world w = record { mode = refl; regs = refl; descriptors = refl; places = λ at. refl }
-
 pub same_then : (w u t : World) → SameAccess w u → SameAccess u t → SameAccess w t
-same_then w u t before after = record {
-  mode = after.mode ∙ before.mode;
-  regs = after.regs ∙ before.regs;
-  descriptors = after.descriptors ∙ before.descriptors;
-  places = λ at. after.places at ∙ before.places at;
-}
+same_then w u t before after = grind arith
 
-byte_mode : (w : World) (p : Place) (x : ℕ) → (with_byte_of w p x).mode ≡ w.mode
-byte_mode w (Dos at) x = refl
-byte_mode w (Block number at) x = refl
-byte_mode w Host x = refl
-byte_mode w Nothing x = refl
-
-byte_regs : (w : World) (p : Place) (x : ℕ) → (with_byte_of w p x).regs ≡ w.regs
-byte_regs w (Dos at) x = refl
-byte_regs w (Block number at) x = refl
-byte_regs w Host x = refl
-byte_regs w Nothing x = refl
-
-byte_descriptors : (w : World) (p : Place) (x : ℕ) → (with_byte_of w p x).descriptors ≡ w.descriptors
-byte_descriptors w (Dos at) x = refl
-byte_descriptors w (Block number at) x = refl
-byte_descriptors w Host x = refl
-byte_descriptors w Nothing x = refl
-
-same_byte : (w : World) (p : Place) (x : ℕ) → SameAccess w (with_byte_of w p x)
-same_byte w p x = record {
-  mode = byte_mode w p x;
-  regs = byte_regs w p x;
-  descriptors = byte_descriptors w p x;
-  places = place_in-with_byte_of w p x;
-}
+places_stay : (w : World) (places : List Place) (bytes : List ℕ) (at : ℕ) →
+    place_in (with_bytes_of w places bytes).blocks at ≡ place_in w.blocks at
+places_stay w [] bytes at = refl
+places_stay w (p ∷ places) [] at = refl
+places_stay w (p ∷ places) (x ∷ bytes) at = places_stay (with_byte_of w p x) places bytes at ∙ place_in-with_byte_of w p x at
 
 same_bytes : (w : World) (places : List Place) (bytes : List ℕ) → SameAccess w (with_bytes_of w places bytes)
-same_bytes w [] bytes = same_world w
-same_bytes w (p ∷ places) [] = same_world w
-same_bytes w (p ∷ places) (x ∷ bytes) =
-    same_then w (with_byte_of w p x) (with_bytes_of (with_byte_of w p x) places bytes) (same_byte w p x) (same_bytes (with_byte_of w p x) places bytes)
+same_bytes w places bytes = grind (arith, other_bytes, places_stay)
 
 pub same_places : (v : MachineView) (places : List Place) (bytes : List ℕ) → SameAccess v.world (with_places v places bytes).world
 same_places v places bytes = rw (with_places_world v places bytes) (same_bytes v.world places bytes)
 
-pub same_stored : (v : MachineView) (seg : SegReg) (offset n : ℕ) (bytes : List ℕ) → SameAccess v.world (after_store v seg offset n bytes).world
+pub same_stored : (v : MachineView) (seg : SegReg) (offset n : ℕ) (bytes : List ℕ) →
+    SameAccess v.world (after_store v seg offset n bytes).world
 unfolding after_store
 same_stored v seg offset n bytes = same_places v _ bytes
 
 -- the same places are given
-same_at : (a b : List (Option MemoryBlock)) → ((at : ℕ) → place_in b at ≡ place_in a at) → (r : Result ℕ Fault) (offset n : ℕ) (write : Bool) →
+same_at : (a b : List (Option MemoryBlock)) → ((at : ℕ) → place_in b at ≡ place_in a at) →
+    (r : Result ℕ Fault) (offset n : ℕ) (write : Bool) →
     places_at b r offset n write ≡ places_at a r offset n write
-same_at a b same (Ok base) offset n write =
-    ap (λ (places : List Place). touched_places places write) (places_from-same b a same (base + offset) n)
+same_at a b same (Ok base) offset n write = grind (arith, places_from-same)
 same_at a b same (Err fault) offset n write = refl
 
-pub access_same : (w u : World) → SameAccess w u → (seg : SegReg) (offset n : ℕ) (write : Bool) → access u seg offset n write ≡ access w seg offset n write
+pub access_same : (w u : World) → SameAccess w u → (seg : SegReg) (offset n : ℕ) (write : Bool) →
+    access u seg offset n write ≡ access w seg offset n write
 unfolding access
-access_same w u same seg offset n write =
-    same_at w.blocks u.blocks same.places (segment_base u.mode u.regs u.descriptors seg offset n write) offset n write
-    ∙ ap (λ (m : Mode). places_at w.blocks (segment_base m u.regs u.descriptors seg offset n write) offset n write) same.mode
-    ∙ ap (λ (r : Regs). places_at w.blocks (segment_base w.mode r u.descriptors seg offset n write) offset n write) same.regs
-    ∙ ap (λ (rows : List Row). places_at w.blocks (segment_base w.mode w.regs rows seg offset n write) offset n write) same.descriptors
+access_same w u same seg offset n write = grind (arith, same_at)
 
 pub far_access_same : (w u : World) → SameAccess w u → (p : FarPtr) (n : ℕ) (write : Bool) → far_access u p n write ≡ far_access w p n write
 unfolding far_access
-far_access_same w u same p n write =
-    same_at w.blocks u.blocks same.places (protected_base u.descriptors Es p.sel p.off n write) p.off n write
-    ∙ ap (λ (rows : List Row). places_at w.blocks (protected_base rows Es p.sel p.off n write) p.off n write) same.descriptors
+far_access_same w u same p n write = grind (arith, same_at)
 
-pub refusal_same : (w u : World) → SameAccess w u → (seg : SegReg) (offset n : ℕ) (write : Bool) → access_fault u seg offset n write ≡ access_fault w seg offset n write
+pub refusal_same : (w u : World) → SameAccess w u → (seg : SegReg) (offset n : ℕ) (write : Bool) →
+    access_fault u seg offset n write ≡ access_fault w seg offset n write
 unfolding access_fault
 refusal_same w u same seg offset n write = ap fault_of (access_same w u same seg offset n write)
 

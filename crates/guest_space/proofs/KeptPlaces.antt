@@ -1,5 +1,5 @@
 -- Lock counts and cleared pages leave every place where it is: a block keeps its base and the number of its bytes.
-use Rattle.std.proofs.Common.{◌≡◌, ℕ, zero, suc, ◌+◌, ◌*◌, ◌/◌, List, [], ◌∷◌, set, get_or, refl, Option, None, Some}
+use Rattle.std.proofs.Common.{◌≡◌, ℕ, zero, suc, ◌+◌, ◌*◌, ◌/◌, List, [], ◌∷◌, set, get_or, refl, Option, None, Some, arith}
 use Rattle.client_world.specs.declared.host_frames.TheConstants.{PAGE_SIZE}
 use Rattle.client_world.specs.declared.place.Place.{Place}
 use Rattle.client_world.specs.declared.place.Place.TheVariants.{Dos, Block, Host, Nothing}
@@ -26,18 +26,18 @@ place_cleared (Some block ∷ blocks) zero page handle lin = rw (length-put bloc
 place_cleared (None ∷ blocks) (suc place) page handle lin = place_cleared blocks place page (handle + 1) lin
 place_cleared (Some block ∷ blocks) (suc place) page handle lin = rw (place_cleared blocks place page (handle + 1) lin) refl
 
-pub locks_keep_places : (blocks : List (Option MemoryBlock)) (p : Place) (n lin : ℕ) → place_in (with_lock blocks p n) lin ≡ place_in blocks lin
+pub locks_keep_places : (blocks : List (Option MemoryBlock)) (p : Place) (n lin : ℕ) →
+    place_in (with_lock blocks p n) lin ≡ place_in blocks lin
 locks_keep_places blocks (Dos at) n lin = refl
 locks_keep_places blocks (Block zero at) n lin = refl
-locks_keep_places blocks (Block (suc place) at) n lin =
-    place_in-same (with_lock blocks (Block (suc place) at) n) blocks lin (place_locked blocks place (at / PAGE_SIZE) n 1 lin)
+locks_keep_places blocks (Block (suc place) at) n lin = grind (arith, place_in-same, place_locked)
 locks_keep_places blocks Host n lin = refl
 locks_keep_places blocks Nothing n lin = refl
 
-pub cleared_pages_keep_places : (blocks : List (Option MemoryBlock)) (p : Place) (lin : ℕ) → place_in (blocks_with_zero_page blocks p) lin ≡ place_in blocks lin
+pub cleared_pages_keep_places : (blocks : List (Option MemoryBlock)) (p : Place) (lin : ℕ) →
+    place_in (blocks_with_zero_page blocks p) lin ≡ place_in blocks lin
 cleared_pages_keep_places blocks (Dos at) lin = refl
 cleared_pages_keep_places blocks (Block zero at) lin = refl
-cleared_pages_keep_places blocks (Block (suc place) at) lin =
-    place_in-same (blocks_with_zero_page blocks (Block (suc place) at)) blocks lin (place_cleared blocks place (at / PAGE_SIZE) 1 lin)
+cleared_pages_keep_places blocks (Block (suc place) at) lin = grind (arith, place_cleared, place_in-same)
 cleared_pages_keep_places blocks Host lin = refl
 cleared_pages_keep_places blocks Nothing lin = refl

@@ -1,4 +1,5 @@
 pub mod Accesses
+pub mod ArenaCalls
 pub mod ArenaHeaders
 pub mod ArenaLists
 pub mod ArenaPuts
@@ -27,6 +28,7 @@ pub mod Fills
 pub mod HiddenLaws
 pub mod HostRows
 pub mod HostStacks
+pub mod Insides
 pub mod KeptAccess
 mod KeptPlaces
 pub mod MachineLaws

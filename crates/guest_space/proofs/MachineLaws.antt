@@ -1,5 +1,6 @@
 -- The laws of walks and of writes, of the view of a machine.
-use Rattle.std.proofs.Common.{◌≡◌, ℕ, ◌<◌, ◌^◌, Bool, true, List, [], None, Some, OnOk, IfErr, refl, ap, ◌∙◌, sym, subst, arith, Result, Ok, Err}
+use Rattle.std.proofs.Common.{◌≡◌, ℕ, ◌<◌, ◌^◌, Bool, true, List, [], None, Some, OnOk, IfErr, refl, ap, ◌∙◌, sym, subst, arith, Result, Ok}
+use Rattle.std.proofs.Common.{Err}
 use Rattle.client_world.specs.declared.faults.Fault.{Fault}
 use Rattle.client_world.specs.declared.host_frames.TheConstants.{PAGE_DIRECTORY}
 use Rattle.client_world.specs.declared.place.Place.{Place}
@@ -27,11 +28,7 @@ use Rattle.guest_space.proofs.WritesOnly.{only_writes}
 -- a walk of the page tables ends where the client may touch, and else fails as the place says
 pub machine_walks : (v : MachineView) → HoldsItsWorld v → (lin : ℕ) (write : Bool) → lin < 2 ^ 32 →
     walked v.bytes PAGE_DIRECTORY lin write ≡ walk_result v.bytes (place_of v.world lin) write
-machine_walks v h lin write small =
-    let k = h.processor in
-    let m = h.machine in
-    walk_agrees v.bytes k.budget m.holds k.mode k.regs k.vif k.width (sound_blocks k v m) lin write small
-    ∙ ap (λ (w : World). walk_result v.bytes (place_of w lin) write) (sym m.is)
+machine_walks v h lin write small = grind (arith, sound_blocks, walk_agrees)
 
 -- and the byte at a place that the client may touch lies at its address
 pub machine_stands : (v : MachineView) → HoldsItsWorld v → (lin : ℕ) (write : Bool) → may_touch (place_of v.world lin) write ≡ true →
@@ -40,14 +37,11 @@ machine_stands v h lin write may = stands_there h.processor v lin write h.machin
 
 -- a write through a segment register
 holds_blocks : (k : Processor) (v : MachineView) → IsMachine k v → HoldsBlocks k v
-holds_blocks k v m = record {
-  holds = m.holds;
-  is = m.is;
-  blocks = subst (λ (w : World). SoundBlocks w.blocks k.budget) (sym m.is) (sound_blocks k v m);
-}
+holds_blocks k v m = grind (arith, sound_blocks)
 
 only_where : (k : Processor) (v : MachineView) (r : Result (List Place) Fault) (bytes : List ℕ) → HoldsBlocks k v →
-    ((places : List Place) → r ≡ Ok places → CanWriteAll v.world places) → OnlyAt (places_of_access r) v.bytes (with_places v (places_of_access r) bytes).bytes
+    ((places : List Place) → r ≡ Ok places → CanWriteAll v.world places) →
+    OnlyAt (places_of_access r) v.bytes (with_places v (places_of_access r) bytes).bytes
 only_where k v (Ok places) bytes h can = only_places k v places bytes h (can places refl)
 only_where k v (Err f) bytes h can = only_places k v [] bytes h (λ i within. absurd (omega arith))
 
@@ -55,7 +49,8 @@ pub machine_near : (v : MachineView) → HoldsItsWorld v → (seg : SegReg) (off
     OnlyAt (places_of_access (access v.world seg offset n true)) v.bytes (after_store v seg offset n bytes).bytes
 unfolding after_store
 machine_near v h seg offset n bytes =
-    only_where h.processor v (access v.world seg offset n true) bytes (holds_blocks h.processor v h.machine) (write_places v.world seg offset n)
+    only_where h.processor v (access v.world seg offset n true) bytes (holds_blocks h.processor v h.machine)
+    (write_places v.world seg offset n)
 
 -- a write at a far pointer
 pub machine_far : (v : MachineView) → HoldsItsWorld v → (p : FarPtr) (n : ℕ) (bytes : List ℕ) →
@@ -63,7 +58,8 @@ pub machine_far : (v : MachineView) → HoldsItsWorld v → (p : FarPtr) (n : �
 machine_far v h p n bytes =
     let k = h.processor in
     let m = h.machine in
-    subst (λ (w : World). OnlyAt (places_of_access (far_access w p n true)) v.bytes (after_far_write (record { world = w; bytes = v.bytes }) p n bytes).bytes)
+    subst (λ (w : World).
+    OnlyAt (places_of_access (far_access w p n true)) v.bytes (after_far_write (record { world = w; bytes = v.bytes }) p n bytes).bytes)
     (sym m.is) (only_far v.bytes k.budget k.mode k.regs k.vif k.width m.holds (subst IsSound m.is m.sound) p n bytes)
 
 -- writes one after another
@@ -79,25 +75,25 @@ machine_all v h writes =
 made_or_kept : (v u new : MachineView) (places : List Place) (A : Type 0) (B : Fault → Type 0) (r : Result (Unit {0}) Fault) →
     OnlyAt places v.bytes new.bytes → OnOk r (A × (u ≡ new)) → IfErr r (λ fault. B fault × (u ≡ v)) → OnlyAt places v.bytes u.bytes
 made_or_kept v u new places A B (Ok x) only made kept = subst (λ (w : MachineView). OnlyAt places v.bytes w.bytes) (sym made.1) only
-made_or_kept v u new places A B (Err f) only made kept = subst (λ (w : MachineView). OnlyAt places v.bytes w.bytes) (sym kept.1) (only_start places v.bytes)
+made_or_kept v u new places A B (Err f) only made kept = grind (arith, only_start)
 
 pub stored_or_kept : (v u : MachineView) → HoldsItsWorld v → (seg : SegReg) (offset n : ℕ) (bytes : List ℕ) (r : Result (Unit {0}) Fault) →
     OnOk r ((access_fault v.world seg offset n true ≡ None) × (u ≡ after_store v seg offset n bytes)) →
     IfErr r (λ fault. (access_fault v.world seg offset n true ≡ Some fault) × (u ≡ v)) →
     OnlyAt (places_of_access (access v.world seg offset n true)) v.bytes u.bytes
 stored_or_kept v u h seg offset n bytes r =
-    made_or_kept v u (after_store v seg offset n bytes) (places_of_access (access v.world seg offset n true)) (access_fault v.world seg offset n true ≡ None)
+    made_or_kept v u (after_store v seg offset n bytes) (places_of_access (access v.world seg offset n true))
+    (access_fault v.world seg offset n true ≡ None)
     (λ fault. access_fault v.world seg offset n true ≡ Some fault) r (machine_near v h seg offset n bytes)
 
 pub written_or_kept : (v u : MachineView) → HoldsItsWorld v → (x : Write) (r : Result (Unit {0}) Fault) → Answered v u x r →
     OnlyAt (places_of_access (access v.world x.seg x.off (byte_count x.width) true)) v.bytes u.bytes
 unfolding after_write
 written_or_kept v u h x (Ok y) made =
-    made_or_kept v u (after_write v x) (places_of_access (access v.world x.seg x.off (byte_count x.width) true)) (write_fault v.world x ≡ None)
+    made_or_kept v u (after_write v x) (places_of_access (access v.world x.seg x.off (byte_count x.width) true))
+    (write_fault v.world x ≡ None)
     (λ fault. ⊥) (Ok y) (machine_near v h x.seg x.off (byte_count x.width) (number_bytes x.width x.value)) made tt
-written_or_kept v u h x (Err f) kept =
-    subst (λ (w : MachineView). OnlyAt (places_of_access (access v.world x.seg x.off (byte_count x.width) true)) v.bytes w.bytes) (sym kept.1)
-    (only_start (places_of_access (access v.world x.seg x.off (byte_count x.width) true)) v.bytes)
+written_or_kept v u h x (Err f) kept = grind (arith, only_start)
 
 pub all_or_kept : (v u : MachineView) → HoldsItsWorld v → (writes : List Write) (r : Result (Unit {0}) Fault) →
     OnOk r ((first_write_fault v.world writes ≡ None) × (u ≡ after_writes v writes)) →
@@ -108,7 +104,8 @@ all_or_kept v u h writes r =
 
 pub all_made : (v u : MachineView) → HoldsItsWorld v → (writes : List Write) → u ≡ after_writes v writes →
     OnlyAt (places_of_writes v.world writes) v.bytes u.bytes
-all_made v u h writes e = subst (λ (w : MachineView). OnlyAt (places_of_writes v.world writes) v.bytes w.bytes) (sym e) (machine_all v h writes)
+all_made v u h writes e =
+    subst (λ (w : MachineView). OnlyAt (places_of_writes v.world writes) v.bytes w.bytes) (sym e) (machine_all v h writes)
 
 pub far_made : (v u : MachineView) → HoldsItsWorld v → (p : FarPtr) (n : ℕ) (bytes : List ℕ) → u ≡ after_far_write v p n bytes →
     OnlyAt (places_of_access (far_access v.world p n true)) v.bytes u.bytes

@@ -1,5 +1,6 @@
 -- A view whose bytes hold its world, as every machine's do, and one byte that is written where the client may write.
-use Rattle.std.proofs.Common.{◌≡◌, ℕ, suc, ◌<◌, Bool, true, List, [], ◌∷◌, length, slice_index, slice_index_or, slice_set, refl, ap, ◌∙◌, sym, subst, arith}
+use Rattle.std.proofs.Common.{◌≡◌, ℕ, suc, ◌<◌, Bool, true, List, [], ◌∷◌, length, slice_index, slice_index_or, slice_set, refl, ap, ◌∙◌}
+use Rattle.std.proofs.Common.{sym, subst, arith}
 use Rattle.client_world.specs.declared.place.Place.{Place}
 use Rattle.client_world.specs.declared.place.Place.TheVariants.{Nothing}
 use Rattle.client_world.specs.Access.{place_in, may_touch, with_byte_of, with_bytes_of, IsHeld}
@@ -31,10 +32,7 @@ opened_holds k b v is holds sound = record { processor = k; machine = opened k b
 
 -- its blocks are sound
 pub sound_blocks : (k : Processor) (v : MachineView) → IsMachine k v → SoundBlocks (held_world k v.bytes).blocks k.budget
-sound_blocks k v m =
-    let world = subst IsSound m.is m.sound in
-    let blocks = world.blocks in
-    rw (budget_is v.bytes k.budget k.mode k.regs k.vif k.width) at blocks
+sound_blocks k v m = grind (arith, budget_is)
 
 -- the client may write at the place, which lies at a linear address
 pub record CanWrite (w : World) (p : Place) : Type 0 where
@@ -74,9 +72,7 @@ written_addresses k v p x m can =
 -- the byte of a place that may be touched is at its address
 pub stands_there : (k : Processor) (v : MachineView) (lin : ℕ) (write : Bool) → IsMachine k v →
     may_touch (place_in v.world.blocks lin) write ≡ true → StandsAt v.bytes v.world (place_in v.world.blocks lin)
-stands_there k v lin write m may =
-    let here : may_touch (place_in (held_world k v.bytes).blocks lin) write ≡ true = rw m.is at may in
-    rw m.is (byte_agrees v.bytes k.budget m.holds k.mode k.regs k.vif k.width lin write here)
+stands_there k v lin write m may = grind (arith, byte_agrees)
 
 -- bytes at several places, one after the other
 
@@ -100,16 +96,19 @@ pub with_places_first : (v : MachineView) (p : Place) (places : List Place) (x :
 unfolding with_places
 with_places_first v p places x bytes = refl
 
-pub with_places_world : (v : MachineView) (places : List Place) (bytes : List ℕ) → (with_places v places bytes).world ≡ with_bytes_of v.world places bytes
+pub with_places_world : (v : MachineView) (places : List Place) (bytes : List ℕ) →
+    (with_places v places bytes).world ≡ with_bytes_of v.world places bytes
 unfolding with_places
 with_places_world v places bytes = refl
 
-pub with_places_bytes : (v : MachineView) (places : List Place) (bytes : List ℕ) → (with_places v places bytes).bytes ≡ with_bytes_at v.bytes places bytes
+pub with_places_bytes : (v : MachineView) (places : List Place) (bytes : List ℕ) →
+    (with_places v places bytes).bytes ≡ with_bytes_at v.bytes places bytes
 unfolding with_places
 with_places_bytes v places bytes = refl
 
 -- they leave a machine a machine
-pub written_machines : (k : Processor) (v : MachineView) (places : List Place) (bytes : List ℕ) → IsMachine k v → CanWriteAll v.world places →
+pub written_machines : (k : Processor) (v : MachineView) (places : List Place) (bytes : List ℕ) → IsMachine k v →
+    CanWriteAll v.world places →
     AllBytes bytes → IsMachine k (with_places v places bytes)
 written_machines k v [] bytes m can small = subst (IsMachine k) (sym (with_places_none v bytes)) m
 written_machines k v (p ∷ places) [] m can small = subst (IsMachine k) (sym (with_places_short v (p ∷ places))) m

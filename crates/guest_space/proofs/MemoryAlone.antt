@@ -39,7 +39,8 @@ pub other_all : (v : MachineView) (xs : List Write) → HasOtherMemory v.world (
 unfolding after_writes
 other_all v [] = refl
 other_all v (x ∷ xs) =
-    other_then v.world (after_write v x).world (after_writes (after_write v x) xs).world (other_written v x) (other_all (after_write v x) xs)
+    other_then v.world (after_write v x).world (after_writes (after_write v x) xs).world (other_written v x)
+    (other_all (after_write v x) xs)
 
 pub other_far : (v : MachineView) (p : FarPtr) (n : ℕ) (bytes : List ℕ) → HasOtherMemory v.world (after_far_write v p n bytes).world
 unfolding after_far_write

@@ -1,5 +1,6 @@
 -- Where a byte may be fetched, a near transfer may go.
-use Rattle.std.proofs.Common.{◌≡◌, ℕ, ◌+◌, Bool, true, false, ◌&&◌, ◌||◌, not, if◌then◌else◌, List, refl, subst, sym, ap, ◌∙◌, arith, Option, None, Some, Result, Ok, Err}
+use Rattle.std.proofs.Common.{◌≡◌, ℕ, ◌+◌, Bool, true, false, ◌&&◌, ◌||◌, not, if◌then◌else◌, List, refl, subst, sym, ap, ◌∙◌, arith}
+use Rattle.std.proofs.Common.{Option, None, Some, Result, Ok, Err}
 use Rattle.std.proofs.lemmas.Bool.Decides.{nat_tests}
 use Rattle.std.specs.Prelude.{nat_le, nat_lt}
 use Rattle.client_world.specs.declared.faults.Fault.{Fault}
@@ -30,10 +31,10 @@ tests false true out privileged base f g h k is = absurd is
 tests false false true privileged base f g h k is = absurd is
 tests false false false privileged base f g h k is = refl
 
-near_in_row : (sel offset base : ℕ) (row : Row) → base_in_row Cs sel row offset 1 false ≡ Ok base → code_row_fault row sel offset false ≡ None
+near_in_row : (sel offset base : ℕ) (row : Row) → base_in_row Cs sel row offset 1 false ≡ Ok base →
+    code_row_fault row sel offset false ≡ None
 near_in_row sel offset base None e = absurd (is_base e)
-near_in_row sel offset base (Some row) e =
-    tests (not (is_code row.0.kind)) (not row.0.present) (not (is_inside row.0 offset 1)) (is_privileged sel) row.0.base _ _ _ _ (is_base e)
+near_in_row sel offset base (Some row) e = grind (arith, is_base, tests)
 
 unless_null : (rows : List Row) (sel offset base : ℕ) (null : Bool) →
     (if null then Err (fault_with GENERAL_PROTECTION 0) else base_in_row Cs sel (row_of_selector rows sel) offset 1 false) ≡ Ok base →
@@ -57,9 +58,7 @@ by_mode : (mode : Mode) (r : Regs) (rows : List Row) (offset base : ℕ) → seg
       | Protected ↦ load_fault rows Cs r.cs offset false
     ])
 unfolding segment_base load_fault
-by_mode Real r rows offset base e =
-    ap (λ (b : Bool). if b then None else Some (fault_with GENERAL_PROTECTION 0)) (same_test offset)
-    ∙ in_real (nat_le (offset + 1) SEGMENT_SIZE) _ _ (fault_with GENERAL_PROTECTION 0) (is_base e)
+by_mode Real r rows offset base e = grind (arith, in_real, is_base, same_test)
 by_mode Protected r rows offset base e = unless_null rows r.cs offset base (is_null r.cs) e
 
 pub near_target : (w : World) (offset base : ℕ) → segment_base w.mode w.regs w.descriptors Cs offset 1 false ≡ Ok base →

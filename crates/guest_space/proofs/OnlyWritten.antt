@@ -1,5 +1,6 @@
 -- A write through a segment register changes the bytes of its places, and nothing else in the memory.
-use Rattle.std.proofs.Common.{◌≡◌, ℕ, suc, ◌+◌, Bool, true, List, [], ◌∷◌, slice_index_or, refl, ap, ◌∙◌, sym, subst, arith, None, Some, Result, Ok, Err}
+use Rattle.std.proofs.Common.{◌≡◌, ℕ, suc, ◌+◌, Bool, true, List, [], ◌∷◌, slice_index_or, refl, ap, ◌∙◌, sym, subst, arith, None, Some}
+use Rattle.std.proofs.Common.{Result, Ok, Err}
 use Rattle.std.specs.declared.option.Option.{Option}
 use Rattle.client_world.specs.declared.faults.Fault.{Fault}
 use Rattle.client_world.specs.declared.place.Place.{Place}
@@ -21,7 +22,8 @@ use Rattle.host_memory.proofs.WorldParts.{budget_is}
 use Rattle.guest_space.specs.Machines.{Processor, held_world}
 use Rattle.guest_space.specs.Transfer.{after_store, with_places, fault_of}
 use Rattle.guest_space.proofs.Runs.{all_touch, can_write_run}
-use Rattle.guest_space.proofs.Machines.{CanWrite, CanWriteAll, with_place, held_there, can_write_after, with_places_none, with_places_short, with_places_first}
+use Rattle.guest_space.proofs.Machines.{CanWrite, CanWriteAll, with_place, held_there, can_write_after, with_places_none, with_places_short}
+use Rattle.guest_space.proofs.Machines.{with_places_first}
 
 -- the bytes hold a world with sound blocks. Nothing is said of its bytes, so any numbers may be written
 pub record HoldsBlocks (k : Processor) (v : MachineView) : Type 0 where
@@ -42,7 +44,8 @@ blocks_by : (k : Processor) (v : MachineView) → HoldsBlocks k v → SoundBlock
 blocks_by k v h = subst (λ (w : World). SoundBlocks w.blocks k.budget) h.is h.blocks
 
 -- one byte
-pub byte_holds : (k : Processor) (v : MachineView) (p : Place) (x : ℕ) → HoldsBlocks k v → CanWrite v.world p → HoldsBlocks k (with_place v p x)
+pub byte_holds : (k : Processor) (v : MachineView) (p : Place) (x : ℕ) → HoldsBlocks k v → CanWrite v.world p →
+    HoldsBlocks k (with_place v p x)
 byte_holds k v p x h can = record {
   holds = write_holds v.bytes k.budget h.holds k.mode k.regs k.vif k.width p x can.may (held_by k v p h can);
   is = ap (λ (w : World). with_byte_of w p x) h.is
@@ -50,7 +53,8 @@ byte_holds k v p x h can = record {
   blocks = blocks_after v.world p x k.budget h.blocks;
 }
 
-only_byte : (k : Processor) (v : MachineView) (p : Place) (x : ℕ) → HoldsBlocks k v → CanWrite v.world p → OnlyAt (p ∷ []) v.bytes (with_place v p x).bytes
+only_byte : (k : Processor) (v : MachineView) (p : Place) (x : ℕ) → HoldsBlocks k v → CanWrite v.world p →
+    OnlyAt (p ∷ []) v.bytes (with_place v p x).bytes
 only_byte k v p x h can =
     only_step (p ∷ []) v.bytes v.bytes (with_place v p x).bytes p 0 x (only_start (p ∷ []) v.bytes) refl (omega arith) refl
     (write_addresses v.bytes k.budget h.holds k.mode k.regs k.vif k.width p x can.may (held_by k v p h can))
@@ -59,13 +63,13 @@ only_byte k v p x h can =
 -- and bytes at several places
 pub only_places : (k : Processor) (v : MachineView) (places : List Place) (bytes : List ℕ) → HoldsBlocks k v → CanWriteAll v.world places →
     OnlyAt places v.bytes (with_places v places bytes).bytes
-only_places k v [] bytes h can = subst (λ (u : MachineView). OnlyAt [] v.bytes u.bytes) (sym (with_places_none v bytes)) (only_start [] v.bytes)
-only_places k v (p ∷ places) [] h can =
-    subst (λ (u : MachineView). OnlyAt (p ∷ places) v.bytes u.bytes) (sym (with_places_short v (p ∷ places))) (only_start (p ∷ places) v.bytes)
+only_places k v [] bytes h can = grind (arith, only_start, with_places_none)
+only_places k v (p ∷ places) [] h can = grind (arith, only_start, with_places_short)
 only_places k v (p ∷ places) (x ∷ bytes) h can =
     let first : CanWrite v.world p = can 0 (omega arith) in
     subst (λ (u : MachineView). OnlyAt (p ∷ places) v.bytes u.bytes) (sym (with_places_first v p places x bytes))
-    (only_then (p ∷ []) places v.bytes (with_place v p x).bytes (with_places (with_place v p x) places bytes).bytes (only_byte k v p x h first)
+    (only_then (p ∷ []) places v.bytes (with_place v p x).bytes (with_places (with_place v p x) places bytes).bytes
+    (only_byte k v p x h first)
     (only_places k (with_place v p x) places bytes (byte_holds k v p x h first)
     (λ i within. can_write_after v.world p (slice_index_or places i Nothing) x (can (suc i) (omega arith)))))
 
@@ -74,16 +78,18 @@ can_write_unless : (w : World) (o : Option Place) (at n : ℕ) (places : List Pl
     unless_forbidden o (places_from w.blocks at n) true ≡ Ok places → CanWriteAll w places
 can_write_unless w None at n places o e =
     let same : places_from w.blocks at n ≡ places = cc in
-    subst (CanWriteAll w) same (can_write_run w at n (all_touch w at n true (ap (λ (x : Option Place). fault_of (unless_forbidden x (places_from w.blocks at n) true)) (sym o))))
+    subst (CanWriteAll w) same (can_write_run w at n
+    (all_touch w at n true (ap (λ (x : Option Place). fault_of (unless_forbidden x (places_from w.blocks at n) true)) (sym o))))
 can_write_unless w (Some p) at n places o e = absurd cc
 
 pub can_write_at : (w : World) (r : Result ℕ Fault) (offset n : ℕ) (places : List Place) → places_at w.blocks r offset n true ≡ Ok places →
     CanWriteAll w places
-can_write_at w (Ok base) offset n places e = can_write_unless w (first_forbidden (places_from w.blocks (base + offset) n) true) (base + offset) n places refl e
+can_write_at w (Ok base) offset n places e = grind (arith, can_write_unless)
 can_write_at w (Err fault) offset n places e = absurd cc
 
 -- the places of an access to the client's memory may be written where it asked for that
-pub write_places : (w : World) (seg : SegReg) (offset n : ℕ) (places : List Place) → access w seg offset n true ≡ Ok places → CanWriteAll w places
+pub write_places : (w : World) (seg : SegReg) (offset n : ℕ) (places : List Place) → access w seg offset n true ≡ Ok places →
+    CanWriteAll w places
 unfolding access
 write_places w seg offset n places e = can_write_at w (segment_base w.mode w.regs w.descriptors seg offset n true) offset n places e
 
@@ -97,5 +103,6 @@ only_stored b budget mode regs vif width holds sound seg offset n bytes places e
     let w = world_of b budget mode regs vif width in
     let v : MachineView = record { world = w; bytes = b } in
     let blocks = sound.blocks in
-    let holds_blocks : HoldsBlocks k v = record { holds = holds; is = refl; blocks = rw (budget_is b budget mode regs vif width) at blocks } in
+    let holds_blocks : HoldsBlocks k v =
+    record { holds = holds; is = refl; blocks = rw (budget_is b budget mode regs vif width) at blocks } in
     rw e (only_places k v places bytes holds_blocks (write_places w seg offset n places e))

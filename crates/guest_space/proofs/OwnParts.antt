@@ -22,8 +22,7 @@ regs_world b budget mode regs r vif width = refl
 
 pub regs_sound : (b : List ℕ) (budget : ℕ) (mode : Mode) (regs r : Regs) (vif : Bool) (width : Option Width) →
     IsSound (world_of b budget mode regs vif width) → HasSegments r → IsSound (world_of b budget mode r vif width)
-regs_sound b budget mode regs r vif width sound segments =
-    subst IsSound (sym (regs_world b budget mode regs r vif width)) (IsSound-regs (world_of b budget mode regs vif width) r sound segments)
+regs_sound b budget mode regs r vif width sound segments = grind (arith, regs_world)
 
 -- the virtual interrupt flag
 
@@ -34,8 +33,7 @@ vif_world b budget mode regs vif on width = refl
 
 pub vif_sound : (b : List ℕ) (budget : ℕ) (mode : Mode) (regs : Regs) (vif on : Bool) (width : Option Width) →
     IsSound (world_of b budget mode regs vif width) → IsSound (world_of b budget mode regs on width)
-vif_sound b budget mode regs vif on width sound =
-    subst IsSound (sym (vif_world b budget mode regs vif on width)) (IsSound-vif (world_of b budget mode regs vif width) on sound)
+vif_sound b budget mode regs vif on width sound = grind (arith, vif_world)
 
 -- the mode, which is real before there is a width
 
@@ -55,8 +53,7 @@ in_mode w Protected some s = in_protected w w.width refl (some refl) s
 pub mode_sound : (b : List ℕ) (budget : ℕ) (mode m : Mode) (regs : Regs) (vif : Bool) (width : Option Width) →
     IsSound (world_of b budget mode regs vif width) → (m ≡ Protected → (world_of b budget mode regs vif width).width ≢ None) →
     IsSound (world_of b budget m regs vif width)
-mode_sound b budget mode m regs vif width sound some =
-    subst IsSound (sym (mode_world b budget mode m regs vif width)) (in_mode (world_of b budget mode regs vif width) m some sound)
+mode_sound b budget mode m regs vif width sound some = grind (arith, in_mode, mode_world)
 
 -- a byte of the megabyte below its read-only part
 

@@ -1,5 +1,6 @@
 -- A part of a run that a segment allows is allowed too, from the same linear address.
-use Rattle.std.proofs.Common.{◌≡◌, ℕ, ◌+◌, ◌*◌, ◌≤◌, ◌^◌, inl, inr, Bool, true, false, ◌&&◌, not, List, refl, ap, arith, None, Some, Result, Ok, Err}
+use Rattle.std.proofs.Common.{◌≡◌, ℕ, ◌+◌, ◌*◌, ◌≤◌, ◌^◌, inl, inr, Bool, true, false, ◌&&◌, not, List, refl, ap, arith, None, Some, Result}
+use Rattle.std.proofs.Common.{Ok, Err}
 use Rattle.std.specs.Prelude.{nat_lt, nat_le, if◌then◌else◌}
 use Rattle.std.proofs.lemmas.Bool.{cases_Bool}
 use Rattle.std.proofs.lemmas.Bool.Decides.{nat_tests}
@@ -73,19 +74,19 @@ row_part seg sel (Some row) offset n k m write base h e =
     pass (not (suits_register seg row.0.kind)) (fault_with (stack_or seg GENERAL_PROTECTION) (selector_code sel)) _ base suits.0
     (pass (not row.0.present) (fault_with (stack_or seg SEGMENT_NOT_PRESENT) (selector_code sel)) _ base present.0
     (pass (write && not (is_writable row.0.kind)) (fault_with GENERAL_PROTECTION 0) _ base writable.0
-    (pass (not (is_inside row.0 (offset + k) m)) (fault_with (stack_or seg GENERAL_PROTECTION) 0) _ base (true_not (is_inside row.0 (offset + k) m) part) inside.1)))
+    (pass (not (is_inside row.0 (offset + k) m)) (fault_with (stack_or seg GENERAL_PROTECTION) 0) _ base
+    (true_not (is_inside row.0 (offset + k) m) part) inside.1)))
 
 pub protected_part : (rows : List Row) (seg : SegReg) (sel offset n k m : ℕ) (write : Bool) (base : ℕ) → k + m ≤ n →
     protected_base rows seg sel offset n write ≡ Ok base → protected_base rows seg sel (offset + k) m write ≡ Ok base
 protected_part rows seg sel offset n k m write base h e =
     let some = passed (is_null sel) (fault_with GENERAL_PROTECTION 0) _ base e in
-    pass (is_null sel) (fault_with GENERAL_PROTECTION 0) _ base some.0 (row_part seg sel (row_of_selector rows sel) offset n k m write base h some.1)
+    pass (is_null sel) (fault_with GENERAL_PROTECTION 0) _ base some.0
+    (row_part seg sel (row_of_selector rows sel) offset n k m write base h some.1)
 
 pub real_part : (seg : SegReg) (segment offset n k m base : ℕ) → k + m ≤ n → real_base seg segment offset n ≡ Ok base →
     real_base seg segment (offset + k) m ≡ Ok base
-real_part seg segment offset n k m base h e =
-    let inside = allowed (nat_le (offset + n) SEGMENT_SIZE) (fault_with (stack_or seg GENERAL_PROTECTION) 0) (segment * PARAGRAPH_SIZE) base e in
-    rw (up_part offset n k m SEGMENT_SIZE h inside.0) inside.1
+real_part seg segment offset n k m base h e = grind (arith, allowed, up_part)
 
 pub segment_part : (mode : Mode) (r : Regs) (rows : List Row) (seg : SegReg) (offset n k m : ℕ) (write : Bool) (base : ℕ) → k + m ≤ n →
     segment_base mode r rows seg offset n write ≡ Ok base → segment_base mode r rows seg (offset + k) m write ≡ Ok base
@@ -99,41 +100,25 @@ code_goes_up (Data writable down) e = absurd cc
 code_goes_up Code e = refl
 
 code_inside : (d : Desc) (offset at : ℕ) → is_code d.kind ≡ true → is_inside d offset (at + 1) ≡ is_inside d (offset + at) 1
-code_inside d offset at code =
-    let up = code_goes_up d.kind code in
-    let same : offset + (at + 1) ≡ offset + at + 1 = omega arith in
-    rw up (ap (λ (end : ℕ). nat_le end (byte_limit d + 1) && nat_le end (2 ^ 32)) same)
+code_inside d offset at code = grind (arith, code_goes_up)
 
-code_row : (sel : ℕ) (row : Row) (offset at : ℕ) → base_in_row Cs sel row offset (at + 1) false ≡ base_in_row Cs sel row (offset + at) 1 false
+code_row : (sel : ℕ) (row : Row) (offset at : ℕ) →
+    base_in_row Cs sel row offset (at + 1) false ≡ base_in_row Cs sel row (offset + at) 1 false
 code_row sel None offset at = refl
-code_row sel (Some row) offset at = elim (cases_Bool (is_code row.0.kind)) [
-  | inl code ↦ rw (code_inside row.0 offset at code) refl
-  | inr none ↦ rw none refl
-]
+code_row sel (Some row) offset at = grind (arith, cases_Bool, code_inside)
 
 pub code_base : (mode : Mode) (r : Regs) (rows : List Row) (offset at : ℕ) →
     segment_base mode r rows Cs offset (at + 1) false ≡ segment_base mode r rows Cs (offset + at) 1 false
 unfolding segment_base
-code_base Real r rows offset at =
-    let same : offset + (at + 1) ≡ offset + at + 1 = omega arith in
-    ap (λ (end : ℕ). if nat_le end SEGMENT_SIZE then Ok (selector r Cs * PARAGRAPH_SIZE) else Err (fault_with (stack_or Cs GENERAL_PROTECTION) 0)) same
-code_base Protected r rows offset at =
-    ap (λ (x : Result ℕ Fault). if is_null (selector r Cs) then Err (fault_with GENERAL_PROTECTION 0) else x)
-    (code_row (selector r Cs) (row_of_selector rows (selector r Cs)) offset at)
+code_base Real r rows offset at = grind arith
+code_base Protected r rows offset at = grind (arith, code_row)
 
 -- and where a run may be written it may be read
 row_read : (seg : SegReg) (sel : ℕ) (row : Row) (offset n base : ℕ) → base_in_row seg sel row offset n true ≡ Ok base →
     base_in_row seg sel row offset n false ≡ Ok base
 row_read seg sel None offset n base e = absurd cc
-row_read seg sel (Some row) offset n base e =
-    let suits = passed (not (suits_register seg row.0.kind)) (fault_with (stack_or seg GENERAL_PROTECTION) (selector_code sel)) _ base e in
-    let present = passed (not row.0.present) (fault_with (stack_or seg SEGMENT_NOT_PRESENT) (selector_code sel)) _ base suits.1 in
-    let writable = passed (not (is_writable row.0.kind)) (fault_with GENERAL_PROTECTION 0) _ base present.1 in
-    pass (not (suits_register seg row.0.kind)) (fault_with (stack_or seg GENERAL_PROTECTION) (selector_code sel)) _ base suits.0
-    (pass (not row.0.present) (fault_with (stack_or seg SEGMENT_NOT_PRESENT) (selector_code sel)) _ base present.0 writable.1)
+row_read seg sel (Some row) offset n base e = grind (arith, pass, passed)
 
 pub protected_read : (rows : List Row) (seg : SegReg) (sel offset n base : ℕ) → protected_base rows seg sel offset n true ≡ Ok base →
     protected_base rows seg sel offset n false ≡ Ok base
-protected_read rows seg sel offset n base e =
-    let some = passed (is_null sel) (fault_with GENERAL_PROTECTION 0) _ base e in
-    pass (is_null sel) (fault_with GENERAL_PROTECTION 0) _ base some.0 (row_read seg sel (row_of_selector rows sel) offset n base some.1)
+protected_read rows seg sel offset n base e = grind (arith, pass, passed, row_read)

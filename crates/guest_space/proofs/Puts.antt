@@ -1,5 +1,6 @@
 -- Bytes that are put where a translation ends are bytes at the places of the run, and leave a machine a machine.
-use Rattle.std.proofs.Common.{◌≡◌, ℕ, suc, ◌+◌, ◌%◌, ◌<◌, ◌≤◌, ◌^◌, Ok, true, List, [], ◌∷◌, length, drop, slice_index, slice_index_or, slice_set, refl, ap, ◌∙◌, sym, arith, add-zero}
+use Rattle.std.proofs.Common.{◌≡◌, ℕ, suc, ◌+◌, ◌%◌, ◌<◌, ◌≤◌, ◌^◌, Ok, true, List, [], ◌∷◌, length, drop, slice_index, slice_index_or}
+use Rattle.std.proofs.Common.{slice_set, refl, ap, ◌∙◌, sym, arith, add-zero}
 use Rattle.client_world.specs.declared.place.Place.{Place}
 use Rattle.client_world.specs.declared.place.Place.TheVariants.{Nothing}
 use Rattle.client_world.specs.declared.host_frames.TheConstants.{PAGE_SIZE}
@@ -14,27 +15,32 @@ use Rattle.host_memory.specs.View.{MachineView}
 use Rattle.host_memory.proofs.WalkAnswers.{TouchesAt}
 use Rattle.guest_space.specs.Machines.{Processor, held_world, IsMachine}
 use Rattle.guest_space.specs.Transfer.{translated, with_bytes_at, with_places}
-use Rattle.guest_space.proofs.Machines.{CanWrite, CanWriteAll, AllBytes, with_place, written_machine, written_machines, written_addresses, can_write_after, with_places_none, with_places_first, with_places_bytes}
+use Rattle.guest_space.proofs.Machines.{CanWrite, CanWriteAll, AllBytes, with_place, written_machine, written_machines, written_addresses}
+use Rattle.guest_space.proofs.Machines.{can_write_after, with_places_none, with_places_first, with_places_bytes}
 use Rattle.guest_space.proofs.Runs.{run_touches, run_all, can_write_run}
 
 -- one byte
 pub can_write_there : (w : World) (lin : ℕ) → may_touch (place_in w.blocks lin) true ≡ true → CanWrite w (place_in w.blocks lin)
 can_write_there w lin may = record { at = lin; is = refl; may = may }
 
-pub put_machine : (k : Processor) (v : MachineView) (lin p x : ℕ) → IsMachine k v → TouchesAt v.bytes (place_in v.world.blocks lin) true p → x < 0x100 →
+pub put_machine : (k : Processor) (v : MachineView) (lin p x : ℕ) → IsMachine k v → TouchesAt v.bytes (place_in v.world.blocks lin) true p →
+    x < 0x100 →
     IsMachine k (record { world = with_byte_of v.world (place_in v.world.blocks lin) x; bytes = slice_set v.bytes p x })
 put_machine k v lin p x m touches small =
     rw touches.address (written_machine k v (place_in v.world.blocks lin) x m (can_write_there v.world lin touches.may) small)
 
-pub put_is : (k : Processor) (v : MachineView) (lin p x : ℕ) → IsMachine k v → TouchesAt v.bytes (place_in v.world.blocks lin) true p → x < 0x100 →
-    record { world = held_world k (slice_set v.bytes p x); bytes = slice_set v.bytes p x } ≡ with_places v (place_in v.world.blocks lin ∷ []) (x ∷ [])
+pub put_is : (k : Processor) (v : MachineView) (lin p x : ℕ) → IsMachine k v → TouchesAt v.bytes (place_in v.world.blocks lin) true p →
+    x < 0x100 →
+    record { world = held_world k (slice_set v.bytes p x); bytes = slice_set v.bytes p x }
+    ≡ with_places v (place_in v.world.blocks lin ∷ []) (x ∷ [])
 put_is k v lin p x m touches small =
     ap (λ (w : World). record { world = w; bytes = slice_set v.bytes p x }) (sym (put_machine k v lin p x m touches small).is)
     ∙ ap (λ (a : ℕ). record { world = with_byte_of v.world (place_in v.world.blocks lin) x; bytes = slice_set v.bytes a x }) touches.address
     ∙ sym (with_places_first v (place_in v.world.blocks lin) [] x [] ∙ with_places_none (with_place v (place_in v.world.blocks lin) x) [])
 
 -- a run of bytes whose places lie one after another
-pub put_run : (k : Processor) (v : MachineView) (places : List Place) (bytes : List ℕ) (p : ℕ) → IsMachine k v → CanWriteAll v.world places →
+pub put_run : (k : Processor) (v : MachineView) (places : List Place) (bytes : List ℕ) (p : ℕ) → IsMachine k v →
+    CanWriteAll v.world places →
     AllBytes bytes → length bytes ≡ length places →
     ((i : ℕ) → i < length places → p + i ≡ address_of v.bytes (slice_index_or places i Nothing)) →
     put v.bytes p bytes ≡ with_bytes_at v.bytes places bytes
@@ -61,13 +67,15 @@ run_stands k v lin n p m small room ends i within =
     (run_touches k v lin i n p true m small room less ends).address
     ∙ ap (address_of v.bytes) (sym (places_from-at v.world.blocks lin n i Nothing less))
 
-pub store_machine : (k : Processor) (v : MachineView) (lin n p : ℕ) (bytes : List ℕ) → IsMachine k v → lin < 2 ^ 32 → lin % PAGE_SIZE + n ≤ PAGE_SIZE →
+pub store_machine : (k : Processor) (v : MachineView) (lin n p : ℕ) (bytes : List ℕ) → IsMachine k v → lin < 2 ^ 32 →
+    lin % PAGE_SIZE + n ≤ PAGE_SIZE →
     translated v lin true ≡ Ok p → length bytes ≡ n → AllBytes bytes → IsMachine k (with_places v (places_from v.world.blocks lin n) bytes)
 store_machine k v lin n p bytes m small room ends size all =
     written_machines k v (places_from v.world.blocks lin n) bytes m
     (can_write_run v.world lin n (run_all k v lin n p true m small room ends)) all
 
-pub store_bytes : (k : Processor) (v : MachineView) (lin n p : ℕ) (bytes : List ℕ) → IsMachine k v → lin < 2 ^ 32 → lin % PAGE_SIZE + n ≤ PAGE_SIZE →
+pub store_bytes : (k : Processor) (v : MachineView) (lin n p : ℕ) (bytes : List ℕ) → IsMachine k v → lin < 2 ^ 32 →
+    lin % PAGE_SIZE + n ≤ PAGE_SIZE →
     translated v lin true ≡ Ok p → length bytes ≡ n → AllBytes bytes →
     put v.bytes p bytes ≡ (with_places v (places_from v.world.blocks lin n) bytes).bytes
 store_bytes k v lin n p bytes m small room ends size all =
@@ -76,7 +84,8 @@ store_bytes k v lin n p bytes m small room ends size all =
     ∙ sym (with_places_bytes v (places_from v.world.blocks lin n) bytes)
 
 -- the memory after it
-pub store_opened : (k : Processor) (v : MachineView) (lin n p : ℕ) (bytes : List ℕ) → IsMachine k v → lin < 2 ^ 32 → lin % PAGE_SIZE + n ≤ PAGE_SIZE →
+pub store_opened : (k : Processor) (v : MachineView) (lin n p : ℕ) (bytes : List ℕ) → IsMachine k v → lin < 2 ^ 32 →
+    lin % PAGE_SIZE + n ≤ PAGE_SIZE →
     translated v lin true ≡ Ok p → length bytes ≡ n → AllBytes bytes →
     IsMachine k (record { world = held_world k (put v.bytes p bytes); bytes = put v.bytes p bytes })
 store_opened k v lin n p bytes m small room ends size all =
@@ -84,9 +93,11 @@ store_opened k v lin n p bytes m small room ends size all =
     rw (store_bytes k v lin n p bytes m small room ends size all)
     (record { holds = after.holds; is = refl; sound = rw (← after.is) after.sound })
 
-pub store_is : (k : Processor) (v : MachineView) (lin n p : ℕ) (bytes : List ℕ) → IsMachine k v → lin < 2 ^ 32 → lin % PAGE_SIZE + n ≤ PAGE_SIZE →
+pub store_is : (k : Processor) (v : MachineView) (lin n p : ℕ) (bytes : List ℕ) → IsMachine k v → lin < 2 ^ 32 →
+    lin % PAGE_SIZE + n ≤ PAGE_SIZE →
     translated v lin true ≡ Ok p → length bytes ≡ n → AllBytes bytes →
-    record { world = held_world k (put v.bytes p bytes); bytes = put v.bytes p bytes } ≡ with_places v (places_from v.world.blocks lin n) bytes
+    record { world = held_world k (put v.bytes p bytes); bytes = put v.bytes p bytes }
+    ≡ with_places v (places_from v.world.blocks lin n) bytes
 store_is k v lin n p bytes m small room ends size all =
     let after = store_machine k v lin n p bytes m small room ends size all in
     let same = store_bytes k v lin n p bytes m small room ends size all in
@@ -96,27 +107,15 @@ store_is k v lin n p bytes m small room ends size all =
 -- bytes that are put one by one: what is left to do leads to the same end
 pub put_step : (v w : MachineView) (places : List Place) (bytes : List ℕ) (i : ℕ) → length places ≡ length bytes → i < length bytes →
     with_places v (drop i places) (drop i bytes) ≡ w →
-    with_places (with_places v (slice_index_or places i Nothing ∷ []) (slice_index bytes i ∷ [])) (drop (i + 1) places) (drop (i + 1) bytes) ≡ w
-put_step v w places bytes i size within left =
-    let q = slice_index_or places i Nothing in
-    let x = slice_index bytes i in
-    let less : i < length places = omega arith in
-    let next : i + 1 ≡ suc i = omega arith in
-    ap (λ (u : MachineView). with_places u (drop (i + 1) places) (drop (i + 1) bytes))
-    (with_places_first v q [] x [] ∙ with_places_none (with_place v q x) [])
-    ∙ ap (λ (n : ℕ). with_places (with_place v q x) (drop n places) (drop n bytes)) next
-    ∙ sym (with_places_first v q (drop (suc i) places) x (drop (suc i) bytes))
-    ∙ ap (λ (ps : List Place). with_places v ps (x ∷ drop (suc i) bytes)) (sym (drop-cons places i Nothing less))
-    ∙ ap (λ (xs : List ℕ). with_places v (drop i places) xs) (sym (drop-cons bytes i 0 within))
-    ∙ left
+    with_places (with_places v (slice_index_or places i Nothing ∷ []) (slice_index bytes i ∷ [])) (drop (i + 1) places)
+    (drop (i + 1) bytes) ≡ w
+put_step v w places bytes i size within left = grind (arith, drop-cons, with_place, with_places_first, with_places_none)
 
 pub put_end : (v w : MachineView) (places : List Place) (bytes : List ℕ) (i : ℕ) → length places ≡ length bytes → length bytes ≤ i →
     with_places v (drop i places) (drop i bytes) ≡ w → v ≡ w
-put_end v w places bytes i size done left =
-    sym (ap (λ (ps : List Place). with_places v ps (drop i bytes)) (drop_all i places (omega arith)) ∙ with_places_none v (drop i bytes)) ∙ left
+put_end v w places bytes i size done left = grind (arith, drop_all, with_places_none)
 
 -- a byte that is put moves no place
-pub put_keeps : (v u : MachineView) (p : Place) (x l : ℕ) → u ≡ with_places v (p ∷ []) (x ∷ []) → place_in u.world.blocks l ≡ place_in v.world.blocks l
-put_keeps v u p x l e =
-    ap (λ (y : MachineView). place_in y.world.blocks l) (e ∙ with_places_first v p [] x [] ∙ with_places_none (with_place v p x) [])
-    ∙ place_in-with_byte_of v.world p x l
+pub put_keeps : (v u : MachineView) (p : Place) (x l : ℕ) → u ≡ with_places v (p ∷ []) (x ∷ []) →
+    place_in u.world.blocks l ≡ place_in v.world.blocks l
+put_keeps v u p x l e = grind (arith, place_in-with_byte_of, with_place, with_places_first, with_places_none)

@@ -1,10 +1,12 @@
 -- What was written at a pointer is read there again.
-use Rattle.std.proofs.Common.{◌≡◌, ◌≢◌, ℕ, zero, suc, ◌<◌, true, List, [], ◌∷◌, length, slice_index, slice_index_or, slice_set, refl, ap, ◌∙◌, sym, arith, None, Some, Option, get_or-set_same, get_or-set_other, length-set}
+use Rattle.std.proofs.Common.{◌≡◌, ◌≢◌, ℕ, zero, suc, ◌<◌, true, List, [], ◌∷◌, length, slice_index, slice_index_or, slice_set, refl, ap}
+use Rattle.std.proofs.Common.{◌∙◌, sym, arith, None, Some, Option, get_or-set_same, get_or-set_other, length-set}
 use Rattle.std.proofs.lemmas.Bool.{ltb-true}
 use Rattle.client_world.specs.declared.place.Place.{Place}
 use Rattle.client_world.specs.declared.place.Place.TheVariants.{Dos, Block, Host, Nothing}
 use Rattle.client_world.specs.declared.memory_map.TheConstants.{ROM_START, DOS_SIZE}
-use Rattle.client_world.specs.Access.{may_touch, byte_of, bytes_of, bytes_of_block, with_block_byte, with_byte_of, with_bytes_of, HasByte, IsHeld}
+use Rattle.client_world.specs.Access.{may_touch, byte_of, bytes_of, bytes_of_block, with_block_byte, with_byte_of, with_bytes_of, HasByte}
+use Rattle.client_world.specs.Access.{IsHeld}
 use Rattle.client_world.specs.World.{World, MemoryBlock}
 use Rattle.guest_space.proofs.Machines.{CanWrite, CanWriteAll, held_there, can_write_after}
 
@@ -13,7 +15,8 @@ set_byte : (block : Option MemoryBlock) (at x : ℕ) → HasByte block at → sl
 set_byte None at x held = absurd held
 set_byte (Some block) at x held = get_or-set_same block.bytes at x 0 held
 
-other_byte : (block : Option MemoryBlock) (at k x : ℕ) → k ≢ at → slice_index (bytes_of_block (with_block_byte block at x)) k ≡ slice_index (bytes_of_block block) k
+other_byte : (block : Option MemoryBlock) (at k x : ℕ) → k ≢ at →
+    slice_index (bytes_of_block (with_block_byte block at x)) k ≡ slice_index (bytes_of_block block) k
 other_byte None at k x other = refl
 other_byte (Some block) at k x other = get_or-set_other block.bytes at k x 0 other
 
@@ -41,15 +44,15 @@ byte_kept w (Dos a) Nothing x other = refl
 byte_kept w (Block number a) (Dos b) x other = refl
 byte_kept w (Block zero a) (Block m b) x other = refl
 byte_kept w (Block (suc n) a) (Block zero b) x other = refl
-byte_kept w (Block (suc n) a) (Block (suc m) b) x other =
-    block_kept w.blocks n m a b x (λ e f. other (ap (λ (j : ℕ). Block (suc j) a) e ∙ ap (Block (suc m)) (sym f)))
+byte_kept w (Block (suc n) a) (Block (suc m) b) x other = grind (arith, block_kept)
 byte_kept w (Block number a) Host x other = refl
 byte_kept w (Block number a) Nothing x other = refl
 byte_kept w Host p x other = refl
 byte_kept w Nothing p x other = refl
 
 -- the byte of the place is the one that was written
-byte_there : (w : World) (p : Place) (x : ℕ) → length w.dos ≡ DOS_SIZE → may_touch p true ≡ true → IsHeld w p → byte_of (with_byte_of w p x) p ≡ x
+byte_there : (w : World) (p : Place) (x : ℕ) → length w.dos ≡ DOS_SIZE → may_touch p true ≡ true → IsHeld w p →
+    byte_of (with_byte_of w p x) p ≡ x
 byte_there w (Dos at) x size may held = let low = ltb-true at ROM_START may in get_or-set_same w.dos at x 0 (omega arith)
 byte_there w (Block zero at) x size may held = absurd held
 byte_there w (Block (suc n) at) x size may held = block_there w.blocks n at x held
@@ -72,7 +75,8 @@ bytes_kept w (q ∷ places) (x ∷ bytes) p other =
 
 -- no place is twice among them
 abbrev pub AreDistinct : List Place → Type 0
-AreDistinct places = (i j : ℕ) → i < length places → j < length places → slice_index_or places i Nothing ≡ slice_index_or places j Nothing → i ≡ j
+AreDistinct places = (i j : ℕ) → i < length places → j < length places →
+    slice_index_or places i Nothing ≡ slice_index_or places j Nothing → i ≡ j
 
 pub read_back : (w : World) (places : List Place) (bytes : List ℕ) → length w.dos ≡ DOS_SIZE → CanWriteAll w places → AreDistinct places →
     length bytes ≡ length places → bytes_of (with_bytes_of w places bytes) places ≡ bytes

@@ -35,20 +35,20 @@ read_chain false b c d f g h i x base e = absurd cc
 row_for_read : (seg : SegReg) (sel : ℕ) (row : Row) (offset n base : ℕ) → base_in_row seg sel row offset n true ≡ Ok base →
     base_in_row seg sel row offset n false ≡ Ok base
 row_for_read seg sel None offset n base e = absurd cc
-row_for_read seg sel (Some row) offset n base e =
-    read_chain (suits_register seg row.0.kind) row.0.present (is_writable row.0.kind) (is_inside row.0 offset n) _ _ _ _ row.0.base base e
+row_for_read seg sel (Some row) offset n base e = grind (arith, read_chain)
 
 selector_for_read : (null : Bool) (f : Fault) (seg : SegReg) (sel : ℕ) (row : Row) (offset n base : ℕ) →
-    (if null then Err f else base_in_row seg sel row offset n true) ≡ Ok base → (if null then Err f else base_in_row seg sel row offset n false) ≡ Ok base
+    (if null then Err f else base_in_row seg sel row offset n true) ≡ Ok base →
+    (if null then Err f else base_in_row seg sel row offset n false) ≡ Ok base
 selector_for_read true f seg sel row offset n base e = absurd cc
 selector_for_read false f seg sel row offset n base e = row_for_read seg sel row offset n base e
 
-base_for_read : (mode : Mode) (r : Regs) (rows : List Row) (seg : SegReg) (offset n base : ℕ) → segment_base mode r rows seg offset n true ≡ Ok base →
+base_for_read : (mode : Mode) (r : Regs) (rows : List Row) (seg : SegReg) (offset n base : ℕ) →
+    segment_base mode r rows seg offset n true ≡ Ok base →
     segment_base mode r rows seg offset n false ≡ Ok base
 unfolding segment_base
 base_for_read Real r rows seg offset n base e = e
-base_for_read Protected r rows seg offset n base e =
-    selector_for_read (is_null (selector r seg)) _ seg (selector r seg) (row_of_selector rows (selector r seg)) offset n base e
+base_for_read Protected r rows seg offset n base e = grind (arith, selector_for_read)
 
 place_for_read : (p : Place) → may_touch p true ≡ true → may_touch p false ≡ true
 place_for_read (Dos at) e = refl
@@ -70,13 +70,15 @@ read_of_run k v seg low n at machine run some =
     run_touches k v lin 0 n at true machine (omega arith) room some run.ends in
     let ends : translated v lin false ≡ Ok at =
     ap (λ (a : ℕ). translated v a false) (sym none)
-    ∙ translated_where v (linear (lin + 0)) false (at + 0) (touches_for_read v.bytes (place_in v.world.blocks (linear (lin + 0))) (at + 0) touches)
+    ∙ translated_where v (linear (lin + 0)) false (at + 0)
+    (touches_for_read v.bytes (place_in v.world.blocks (linear (lin + 0))) (at + 0) touches)
     ∙ ap (λ (a : ℕ). Ok a) first in
     sym (run_loaded k v lin n at machine (omega arith) room some ends
     ∙ loaded_linear v.world seg low n run.base (base_for_read v.world.mode v.world.regs v.world.descriptors seg low n run.base run.allowed))
 
 -- a part of a run, as it is read
-pub part_is_read : (k : Processor) (v : MachineView) (seg : SegReg) (low n at i m : ℕ) → IsMachine k v → IsRun v seg low n at → i + m ≤ n → 0 < m →
+pub part_is_read : (k : Processor) (v : MachineView) (seg : SegReg) (low n at i m : ℕ) → IsMachine k v → IsRun v seg low n at →
+    i + m ≤ n → 0 < m →
     read_result v.world seg (low + i) m ≡ Ok (region v.bytes (at + i) m)
 part_is_read k v seg low n at i m machine run within some =
     read_of_run k v seg (low + i) m (at + i) machine (part_of_run k v seg low n at i m machine run within some) some

@@ -13,14 +13,10 @@ run_part a b p q n k m same within i small =
     ap (λ (j : ℕ). get_or a j 0) (add_assoc p k i) ∙ same (k + i) (omega arith) ∙ sym (ap (λ (j : ℕ). get_or b j 0) (add_assoc q k i))
 
 run_byte : (a b : List ℕ) (p q n : ℕ) → SameRun a b p q n → 1 ≤ n → get_or a p 0 ≡ get_or b q 0
-run_byte a b p q n same some =
-    ap (λ (j : ℕ). get_or a j 0) (sym (add-zero p)) ∙ same 0 (omega arith) ∙ ap (λ (j : ℕ). get_or b j 0) (add-zero q)
+run_byte a b p q n same some = grind (arith, add-zero)
 
 run_word : (a b : List ℕ) (p q n : ℕ) → SameRun a b p q n → 2 ≤ n → word_of a p ≡ word_of b q
-run_word a b p q n same some =
-    let low = run_byte a b p q n same (omega arith) in
-    let high = same 1 (omega arith) in
-    rw (low, high) refl
+run_word a b p q n same some = grind (arith, run_byte)
 
 run_dword : (a b : List ℕ) (p q n : ℕ) → SameRun a b p q n → 4 ≤ n → dword a p ≡ dword b q
 run_dword a b p q n same some = same_dword a b p q (λ i small. same i (omega arith))

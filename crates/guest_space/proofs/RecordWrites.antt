@@ -1,5 +1,6 @@
 -- The memory with one record more or one less: the world that it holds, which is sound.
-use Rattle.std.proofs.Common.{◌≡◌, ◌≢◌, ℕ, ◌+◌, ◌-◌, ◌*◌, ◌<◌, ◌≤◌, ◌⊎◌, inl, inr, Bool, List, [], ◌∷◌, ◌++◌, length, get_or, take, refl, ap, ◌∙◌, sym, subst, arith, add-zero, zero-add, add_assoc, Option, Some, None}
+use Rattle.std.proofs.Common.{◌≡◌, ◌≢◌, ℕ, ◌+◌, ◌-◌, ◌*◌, ◌<◌, ◌≤◌, ◌⊎◌, inl, inr, Bool, List, [], ◌∷◌, ◌++◌, length, get_or, take, refl}
+use Rattle.std.proofs.Common.{ap, ◌∙◌, sym, subst, arith, add-zero, zero-add, add_assoc, Option, Some, None}
 use Rattle.std.specs.List.{slice_get}
 use Rattle.std.proofs.lemmas.Bool.{cases_lt}
 use Rattle.std.proofs.lemmas.Option.{slice_get-get_or}
@@ -23,9 +24,13 @@ use Rattle.host_memory.specs.View.{MachineView, OnlyAt}
 use Rattle.host_memory.proofs.Parts.{MemoryParts, parts_of, HasSize, addresses_by, world_by, holds_by, holds_parts, holds_with_records}
 use Rattle.host_memory.proofs.PutParts.{put_records, size_put}
 use Rattle.host_memory.proofs.WorldParts.{calls_is}
+use Rattle.guest_space.specs.declared.machine.Machine.TheInside.{Inside}
 use Rattle.guest_space.specs.Machines.{Processor, held_world}
 use Rattle.guest_space.specs.Records.{record_place, with_record, without_record, IsInRow, OnlyAtAndRow}
-use Rattle.guest_space.proofs.RecordLists.{IsRecordPart, kind_some, count_of_part, part_of_keeps, calls_of_part, keeps_of_part, one_more, one_less, counted}
+use Rattle.guest_space.proofs.CacheLaws.{put_beside, record_beside}
+use Rattle.guest_space.proofs.Insides.{processor_of, view_of, IsWhole, after_call}
+use Rattle.guest_space.proofs.RecordLists.{IsRecordPart, kind_some, count_of_part, part_of_keeps, calls_of_part, keeps_of_part, one_more}
+use Rattle.guest_space.proofs.RecordLists.{one_less, counted}
 use Rattle.guest_space.proofs.RecordRuns.{same_record}
 use Rattle.guest_space.proofs.SoundLists.{IsSound-calls}
 
@@ -33,7 +38,8 @@ length-records_part : (b : List ℕ) (budget : ℕ) → HasSize b budget → len
 length-records_part b budget size = length-region b (PAGE_SIZE * RECORDS) (PAGE_SIZE * RECORD_FRAMES) (omega (arith, size))
 
 -- the row of a record written, where the frame then holds these records
-pub row_holds : (b : List ℕ) (budget : ℕ) → Holds b budget → (place : ℕ) (xs : List ℕ) (rs : List Record) → place < GREATEST_DEPTH → length xs ≡ record_size →
+pub row_holds : (b : List ℕ) (budget : ℕ) → Holds b budget → (place : ℕ) (xs : List ℕ) (rs : List Record) → place < GREATEST_DEPTH →
+    length xs ≡ record_size →
     IsRecordPart (put (records_part b) (record_size * place) xs) rs → Holds (put b (record_place place) xs) budget
 row_holds b budget holds place xs rs small long part =
     holds_by (put b (record_place place) xs) budget (record (parts_of b budget) { records = put (records_part b) (record_size * place) xs })
@@ -42,15 +48,12 @@ row_holds b budget holds place xs rs small long part =
     (holds_with_records (parts_of b budget) budget (put (records_part b) (record_size * place) xs)
     (keeps_of_part (put (records_part b) (record_size * place) xs) rs part) (holds_parts b budget holds))
 
-pub row_world : (b : List ℕ) (budget : ℕ) → Holds b budget → (place : ℕ) (xs : List ℕ) (rs : List Record) → place < GREATEST_DEPTH → length xs ≡ record_size →
+pub row_world : (b : List ℕ) (budget : ℕ) → Holds b budget → (place : ℕ) (xs : List ℕ) (rs : List Record) → place < GREATEST_DEPTH →
+    length xs ≡ record_size →
     IsRecordPart (put (records_part b) (record_size * place) xs) rs → (mode : Mode) (regs : Regs) (vif : Bool) (width : Option Width) →
     world_of (put b (record_place place) xs) budget mode regs vif width ≡ record (world_of b budget mode regs vif width) { calls = rs }
 unfolding world_of
-row_world b budget holds place xs rs small long part mode regs vif width =
-    world_by (put b (record_place place) xs) budget (record (parts_of b budget) { records = put (records_part b) (record_size * place) xs })
-    (put_records b budget (record_place place) (record_size * place) xs holds.size refl (omega arith)) mode regs vif width
-    ∙ ap (λ (calls : List Record). record (world_of b budget mode regs vif width) { calls = calls })
-    (calls_of_part (put (records_part b) (record_size * place) xs) rs part)
+row_world b budget holds place xs rs small long part mode regs vif width = grind (arith, calls_of_part, parts_of, put_records, world_by)
 
 -- where there is a record there is a width
 none_before : (width : Option Width) (w : World) → 0 < length w.calls → SoundWidth width w → width ≢ None
@@ -61,54 +64,74 @@ pub has_width : (w : World) → IsSound w → 0 < length w.calls → w.width ≢
 has_width w s some = none_before w.width w some s.width
 
 -- what a machine's view shows of the records
-pub calls_of : (k : Processor) (b : List ℕ) (v : MachineView) → record { world = held_world k b; bytes = b } ≡ v → v.world.calls ≡ calls_in (records_part b)
+pub calls_of : (k : Processor) (b : List ℕ) (v : MachineView) → record { world = held_world k b; bytes = b } ≡ v →
+    v.world.calls ≡ calls_in (records_part b)
 calls_of k b v is = ap (λ (x : MachineView). x.world.calls) (sym is) ∙ calls_is b k.budget k.mode k.regs k.vif k.width
 
 pub part_of : (k : Processor) (b : List ℕ) (v : MachineView) → record { world = held_world k b; bytes = b } ≡ v → Holds b k.budget →
     IsRecordPart (records_part b) v.world.calls
 part_of k b v is holds = subst (IsRecordPart (records_part b)) (sym (calls_of k b v is)) (part_of_keeps (records_part b) holds.records)
 
--- the memory after a row was written holds the world with these records, which is sound
-pub record After (k : Processor) (c : List ℕ) (v : MachineView) (calls : List Record) : Type 0 where
-  pub holds : Holds c k.budget
-  pub world : held_world k c ≡ record v.world { calls = calls }
-  pub sound : IsSound (held_world k c)
+zeros_are : (n : ℕ) → copies n 0 ≡ zeros n
+unfolding zeros copies
+zeros_are n = refl
 
-after : (k : Processor) (b : List ℕ) (v : MachineView) → record { world = held_world k b; bytes = b } ≡ v → Holds b k.budget → IsSound (held_world k b) →
-    v.world.width ≢ None → (place : ℕ) (xs : List ℕ) (rs : List Record) → place < GREATEST_DEPTH → length xs ≡ record_size →
-    IsRecordPart (put (records_part b) (record_size * place) xs) rs → After k (put b (record_place place) xs) v rs
-after k b v is holds sound some place xs rs small long part =
-    let world = row_world b k.budget holds place xs rs small long part k.mode k.regs k.vif k.width
+-- the machine after a row was written: whole, with that view
+pub record RowAfter (m : Inside) (c : List ℕ) (u : MachineView) : Type 0 where
+  pub whole : IsWhole (record m { ram = c })
+  pub view : view_of (record m { ram = c }) ≡ u
+
+abbrev a_view : World → List ℕ → MachineView
+a_view w b = record { world = w; bytes = b }
+
+row_after : (m : Inside) (v : MachineView) → view_of m ≡ v → IsWhole m → v.world.width ≢ None →
+    (place : ℕ) (xs : List ℕ) (rs : List Record) → place < GREATEST_DEPTH →
+    length xs ≡ record_size → IsRecordPart (put (records_part m.ram) (record_size * place) xs) rs → (c : List ℕ) →
+    c ≡ put m.ram (record_place place) xs →
+    RowAfter m c (a_view (record v.world { calls = rs }) (put v.bytes (record_place place) xs))
+row_after m v is whole some place xs rs small long part c e =
+    let world = row_world m.ram m.pages whole.0 place xs rs small long part m.mode m.regs m.vif m.width
     ∙ ap (λ (x : MachineView). record x.world { calls = rs }) is in
-    record {
-      holds = row_holds b k.budget holds place xs rs small long part;
-      world = world;
-      sound = subst IsSound (sym world) (IsSound-calls v.world rs (subst (λ (x : MachineView). IsSound x.world) is sound) some part.few);
-    }
+    let after = after_call m v (put m.ram (record_place place) xs) (record v.world { calls = rs }) is whole
+    (row_holds m.ram m.pages whole.0 place xs rs small long part)
+    (subst IsSound (sym world) (IsSound-calls v.world rs (subst (λ (x : MachineView). IsSound x.world) is whole.1) some part.few)) world
+    refl (λ lin. refl)
+    (λ p. grind (arith, put_beside, record_beside)) in
+    rw e (grind arith)
 
-pub after_put : (k : Processor) (b : List ℕ) (v : MachineView) → record { world = held_world k b; bytes = b } ≡ v → Holds b k.budget → IsSound (held_world k b) →
-    v.world.width ≢ None → (xs : List ℕ) → length v.world.calls < GREATEST_DEPTH → length xs ≡ record_size → record_bytes (record_at xs 0) ≡ xs →
-    After k (put b (record_place (length v.world.calls)) xs) v (v.world.calls ++ record_at xs 0 ∷ [])
-after_put k b v is holds sound some xs room long exact =
-    after k b v is holds sound some (length v.world.calls) xs (v.world.calls ++ record_at xs 0 ∷ []) room long
-    (one_more (records_part b) v.world.calls xs (length-records_part b k.budget holds.size) (part_of k b v is holds) room long exact)
+-- the row is found by counting the records
+counted_place : (m : Inside) (v : MachineView) (is : view_of m ≡ v) (whole : IsWhole m) (n : ℕ) → n ≡ record_count (records_part m.ram) →
+    n ≡ length v.world.calls
+counted_place m v is whole n count = count ∙ count_of_part (records_part m.ram) v.world.calls (part_of (processor_of m) m.ram v is whole.0)
 
-pub after_drop : (k : Processor) (b : List ℕ) (v : MachineView) → record { world = held_world k b; bytes = b } ≡ v → Holds b k.budget → IsSound (held_world k b) →
-    0 < length v.world.calls →
-    After k (put b (record_place (length v.world.calls - 1)) (zeros record_size)) v (take (length v.world.calls - 1) v.world.calls)
-after_drop k b v is holds sound some =
-    let part = part_of k b v is holds in
+pub after_put : (m : Inside) (v : MachineView) → view_of m ≡ v → IsWhole m → v.world.width ≢ None → (xs : List ℕ) →
+    length v.world.calls < GREATEST_DEPTH →
+    length xs ≡ record_size → record_bytes (record_at xs 0) ≡ xs → (n : ℕ) → n ≡ record_count (records_part m.ram) → (c : List ℕ) →
+    c ≡ put m.ram (record_place n) xs →
+    RowAfter m c (with_record v (record_at xs 0) xs)
+after_put m v is whole some xs room long exact n count c e =
+    row_after m v is whole some (length v.world.calls) xs (v.world.calls ++ record_at xs 0 ∷ []) room long
+    (one_more (records_part m.ram) v.world.calls xs (length-records_part m.ram m.pages whole.0.size)
+    (part_of (processor_of m) m.ram v is whole.0) room long exact)
+    c (e ∙ ap (λ (i : ℕ). put m.ram (record_place i) xs) (counted_place m v is whole n count))
+
+pub after_drop : (m : Inside) (v : MachineView) → view_of m ≡ v → IsWhole m → 0 < length v.world.calls → (n : ℕ) →
+    n ≡ record_count (records_part m.ram) →
+    (c : List ℕ) → c ≡ put m.ram (record_place (n - 1)) (copies record_size 0) → RowAfter m c (without_record v)
+after_drop m v is whole some n count c e =
+    let part = part_of (processor_of m) m.ram v is whole.0 in
     let few = part.few in
-    after k b v is holds sound (has_width v.world (subst (λ (x : MachineView). IsSound x.world) is sound) some) (length v.world.calls - 1) (zeros record_size)
+    row_after m v is whole (has_width v.world (subst (λ (x : MachineView). IsSound x.world) is whole.1) some) (length v.world.calls - 1)
+    (zeros record_size)
     (take (length v.world.calls - 1) v.world.calls) (omega arith) (length-zeros record_size)
-    (one_less (records_part b) v.world.calls (length-records_part b k.budget holds.size) part some)
+    (one_less (records_part m.ram) v.world.calls (length-records_part m.ram m.pages whole.0.size) part some)
+    c (e ∙ ap (put m.ram (record_place (n - 1))) (zeros_are record_size)
+    ∙ ap (λ (i : ℕ). put m.ram (record_place (i - 1)) (zeros record_size)) (counted_place m v is whole n count))
 
 -- a byte of a row in the memory is one of the frame
 pub row_byte : (b : List ℕ) (place i : ℕ) → place < GREATEST_DEPTH → i < record_size →
     get_or b (record_place place + i) 0 ≡ get_or (records_part b) (record_size * place + i) 0
-row_byte b place i small within =
-    ap (λ (j : ℕ). get_or b j 0) (add_assoc (PAGE_SIZE * RECORDS) (record_size * place) i)
-    ∙ sym (at_region b (PAGE_SIZE * RECORDS) (PAGE_SIZE * RECORD_FRAMES) (record_size * place + i) (omega arith))
+row_byte b place i small within = grind (arith, add_assoc, at_region)
 
 pub row_kind : (b : List ℕ) (place : ℕ) → place < GREATEST_DEPTH →
     get_or b (record_place place) 0 ≡ get_or (records_part b) (record_size * place) 0
@@ -120,20 +143,15 @@ pub counted_rows : (b : List ℕ) (n : ℕ) → n ≤ GREATEST_DEPTH → ((k : �
     (GREATEST_DEPTH ≡ n) ⊎ (get_or b (record_place n) 0 ≡ 0) → record_count (records_part b) ≡ n
 counted_rows b n few some ends = counted (records_part b) n few
     (λ k small none. some k small (row_kind b k (omega arith) ∙ none))
-    (elim (cases_lt n GREATEST_DEPTH) [
-      | inl room ↦ elim ends [
-        | inl full ↦ inl full
-        | inr none ↦ inr (sym (row_kind b n room) ∙ none)
-      ]
-      | inr full ↦ inl (omega arith)
-    ])
+    (grind (arith, cases_lt, row_kind))
 
 pub count_of : (k : Processor) (b : List ℕ) (v : MachineView) → record { world = held_world k b; bytes = b } ≡ v → Holds b k.budget →
     length v.world.calls ≡ record_count (records_part b)
 count_of k b v is holds = sym (count_of_part (records_part b) v.world.calls (part_of k b v is holds))
 
 -- what the bytes of a row say
-pub row_held : (k : Processor) (b : List ℕ) (v : MachineView) → record { world = held_world k b; bytes = b } ≡ v → Holds b k.budget → (place : ℕ) →
+pub row_held : (k : Processor) (b : List ℕ) (v : MachineView) → record { world = held_world k b; bytes = b } ≡ v → Holds b k.budget →
+    (place : ℕ) →
     place < GREATEST_DEPTH → place < length v.world.calls →
     slice_get v.world.calls place ≡ Some (record_at (region b (record_place place) record_size) 0)
 row_held k b v is holds place small held =
@@ -142,15 +160,14 @@ row_held k b v is holds place small held =
     slice_get-get_or v.world.calls place d held
     ∙ ap (λ (r : Record). Some r) (sym (part.read place d held)
     ∙ same_record (records_part b) (region b (record_place place) record_size) (record_size * place) 0
-    (λ i within. sym (row_byte b place i small within) ∙ sym (at_region b (record_place place) record_size i within)
-    ∙ ap (λ (j : ℕ). get_or (region b (record_place place) record_size) j 0) (sym (zero-add i))))
+    (λ i within. grind (arith, at_region, row_byte, zero-add)))
 
 row_first : (b : List ℕ) (place : ℕ) → place < GREATEST_DEPTH →
     get_or (region b (record_place place) record_size) 0 0 ≡ get_or (records_part b) (record_size * place) 0
-row_first b place small =
-    at_region b (record_place place) record_size 0 (omega arith) ∙ ap (λ (j : ℕ). get_or b j 0) (add-zero (record_place place)) ∙ row_kind b place small
+row_first b place small = grind (arith, add-zero, at_region, row_kind)
 
-pub row_some : (k : Processor) (b : List ℕ) (v : MachineView) → record { world = held_world k b; bytes = b } ≡ v → Holds b k.budget → (place : ℕ) →
+pub row_some : (k : Processor) (b : List ℕ) (v : MachineView) → record { world = held_world k b; bytes = b } ≡ v → Holds b k.budget →
+    (place : ℕ) →
     place < GREATEST_DEPTH → place < length v.world.calls → get_or (region b (record_place place) record_size) 0 0 ≢ 0
 row_some k b v is holds place small held e =
     let part = part_of k b v is holds in
@@ -158,56 +175,24 @@ row_some k b v is holds place small held e =
     kind_some (get_or v.world.calls place d) (sym (part.bytes place 0 d held (omega arith))
     ∙ ap (λ (j : ℕ). get_or (records_part b) j 0) (add-zero (record_size * place)) ∙ sym (row_first b place small) ∙ e)
 
-pub row_none : (k : Processor) (b : List ℕ) (v : MachineView) → record { world = held_world k b; bytes = b } ≡ v → Holds b k.budget → (place : ℕ) →
+pub row_none : (k : Processor) (b : List ℕ) (v : MachineView) → record { world = held_world k b; bytes = b } ≡ v → Holds b k.budget →
+    (place : ℕ) →
     place < GREATEST_DEPTH → length v.world.calls ≤ place → get_or (region b (record_place place) record_size) 0 0 ≡ 0
-row_none k b v is holds place small free =
-    row_first b place small ∙ (part_of k b v is holds).rest (record_size * place) (omega arith) (omega arith)
-
-pub zeros_are : (n : ℕ) → copies n 0 ≡ zeros n
-unfolding zeros copies
-zeros_are n = refl
-
--- the view of a machine after a row was written
-abbrev view_of : World → List ℕ → MachineView
-view_of w b = record { world = w; bytes = b }
-
-view_after : (k : Processor) (b c : List ℕ) (v : MachineView) → record { world = held_world k b; bytes = b } ≡ v → (place : ℕ) (xs : List ℕ) (calls : List Record) →
-    c ≡ put b (record_place place) xs → After k (put b (record_place place) xs) v calls →
-    view_of (held_world k c) c ≡ view_of (record v.world { calls = calls }) (put v.bytes (record_place place) xs)
-view_after k b c v is place xs calls e done =
-    ap (λ (d : List ℕ). view_of (held_world k d) d) e
-    ∙ ap (λ (w : World). view_of w (put b (record_place place) xs)) done.world
-    ∙ ap (λ (x : MachineView). view_of (record v.world { calls = calls }) (put x.bytes (record_place place) xs)) is
-
-pub view_put : (k : Processor) (b c : List ℕ) (v : MachineView) → record { world = held_world k b; bytes = b } ≡ v → (xs : List ℕ) →
-    c ≡ put b (record_place (length v.world.calls)) xs →
-    After k (put b (record_place (length v.world.calls)) xs) v (v.world.calls ++ record_at xs 0 ∷ []) →
-    record { world = held_world k c; bytes = c } ≡ with_record v (record_at xs 0) xs
-view_put k b c v is xs e done = view_after k b c v is (length v.world.calls) xs (v.world.calls ++ record_at xs 0 ∷ []) e done
-
-pub view_drop : (k : Processor) (b c : List ℕ) (v : MachineView) → record { world = held_world k b; bytes = b } ≡ v →
-    c ≡ put b (record_place (length v.world.calls - 1)) (zeros record_size) →
-    After k (put b (record_place (length v.world.calls - 1)) (zeros record_size)) v (take (length v.world.calls - 1) v.world.calls) →
-    record { world = held_world k c; bytes = c } ≡ without_record v
-view_drop k b c v is e done = view_after k b c v is (length v.world.calls - 1) (zeros record_size) (take (length v.world.calls - 1) v.world.calls) e done
+row_none k b v is holds place small free = grind (arith, part_of, row_first)
 
 -- a row that is written after other writes
 beside_row : (row at : ℕ) → ¬ IsInRow row at → (record_place row + record_size ≤ at) ⊎ (at < record_place row)
-beside_row row at out = elim (cases_lt at (record_place row)) [
-  | inl below ↦ inr below
-  | inr from ↦ elim (cases_lt at (record_place row + record_size)) [
-    | inl inside ↦ absurd (out (from, inside))
-    | inr past ↦ inl past
-  ]
-]
+beside_row row at out = grind (arith, cases_lt)
 
-row_addresses : (b : List ℕ) (budget row : ℕ) (xs : List ℕ) → HasSize b budget → row < GREATEST_DEPTH → length xs ≡ record_size → (place : Place) →
+row_addresses : (b : List ℕ) (budget row : ℕ) (xs : List ℕ) → HasSize b budget → row < GREATEST_DEPTH → length xs ≡ record_size →
+    (place : Place) →
     address_of (put b (record_place row) xs) place ≡ address_of b place
 row_addresses b budget row xs size small long =
     let parts = put_records b budget (record_place row) (record_size * row) xs size refl (omega arith) in
     addresses_by b (put b (record_place row) xs) (ap (λ (x : MemoryParts). x.handles) parts) (ap (λ (x : MemoryParts). x.tables) parts)
 
-pub only_row : (places : List Place) (b c : List ℕ) (budget row : ℕ) (xs : List ℕ) → OnlyAt places b c → HasSize b budget → row < GREATEST_DEPTH →
+pub only_row : (places : List Place) (b c : List ℕ) (budget row : ℕ) (xs : List ℕ) → OnlyAt places b c → HasSize b budget →
+    row < GREATEST_DEPTH →
     length xs ≡ record_size → OnlyAtAndRow places row b (put c (record_place row) xs)
 only_row places b c budget row xs only size small long =
     let same : HasSize c budget = only.size ∙ size in
@@ -218,8 +203,6 @@ only_row places b c budget row xs only size small long =
       host = λ at from to out. put_away c (record_place row) xs at (next at (beside_row row at out)) ∙ only.host at from to;
     }
   where
-    next : (at : ℕ) → (record_place row + record_size ≤ at) ⊎ (at < record_place row) → (record_place row + length xs ≤ at) ⊎ (at < record_place row)
-    next at o = elim o [
-      | inl past ↦ inl (omega arith)
-      | inr below ↦ inr below
-    ]
+    next : (at : ℕ) → (record_place row + record_size ≤ at) ⊎ (at < record_place row) → (record_place row + length xs ≤ at)
+        ⊎ (at < record_place row)
+    next at o = grind arith

@@ -1,6 +1,7 @@
 -- What the calls on descriptors answer, from what the table's rows say: a row that leaves the world sound fits, and a free run of the
 -- memory's rows is one of the world's.
-use Rattle.std.proofs.Common.{◌≡◌, ℕ, ◌<◌, ◌≤◌, ◌⊎◌, inl, inr, Bool, List, slice_set, subst, arith, sym, Option, None, Some, IfSome, get_or-set_same, length-set}
+use Rattle.std.proofs.Common.{◌≡◌, ℕ, ◌<◌, ◌≤◌, ◌⊎◌, inl, inr, Bool, List, slice_set, subst, arith, sym, Option, None, Some, IfSome}
+use Rattle.std.proofs.Common.{get_or-set_same, length-set}
 use Rattle.std.proofs.lemmas.List.{get_or_past}
 use Rattle.client_world.specs.declared.host_frames.TheConstants.{DESCRIPTORS, FIRST_FREE_DESCRIPTOR}
 use Rattle.client_world.specs.declared.registers.Mode.{Mode}
@@ -14,7 +15,8 @@ use Rattle.desc_table.specs.Rows.{IsFreeRun, IsFirstFreeRun}
 use Rattle.host_memory.specs.Layout.{world_of}
 use Rattle.host_memory.proofs.RowWrites.{first_run_in_world, no_run_in_world, no_run_in_memory}
 
-pub fits_of_sound : (rows : List Row) (index : ℕ) (row : Row) → SoundDescriptors (slice_set rows index row) → index < DESCRIPTORS → FitsRow row
+pub fits_of_sound : (rows : List Row) (index : ℕ) (row : Row) → SoundDescriptors (slice_set rows index row) → index < DESCRIPTORS →
+    FitsRow row
 fits_of_sound rows index row sound small =
     let size = sound.indices in
     let same = length-set rows index row in

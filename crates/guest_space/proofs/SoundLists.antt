@@ -1,6 +1,6 @@
 -- A sound world with other vectors, other callbacks, other pageable pages or other records: of these lists the lengths alone count, and
 -- before the entry there are no callbacks and no records.
-use Rattle.std.proofs.Common.{◌≡◌, ◌≢◌, ◌≤◌, Bool, List, length, refl, ap, ◌∙◌, Option, None, Some, slice_index_or}
+use Rattle.std.proofs.Common.{◌≡◌, ◌≢◌, ◌≤◌, Bool, List, length, refl, ap, ◌∙◌, Option, None, Some, slice_index_or, arith}
 use Rattle.client_world.specs.declared.calls.Record.{Record}
 use Rattle.client_world.specs.declared.limits.TheConstants.{CALLBACKS, EXCEPTION_VECTORS, GREATEST_DEPTH, INTERRUPT_VECTORS}
 use Rattle.client_world.specs.declared.memory_map.TheConstants.{DOS_VIEW_PAGES}
@@ -18,53 +18,33 @@ with_lists w interrupts exceptions callbacks pageable calls = record w {
   calls = calls;
 }
 
-keeps_width : (width : Option Width) (w : World) (interrupts exceptions : List FarPtr) (callbacks : List (Option Callback)) (pageable : List Bool) (calls : List Record) →
+keeps_width : (width : Option Width) (w : World) (interrupts exceptions : List FarPtr) (callbacks : List (Option Callback))
+    (pageable : List Bool) (calls : List Record) →
     (width ≡ None → callbacks ≡ w.callbacks) → (width ≡ None → calls ≡ w.calls) → SoundWidth width w →
     SoundWidth width (with_lists w interrupts exceptions callbacks pageable calls)
-keeps_width None w interrupts exceptions callbacks pageable calls back same s = record {
-  mode = s.mode;
-  descriptors = s.descriptors;
-  blocks = s.blocks;
-  callbacks = λ slot. ap (λ (xs : List (Option Callback)). slice_index_or xs slot None) (back refl) ∙ s.callbacks slot;
-  calls = ap length (same refl) ∙ s.calls;
-}
+keeps_width None w interrupts exceptions callbacks pageable calls back same s = grind arith
 keeps_width (Some width) w interrupts exceptions callbacks pageable calls back same s = s
 
-sound_lists : (w : World) (interrupts exceptions : List FarPtr) (callbacks : List (Option Callback)) (pageable : List Bool) (calls : List Record) → IsSound w →
-    length interrupts ≡ INTERRUPT_VECTORS → length exceptions ≡ EXCEPTION_VECTORS → length callbacks ≡ CALLBACKS → length pageable ≡ DOS_VIEW_PAGES →
+sound_lists : (w : World) (interrupts exceptions : List FarPtr) (callbacks : List (Option Callback)) (pageable : List Bool)
+    (calls : List Record) → IsSound w →
+    length interrupts ≡ INTERRUPT_VECTORS → length exceptions ≡ EXCEPTION_VECTORS → length callbacks ≡ CALLBACKS →
+    length pageable ≡ DOS_VIEW_PAGES →
     length calls ≤ GREATEST_DEPTH → (w.width ≡ None → callbacks ≡ w.callbacks) → (w.width ≡ None → calls ≡ w.calls) →
     IsSound (with_lists w interrupts exceptions callbacks pageable calls)
-sound_lists w interrupts exceptions callbacks pageable calls s int exc back page few same_callbacks same_calls = record {
-  segments = s.segments;
-  megabyte = s.megabyte;
-  arena = s.arena;
-  blocks = s.blocks;
-  block_bytes = s.block_bytes;
-  pageable = page;
-  descriptors = s.descriptors;
-  runs = s.runs;
-  interrupt_vectors = int;
-  exception_vectors = exc;
-  callbacks = back;
-  depth = few;
-  width = keeps_width w.width w interrupts exceptions callbacks pageable calls same_callbacks same_calls s.width;
-}
+sound_lists w interrupts exceptions callbacks pageable calls s int exc back page few same_callbacks same_calls = grind (arith, keeps_width)
 
-pub IsSound-vectors : (w : World) (interrupts exceptions : List FarPtr) (pageable : List Bool) → IsSound w → length interrupts ≡ INTERRUPT_VECTORS →
+pub IsSound-vectors : (w : World) (interrupts exceptions : List FarPtr) (pageable : List Bool) → IsSound w →
+    length interrupts ≡ INTERRUPT_VECTORS →
     length exceptions ≡ EXCEPTION_VECTORS → length pageable ≡ DOS_VIEW_PAGES →
     IsSound (record w { interrupt_vectors = interrupts; exception_vectors = exceptions; pageable = pageable })
-IsSound-vectors w interrupts exceptions pageable s int exc page =
-    sound_lists w interrupts exceptions w.callbacks pageable w.calls s int exc s.callbacks page s.depth (λ none. refl) (λ none. refl)
+IsSound-vectors w interrupts exceptions pageable s int exc page = grind (arith, sound_lists)
 
 -- other callbacks, once there is a width
 pub IsSound-callbacks : (w : World) (callbacks : List (Option Callback)) → IsSound w → w.width ≢ None → length callbacks ≡ CALLBACKS →
     IsSound (record w { callbacks = callbacks })
-IsSound-callbacks w callbacks s some back =
-    sound_lists w w.interrupt_vectors w.exception_vectors callbacks w.pageable w.calls s s.interrupt_vectors s.exception_vectors back s.pageable s.depth
-    (λ none. absurd (some none)) (λ none. refl)
+IsSound-callbacks w callbacks s some back = grind (arith, sound_lists)
 
 -- few records, once there is a width
-pub IsSound-calls : (w : World) (calls : List Record) → IsSound w → w.width ≢ None → length calls ≤ GREATEST_DEPTH → IsSound (record w { calls = calls })
-IsSound-calls w calls s some few =
-    sound_lists w w.interrupt_vectors w.exception_vectors w.callbacks w.pageable calls s s.interrupt_vectors s.exception_vectors s.callbacks s.pageable few
-    (λ none. refl) (λ none. absurd (some none))
+pub IsSound-calls : (w : World) (calls : List Record) → IsSound w → w.width ≢ None → length calls ≤ GREATEST_DEPTH →
+    IsSound (record w { calls = calls })
+IsSound-calls w calls s some few = grind (arith, sound_lists)

@@ -1,5 +1,5 @@
 -- A window of code stays where it is: whatever the client writes, and whatever its registers hold beside CS.
-use Rattle.std.proofs.Common.{◌≡◌, ◌∙◌, ℕ, ◌+◌, ◌*◌, ◌^◌, ◌<◌, ◌≤◌, length, Bool, false, List, [], ◌∷◌, Ok, refl, ap, sym, arith}
+use Rattle.std.proofs.Common.{◌≡◌, ◌∙◌, ℕ, ◌+◌, ◌^◌, ◌<◌, ◌≤◌, length, Bool, false, List, [], ◌∷◌, Ok, refl, ap, sym, arith}
 use Rattle.client_world.specs.declared.code.CodeWords.{CodeWords}
 use Rattle.client_world.specs.declared.place.Place.{Place}
 use Rattle.client_world.specs.declared.registers.Mode.{Mode}
@@ -35,32 +35,23 @@ use Rattle.host_memory.specs.View.{MachineView}
 same_all : (v : MachineView) (xs : List Write) → SameAccess v.world (after_writes v xs).world
 unfolding after_writes
 same_all v [] = record { mode = refl; regs = refl; descriptors = refl; places = λ at. refl }
-same_all v (x ∷ xs) = same_then v.world (after_write v x).world (after_writes (after_write v x) xs).world (same_written v x) (same_all (after_write v x) xs)
+same_all v (x ∷ xs) =
+    same_then v.world (after_write v x).world (after_writes (after_write v x) xs).world (same_written v x) (same_all (after_write v x) xs)
 
 base_same : (w u : World) → SameAccess w u → (offset n : ℕ) →
     segment_base u.mode u.regs u.descriptors Cs offset n false ≡ segment_base w.mode w.regs w.descriptors Cs offset n false
-base_same w u same offset n =
-    ap (λ (m : Mode). segment_base m u.regs u.descriptors Cs offset n false) same.mode
-    ∙ ap (λ (r : Regs). segment_base w.mode r u.descriptors Cs offset n false) same.regs
-    ∙ ap (λ (rows : List Row). segment_base w.mode w.regs rows Cs offset n false) same.descriptors
+base_same w u same offset n = grind arith
 
 big_same : (w u : World) → SameAccess w u → is_big u.mode u.descriptors u.regs.cs ≡ is_big w.mode w.descriptors w.regs.cs
-big_same w u same =
-    ap (λ (m : Mode). is_big m u.descriptors u.regs.cs) same.mode
-    ∙ ap (λ (rows : List Row). is_big w.mode rows u.regs.cs) same.descriptors
-    ∙ ap (λ (r : Regs). is_big w.mode w.descriptors r.cs) same.regs
+big_same w u same = grind arith
 
 run_same : (v u : MachineView) → SameAccess v.world u.world → ((q : Place) → address_of u.bytes q ≡ address_of v.bytes q) →
     (first n at : ℕ) → IsCodeRun v first n at → IsCodeRun u first n at
-run_same v u same addresses first n at window = record {
-  base = window.base;
-  allowed = base_same v.world u.world same first n ∙ window.allowed;
-  room = window.room;
-  ends = translated_same v u (linear (window.base + first)) false (same.places (linear (window.base + first))) addresses ∙ window.ends;
-}
+run_same v u same addresses first n at window = grind (arith, base_same, translated_same)
 
 -- writes leave it
-run_written : (v : MachineView) → HoldsItsWorld v → (xs : List Write) (first n at : ℕ) → IsCodeRun v first n at → IsCodeRun (after_writes v xs) first n at
+run_written : (v : MachineView) → HoldsItsWorld v → (xs : List Write) (first n at : ℕ) → IsCodeRun v first n at →
+    IsCodeRun (after_writes v xs) first n at
 run_written v held xs first n at window =
     run_same v (after_writes v xs) (same_all v xs) (λ q. (machine_all v held xs).addresses q) first n at window
 
@@ -75,16 +66,12 @@ base_of_cs Protected r s rows offset n e = ap (λ (sel : ℕ). protected_base ro
 run_of_cs : (v : MachineView) (s : Regs) (on : Bool) (first n at : ℕ) → s.cs ≡ v.world.regs.cs → IsCodeRun v first n at →
     IsCodeRun (record v { world = record v.world { regs = s; vif = on } }) first n at
 unfolding translated
-run_of_cs v s on first n at e window = record {
-  base = window.base;
-  allowed = base_of_cs v.world.mode v.world.regs s v.world.descriptors first n e ∙ window.allowed;
-  room = window.room;
-  ends = window.ends;
-}
+run_of_cs v s on first n at e window = grind (arith, base_of_cs)
 
 -- ---- the window stays
 
-pub window_written : (v : MachineView) → HoldsItsWorld v → (xs : List Write) (w : CodeWindow) → IsWindow v w → IsWindow (after_writes v xs) w
+pub window_written : (v : MachineView) → HoldsItsWorld v → (xs : List Write) (w : CodeWindow) → IsWindow v w →
+    IsWindow (after_writes v xs) w
 unfolding run_written run_same
 window_written v held xs w window =
     let same = same_all v xs in
@@ -118,9 +105,7 @@ window_part k v first n at i m machine window within some =
       base = window.base;
       allowed = segment_part v.world.mode v.world.regs v.world.descriptors Cs first n i m false window.base within window.allowed;
       room = omega arith;
-      ends = ap (λ (a : ℕ). translated v a false) (sym same)
-          ∙ translated_where v (linear (lin + i)) false (at + i)
-          (run_touches k v lin i n at false machine (omega arith) room (omega arith) window.ends);
+      ends = grind (arith, run_touches, translated_where);
     }
 
 window_read : (k : Processor) (v : MachineView) (first n at : ℕ) → IsMachine k v → IsCodeRun v first n at → 0 < n →

@@ -1,5 +1,6 @@
 -- Runs of bytes in one page: their parts are runs, a write leaves them runs, and writes to them have no fault.
-use Rattle.std.proofs.Common.{◌≡◌, ℕ, suc, ◌+◌, ◌-◌, ◌%◌, ◌<◌, ◌≤◌, ◌^◌, Bool, true, List, [], ◌∷◌, length, slice_index_or, ap, ◌∙◌, sym, subst, arith, None, Ok, Err}
+use Rattle.std.proofs.Common.{◌≡◌, ℕ, suc, ◌+◌, ◌-◌, ◌%◌, ◌<◌, ◌≤◌, ◌^◌, Bool, true, List, [], ◌∷◌, length, slice_index_or, ap, ◌∙◌, sym}
+use Rattle.std.proofs.Common.{subst, arith, None, Ok, Err}
 use Rattle.std.specs.List.{AllWithin}
 use Rattle.std.specs.Prelude.{if◌then◌else◌}
 use Rattle.std.proofs.lemmas.Bool.Decides.{nat_tests}
@@ -24,9 +25,10 @@ use Rattle.guest_space.specs.Transfer.{translated, access_fault, after_store, wi
 use Rattle.guest_space.specs.WriteRuns.{LiesIn, IsRun, AreRuns}
 use Rattle.guest_space.proofs.Accesses.{refusal_linear, stored_linear}
 use Rattle.guest_space.proofs.KeptAccess.{SameAccess, same_places}
-use Rattle.guest_space.proofs.Machines.{AllBytes, CanWrite, CanWriteAll, with_place, can_write_after, with_places_none, with_places_short, with_places_first, written_machine, written_addresses}
+use Rattle.guest_space.proofs.Machines.{AllBytes, CanWrite, CanWriteAll, with_place, can_write_after, with_places_none, with_places_short}
+use Rattle.guest_space.proofs.Machines.{with_places_first, written_machine, written_addresses}
 use Rattle.guest_space.proofs.Parts.{segment_part}
-use Rattle.guest_space.proofs.Puts.{store_opened, store_is}
+use Rattle.guest_space.proofs.Puts.{store_is}
 use Rattle.guest_space.proofs.Runs.{run_all, run_inside, run_touches, no_fault, can_write_run}
 use Rattle.guest_space.proofs.Writes.{first_none, first_later}
 
@@ -34,21 +36,17 @@ use Rattle.guest_space.proofs.Writes.{first_none, first_later}
 pub span_grows : (seg : SegReg) (low high least most : ℕ) (xs : List Write) (i : ℕ) (e : Write) → i < length xs →
     AllWithin (λ (x : Write). LiesIn seg low high x) xs 0 i → LiesIn seg least most (slice_index_or xs i e) → least ≤ low → high ≤ most →
     AllWithin (λ (x : Write). LiesIn seg least most x) xs 0 (i + 1)
-span_grows seg low high least most xs i e within before here lower higher =
-    AllWithin-more (λ (x : Write). LiesIn seg least most x) xs 0 i
-    (λ k d from below. (let lies = before k d from below in
-    let above : low ≤ (slice_index_or xs k d).off = lies.1 in
-    let inside : (slice_index_or xs k d).off + byte_count (slice_index_or xs k d).width ≤ high = lies.2 in
-    (lies.0, omega arith, omega arith)))
-    (λ d. subst (λ (x : Write). LiesIn seg least most x) (get_or_default xs i e d within) here)
+span_grows seg low high least most xs i e within before here lower higher = grind (arith, get_or_default)
 
 -- where a place may be touched, its translation is its address
-pub translated_where : (v : MachineView) (lin : ℕ) (write : Bool) (p : ℕ) → TouchesAt v.bytes (place_in v.world.blocks lin) write p → translated v lin write ≡ Ok p
+pub translated_where : (v : MachineView) (lin : ℕ) (write : Bool) (p : ℕ) → TouchesAt v.bytes (place_in v.world.blocks lin) write p →
+    translated v lin write ≡ Ok p
 unfolding translated
 translated_where v lin write p touches = rw touches.may (ap (λ (a : ℕ). Ok a) (sym touches.address))
 
 -- a part of a run is a run
-pub part_of_run : (k : Processor) (v : MachineView) (seg : SegReg) (low n at i m : ℕ) → IsMachine k v → IsRun v seg low n at → i + m ≤ n → 0 < m →
+pub part_of_run : (k : Processor) (v : MachineView) (seg : SegReg) (low n at i m : ℕ) → IsMachine k v → IsRun v seg low n at →
+    i + m ≤ n → 0 < m →
     IsRun v seg (low + i) m (at + i)
 part_of_run k v seg low n at i m machine run within some =
     let lin = linear (run.base + low) in
@@ -58,17 +56,17 @@ part_of_run k v seg low n at i m machine run within some =
       base = run.base;
       allowed = segment_part v.world.mode v.world.regs v.world.descriptors seg low n i m true run.base within run.allowed;
       room = omega arith;
-      ends = ap (λ (a : ℕ). translated v a true) (sym same)
-          ∙ translated_where v (linear (lin + i)) true (at + i)
-          (run_touches k v lin i n at true machine (omega arith) room (omega arith) run.ends);
+      ends = grind (arith, run_touches, translated_where);
     }
 
 -- it lies inside the memory, whose addresses are numbers of 32 bits
-pub run_in_memory : (k : Processor) (v : MachineView) (seg : SegReg) (low n at : ℕ) → IsMachine k v → IsRun v seg low n at → 0 < n → at + n ≤ length v.bytes
+pub run_in_memory : (k : Processor) (v : MachineView) (seg : SegReg) (low n at : ℕ) → IsMachine k v → IsRun v seg low n at → 0 < n →
+    at + n ≤ length v.bytes
 run_in_memory k v seg low n at machine run some =
     run_inside k v (linear (run.base + low)) n at true machine (omega arith) run.room some run.ends
 
-pub run_is_small : (k : Processor) (v : MachineView) (seg : SegReg) (low n at : ℕ) → IsMachine k v → IsRun v seg low n at → 0 < n → at + n ≤ 2 ^ 32
+pub run_is_small : (k : Processor) (v : MachineView) (seg : SegReg) (low n at : ℕ) → IsMachine k v → IsRun v seg low n at → 0 < n →
+    at + n ≤ 2 ^ 32
 run_is_small k v seg low n at machine run some =
     let inside = run_in_memory k v seg low n at machine run some in
     let size = machine.holds.size in
@@ -79,7 +77,8 @@ run_is_small k v seg low n at machine run some =
 pub count_some : (width : ℕ) → 0 < byte_count width
 count_some width = grind (arith, nat_tests)
 
-pub write_in_run : (k : Processor) (v : MachineView) (seg : SegReg) (low high n at : ℕ) (x : Write) → IsMachine k v → IsRun v seg low n at → low + n ≡ high →
+pub write_in_run : (k : Processor) (v : MachineView) (seg : SegReg) (low high n at : ℕ) (x : Write) → IsMachine k v → IsRun v seg low n at →
+    low + n ≡ high →
     low < 2 ^ 32 → LiesIn seg low high x → IsRun v x.seg x.off (byte_count x.width) (linear (x.off + (at + (2 ^ 32 - low)) % 2 ^ 32))
 write_in_run k v seg low high n at x machine run end small lies =
     let above : low ≤ x.off = lies.1 in
@@ -94,7 +93,8 @@ write_in_run k v seg low high n at x machine run end small lies =
     (subst (λ (o : ℕ). IsRun v seg o (byte_count x.width) (at + (x.off - low))) offset part))
 
 -- none of the writes has a fault
-pub run_not_refused : (k : Processor) (v : MachineView) (seg : SegReg) (low n at : ℕ) → IsMachine k v → IsRun v seg low n at → access_fault v.world seg low n true ≡ None
+pub run_not_refused : (k : Processor) (v : MachineView) (seg : SegReg) (low n at : ℕ) → IsMachine k v → IsRun v seg low n at →
+    access_fault v.world seg low n true ≡ None
 run_not_refused k v seg low n at machine run =
     refusal_linear v.world seg low n run.base true run.allowed
     ∙ no_fault v.world (linear (run.base + low)) n true
@@ -105,7 +105,8 @@ write_not_refused : (k : Processor) (v : MachineView) (x : Write) (at : ℕ) →
 unfolding write_fault
 write_not_refused k v x at machine run = run_not_refused k v x.seg x.off (byte_count x.width) at machine run
 
-pub runs_not_refused : (k : Processor) (v : MachineView) (shift : ℕ) (xs : List Write) → IsMachine k v → AreRuns v shift xs → first_write_fault v.world xs ≡ None
+pub runs_not_refused : (k : Processor) (v : MachineView) (shift : ℕ) (xs : List Write) → IsMachine k v → AreRuns v shift xs →
+    first_write_fault v.world xs ≡ None
 runs_not_refused k v shift [] machine runs = first_none v.world
 runs_not_refused k v shift (x ∷ xs) machine runs =
     first_later v.world x xs (write_not_refused k v x (linear (x.off + shift)) machine (runs 0 x (omega arith)))
@@ -121,14 +122,9 @@ run_stored k v seg low n at bytes machine run size small =
     ∙ stored_linear v seg low n run.base bytes run.allowed
     (no_fault v.world lin n true (run_all k v lin n at true machine (omega arith) run.room run.ends))
 
-pub run_opened : (k : Processor) (v : MachineView) (seg : SegReg) (low n at : ℕ) (bytes : List ℕ) → IsMachine k v → IsRun v seg low n at →
-    length bytes ≡ n → AllBytes bytes →
-    IsMachine k (record { world = held_world k (put v.bytes at bytes); bytes = put v.bytes at bytes })
-run_opened k v seg low n at bytes machine run size small =
-    store_opened k v (linear (run.base + low)) n at bytes machine (omega arith) run.room run.ends size small
-
 -- they move no place, and no address of one
-pub places_keep_addresses : (k : Processor) (v : MachineView) (places : List Place) (bytes : List ℕ) → IsMachine k v → CanWriteAll v.world places →
+pub places_keep_addresses : (k : Processor) (v : MachineView) (places : List Place) (bytes : List ℕ) → IsMachine k v →
+    CanWriteAll v.world places →
     AllBytes bytes → (q : Place) → address_of (with_places v places bytes).bytes q ≡ address_of v.bytes q
 places_keep_addresses k v [] bytes m can small q = ap (λ (u : MachineView). address_of u.bytes q) (with_places_none v bytes)
 places_keep_addresses k v (p ∷ places) [] m can small q = ap (λ (u : MachineView). address_of u.bytes q) (with_places_short v (p ∷ places))
@@ -143,26 +139,15 @@ places_keep_addresses k v (p ∷ places) (x ∷ bytes) m can small q =
 pub translated_same : (v u : MachineView) (lin : ℕ) (write : Bool) → place_in u.world.blocks lin ≡ place_in v.world.blocks lin →
     ((q : Place) → address_of u.bytes q ≡ address_of v.bytes q) → translated u lin write ≡ translated v lin write
 unfolding translated
-translated_same v u lin write same addresses =
-    ap (λ (p : Place). if may_touch p write then Ok (address_of u.bytes p) else Err (page_fault (is_present p) write)) same
-    ∙ ap (λ (a : ℕ). if may_touch (place_in v.world.blocks lin) write then Ok a else Err (page_fault (is_present (place_in v.world.blocks lin)) write))
-    (addresses (place_in v.world.blocks lin))
+translated_same v u lin write same addresses = grind arith
 
 base_same : (w u : World) → SameAccess w u → (seg : SegReg) (offset n : ℕ) →
     segment_base u.mode u.regs u.descriptors seg offset n true ≡ segment_base w.mode w.regs w.descriptors seg offset n true
-base_same w u same seg offset n =
-    ap (λ (m : Mode). segment_base m u.regs u.descriptors seg offset n true) same.mode
-    ∙ ap (λ (r : Regs). segment_base w.mode r u.descriptors seg offset n true) same.regs
-    ∙ ap (λ (rows : List Row). segment_base w.mode w.regs rows seg offset n true) same.descriptors
+base_same w u same seg offset n = grind arith
 
 run_same : (v u : MachineView) → SameAccess v.world u.world → ((q : Place) → address_of u.bytes q ≡ address_of v.bytes q) →
     (seg : SegReg) (offset n at : ℕ) → IsRun v seg offset n at → IsRun u seg offset n at
-run_same v u same addresses seg offset n at run = record {
-  base = run.base;
-  allowed = base_same v.world u.world same seg offset n ∙ run.allowed;
-  room = run.room;
-  ends = translated_same v u (linear (run.base + offset)) true (same.places (linear (run.base + offset))) addresses ∙ run.ends;
-}
+run_same v u same addresses seg offset n at run = grind (arith, base_same, translated_same)
 
 -- so each run is one still
 pub run_kept : (k : Processor) (v : MachineView) (seg : SegReg) (low n at : ℕ) (bytes : List ℕ) → IsMachine k v → IsRun v seg low n at →
@@ -179,8 +164,8 @@ run_kept k v seg low n at bytes machine run size small s offset m address other 
     s offset m address other)
 
 -- a write is its bytes stored
-pub written_by_bytes : (v new : MachineView) (x : Write) (n : ℕ) (bytes : List ℕ) → byte_count x.width ≡ n → number_bytes x.width x.value ≡ bytes →
+pub written_by_bytes : (v new : MachineView) (x : Write) (n : ℕ) (bytes : List ℕ) → byte_count x.width ≡ n →
+    number_bytes x.width x.value ≡ bytes →
     new ≡ after_store v x.seg x.off n bytes → new ≡ after_write v x
 unfolding after_write
-written_by_bytes v new x n bytes count is e =
-    e ∙ sym (ap (λ (k : ℕ). after_store v x.seg x.off k (number_bytes x.width x.value)) count ∙ ap (after_store v x.seg x.off n) is)
+written_by_bytes v new x n bytes count is e = grind arith

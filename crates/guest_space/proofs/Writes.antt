@@ -1,5 +1,6 @@
 -- Writes one after another: a write changes no refusal of the others, so what is left of them leads to the same end.
-use Rattle.std.proofs.Common.{◌≡◌, ◌≢◌, ℕ, suc, ◌+◌, ◌/◌, ◌%◌, ◌^◌, ◌<◌, ◌≤◌, true, false, List, [], ◌∷◌, length, drop, slice_index_or, refl, ap, ◌∙◌, sym, arith, None, Some, Result, Ok, Err}
+use Rattle.std.proofs.Common.{◌≡◌, ◌≢◌, ℕ, suc, ◌+◌, ◌<◌, ◌≤◌, true, false, List, [], ◌∷◌, length, drop, slice_index_or, refl, ap, ◌∙◌, sym}
+use Rattle.std.proofs.Common.{arith, None, Some, Result, Ok, Err}
 use Rattle.std.specs.Prelude.{nat_eq, OnOk, IfErr, MatchResult}
 use Rattle.std.specs.Result.{result_err}
 use Rattle.std.specs.declared.option.Option.{Option}
@@ -7,7 +8,6 @@ use Rattle.std.proofs.lemmas.List.{drop_all}
 use Rattle.std.proofs.Math.Seq.{drop-cons}
 use Rattle.client_world.specs.declared.faults.Fault.{Fault}
 use Rattle.client_world.specs.World.{World}
-use Rattle.guest_ram.specs.Bytes.{dword_bytes}
 use Rattle.host_memory.specs.View.{MachineView}
 use Rattle.guest_space.specs.declared.pending.Write.{Write}
 use Rattle.guest_space.specs.Pending.{byte_count, number_bytes, write_fault, after_write, first_write_fault, after_writes}
@@ -15,7 +15,8 @@ use Rattle.guest_space.specs.Transfer.{access_fault, after_store}
 use Rattle.guest_space.proofs.KeptAccess.{SameAccess, same_stored, refusal_same}
 
 -- the fault of a write, by its probe
-pub fault_of_probe : (o : Option Fault) (r : Result (Unit {0}) Fault) → MatchResult r (λ _. o ≡ None) (λ fault. o ≡ Some fault) → result_err r ≡ o
+pub fault_of_probe : (o : Option Fault) (r : Result (Unit {0}) Fault) → MatchResult r (λ _. o ≡ None) (λ fault. o ≡ Some fault) →
+    result_err r ≡ o
 fault_of_probe o (Ok u) h = sym h
 fault_of_probe o (Err f) h = sym h
 
@@ -25,7 +26,8 @@ write_refusal_is w x = refl
 
 -- a write's answer, and the machine after it
 abbrev pub Answered : MachineView → MachineView → Write → Result (Unit {0}) Fault → Type 0
-Answered v new x r = MatchResult r (λ _. (write_fault v.world x ≡ None) × (new ≡ after_write v x)) (λ f. (write_fault v.world x ≡ Some f) × (new ≡ v))
+Answered v new x r =
+    MatchResult r (λ _. (write_fault v.world x ≡ None) × (new ≡ after_write v x)) (λ f. (write_fault v.world x ≡ Some f) × (new ≡ v))
 
 -- that of n bytes, where these are the bytes of the number
 pub answered : (v new : MachineView) (x : Write) (n : ℕ) (bytes : List ℕ) (r : Result (Unit {0}) Fault) → byte_count x.width ≡ n →
@@ -33,11 +35,8 @@ pub answered : (v new : MachineView) (x : Write) (n : ℕ) (bytes : List ℕ) (r
     OnOk r ((access_fault v.world x.seg x.off n true ≡ None) × (new ≡ after_store v x.seg x.off n bytes)) →
     IfErr r (λ fault. (access_fault v.world x.seg x.off n true ≡ Some fault) × (new ≡ v)) → Answered v new x r
 unfolding write_fault after_write
-answered v new x n bytes (Ok u) count is done refused = (
-  ap (λ (k : ℕ). access_fault v.world x.seg x.off k true) count ∙ done.0,
-  done.1 ∙ sym (ap (λ (k : ℕ). after_store v x.seg x.off k (number_bytes x.width x.value)) count ∙ ap (after_store v x.seg x.off n) is),
-)
-answered v new x n bytes (Err f) count is done refused = (ap (λ (k : ℕ). access_fault v.world x.seg x.off k true) count ∙ refused.0, refused.1)
+answered v new x n bytes (Ok u) count is done refused = grind arith
+answered v new x n bytes (Err f) count is done refused = grind arith
 
 other_width : (width n : ℕ) → width ≢ n → nat_eq width n ≡ false
 other_width width n ne = grind (arith, Rattle.std.proofs.lemmas.Bool.Decides.nat_tests)
@@ -99,7 +98,8 @@ pub record NoneRefused (w : World) (x : Write) (xs : List Write) : Type 0 where
   pub first : write_fault w x ≡ None
   pub others : first_write_fault w xs ≡ None
 
-none_by : (w : World) (x : Write) (xs : List Write) (o : Option Fault) → write_fault w x ≡ o → first_write_fault w (x ∷ xs) ≡ None → NoneRefused w x xs
+none_by : (w : World) (x : Write) (xs : List Write) (o : Option Fault) → write_fault w x ≡ o → first_write_fault w (x ∷ xs) ≡ None →
+    NoneRefused w x xs
 none_by w x xs None e none = record { first = e; others = sym (first_later w x xs e) ∙ none }
 none_by w x xs (Some f) e none = absurd (let some = first_some w x xs f e in cc)
 
@@ -119,9 +119,7 @@ first_same w u same (x ∷ xs) =
 
 -- what is left from a place in the list on
 pub left_from : (xs : List Write) (i : ℕ) (d : Write) → i < length xs → drop i xs ≡ slice_index_or xs i d ∷ drop (i + 1) xs
-left_from xs i d within =
-    let next : suc i ≡ i + 1 = omega arith in
-    drop-cons xs i d within ∙ ap (λ (n : ℕ). slice_index_or xs i d ∷ drop n xs) next
+left_from xs i d within = grind (arith, drop-cons)
 
 pub all_none : (v : MachineView) → after_writes v [] ≡ v
 unfolding after_writes
@@ -134,18 +132,12 @@ all_first v x xs = refl
 -- a write that is made: the others are refused as little as before
 pub left_none : (v new : MachineView) (xs : List Write) (i : ℕ) (d : Write) → i < length xs → new ≡ after_write v (slice_index_or xs i d) →
     first_write_fault v.world (drop i xs) ≡ None → first_write_fault new.world (drop (i + 1) xs) ≡ None
-left_none v new xs i d within e none =
-    let x = slice_index_or xs i d in
-    let both = none_refused v.world x (drop (i + 1) xs) (sym (ap (first_write_fault v.world) (left_from xs i d within)) ∙ none) in
-    ap (λ (u : MachineView). first_write_fault u.world (drop (i + 1) xs)) e
-    ∙ first_same v.world (after_write v x).world (same_written v x) (drop (i + 1) xs) ∙ both.others
+left_none v new xs i d within e none = grind (arith, first_same, left_from, none_refused, same_written)
 
-pub left_written : (v new w : MachineView) (xs : List Write) (i : ℕ) (d : Write) → i < length xs → new ≡ after_write v (slice_index_or xs i d) →
+pub left_written : (v new w : MachineView) (xs : List Write) (i : ℕ) (d : Write) → i < length xs →
+    new ≡ after_write v (slice_index_or xs i d) →
     after_writes v (drop i xs) ≡ w → after_writes new (drop (i + 1) xs) ≡ w
-left_written v new w xs i d within e left =
-    ap (λ (u : MachineView). after_writes u (drop (i + 1) xs)) e
-    ∙ sym (all_first v (slice_index_or xs i d) (drop (i + 1) xs))
-    ∙ sym (ap (after_writes v) (left_from xs i d within)) ∙ left
+left_written v new w xs i d within e left = grind (arith, all_first, left_from)
 
 pub none_left : (v w : MachineView) (xs : List Write) (i : ℕ) → length xs ≤ i → after_writes v (drop i xs) ≡ w → v ≡ w
 none_left v w xs i done left = sym (ap (after_writes v) (drop_all i xs done) ∙ all_none v) ∙ left

@@ -18,7 +18,8 @@ use Rattle.guest_space.specs.Machines.{Processor}
 use Rattle.guest_space.specs.Pending.{after_writes, byte_count, number_bytes, places_of_writes, after_write}
 use Rattle.guest_space.specs.Transfer.{places_of_access, after_store, with_places}
 use Rattle.guest_space.proofs.KeptAccess.{near_kept}
-use Rattle.guest_space.proofs.Machines.{CanWrite, CanWriteAll, with_place, can_write_after, with_places_none, with_places_short, with_places_first}
+use Rattle.guest_space.proofs.Machines.{CanWrite, CanWriteAll, with_place, can_write_after, with_places_none, with_places_short}
+use Rattle.guest_space.proofs.Machines.{with_places_first}
 use Rattle.guest_space.proofs.OnlyWritten.{HoldsBlocks, byte_holds, only_places, write_places}
 use Rattle.guest_space.proofs.Writes.{all_none, all_first}
 
@@ -38,8 +39,10 @@ record IsOne (k : Processor) (v u : MachineView) (places : List Place) : Type 0 
   pub holds : HoldsBlocks k u
 
 one_where : (k : Processor) (v : MachineView) (r : Result (List Place) Fault) (bytes : List ℕ) → HoldsBlocks k v →
-    ((places : List Place) → r ≡ Ok places → CanWriteAll v.world places) → IsOne k v (with_places v (places_of_access r) bytes) (places_of_access r)
-one_where k v (Ok places) bytes h can = record { only = only_places k v places bytes h (can places refl); holds = places_hold k v places bytes h (can places refl) }
+    ((places : List Place) → r ≡ Ok places → CanWriteAll v.world places) →
+    IsOne k v (with_places v (places_of_access r) bytes) (places_of_access r)
+one_where k v (Ok places) bytes h can =
+    record { only = only_places k v places bytes h (can places refl); holds = places_hold k v places bytes h (can places refl) }
 one_where k v (Err f) bytes h can = record {
   only = only_places k v [] bytes h (λ i within. absurd (omega arith));
   holds = places_hold k v [] bytes h (λ i within. absurd (omega arith));
@@ -49,25 +52,27 @@ one_written : (k : Processor) (v : MachineView) (x : Write) → HoldsBlocks k v 
     IsOne k v (after_write v x) (places_of_access (access v.world x.seg x.off (byte_count x.width) true))
 unfolding after_write after_store
 one_written k v x h =
-    one_where k v (access v.world x.seg x.off (byte_count x.width) true) (number_bytes x.width x.value) h (write_places v.world x.seg x.off (byte_count x.width))
+    one_where k v (access v.world x.seg x.off (byte_count x.width) true) (number_bytes x.width x.value) h
+    (write_places v.world x.seg x.off (byte_count x.width))
 
 -- the others' places are the same after it
 access_kept : (v : MachineView) (x y : Write) →
     access (after_write v x).world y.seg y.off (byte_count y.width) true ≡ access v.world y.seg y.off (byte_count y.width) true
 unfolding after_write after_store
-access_kept v x y =
-    near_kept v (places_of_access (access v.world x.seg x.off (byte_count x.width) true)) (number_bytes x.width x.value) y.seg y.off (byte_count y.width) true
+access_kept v x y = grind (arith, near_kept)
 
 places_kept : (v : MachineView) (x : Write) (ys : List Write) → places_of_writes (after_write v x).world ys ≡ places_of_writes v.world ys
 places_kept v x [] = refl
 places_kept v x (y ∷ ys) = rw (access_kept v x y, places_kept v x ys) refl
 
-only_all : (k : Processor) (v : MachineView) (xs : List Write) → HoldsBlocks k v → OnlyAt (places_of_writes v.world xs) v.bytes (after_writes v xs).bytes
+only_all : (k : Processor) (v : MachineView) (xs : List Write) → HoldsBlocks k v →
+    OnlyAt (places_of_writes v.world xs) v.bytes (after_writes v xs).bytes
 only_all k v [] h = subst (λ (u : MachineView). OnlyAt [] v.bytes u.bytes) (sym (all_none v)) (only_start [] v.bytes)
 only_all k v (x ∷ xs) h =
     let one = one_written k v x h in
     subst (λ (u : MachineView). OnlyAt (places_of_writes v.world (x ∷ xs)) v.bytes u.bytes) (sym (all_first v x xs))
-    (only_then (places_of_access (access v.world x.seg x.off (byte_count x.width) true)) (places_of_writes v.world xs) v.bytes (after_write v x).bytes
+    (only_then (places_of_access (access v.world x.seg x.off (byte_count x.width) true)) (places_of_writes v.world xs) v.bytes
+    (after_write v x).bytes
     (after_writes (after_write v x) xs).bytes one.only
     (subst (λ (places : List Place). OnlyAt places (after_write v x).bytes (after_writes (after_write v x) xs).bytes) (places_kept v x xs)
     (only_all k (after_write v x) xs one.holds)))

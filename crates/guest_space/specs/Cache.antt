@@ -5,8 +5,8 @@ use Rattle.std.specs.declared.result.Result.{Result}
 use Rattle.client_world.specs.declared.faults.PageFault.{PageFault}
 use Rattle.client_world.specs.declared.host_frames.TheConstants.{PAGE_SIZE, PAGE_DIRECTORY}
 use Rattle.page_tables.specs.Walk.{fault, walked}
-use Rattle.guest_space.specs.declared.cache.CacheEntry.{CacheEntry}
-use Rattle.guest_space.specs.declared.cache.TheConstants.{CACHE_SIZE}
+use Rattle.guest_space.specs.declared.pages.CacheEntry.{CacheEntry}
+use Rattle.guest_space.specs.declared.pages.TheConstants.{CACHE_SIZE}
 
 -- the number of pages of the linear addresses, and of frames that a page entry can name
 abbrev pub pages_in_all : ℕ

@@ -1,6 +1,7 @@
 -- The descriptors of a block of DOS memory, and the arena changed together with them.
 -- Source: DPMI 0.9, INT 31h functions 0100h to 0102h, of a 32-bit host; that a last descriptor of whole 64 KB has the limit FFFFh is own.
-use Rattle.std.specs.Prelude.{◌≡◌, ◌≢◌, ℕ, zero, suc, ◌+◌, ◌-◌, ◌*◌, ◌≤◌, true, false, List, [], ◌∷◌, length, take, drop, None, Some, max, min, nat_eq, nat_lt, if◌then◌else◌, slice_set}
+use Rattle.std.specs.Prelude.{◌≡◌, ◌≢◌, ℕ, zero, suc, ◌+◌, ◌-◌, ◌*◌, ◌≤◌, true, false, List, [], ◌∷◌, length, take, drop, None, Some, max}
+use Rattle.std.specs.Prelude.{min, nat_eq, nat_lt, if◌then◌else◌, slice_set}
 use Rattle.client_world.specs.declared.descriptors.Desc.{Desc}
 use Rattle.client_world.specs.declared.descriptors.Kind.TheVariants.{Data}
 use Rattle.client_world.specs.declared.descriptors.Origin.TheVariants.{Dos}

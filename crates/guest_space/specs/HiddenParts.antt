@@ -1,5 +1,6 @@
 -- The hidden parts of the segment registers, from which accesses are decided.
--- Source: 80386 Programmer's Reference Manual, ch. 5, "Segment Registers", figure 5-7, and figure 5-3 for the bits; own where there is none.
+-- Source: 80386 Programmer's Reference Manual, ch. 5, "Segment Registers", figure 5-7, and figure 5-3 for the bits; own where there is
+-- none.
 use Rattle.std.specs.Prelude.{ℕ, ◌+◌, ◌*◌, ◌^◌, Bool, false, ◌&&◌, not, nat_lt, nat_le, if◌then◌else◌, List, [], ◌∷◌, None, Some, Ok, Err}
 use Rattle.std.specs.declared.option.Option.{Option}
 use Rattle.std.specs.declared.result.Result.{Result}

@@ -6,7 +6,8 @@ use Rattle.std.specs.declared.result.Result.{Result}
 use Rattle.client_world.specs.declared.faults.Fault.{Fault}
 use Rattle.client_world.specs.declared.place.Place.{Place}
 use Rattle.client_world.specs.declared.segments.SegReg.{SegReg}
-use Rattle.client_world.specs.Access.{access, bytes_of, with_bytes_of, may_touch, is_present, page_fault, place_of, places_from, touched_places}
+use Rattle.client_world.specs.Access.{access, bytes_of, with_bytes_of, may_touch, is_present, page_fault, place_of, places_from}
+use Rattle.client_world.specs.Access.{touched_places}
 use Rattle.client_world.specs.World.{World}
 use Rattle.host_memory.specs.Layout.{address_of}
 use Rattle.host_memory.specs.View.{MachineView}

@@ -1,15 +1,18 @@
 // The memory blocks: their rows, pages, bytes and lock counts, all held in the bytes of the memory.
-ghost use Rattle.std.specs.Prelude.{◌≡◌, ◌≢◌, ◌≤◌, ◌<◌, ◌+◌, ◌-◌, None, Some, slice_set, slice_index, slice_index_or, nat_eq, if◌then◌else◌};
+ghost use Rattle.std.specs.Prelude.{◌≡◌, ◌≢◌, ◌≤◌, ◌<◌, ◌+◌, ◌-◌, None, Some, slice_set, slice_index, slice_index_or, nat_eq};
+ghost use Rattle.std.specs.Prelude.{if◌then◌else◌};
 ghost use Rattle.client_world.specs.declared.limits.TheConstants.{MAX_BLOCKS};
 ghost use Rattle.client_world.specs.declared.place.Place.{Place};
 ghost use Rattle.client_world.specs.Access.{IsHeld, HasByte, bytes_of_block, place_of};
 ghost use Rattle.client_world.specs.Soundness.{pages_of_blocks};
 ghost use Rattle.client_world.specs.World.{block_at, with_block_at};
-ghost use Rattle.block_memory.specs.BlockSizes.{CanHold, CanMake, CanMove, CanSize, HasPages, longer, shorter, block_with_zero_pages, at_base, sized_block, fresh_block, IsBlocks, lock_in, with_lock, row_seen, blocks_with_zero_page, locked_pages};
+ghost use Rattle.block_memory.specs.BlockSizes.{CanHold, CanMake, CanMove, CanSize, HasPages, longer, shorter, block_with_zero_pages};
+ghost use Rattle.block_memory.specs.BlockSizes.{at_base, sized_block, fresh_block, IsBlocks, lock_in, with_lock, row_seen};
+ghost use Rattle.block_memory.specs.BlockSizes.{blocks_with_zero_page, locked_pages};
 ghost use Rattle.host_memory.specs.Layout.{address_of};
 
-use crate::cache::empty_cache;
 use crate::machine::Machine;
+use crate::pages::empty_cache;
 use block_memory::{
     block_row, drop_block, extend_block, locked_pages, region_page, resize_block, used_pages,
 };
@@ -99,7 +102,8 @@ impl Machine {
     /// Fills the page of a linear address that a memory block covers with zeros. Source: own.
     pub fn zero_page(&mut self, lin: u32)
         requires { IsBlocks (place_of self.old.world lin) }
-        ensures world { self.new.world ≡ record self.old.world { blocks = blocks_with_zero_page self.old.world.blocks (place_of self.old.world lin) } }
+        ensures world { self.new.world
+            ≡ record self.old.world { blocks = blocks_with_zero_page self.old.world.blocks (place_of self.old.world lin) } }
         ensures addresses { (p : Place) → address_of self.new.bytes p ≡ address_of self.old.bytes p }
     {
         let entry = self.ram.get32(PAGE_SIZE * BLOCK_TABLES + PAGE_ENTRY_SIZE * region_page(lin));

@@ -1,15 +1,22 @@
-// Fetching code.
-ghost use Rattle.std.specs.Prelude.{◌≡◌, ◌≤◌, ◌<◌, ◌+◌, false, IfSome, Ok, length};
+// Fetching code, byte by byte or from a window.
+ghost use Rattle.std.specs.Prelude.{◌≡◌, ◌≤◌, ◌<◌, ◌+◌, ◌^◌, false, IfSome, Ok, length};
 ghost use Rattle.client_world.specs.CodeWords.{code_bytes};
 ghost use Rattle.guest_ram.specs.Bytes.{region};
 ghost use Rattle.guest_space.specs.Code.{code_byte, code_from, code_room};
+ghost use Rattle.client_world.specs.declared.host_frames.TheConstants.{PAGE_SIZE};
 ghost use Rattle.guest_space.specs.Transfer.{bytes_at, linear_access};
+ghost use Rattle.guest_space.specs.Windows.{IsWindow};
 
 use crate::machine::Machine;
 use crate::memory::is_in_page;
+use crate::windows::CodeWindow;
 use arrayvec::ArrayVec;
+use client_world::host_frames::PAGE_SIZE;
 use client_world::{CodeWords, Fault, SegReg};
 use guest_ram::Ram;
+
+// The bytes after the first of the longest instruction.
+const MORE_CODE: u32 = MAX_CODE as u32 - 1;
 
 /// The most bytes of an instruction. Source: 80386 Programmer's Reference Manual, ch. 9, "Exception 13".
 pub const MAX_CODE: usize = 15;
@@ -41,29 +48,6 @@ impl Machine {
         Ok(byte)
     }
 
-    // The 15 bytes from a linear address on, where they lie in one page that the cache has; `None` says nothing.
-    #[inline(always)]
-    fn load_words(&self, lin: u32) -> Option<CodeWords>
-        ensures { IfSome result (λ words.
-            bytes_at self.now.world (linear_access self.now.world lin code_room false) ≡ Ok (code_bytes words)) }
-    {
-        if !is_in_page(lin, MAX_CODE as u32) {
-            return None;
-        }
-        let at = self.noted_address(lin, false)?;
-        Some(words_of(&self.ram, at))
-    }
-
-    /// The code bytes from CS:EIP on, where a quick look shows all 15 of them; `None` says nothing.
-    #[inline(always)]
-    pub fn code_words(&self) -> Option<CodeWords>
-        ensures { IfSome result (λ words. code_from self.now.world 0 code_room ≡ code_bytes words) }
-    {
-        let eip = self.registers().eip;
-        let base = self.quick_base(SegReg::Cs, eip, MAX_CODE as u32, false)?;
-        self.load_words(base.wrapping_add(eip))
-    }
-
     /// The code bytes from CS:EIP on, up to 15 or to the first that can't be fetched: what `fetch` gives one by one.
     pub fn code(&self) -> ArrayVec<u8, 15>
         ensures { result.items ≡ code_from self.now.world 0 code_room }
@@ -80,5 +64,66 @@ impl Machine {
             }
         }
         code
+    }
+}
+
+impl Machine {
+    // The window of that many bytes from an offset of CS on, where a quick look shows it; `None` says nothing.
+    #[inline(always)]
+    fn window_from(&self, first: u32, size: u32) -> Option<CodeWindow>
+        requires page { size ≤ PAGE_SIZE }
+        requires low { first + size ≤ 2 ^ 32 }
+        ensures { IfSome result (λ w. 0 < w.starts → IsWindow self.now w) }
+    {
+        let base = self.quick_base(SegReg::Cs, first, size, false)?;
+        let linear = base.wrapping_add(first);
+        if !is_in_page(linear, size) {
+            return None;
+        }
+        let address = self.noted_address(linear, false)?;
+        Some(CodeWindow {
+            cs: self.registers().cs,
+            big: self.is_big(SegReg::Cs),
+            first,
+            linear,
+            address,
+            starts: size.saturating_sub(MORE_CODE),
+        })
+    }
+
+    // The code from the beginning of the page of CS:EIP, or of the segment, up to the end of either, where a quick look shows it.
+    #[inline(always)]
+    fn window_here(&self) -> Option<CodeWindow>
+        ensures { IfSome result (λ w. 0 < w.starts → IsWindow self.now w) }
+    {
+        let eip = self.registers().eip;
+        let part = (*self.part(SegReg::Cs))?;
+        let first = eip.saturating_sub(part.base.wrapping_add(eip) % PAGE_SIZE);
+        let page = PAGE_SIZE - part.base.wrapping_add(first) % PAGE_SIZE;
+        let more = part.limit.checked_sub(first)?;
+        self.window_from(first, if more < page { more + 1 } else { page })
+    }
+
+    /// The code in the page of CS:EIP, where a quick look shows it, or none.
+    #[inline(never)]
+    pub fn code_window(&self) -> CodeWindow
+        ensures { 0 < result.starts → IsWindow self.now result }
+    {
+        if let Some(window) = self.window_here() {
+            return window;
+        }
+        CodeWindow::NONE
+    }
+
+    /// The code bytes at CS:EIP, which is that start of a window.
+    #[inline(always)]
+    pub fn words_in(&self, window: &CodeWindow, from: u32) -> CodeWords
+        requires window { IsWindow self.now window.now }
+        requires start { from < window.now.starts }
+        requires here { window.now.first + from ≡ self.now.world.regs.eip }
+        ensures { code_from self.now.world 0 code_room ≡ code_bytes result }
+    {
+        self.holds_world();
+        words_of(&self.ram, window.address + from)
     }
 }

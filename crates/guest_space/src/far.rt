@@ -34,8 +34,8 @@ impl Machine {
         }
     }
 
-    /// Writes bytes at a far pointer, 1 to 4096 of them, which are reachable for writing. Of the memory only the bytes of their places change,
-    /// and none of the host's frames.
+    /// Writes bytes at a far pointer, 1 to 4096 of them, which are reachable for writing. Of the memory only the bytes of their places
+    /// change, and none of the host's frames.
     pub fn write_bytes(&mut self, p: FarPtr, bytes: &[u8])
         requires some { 0 < length bytes.now }
         requires few { length bytes.now ≤ PAGE_SIZE }

@@ -6,7 +6,8 @@ ghost use Rattle.client_world.specs.Descriptor.{access_byte};
 ghost use Rattle.client_world.specs.Segments.{selector};
 ghost use Rattle.client_world.specs.Selector.{FitsRow};
 ghost use Rattle.desc_table.specs.Rows.{HasRows, rows_from, rows_start};
-ghost use Rattle.guest_space.specs.HiddenParts.{all_found, base_within, found, is_data_with, lies_within, number, part_in_row, part_of_selector};
+ghost use Rattle.guest_space.specs.HiddenParts.{all_found, base_within, found, is_data_with, lies_within, number, part_in_row};
+ghost use Rattle.guest_space.specs.HiddenParts.{part_of_selector};
 
 use crate::segments::{fault_with, stack_or, suits_register};
 use client_world::faults::GENERAL_PROTECTION;
@@ -61,7 +62,7 @@ impl Hidden {
     {
         !is_data_with(self.access, EXPAND_DOWN)
             && (!write || is_data_with(self.access, WRITABLE))
-            && u64::from(off) + u64::from(n) <= u64::from(self.limit) + 1
+            && u64::from(off) + u64::from(n.saturating_sub(1)) <= u64::from(self.limit)
     }
 
     // Whether n bytes at an offset lie inside the segment.

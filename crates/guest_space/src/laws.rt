@@ -94,7 +94,8 @@ pub fn all_writes_change_only_their_places()
 
 /// A write of bytes at a far pointer leaves a sound world sound, and what it makes of the world depends on the world alone.
 pub fn every_far_write_is_sound()
-    ensures sound { (v : MachineView) (p : FarPtr) (n : ℕ) (bytes : List ℕ) → IsSound v.world → AreBytes bytes → IsSound (after_far_write v p n bytes).world }
+    ensures sound { (v : MachineView) (p : FarPtr) (n : ℕ) (bytes : List ℕ) → IsSound v.world → AreBytes bytes →
+        IsSound (after_far_write v p n bytes).world }
     ensures alone { (v u : MachineView) (p : FarPtr) (n : ℕ) (bytes : List ℕ) → v.world ≡ u.world →
         (after_far_write v p n bytes).world ≡ (after_far_write u p n bytes).world }
 {}

@@ -13,10 +13,10 @@ ghost use Rattle.host_memory.specs.Law.{walk_result, StandsAt};
 ghost use Rattle.page_tables.specs.Walk.{walked};
 ghost use Rattle.guest_space.specs.Registers.{with_registers};
 
-use crate::cache::{CACHE_SIZE, CacheEntry, empty_cache};
 use crate::hidden_parts::{
     Hidden, all_parts, have_same_selectors, number, part_of_selector, parts_after,
 };
+use crate::pages::{CACHE_SIZE, CacheEntry, empty_cache};
 use client_world::limits::MAX_PAGES;
 use client_world::{Flags, Mode, Regs, SegReg, Width};
 use guest_ram::Ram;

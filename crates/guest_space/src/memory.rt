@@ -1,27 +1,20 @@
-// Reading and writing through the page tables, and through segment registers.
-ghost use Rattle.std.specs.Prelude.{ℕ, slice_index, ◌≡◌, ◌≤◌, ◌<◌, ◌+◌, ◌%◌, OnOk, IfErr, IfSome, MatchResult, nat_le, Ok, Err, None, Some, true, false, length, [], ◌∷◌};
+// Bytes read and written through segment registers: where a quick look shows them, at the hidden part of the register and at the cache for
+// the page, and else by the tables.
+ghost use Rattle.std.specs.Prelude.{ℕ, slice_index, ◌≡◌, ◌≤◌, ◌<◌, ◌+◌, ◌%◌, OnOk, IfErr, IfSome, MatchResult, nat_le, Ok, Err, None, Some};
+ghost use Rattle.std.specs.Prelude.{true, false, length, [], ◌∷◌, IsTrue, IsFalse};
 ghost use Rattle.client_world.specs.declared.host_frames.TheConstants.{PAGE_SIZE};
-ghost use Rattle.client_world.specs.Access.{access, byte_of, bytes_of, may_touch, page_fault, place_of, places_from};
+ghost use Rattle.client_world.specs.Access.{access, byte_of, bytes_of, may_touch, place_of, places_from};
 ghost use Rattle.host_memory.specs.View.{OnlyAt};
 ghost use Rattle.guest_space.specs.Machines.{HoldsItsWorld};
-ghost use Rattle.guest_space.specs.Transfer.{read_result, places_of_access, access_fault, after_store, translated, linear_access, bytes_at, fault_of, with_places};
+ghost use Rattle.guest_space.specs.Transfer.{read_result, places_of_access, access_fault, after_store, translated, linear_access, bytes_at};
+ghost use Rattle.guest_space.specs.Transfer.{fault_of, with_places};
+ghost use Rattle.guest_space.specs.Pending.{byte_count, write_fault, after_write};
+ghost use Rattle.guest_space.specs.WriteRuns.{IsRun};
 
-use crate::cache::cache_place;
 use crate::machine::Machine;
-use crate::segments::fault_with;
-use client_world::faults::{PAGE_FAULT, PROTECTION_CODE, USER_CODE, WRITE_CODE};
-use client_world::host_frames::{PAGE_DIRECTORY, PAGE_SIZE};
+use crate::pending::{Write, byte_count};
+use client_world::host_frames::PAGE_SIZE;
 use client_world::{Fault, SegReg};
-use page_tables::walk;
-
-// The exception of an access to a forbidden page: whether a page is there, and whether it is a write.
-fn page_fault(present: bool, write: bool) -> Fault
-    ensures { result ≡ page_fault present write }
-{
-    let protection = if present { PROTECTION_CODE } else { 0 };
-    let access = if write { WRITE_CODE } else { 0 };
-    fault_with(PAGE_FAULT, USER_CODE + protection + access)
-}
 
 // Each of them is a byte.
 pub(crate) fn are_bytes(bytes: &[u8])
@@ -44,59 +37,6 @@ impl Machine {
         ensures { HoldsItsWorld self.now }
     {
         let _pages = self.pages;
-    }
-
-    /// Where the byte of a linear address lies in the memory, where the cache has its page, for a write as one that may be written;
-    /// `None` says nothing.
-    #[inline(always)]
-    pub(crate) fn noted_address(&self, lin: u32, write: bool) -> Option<u32>
-        ensures { IfSome result (λ at. translated self.now lin write ≡ Ok at) }
-    {
-        let entry = &self.cache[cache_place(lin)];
-        if entry.serves(lin, write) {
-            Some(PAGE_SIZE * entry.frame + lin % PAGE_SIZE)
-        } else {
-            None
-        }
-    }
-
-    /// Where the byte of a linear address lies in the memory, or the page fault of its access.
-    #[inline(always)]
-    pub(crate) fn translate(&self, lin: u32, write: bool) -> Result<u32, Fault>
-        ensures { result ≡ translated self.now lin write }
-    {
-        match self.noted_address(lin, write) {
-            Some(at) => Ok(at),
-            None => self.walk_to(lin, write),
-        }
-    }
-
-    // The same, by a walk of the page tables.
-    #[inline(always)]
-    fn walk_to(&self, lin: u32, write: bool) -> Result<u32, Fault>
-        ensures { result ≡ translated self.now lin write }
-    {
-        match walk(&self.ram, PAGE_DIRECTORY, lin, write) {
-            Ok(at) => Ok(at),
-            Err(fault) => Err(page_fault(fault.present, write)),
-        }
-    }
-
-    /// Whether each of n bytes from a linear address on may be touched, or the fault of the first that may not.
-    #[inline(always)]
-    pub(crate) fn check(&self, lin: u32, n: u32, write: bool) -> Result<(), Fault>
-        requires some { 0 < n }
-        requires few { n ≤ PAGE_SIZE }
-        ensures { MatchResult result (λ _. fault_of (linear_access self.now.world lin n write) ≡ None)
-            (λ fault. fault_of (linear_access self.now.world lin n write) ≡ Some fault) }
-    {
-        self.holds_world();
-        self.translate(lin, write)?;
-        if !is_in_page(lin, n) {
-            let first = PAGE_SIZE - lin % PAGE_SIZE;
-            self.translate(lin.wrapping_add(first), write)?;
-        }
-        Ok(())
     }
 
     // The byte at a linear address, or the page fault of its read.
@@ -278,5 +218,86 @@ impl Machine {
     {
         let base = self.segment_base(seg, off, N as u32, true)?;
         self.store(base.wrapping_add(off), &v)
+    }
+}
+
+impl Machine {
+    // The N bytes from a linear address on, where they lie in one page that the cache has; `None` says nothing.
+    #[inline(always)]
+    fn load_quickly<const N: usize>(&self, lin: u32) -> Option<[u8; N]>
+        requires some { 0 < N }
+        requires few { N ≤ PAGE_SIZE }
+        ensures { IfSome result (λ bytes. bytes_at self.now.world (linear_access self.now.world lin N false) ≡ Ok bytes) }
+    {
+        if !is_in_page(lin, N as u32) {
+            return None;
+        }
+        let at = self.noted_address(lin, false)?;
+        Some(self.ram.get(at))
+    }
+
+    /// The N bytes at an offset of a segment register, 1 to 4096 of them, where a quick look shows them; `None` says nothing.
+    /// Source: own.
+    #[inline(always)]
+    pub fn read_quickly<const N: usize>(&self, seg: SegReg, off: u32) -> Option<[u8; N]>
+        requires some { 0 < N }
+        requires few { N ≤ PAGE_SIZE }
+        ensures { IfSome result (λ bytes. read_result self.now.world seg off N ≡ Ok bytes) }
+    {
+        let base = self.quick_base(seg, off, N as u32, false)?;
+        self.load_quickly(base.wrapping_add(off))
+    }
+
+    /// The address in the memory of n bytes at an offset of a segment register, where a quick look shows that they lie in one page and may
+    /// be read and written; `None` says nothing. Source: own.
+    #[inline(always)]
+    pub fn noted_run(&self, seg: SegReg, off: u32, n: u32) -> Option<u32>
+        requires { n ≤ PAGE_SIZE }
+        ensures { IfSome result (λ at. IsRun self.now seg off n at) }
+    {
+        let base = self.quick_base(seg, off, n, true)?;
+        let lin = base.wrapping_add(off);
+        if is_in_page(lin, n) {
+            self.noted_address(lin, true)
+        } else {
+            None
+        }
+    }
+
+    /// N bytes at an offset of a segment register, whose address in the memory is known.
+    #[inline(always)]
+    pub fn read_run<const N: usize>(&self, seg: SegReg, off: u32, at: u32) -> [u8; N]
+        requires some { 0 < N }
+        requires few { N ≤ PAGE_SIZE }
+        requires run { IsRun self.now seg off N at }
+        ensures { read_result self.now.world seg off N ≡ Ok result }
+    {
+        self.part_of_run(seg, off, N as u32, at, 0)
+    }
+
+    /// Makes a write of whose bytes the address in the memory is known; it has no fault.
+    #[inline(always)]
+    pub fn write_run(&mut self, x: &Write, at: u32)
+        requires { IsRun self.old x.now.seg x.now.off (byte_count x.now.width) at }
+        ensures allowed { write_fault self.old.world x.now ≡ None }
+        ensures written { self.new ≡ after_write self.old x.now }
+    {
+        self.holds_world();
+        self.make_at(x, at);
+    }
+
+    /// Makes a write where a quick look shows that it has no fault, and returns `true`; else it does nothing. Source: own.
+    #[inline(always)]
+    pub fn write_one_quickly(&mut self, x: &Write) -> bool
+        ensures made { IsTrue result → (write_fault self.old.world x.now ≡ None) × (self.new ≡ after_write self.old x.now) }
+        ensures kept { IsFalse result → self.new ≡ self.old }
+    {
+        match self.noted_run(x.seg, x.off, u32::from(byte_count(x.width))) {
+            Some(at) => {
+                self.write_run(x, at);
+                true
+            }
+            None => false,
+        }
     }
 }

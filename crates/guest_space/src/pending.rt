@@ -4,7 +4,8 @@ ghost use Rattle.client_world.specs.Access.{access};
 ghost use Rattle.guest_ram.specs.Bytes.{dword_bytes};
 ghost use Rattle.host_memory.specs.Vectors.{word_bytes};
 ghost use Rattle.host_memory.specs.View.{OnlyAt};
-ghost use Rattle.guest_space.specs.Pending.{IsCountOfWidth, byte_count, number_bytes, write_fault, after_write, first_write_fault, after_writes, places_of_writes};
+ghost use Rattle.guest_space.specs.Pending.{IsCountOfWidth, byte_count, number_bytes, write_fault, after_write, first_write_fault};
+ghost use Rattle.guest_space.specs.Pending.{after_writes, places_of_writes};
 ghost use Rattle.guest_space.specs.Transfer.{places_of_access};
 
 use crate::machine::Machine;
@@ -124,7 +125,8 @@ impl Machine {
     /// Source: own.
     #[inline(always)]
     pub fn write_quickly(&mut self, writes: &[Write]) -> bool
-        ensures made { IsTrue result → (first_write_fault self.old.world writes.now ≡ None) × (self.new ≡ after_writes self.old writes.now) }
+        ensures made { IsTrue result → (first_write_fault self.old.world writes.now ≡ None)
+            × (self.new ≡ after_writes self.old writes.now) }
         ensures kept { IsFalse result → self.new ≡ self.old }
     {
         match self.shift_of(writes) {

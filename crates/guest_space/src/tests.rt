@@ -1,7 +1,7 @@
 // A machine is the memory and what the processor keeps, and nothing else. Its other tests are in `unit_tests`.
-use crate::cache::{CACHE_SIZE, CacheEntry};
 use crate::hidden_parts::Hidden;
 use crate::machine::Machine;
+use crate::pages::{CACHE_SIZE, CacheEntry};
 use client_world::{Mode, Regs, Width};
 use guest_ram::Ram;
 use std::test::Fail;

@@ -7,7 +7,8 @@ ghost use Rattle.client_world.specs.declared.place.Place.{Place};
 ghost use Rattle.guest_ram.specs.Bytes.{dword_bytes, put};
 ghost use Rattle.guest_space.specs.VectorLists.{callback_of_slot, is_pageable, vector_at};
 ghost use Rattle.host_memory.specs.Layout.{address_of};
-ghost use Rattle.host_memory.specs.Vectors.{callback_at, callback_bytes, callbacks_start, exceptions_start, pageable_start, pointer_at, pointer_bytes, word_bytes};
+ghost use Rattle.host_memory.specs.Vectors.{callback_at, callback_bytes, callbacks_start, exceptions_start, pageable_start, pointer_at};
+ghost use Rattle.host_memory.specs.Vectors.{pointer_bytes, word_bytes};
 
 use crate::machine::Machine;
 use client_world::FarPtr;

@@ -79,7 +79,8 @@ unfolding general
 part_moved len w None = refl
 part_moved len w (Some n) = refl
 
-offset_moved : (len : ℕ) (w : World) (addr32 : Bool) (f : MemForm) → offset_of (with_next_eip len w).regs addr32 f ≡ offset_of w.regs addr32 f
+offset_moved : (len : ℕ) (w : World) (addr32 : Bool) (f : MemForm) →
+    offset_of (with_next_eip len w).regs addr32 f ≡ offset_of w.regs addr32 f
 unfolding offset_of
 offset_moved len w addr32 f =
     let base = part_moved len w f.base in

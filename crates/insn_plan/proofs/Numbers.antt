@@ -24,7 +24,8 @@ number_of_four (a ∷ b ∷ c ∷ d ∷ x ∷ bytes) e = absurd (omega (arith, e
 
 -- six bytes are eight of which the last two are 0
 pub number_of_six : (bytes : List ℕ) → length bytes ≡ 6 → number_of bytes ≡ from_le_bytes w64
-    (slice_index bytes 0 ∷ slice_index bytes 1 ∷ slice_index bytes 2 ∷ slice_index bytes 3 ∷ slice_index bytes 4 ∷ slice_index bytes 5 ∷ 0 ∷ 0 ∷ [])
+    (slice_index bytes 0 ∷ slice_index bytes 1 ∷ slice_index bytes 2 ∷ slice_index bytes 3 ∷ slice_index bytes 4 ∷ slice_index bytes 5 ∷
+    0 ∷ 0 ∷ [])
 number_of_six [] e = absurd (omega (arith, e))
 number_of_six (a ∷ []) e = absurd (omega (arith, e))
 number_of_six (a ∷ b ∷ []) e = absurd (omega (arith, e))

@@ -18,6 +18,7 @@ unfolding after_commit put_operand first_write_fault after_writes
 put_with_flags_in_register v f r addr32 width own number x = refl
 
 pub put_in_register : (v : MachineView) (r : Regs) (addr32 : Bool) (width own number x : ℕ) →
-    after_commit v (put_operand r addr32 width (Reg own number) x (unchanged v.world)) ≡ Ok (with_registers (with_register v.world.regs own number x) v)
+    after_commit v (put_operand r addr32 width (Reg own number) x (unchanged v.world))
+    ≡ Ok (with_registers (with_register v.world.regs own number x) v)
 unfolding after_commit put_operand first_write_fault after_writes
 put_in_register v r addr32 width own number x = refl

@@ -33,7 +33,8 @@ abbrev unless : Option Fault → MachineView → Result MachineView Event
 unless None u = Ok u
 unless (Some f) u = Err (fault f)
 
-settled_is : (o : Option Fault) (u : MachineView) → elim o as (λ _. Result MachineView Event) [ Some f ↦ Err (fault f) | None ↦ Ok u ] ≡ unless o u
+settled_is : (o : Option Fault) (u : MachineView) → elim o as (λ _. Result MachineView Event) [ Some f ↦ Err (fault f) | None ↦ Ok u ]
+    ≡ unless o u
 settled_is None u = refl
 settled_is (Some f) u = refl
 
@@ -58,12 +59,15 @@ refused_by : (o : Option Fault) (u w : MachineView) (event : Event) → unless o
 refused_by None u w event e = absurd cc
 refused_by (Some f) u w event e = cc
 
-pub refused_with : (v : MachineView) (r : Regs) (p : Pending) (event : Event) → after_commit v p ≡ Err event → after_commit v (with_regs r p) ≡ Err event
-refused_with v r p event e = settled_unless v (with_regs r p) ∙ refused_by (first_write_fault v.world p.writes) _ _ event (sym (settled_unless v p) ∙ e)
+pub refused_with : (v : MachineView) (r : Regs) (p : Pending) (event : Event) → after_commit v p ≡ Err event →
+    after_commit v (with_regs r p) ≡ Err event
+refused_with v r p event e = settled_unless v (with_regs r p)
+    ∙ refused_by (first_write_fault v.world p.writes) _ _ event (sym (settled_unless v p) ∙ e)
 
 -- some pushes: their writes, and then ESP
 esp_set : (v mid : MachineView) (xs : List Write) (esp : ℕ) → mid ≡ after_writes v xs →
-    with_state (record v.world.regs { esp = esp }) v.world.vif (after_writes v xs) ≡ with_registers (with_general mid.world.regs ESP esp) mid
+    with_state (record v.world.regs { esp = esp }) v.world.vif (after_writes v xs)
+    ≡ with_registers (with_general mid.world.regs ESP esp) mid
 unfolding with_general
 esp_set v mid xs esp is =
     let u = after_writes v xs in

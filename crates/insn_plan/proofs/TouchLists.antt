@@ -33,7 +33,8 @@ left_none w done xs i d within e =
     ap (touches_after w done) (left_from xs i d within) ∙ touches_none w done (slice_index_or xs i d) (drop (i + 1) xs) e
 
 pub left_some : (w : World) (done : List Touch) (xs : List Access) (i : ℕ) (d : Access) (touch : Touch) → i < length xs →
-    touch_of_access w (slice_index_or xs i d) ≡ Some touch → touches_after w done (drop i xs) ≡ touches_after w (done ++ touch ∷ []) (drop (i + 1) xs)
+    touch_of_access w (slice_index_or xs i d) ≡ Some touch →
+    touches_after w done (drop i xs) ≡ touches_after w (done ++ touch ∷ []) (drop (i + 1) xs)
 left_some w done xs i d touch within e =
     ap (touches_after w done) (left_from xs i d within) ∙ touches_some w done (slice_index_or xs i d) (drop (i + 1) xs) touch e
 

@@ -33,7 +33,8 @@ bytes_state w (p ∷ places) (x ∷ bytes) =
 
 write_state : (v : MachineView) (x : Write) → SameState v.world (after_write v x).world
 unfolding after_write after_store with_places
-write_state v x = bytes_state v.world (places_of_access (access v.world x.seg x.off (byte_count x.width) true)) (number_bytes x.width x.value)
+write_state v x =
+    bytes_state v.world (places_of_access (access v.world x.seg x.off (byte_count x.width) true)) (number_bytes x.width x.value)
 
 -- and so do all of some writes
 pub all_state : (v : MachineView) (xs : List Write) → SameState v.world (after_writes v xs).world

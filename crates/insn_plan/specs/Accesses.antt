@@ -1,5 +1,5 @@
--- What an instruction accesses: the bytes that it reads, one access after another, and then those that it writes. And the same bytes as runs of
--- linear addresses, which watchpoints are compared with. Source: own.
+-- What an instruction accesses: the bytes that it reads, one access after another, and then those that it writes. And the same bytes as
+-- runs of linear addresses, which watchpoints are compared with. Source: own.
 use Rattle.std.specs.Prelude.{◌≡◌, MatchResult, ℕ, ◌+◌, ◌-◌, ◌%◌, ◌<◌, ◌^◌, Bool, true, false, List, [], ◌∷◌, ◌++◌, Ok, Err, None, Some}
 use Rattle.std.specs.declared.option.Option.{Option}
 use Rattle.std.specs.declared.result.Result.{Result}

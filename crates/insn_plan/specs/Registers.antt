@@ -1,5 +1,6 @@
 -- General registers by their numbers, and effective addresses.
--- Source: 80386 Programmer's Reference Manual, ch. 2, "General Registers" and "Effective-Address Computation", and ch. 17, "ModR/M and SIB Bytes".
+-- Source: 80386 Programmer's Reference Manual, ch. 2, "General Registers" and "Effective-Address Computation", and ch. 17, "ModR/M and SIB
+-- Bytes".
 use Rattle.std.specs.Prelude.{ℕ, ◌+◌, ◌-◌, ◌*◌, ◌%◌, ◌^◌, nat_eq, nat_lt, Bool, if◌then◌else◌, Option, None, Some}
 use Rattle.client_world.specs.declared.registers.Regs.{Regs}
 use Rattle.client_world.specs.General.{general, with_general}

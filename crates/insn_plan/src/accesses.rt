@@ -229,7 +229,8 @@ impl<'a> Accesses<'a> {
     }
 
     // The touch of an access, or none where it has a fault.
-    #[tactic(auto, unfolding(crate::specs::Accesses::touch_of_access), using(crate::proofs::Moved::access_fault_moved, crate::proofs::Moved::selector_moved))]
+    #[tactic(auto, unfolding(crate::specs::Accesses::touch_of_access), using(crate::proofs::Moved::access_fault_moved, //
+    crate::proofs::Moved::selector_moved))]
     fn touch_of_access(&self, a: Access) -> Option<Touch>
         requires { HasBytes a }
         ensures { result ≡ touch_of_access self.now.world a }

@@ -20,12 +20,13 @@ pub use conditions::condition;
 pub use loop_counter::{counter, with_address};
 pub use next::{MAX_WRITES, Next};
 pub use operands::{
-    at_hand, copy_quickly, put_operand, put_register, put_with_flags, source, write_number,
+    at_hand, noted_place, put_operand, put_register, put_with_flags, register_number, shown,
+    source, write_number, write_quickly, write_there,
 };
 pub use raised::Raised;
-pub use read::{number_at, read_number, read_width};
+pub use read::{number_at, number_there, read_number, read_quickly, read_width};
 pub use registers::{cut_address, offset_of, register, set_register};
 pub use stack::{
-    eight_items, esp_up, has_big_stack, item_pushed, push_item, settle_pushes, settle_quickly,
-    stack_item, stack_pointer, with_pointer,
+    eight_items, esp_up, has_big_stack, item_pushed, push_item, push_quickly, settle_pushes,
+    settle_quickly, shown_top_item, stack_item, stack_pointer, top_item, with_pointer,
 };

@@ -23,7 +23,8 @@ const NO_WRITE: Write = Write {
     value: 0,
 };
 
-/// What an instruction leaves: the registers, the virtual interrupt flag, and its writes, none of which is made before all of them are known.
+/// What an instruction leaves: the registers, the virtual interrupt flag, and its writes, none of which is made before all of them are
+/// known.
 #[derive(Drop)]
 pub struct Next {
     writes: [Write; MAX_WRITES],

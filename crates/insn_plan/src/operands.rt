@@ -1,7 +1,9 @@
 // Operands, read and written at once.
 ghost use Rattle.std.specs.Prelude.{◌≡◌, OnOk, IfErr, IfSome, IfNone, IsTrue, IsFalse, Ok};
 ghost use Rattle.guest_space.specs.Pending.{byte_count};
+ghost use Rattle.insn_forms.specs.declared.insn.Operand.TheVariants.{Reg};
 ghost use Rattle.guest_space.specs.Registers.{with_registers};
+ghost use Rattle.guest_space.specs.WriteRuns.{IsRun};
 ghost use Rattle.insn_plan.specs.Act.{From, unchanged, value_of, with_flags};
 ghost use Rattle.insn_plan.specs.Operands.{and_write, given, put_operand, source};
 ghost use Rattle.insn_plan.specs.Plan.{Follows, after_commit};
@@ -50,17 +52,77 @@ pub(crate) fn given(r: &Regs, operand: &Operand) -> u32
     }
 }
 
-/// What an operand gives that is at hand, in a register or in the instruction; `None` says nothing. The sizes say what `source` would read.
+/// The number of a register operand of W bits; `None` for any other operand.
 #[inline(always)]
-#[tactic(auto, unfolding(crate::specs::Operands::source, crate::specs::Act::value_of))]
-pub fn at_hand(m: &Machine, addr32: bool, width: u8, operand: &Operand) -> Option<u32>
-    ensures { IfSome result (λ v. value_of m.now.world (source m.now.world.regs addr32 width operand.now) ≡ Ok v) }
+pub fn register_number<const W: u8>(operand: &Operand) -> Option<u8>
+    ensures { IfSome result (λ n. operand.now ≡ Reg W n) }
 {
     match operand {
-        Operand::Reg { width, number } => Some(register(m.registers(), *width, *number)),
-        Operand::Imm(v) => Some(*v),
+        Operand::Reg { width, number } if *width == W => Some(*number),
         _ => None,
     }
+}
+
+/// What an operand gives that is at hand, in a register of W bits or in the instruction; `None` says nothing. W is the width that the
+/// operand would be read with in memory.
+#[inline(always)]
+#[tactic(auto, unfolding(crate::specs::Operands::source, crate::specs::Act::value_of))]
+pub fn at_hand<const W: u8>(m: &Machine, addr32: bool, operand: &Operand) -> Option<u32>
+    ensures { IfSome result (λ v. value_of m.now.world (source m.now.world.regs addr32 W operand.now) ≡ Ok v) }
+{
+    if let Operand::Reg { width, number } = operand {
+        if *width == W {
+            return Some(register(m.registers(), W, *number));
+        }
+    }
+    if let Operand::Imm(v) = operand {
+        return Some(*v);
+    }
+    None
+}
+
+/// What an operand gives that is at hand, or in memory where a quick look shows it; `None` says nothing. W is the width that it is read
+/// with in memory.
+#[inline(always)]
+#[tactic(auto, unfolding(crate::specs::Operands::source, crate::specs::Act::value_of))]
+pub fn shown<const W: u8>(m: &Machine, addr32: bool, operand: &Operand) -> Option<u32>
+    ensures { IfSome result (λ v. value_of m.now.world (source m.now.world.regs addr32 W operand.now) ≡ Ok v) }
+{
+    if let Operand::Mem(f) = operand {
+        return quick_source(m, addr32, W, f);
+    }
+    at_hand::<W>(m, addr32, operand)
+}
+
+/// The offset of an operand in memory of W bits, and its address in the memory, where a quick look shows that it may be read and written;
+/// `None` says nothing.
+#[inline(always)]
+pub fn noted_place<const W: u8>(m: &Machine, addr32: bool, f: &MemForm) -> Option<(u32, u32)>
+    ensures off { IfSome result (λ place. place.0 ≡ offset_of m.now.world.regs addr32 f.now) }
+    ensures run { IfSome result (λ place. IsRun m.now f.now.seg place.0 (byte_count W) place.1) }
+{
+    let off = offset_of(m.registers(), addr32, f);
+    let at = m.noted_run(f.seg, off, u32::from(byte_count(W)))?;
+    Some((off, at))
+}
+
+/// Writes a number of W bits at an offset of a segment register, whose address in the memory is known; the write has no fault. The
+/// registers and the virtual interrupt flag stay.
+#[inline(always)]
+#[tactic(auto, using(crate::proofs::WrittenState::made))]
+pub fn write_there<const W: u8>(m: &mut Machine, seg: SegReg, off: u32, at: u32, value: u32)
+    requires { IsRun m.old seg off (byte_count W) at }
+    ensures { IsWritten (record { seg = seg; off = off; width = W; value = value }) m.old m.new }
+{
+    m.write_run(
+        &Write {
+            seg,
+            width: W,
+            off,
+            value,
+        },
+        at,
+    );
 }
 
 /// Reads an operand, in memory at that width, or gives the fault of the access.
@@ -125,20 +187,24 @@ fn note_and_write(
     Ok(())
 }
 
-/// Writes a number of a width at an offset of a segment register where a quick look shows that the write has no fault, and returns `true`; else
-/// it does nothing. The registers and the virtual interrupt flag stay.
+/// Writes a number of a width at an offset of a segment register where a quick look shows that the write has no fault; `None` says nothing,
+/// and changes nothing. The registers and the virtual interrupt flag stay.
 #[inline(always)]
 #[tactic(auto, using(crate::proofs::WrittenState::made))]
-pub(crate) fn write_at_once(m: &mut Machine, seg: SegReg, off: u32, width: u8, value: u32) -> bool
-    ensures made { IsTrue result → IsWritten (record { seg = seg; off = off; width = width; value = value }) m.old m.new }
-    ensures kept { IsFalse result → m.new ≡ m.old }
+pub fn write_quickly(m: &mut Machine, seg: SegReg, off: u32, width: u8, value: u32) -> Option<()>
+    ensures made { IfSome result (λ _. IsWritten (record { seg = seg; off = off; width = width; value = value }) m.old m.new) }
+    ensures kept { IfNone result (m.new ≡ m.old) }
 {
-    m.write_one_quickly(&Write {
+    let write = Write {
         seg,
         width,
         off,
         value,
-    })
+    };
+    if m.write_one_quickly(&write) {
+        return Some(());
+    }
+    None
 }
 
 /// Writes a number of a width at an offset of a segment register, or gives the fault of the write, which changes nothing. The registers and
@@ -155,35 +221,10 @@ pub fn write_number(
     ensures done { OnOk result (IsWritten (record { seg = seg; off = off; width = width; value = value }) m.old m.new) }
     ensures refused { IfErr result (λ e. IsRefused (record { seg = seg; off = off; width = width; value = value }) m.old m.new e) }
 {
-    if write_at_once(m, seg, off, width, value) {
-        return Ok(());
+    match write_quickly(m, seg, off, width, value) {
+        Some(()) => Ok(()),
+        None => note_and_write(m, seg, off, width, value),
     }
-    note_and_write(m, seg, off, width, value)
-}
-
-/// Copies a number of a width from an offset of a segment register to one of another, where a quick look shows that both may be accessed, and
-/// returns it; `None` says nothing, and changes nothing. The registers and the virtual interrupt flag stay.
-#[inline(always)]
-#[tactic(auto, using(crate::proofs::WrittenState::made))]
-pub fn copy_quickly(
-    m: &mut Machine,
-    width: u8,
-    source: (SegReg, u32),
-    destination: (SegReg, u32),
-) -> Option<u32>
-    ensures read { IfSome result (λ v. value_of m.old.world (From source.0 source.1 (byte_count width)) ≡ Ok v) }
-    ensures written { IfSome result (λ v.
-        IsWritten (record { seg = destination.0; off = destination.1; width = width; value = v }) m.old m.new) }
-    ensures kept { IfNone result (m.new ≡ m.old) }
-{
-    let value = read_quickly(m, source.0, source.1, width)?;
-    let is_made = m.write_one_quickly(&Write {
-        seg: destination.0,
-        width,
-        off: destination.1,
-        value,
-    });
-    if is_made { Some(value) } else { None }
 }
 
 // Puts a number into memory, and sets the flags.
@@ -208,7 +249,8 @@ fn put_in_memory(
 
 /// Puts a number where an operand names and sets the flags, or gives the fault of the write, which changes nothing.
 #[inline(always)]
-#[tactic(auto, unfolding(crate::specs::Operands::put_operand, crate::specs::Plan::after_commit, guest_space::specs::Pending::first_write_fault, guest_space::specs::Pending::after_writes))]
+#[tactic(auto, unfolding(crate::specs::Operands::put_operand, crate::specs::Plan::after_commit, //
+guest_space::specs::Pending::first_write_fault, guest_space::specs::Pending::after_writes))]
 pub fn put_with_flags(
     m: &mut Machine,
     flags: Flags,
@@ -236,7 +278,8 @@ pub fn put_with_flags(
 
 /// Puts a number where an operand names, or gives the fault of the write, which changes nothing.
 #[inline(always)]
-#[tactic(auto, unfolding(crate::specs::Operands::put_operand, crate::specs::Plan::after_commit, guest_space::specs::Pending::first_write_fault, guest_space::specs::Pending::after_writes))]
+#[tactic(auto, unfolding(crate::specs::Operands::put_operand, crate::specs::Plan::after_commit, //
+guest_space::specs::Pending::first_write_fault, guest_space::specs::Pending::after_writes))]
 pub fn put_operand(
     m: &mut Machine,
     addr32: bool,

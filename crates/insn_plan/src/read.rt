@@ -1,6 +1,7 @@
 // Numbers read from memory.
 ghost use Rattle.std.specs.Prelude.{◌≡◌, IfSome, Ok};
 ghost use Rattle.guest_space.specs.Pending.{IsCountOfWidth, byte_count};
+ghost use Rattle.guest_space.specs.WriteRuns.{IsRun};
 ghost use Rattle.insn_plan.specs.Act.{From, IsCount, value_of, number_of};
 
 use crate::raised::Raised;
@@ -65,16 +66,30 @@ pub fn number_at(m: &Machine, seg: SegReg, off: u32, count: u8) -> Result<u32, R
     }
 }
 
-// The number of a width at an offset of a segment register, where a quick look shows it; `None` says nothing.
+/// The number of a width at an offset of a segment register, where a quick look shows it; `None` says nothing.
 #[inline(always)]
 #[tactic(auto, unfolding(crate::specs::Act::value_of))]
-pub(crate) fn read_quickly(m: &Machine, seg: SegReg, off: u32, width: u8) -> Option<u32>
+pub fn read_quickly(m: &Machine, seg: SegReg, off: u32, width: u8) -> Option<u32>
     ensures { IfSome result (λ v. value_of m.now.world (From seg off (byte_count width)) ≡ Ok v) }
 {
     match width {
         8 => Some(byte(m.read_quickly(seg, off)?)),
         16 => Some(word(m.read_quickly(seg, off)?)),
         _ => Some(doubleword(m.read_quickly(seg, off)?)),
+    }
+}
+
+/// The number of W bits at an offset of a segment register, whose address in the memory is known.
+#[inline(always)]
+#[tactic(auto, unfolding(crate::specs::Act::value_of))]
+pub fn number_there<const W: u8>(m: &Machine, seg: SegReg, off: u32, at: u32) -> u32
+    requires { IsRun m.now seg off (byte_count W) at }
+    ensures { value_of m.now.world (From seg off (byte_count W)) ≡ Ok result }
+{
+    match W {
+        8 => byte(m.read_run(seg, off, at)),
+        16 => word(m.read_run(seg, off, at)),
+        _ => doubleword(m.read_run(seg, off, at)),
     }
 }
 

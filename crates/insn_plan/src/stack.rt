@@ -1,5 +1,5 @@
 // The stack.
-ghost use Rattle.std.specs.Prelude.{◌≡◌, ◌+◌, ◌-◌, ◌<◌, ◌^◌, ◌⊎◌, IfSome, IsFalse, IsTrue, Ok, length, slice_index, ℕ};
+ghost use Rattle.std.specs.Prelude.{◌≡◌, ◌+◌, ◌-◌, ◌<◌, ◌^◌, ◌⊎◌, IfNone, IfSome, IsFalse, IsTrue, Ok, length, slice_index, ℕ};
 ghost use Rattle.client_world.specs.World.{World};
 ghost use Rattle.insn_plan.specs.Act.{Pending, unchanged, value_of};
 ghost use Rattle.insn_plan.specs.Plan.{Follows, after_commit};
@@ -17,9 +17,9 @@ ghost use Rattle.insn_plan.specs.Stack.{
 ghost use Rattle.insn_plan.specs.declared.next.TheConstants.{MAX_WRITES};
 
 use crate::next::Next;
-use crate::operands::{write_at_once, write_number};
+use crate::operands::{write_number, write_quickly};
 use crate::raised::Raised;
-use crate::read::{doubleword, number_at, word};
+use crate::read::{doubleword, number_at, read_quickly, read_width, word};
 use crate::registers::cut_address;
 use client_world::general::ESP;
 use client_world::{Regs, SegReg};
@@ -72,6 +72,7 @@ pub(crate) fn pointer_down(big: bool, n: u8, esp: u32) -> u32
 }
 
 /// The stack pointer of some registers.
+#[inline(always)]
 pub fn stack_pointer(m: &Machine, r: &Regs) -> u32
     ensures { result ≡ stack_pointer m.now.world r.now }
 {
@@ -91,27 +92,59 @@ pub fn stack_item(m: &Machine, width: u8, place: u8) -> Result<u32, Raised>
     number_at(m, SegReg::Ss, off, count)
 }
 
-/// Pushes a number of a width, or gives the fault of the write, which changes nothing.
-/// Source: 80386 Programmer's Reference Manual, ch. 17, PUSH.
+/// The item of a width at the top of the stack, where a quick look shows it; `None` says nothing.
 #[inline(always)]
-#[tactic(auto, unfolding(crate::specs::Stack::with_pushed_number, crate::specs::Plan::after_commit, client_world::specs::General::with_general))]
-pub fn push_item(m: &mut Machine, width: u8, v: u32) -> Result<(), Raised>
-    ensures { Follows m.old m.new result (after_commit m.old (with_pushed_number m.old.world width v (unchanged m.old.world))) }
+#[tactic(auto, using(crate::proofs::TopItem::top_item))]
+pub fn shown_top_item(m: &Machine, width: u8) -> Option<u32>
+    ensures { IfSome result (λ v. value_of m.now.world (stack_item m.now.world width 0) ≡ Ok v) }
+{
+    read_quickly(m, SegReg::Ss, stack_pointer(m, m.registers()), width)
+}
+
+/// Reads that item, or gives the fault of the access. Where a quick look doesn't show it, its page is noted.
+#[inline(always)]
+#[tactic(auto, using(crate::proofs::TopItem::top_item))]
+pub fn top_item(m: &mut Machine, width: u8) -> Result<u32, Raised>
+    ensures value { result ≡ value_of m.old.world (stack_item m.old.world width 0) }
+    ensures kept { m.new ≡ m.old }
+{
+    let sp = stack_pointer(m, m.registers());
+    read_width(m, SegReg::Ss, sp, width)
+}
+
+/// Pushes a number of a width where a quick look shows that the write has no fault; `None` says nothing, and changes nothing.
+#[inline(always)]
+#[tactic(auto, unfolding(crate::specs::Stack::with_pushed_number, crate::specs::Plan::after_commit, //
+client_world::specs::General::with_general))]
+pub fn push_quickly(m: &mut Machine, width: u8, v: u32) -> Option<()>
+    ensures made { IfSome result (λ _. after_commit m.old (with_pushed_number m.old.world width v (unchanged m.old.world)) ≡ Ok m.new) }
+    ensures kept { IfNone result (m.new ≡ m.old) }
 {
     let big = has_big_stack(m);
     let esp = m.registers().esp;
     let sp = pointer_down(big, byte_count(width), esp);
-    if write_at_once(m, SegReg::Ss, sp, width, v) {
-        m.set_general(ESP, with_pointer(big, esp, sp));
-        return Ok(());
+    write_quickly(m, SegReg::Ss, sp, width, v)?;
+    m.set_general(ESP, with_pointer(big, esp, sp));
+    Some(())
+}
+
+/// Pushes a number of a width, or gives the fault of the write, which changes nothing.
+/// Source: 80386 Programmer's Reference Manual, ch. 17, PUSH.
+#[inline(always)]
+pub fn push_item(m: &mut Machine, width: u8, v: u32) -> Result<(), Raised>
+    ensures { Follows m.old m.new result (after_commit m.old (with_pushed_number m.old.world width v (unchanged m.old.world))) }
+{
+    match push_quickly(m, width, v) {
+        Some(()) => Ok(()),
+        None => push_by_tables(m, width, v),
     }
-    push_by_tables(m, width, v)
 }
 
 // The same, where the tables have to be asked.
 #[cold]
 #[inline(never)]
-#[tactic(auto, unfolding(crate::specs::Stack::with_pushed_number, crate::specs::Plan::after_commit, client_world::specs::General::with_general))]
+#[tactic(auto, unfolding(crate::specs::Stack::with_pushed_number, crate::specs::Plan::after_commit, //
+client_world::specs::General::with_general))]
 fn push_by_tables(m: &mut Machine, width: u8, v: u32) -> Result<(), Raised>
     ensures { Follows m.old m.new result (after_commit m.old (with_pushed_number m.old.world width v (unchanged m.old.world))) }
 {

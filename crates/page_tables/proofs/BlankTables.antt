@@ -6,12 +6,7 @@ use Rattle.page_tables.specs.Mapping.{NamesTable, directory_word}
 -- four zero bytes are a zero doubleword
 pub dword_zero : (b : List ℕ) (p : ℕ) → ((i : ℕ) → i < 4 → get_or b (p + i) 0 ≡ 0) → dword b p ≡ 0
 unfolding dword
-dword_zero b p h =
-    let e0 : get_or b p 0 ≡ 0 = rw (← add-zero p) (h 0 (omega arith)) in
-    let e1 : get_or b (p + 1) 0 ≡ 0 = h 1 (omega arith) in
-    let e2 : get_or b (p + 2) 0 ≡ 0 = h 2 (omega arith) in
-    let e3 : get_or b (p + 3) 0 ≡ 0 = h 3 (omega arith) in
-    rw (e0, e1, e2, e3) refl
+dword_zero b p h = grind (arith, add-zero)
 
 -- a zero entry names no table
 pub names_none : (b : List ℕ) (i : ℕ) → directory_word b i ≡ 0 → NamesTable b i → ⊥

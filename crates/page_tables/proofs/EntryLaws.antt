@@ -33,7 +33,7 @@ pub ended-page_entry : (directory frame : ℕ) (writable : Bool) (lin : ℕ) (wr
     walk_end directory (page_entry frame writable) lin write ≡ ended_in_frame directory frame writable lin write
 unfolding walk_end ended_in_frame
 ended-page_entry directory frame writable lin write h =
-    rw (h, page_entry_present frame writable, page_entry_user frame writable, page_entry_writable frame writable, page_entry_frame frame writable) refl
+    grind (arith, page_entry_frame, page_entry_present, page_entry_user, page_entry_writable)
 
 -- and through an entry that is absent
 pub ended-absent : (directory lin : ℕ) (write : Bool) → has_bit directory PRESENT ≡ true → walk_end directory 0 lin write ≡ fault false

@@ -1,5 +1,6 @@
 -- The list of free frames as its first frame is taken, as a frame is put before it, and as the frames of others are written.
-use Rattle.std.proofs.Common.{◌≡◌, ◌≢◌, ◌↔◌, ◌⊎◌, inl, inr, ℕ, zero, suc, ◌<◌, List, [], ◌∷◌, length, slice_index, slice_index_or, Contains, refl, ap, ◌∙◌, sym, subst, arith}
+use Rattle.std.proofs.Common.{◌≡◌, ◌≢◌, ◌↔◌, ◌⊎◌, inl, inr, ℕ, zero, suc, ◌<◌, List, [], ◌∷◌, length, slice_index, slice_index_or, Contains}
+use Rattle.std.proofs.Common.{refl, ap, ◌∙◌, sym, subst, arith}
 use Rattle.std.proofs.lemmas.List.{get_or_default}
 use Rattle.page_tables.specs.FreeList.{IsChain, ListsFree}
 
@@ -19,16 +20,13 @@ member_first : (x : ℕ) (xs : List ℕ) → Contains (x ∷ xs) x
 member_first x xs = (0, omega arith, refl)
 
 member_cases : (x y : ℕ) (xs : List ℕ) → Contains (x ∷ xs) y → (x ≡ y) ⊎ Contains xs y
-member_cases x y xs has = by_place has.0 has.1 has.2
-  where
-    by_place : (k : ℕ) → k < length (x ∷ xs) → slice_index_or (x ∷ xs) k y ≡ y → (x ≡ y) ⊎ Contains xs y
-    by_place zero less e = inl e
-    by_place (suc k) less e = inr (k, omega (arith, less), e)
+member_cases x y xs has = grind arith
 
 -- ---- what follows each frame
 
 -- the frames follow one another where what follows each of them stays
-chain_kept : (next other : ℕ → ℕ) (first : ℕ) (frames : List ℕ) → ((k : ℕ) → k < length frames → other (slice_index frames k) ≡ next (slice_index frames k)) →
+chain_kept : (next other : ℕ → ℕ) (first : ℕ) (frames : List ℕ) →
+    ((k : ℕ) → k < length frames → other (slice_index frames k) ≡ next (slice_index frames k)) →
     IsChain next first frames → IsChain other first frames
 chain_kept next other first [] same chain = chain
 chain_kept next other first (frame ∷ frames) same chain = (
@@ -46,7 +44,8 @@ same_free first head next other Free Idle list e same idle = record {
   frames = list.frames;
   linked = subst (λ (f : ℕ). IsChain other f list.frames) (sym e)
       (chain_kept next other first list.frames
-      (λ k less. same (slice_index list.frames k) ((list.exactly (slice_index list.frames k)).0 (member_at list.frames k less))) list.linked);
+      (λ k less. same (slice_index list.frames k) ((list.exactly (slice_index list.frames k)).0 (member_at list.frames k less)))
+      list.linked);
   once = list.once;
   exactly = λ frame. (λ has. (idle frame).1 ((list.exactly frame).0 has), λ is. (list.exactly frame).1 ((idle frame).0 is));
 }
@@ -60,7 +59,8 @@ first_is_free first next Free list some = by_frames list.frames list.linked list
     by_frames (frame ∷ frames) chain exactly = subst Free (sym chain.0) ((exactly frame).0 (member_first frame frames))
 
 -- where there is none, no frame is free
-pub none_is_free : (first : ℕ) (next : ℕ → ℕ) (Free : ℕ → Type 0) → ListsFree first next Free → first ≡ 0 → ((frame : ℕ) → Free frame → frame ≢ 0) →
+pub none_is_free : (first : ℕ) (next : ℕ → ℕ) (Free : ℕ → Type 0) → ListsFree first next Free → first ≡ 0 →
+    ((frame : ℕ) → Free frame → frame ≢ 0) →
     (frame : ℕ) → Free frame → ⊥
 none_is_free first next Free list none some frame is = by_frames list.frames list.linked list.exactly
   where
@@ -69,18 +69,22 @@ none_is_free first next Free list none some frame is = by_frames list.frames lis
     by_frames (f ∷ frames) chain exactly = some f ((exactly f).0 (member_first f frames)) (sym chain.0 ∙ none)
 
 -- without its first frame
-pub rest_of_free : (first head : ℕ) (next other : ℕ → ℕ) (Free Idle : ℕ → Type 0) → ListsFree first next Free → first ≢ 0 → head ≡ next first →
-    ((frame : ℕ) → Idle frame → other frame ≡ next frame) → ((frame : ℕ) → Idle frame ↔ (Free frame × (frame ≢ first))) → ListsFree head other Idle
+pub rest_of_free : (first head : ℕ) (next other : ℕ → ℕ) (Free Idle : ℕ → Type 0) → ListsFree first next Free → first ≢ 0 →
+    head ≡ next first →
+    ((frame : ℕ) → Idle frame → other frame ≡ next frame) → ((frame : ℕ) → Idle frame ↔ (Free frame × (frame ≢ first))) →
+    ListsFree head other Idle
 rest_of_free first head next other Free Idle list some e same idle = by_frames list.frames list.linked list.once list.exactly
   where
     by_frames : (frames : List ℕ) → IsChain next first frames →
-        ((place twin : ℕ) → place < length frames → twin < length frames → place ≢ twin → slice_index frames place ≢ slice_index frames twin) →
+        ((place twin : ℕ) → place < length frames → twin < length frames → place ≢ twin →
+        slice_index frames place ≢ slice_index frames twin) →
         ((frame : ℕ) → Contains frames frame ↔ Free frame) → ListsFree head other Idle
     by_frames [] chain once exactly = absurd (some chain)
     by_frames (f ∷ frames) chain once exactly = record {
       frames = frames;
       linked = subst (λ (h : ℕ). IsChain other h frames) (sym (e ∙ ap next chain.0))
-          (chain_kept next other (next f) frames (λ k less. same (slice_index frames k) (into (slice_index frames k) (member_at frames k less))) chain.1);
+          (chain_kept next other (next f) frames
+          (λ k less. same (slice_index frames k) (into (slice_index frames k) (member_at frames k less))) chain.1);
       once = λ place twin less small ne. once (suc place) (suc twin) (omega (arith, less)) (omega (arith, small)) (omega (arith, ne));
       exactly = λ frame. (into frame, back frame);
     }
@@ -96,22 +100,21 @@ rest_of_free first head next other Free Idle list some e same idle = by_frames l
 
         back : (frame : ℕ) → Idle frame → Contains frames frame
         back frame is =
-            let was = (idle frame).0 is in
-            elim (member_cases f frame frames ((exactly frame).1 was.0)) [
-              | inl here ↦ absurd (was.1 (sym here ∙ sym chain.0))
-              | inr later ↦ later
-            ]
+            let was = (idle frame).0 is in grind (arith, member_cases)
 
 -- with a frame before the first one
-pub more_of_free : (first head : ℕ) (next other : ℕ → ℕ) (Free Idle : ℕ → Type 0) → ListsFree first next Free → (Free head → ⊥) → other head ≡ first →
-    ((frame : ℕ) → Free frame → other frame ≡ next frame) → ((frame : ℕ) → Idle frame ↔ (Free frame ⊎ (frame ≡ head))) → ListsFree head other Idle
+pub more_of_free : (first head : ℕ) (next other : ℕ → ℕ) (Free Idle : ℕ → Type 0) → ListsFree first next Free → (Free head → ⊥) →
+    other head ≡ first →
+    ((frame : ℕ) → Free frame → other frame ≡ next frame) → ((frame : ℕ) → Idle frame ↔ (Free frame ⊎ (frame ≡ head))) →
+    ListsFree head other Idle
 more_of_free first head next other Free Idle list fresh e same idle = record {
   frames = head ∷ list.frames;
   linked = (
     refl,
     subst (λ (f : ℕ). IsChain other f list.frames) (sym e)
         (chain_kept next other first list.frames
-        (λ k less. same (slice_index list.frames k) ((list.exactly (slice_index list.frames k)).0 (member_at list.frames k less))) list.linked),
+        (λ k less. same (slice_index list.frames k) ((list.exactly (slice_index list.frames k)).0 (member_at list.frames k less)))
+        list.linked),
   );
   once = once;
   exactly = λ frame. (into frame, back frame);
@@ -128,13 +131,7 @@ more_of_free first head next other Free Idle list fresh e same idle = record {
     once (suc place) (suc twin) less small ne = list.once place twin (omega (arith, less)) (omega (arith, small)) (omega (arith, ne))
 
     into : (frame : ℕ) → Contains (head ∷ list.frames) frame → Idle frame
-    into frame has = elim (member_cases head frame list.frames has) [
-      | inl here ↦ (idle frame).1 (inr (sym here))
-      | inr later ↦ (idle frame).1 (inl ((list.exactly frame).0 later))
-    ]
+    into frame has = grind (arith, member_cases)
 
     back : (frame : ℕ) → Idle frame → Contains (head ∷ list.frames) frame
-    back frame is = elim ((idle frame).0 is) [
-      | inl was ↦ member_later head frame list.frames ((list.exactly frame).1 was)
-      | inr here ↦ subst (λ (f : ℕ). Contains (head ∷ list.frames) f) (sym here) (member_first head list.frames)
-    ]
+    back frame is = grind (arith, member_first, member_later)

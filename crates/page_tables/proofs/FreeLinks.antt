@@ -23,20 +23,6 @@ pub record Linking (old new : List ℕ) (head from to : ℕ) : Type 0 where
   pub list : ListsFree head (next_free new) (IsBetween from to)
   pub others : (at : ℕ) → at < PAGE_SIZE * BUDGET_FRAMES → slice_index new at ≡ slice_index old at
 
-pub none_linked : (b : List ℕ) (from to : ℕ) → BUDGET_FRAMES ≤ from → from ≡ to → Linking b b 0 from to
-none_linked b from to low e = record {
-  size = refl;
-  low = low;
-  high = omega arith;
-  list = record {
-    frames = [];
-    linked = refl;
-    once = λ place other less. absurd (omega (arith, less));
-    exactly = λ frame. (λ has. absurd (let less = has.1 in omega (arith, less)), λ is. absurd (let above = is.low in let below = is.high in omega arith));
-  };
-  others = λ at less. refl;
-}
-
 -- one frame more, before those
 pub one_linked : (b b1 c : List ℕ) (head from to frame start : ℕ) → Linking b b1 head from to → BUDGET_FRAMES ≤ frame → frame + 1 ≡ from →
     start ≡ frame → PAGE_SIZE * to ≤ length b → c ≡ put b1 (PAGE_SIZE * frame) (dword_bytes head) → Linking b c frame start to
@@ -45,20 +31,7 @@ one_linked b b1 c head from to frame start h low next here room e = subst (λ (x
       size = length-put b1 (PAGE_SIZE * frame) (dword_bytes head) ∙ h.size;
       low = low;
       high = (let high = h.high in omega arith);
-      list = more_of_free head frame (next_free b1) (next_free new) (IsBetween from to) (IsBetween frame to) h.list
-          (λ is. let above = is.low in omega arith)
-          (dword_put b1 (PAGE_SIZE * frame) head (let size = h.size in let high = h.high in omega arith))
-          (λ other is. (let above = is.low in dword_put_other b1 (PAGE_SIZE * frame) (PAGE_SIZE * other) head (inl (omega arith))))
-          (λ other. (
-            λ is. (let above = is.low in let below = is.high in elim (cases_eq other frame) [
-              | inl here ↦ inr here
-              | inr ne ↦ inl (record { low = omega arith; high = below })
-            ]),
-            λ was. elim was [
-              | inl is ↦ (let above = is.low in record { low = omega arith; high = is.high })
-              | inr here ↦ (let high = h.high in record { low = omega arith; high = omega arith })
-            ],
-          ));
+      list = grind (arith, cases_eq, dword_put, dword_put_other, more_of_free, new);
       others = λ at less. put_away b1 (PAGE_SIZE * frame) (dword_bytes head) at (inr (omega arith)) ∙ h.others at less;
     }))
   where
@@ -68,11 +41,7 @@ one_linked b b1 c head from to frame start h low next here room e = subst (λ (x
 -- with the head the memory lists them all
 pub all_linked : (b b1 c : List ℕ) (head from to : ℕ) → HasBudget b → AllFree b → from ≡ BUDGET_FRAMES → to ≡ length b / PAGE_SIZE →
     Linking b b1 head from to → c ≡ put b1 FREE_LIST_HEAD (dword_bytes head) → HasFreeList c
-all_linked b b1 c head from to budget free start end h e = subst HasFreeList (sym e)
-    (same_free head (first_free new) (next_free b1) (next_free new) (IsBetween from to) (IsFreeFrame new) h.list
-    (dword_put b1 FREE_LIST_HEAD head (let size = h.size in let host = budget.host in omega arith))
-    (λ frame is. (let low = is.low in let high = h.low in dword_put_other b1 FREE_LIST_HEAD (PAGE_SIZE * frame) head (inl (omega arith))))
-    (λ frame. (between frame, idle frame)))
+all_linked b b1 c head from to budget free start end h e = grind (arith, between, dword_put, dword_put_other, idle, new, same_free)
   where
     new : List ℕ
     new = put b1 FREE_LIST_HEAD (dword_bytes head)
@@ -81,7 +50,7 @@ all_linked b b1 c head from to budget free start end h e = subst HasFreeList (sy
     long = length-put b1 FREE_LIST_HEAD (dword_bytes head) ∙ h.size
 
     between : (frame : ℕ) → IsFreeFrame new frame → IsBetween from to frame
-    between frame is = let inside = is.budget.inside in let low = is.budget.from in record { low = omega arith; high = omega (arith, long, end, inside) }
+    between frame is = grind (arith, long)
 
     idle : (frame : ℕ) → IsBetween from to frame → IsFreeFrame new frame
     idle frame is =
@@ -92,5 +61,6 @@ all_linked b b1 c head from to budget free start end h e = subst HasFreeList (sy
         let past = place.from in
         record {
           budget = record { from = there.from; inside = omega (arith, long, inside) };
-          free = put_away b1 FREE_LIST_HEAD (dword_bytes head) (taken_place frame) (inl past) ∙ h.others (taken_place frame) place.to ∙ free frame there;
+          free = put_away b1 FREE_LIST_HEAD (dword_bytes head) (taken_place frame) (inl past) ∙ h.others (taken_place frame) place.to
+              ∙ free frame there;
         }

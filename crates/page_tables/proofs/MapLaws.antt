@@ -1,5 +1,6 @@
 -- A table entry that is put changes the walk of its page alone.
-use Rattle.std.proofs.Common.{◌≡◌, ◌≢◌, ℕ, ◌+◌, ◌/◌, ◌%◌, ◌<◌, ◌≤◌, ◌^◌, ◌⊎◌, inl, inr, List, length, Bool, true, false, refl, ap, ◌∙◌, sym, arith}
+use Rattle.std.proofs.Common.{◌≡◌, ◌≢◌, ℕ, ◌+◌, ◌/◌, ◌%◌, ◌<◌, ◌≤◌, ◌^◌, ◌⊎◌, inl, inr, List, length, Bool, true, false, refl, ap, ◌∙◌, sym}
+use Rattle.std.proofs.Common.{arith}
 use Rattle.std.proofs.lemmas.Bool.{cases_lt, cases_eq}
 use Rattle.client_world.specs.Registers.{has_bit}
 use Rattle.client_world.specs.declared.host_frames.TheConstants.{PAGE_SIZE, PAGE_DIRECTORY, TABLE_ENTRIES}
@@ -18,34 +19,20 @@ with_entry b lin v = put b (table_place b PAGE_DIRECTORY lin) (dword_bytes v)
 -- entries of tables in two frames don't meet
 apart_frames : (f g i j : ℕ) → i < TABLE_ENTRIES → j < TABLE_ENTRIES → f ≢ g →
     (entry_place f i + 4 ≤ entry_place g j) ⊎ (entry_place g j + 4 ≤ entry_place f i)
-apart_frames f g i j hi hj ne = elim (cases_lt f g) [
-  | inl below ↦ inl (omega arith)
-  | inr above ↦ inr (omega arith)
-]
+apart_frames f g i j hi hj ne = grind (arith, cases_lt)
 
 -- nor do two entries of one table
 apart_indices : (f g i j : ℕ) → f ≡ g → i ≢ j →
     (entry_place f i + 4 ≤ entry_place g j) ⊎ (entry_place g j + 4 ≤ entry_place f i)
-apart_indices f g i j e ne = elim (cases_lt i j) [
-  | inl below ↦ inl (omega arith)
-  | inr above ↦ inr (omega arith)
-]
+apart_indices f g i j e ne = grind (arith, cases_lt)
 
 directory-with_entry : (b : List ℕ) (lin v index : ℕ) → HasTables b → lin < 2 ^ 32 → IsCovered b lin → index < TABLE_ENTRIES →
     directory_word (with_entry b lin v) index ≡ directory_word b index
-directory-with_entry b lin v index t small covered within =
-    dword_put_other b (table_place b PAGE_DIRECTORY lin) (entry_place PAGE_DIRECTORY index) v
-    (apart_frames (frame_of (directory_entry b PAGE_DIRECTORY lin)) PAGE_DIRECTORY (lin / PAGE_SIZE % TABLE_ENTRIES) index
-    (omega arith) within (t.beside (lin / TABLE_SPAN) (omega arith) covered))
+directory-with_entry b lin v index t small covered within = grind (arith, apart_frames, dword_put_other)
 
 tables_kept : (b c : List ℕ) → HasTables b → length c ≡ length b →
     ((index : ℕ) → index < TABLE_ENTRIES → directory_word c index ≡ directory_word b index) → HasTables c
-tables_kept b c t long same = record {
-  directory = (let d = t.directory in omega arith);
-  inside = λ i l. omega (arith, same i l, t.inside i l);
-  beside = λ i l named. rw (same i l) (t.beside i l (rw (same i l) at named));
-  apart = λ i j l m ne named other. rw (same i l, same j m) (t.apart i j l m ne (rw (same i l) at named) (rw (same j m) at other));
-}
+tables_kept b c t long same = grind arith
 
 -- the directory and its tables stay
 pub HasTables-with_entry : (b : List ℕ) (lin v : ℕ) → HasTables b → lin < 2 ^ 32 → IsCovered b lin → HasTables (with_entry b lin v)
@@ -74,50 +61,30 @@ entries_apart : (b : List ℕ) (lin other : ℕ) → HasTables b → lin < 2 ^ 3
     page_of other ≢ page_of lin →
     (table_place b PAGE_DIRECTORY lin + 4 ≤ table_place b PAGE_DIRECTORY other)
     ⊎ (table_place b PAGE_DIRECTORY other + 4 ≤ table_place b PAGE_DIRECTORY lin)
-entries_apart b lin other t small within covered named ne = elim (cases_eq (lin / TABLE_SPAN) (other / TABLE_SPAN)) [
-  | inl e ↦ apart_indices (frame_of (directory_entry b PAGE_DIRECTORY lin)) (frame_of (directory_entry b PAGE_DIRECTORY other))
-      (lin / PAGE_SIZE % TABLE_ENTRIES) (other / PAGE_SIZE % TABLE_ENTRIES)
-      (ap (λ (i : ℕ). frame_of (directory_word b i)) e) (omega arith)
-  | inr n ↦ apart_frames (frame_of (directory_entry b PAGE_DIRECTORY lin)) (frame_of (directory_entry b PAGE_DIRECTORY other))
-      (lin / PAGE_SIZE % TABLE_ENTRIES) (other / PAGE_SIZE % TABLE_ENTRIES) (omega arith) (omega arith)
-      (t.apart (lin / TABLE_SPAN) (other / TABLE_SPAN) (omega arith) (omega arith) n covered named)
-]
+entries_apart b lin other t small within covered named ne = grind (arith, apart_frames, apart_indices, cases_eq)
 
 other_walk : (b : List ℕ) (lin v other : ℕ) (write covers : Bool) → HasTables b → lin < 2 ^ 32 → other < 2 ^ 32 → IsCovered b lin →
     page_of other ≢ page_of lin → has_bit (directory_entry b PAGE_DIRECTORY other) PRESENT ≡ covers →
     walked (with_entry b lin v) PAGE_DIRECTORY other write ≡ walked b PAGE_DIRECTORY other write
-other_walk b lin v other write false t small within covered ne none =
-    let kept = directory-with_entry b lin v (other / TABLE_SPAN) t small covered (omega arith) in
-    absent_walk (with_entry b lin v) PAGE_DIRECTORY other write (rw kept none)
-    ∙ sym (absent_walk b PAGE_DIRECTORY other write none)
+other_walk b lin v other write false t small within covered ne none = grind (arith, absent_walk, directory-with_entry)
 other_walk b lin v other write true t small within covered ne named =
-    same_walk b (with_entry b lin v) PAGE_DIRECTORY other write
-    (directory-with_entry b lin v (other / TABLE_SPAN) t small covered (omega arith))
-    (dword_put_other b (table_place b PAGE_DIRECTORY lin) (table_place b PAGE_DIRECTORY other) v
-    (entries_apart b lin other t small within covered named ne))
+    grind (arith, directory-with_entry, dword_put_other, entries_apart, same_walk)
 
 pub KeepsOtherPages-with_entry : (b : List ℕ) (lin v : ℕ) → HasTables b → lin < 2 ^ 32 → IsCovered b lin →
     KeepsOtherPages b (with_entry b lin v) lin
-KeepsOtherPages-with_entry b lin v t small covered = λ other write within ne.
-    other_walk b lin v other write (has_bit (directory_entry b PAGE_DIRECTORY other) PRESENT) t small within covered ne refl
+KeepsOtherPages-with_entry b lin v t small covered = grind (arith, other_walk)
 
 -- what is at the page's place now
 table_entry-with_entry : (b : List ℕ) (lin v : ℕ) → HasTables b → lin < 2 ^ 32 → IsCovered b lin →
     table_entry (with_entry b lin v) PAGE_DIRECTORY lin ≡ v
-table_entry-with_entry b lin v t small covered =
-    ap (λ (d : ℕ). dword (with_entry b lin v) (entry_place (frame_of d) (lin / PAGE_SIZE % TABLE_ENTRIES)))
-    (directory-with_entry b lin v (lin / TABLE_SPAN) t small covered (omega arith))
-    ∙ dword_put b (table_place b PAGE_DIRECTORY lin) v (let inside = t.inside (lin / TABLE_SPAN) (omega arith) in omega arith)
+table_entry-with_entry b lin v t small covered = grind (arith, directory-with_entry, dword_put)
 
 pub IsCovered-with_entry : (b : List ℕ) (lin v : ℕ) → HasTables b → lin < 2 ^ 32 → IsCovered b lin → IsCovered (with_entry b lin v) lin
 IsCovered-with_entry b lin v t small covered = rw (directory-with_entry b lin v (lin / TABLE_SPAN) t small covered (omega arith)) covered
 
 pub IsMapped-with_entry : (b : List ℕ) (lin frame : ℕ) (writable : Bool) → HasTables b → lin < 2 ^ 32 → IsCovered b lin →
     IsMapped (with_entry b lin (page_entry frame writable)) lin
-IsMapped-with_entry b lin frame writable t small covered = record {
-  covered = IsCovered-with_entry b lin (page_entry frame writable) t small covered;
-  present = rw (table_entry-with_entry b lin (page_entry frame writable) t small covered) (page_entry_present frame writable);
-}
+IsMapped-with_entry b lin frame writable t small covered = grind (arith, IsCovered-with_entry, page_entry_present, table_entry-with_entry)
 
 pub IsUnmapped-with_entry : (b : List ℕ) (lin : ℕ) → HasTables b → lin < 2 ^ 32 → IsCovered b lin → IsUnmapped (with_entry b lin 0) lin
 IsUnmapped-with_entry b lin t small covered = rw (table_entry-with_entry b lin 0 t small covered) refl
@@ -125,22 +92,11 @@ IsUnmapped-with_entry b lin t small covered = rw (table_entry-with_entry b lin 0
 -- the walk of the page meets the new entry
 page_walk : (b : List ℕ) (lin v other : ℕ) (write : Bool) → HasTables b → lin < 2 ^ 32 → IsCovered b lin → page_of other ≡ page_of lin →
     walked (with_entry b lin v) PAGE_DIRECTORY other write ≡ walk_end (directory_entry b PAGE_DIRECTORY lin) v other write
-page_walk b lin v other write t small covered e =
-    walk_of (with_entry b lin v) PAGE_DIRECTORY other (directory_entry b PAGE_DIRECTORY lin) v write
-    (ap (λ (i : ℕ). directory_word (with_entry b lin v) i) table
-    ∙ directory-with_entry b lin v (lin / TABLE_SPAN) t small covered (omega arith))
-    (ap (λ (p : ℕ). dword (with_entry b lin v) (entry_place (frame_of (directory_entry b PAGE_DIRECTORY lin)) (p % TABLE_ENTRIES))) e
-    ∙ dword_put b (table_place b PAGE_DIRECTORY lin) v
-    (let inside = t.inside (lin / TABLE_SPAN) (omega arith) in omega arith))
-  where
-    table : other / TABLE_SPAN ≡ lin / TABLE_SPAN
-    table = omega arith
+page_walk b lin v other write t small covered e = grind (arith, directory-with_entry, dword_put, walk_of)
 
 pub EndsInFrame-with_entry : (b : List ℕ) (lin frame : ℕ) (writable : Bool) → HasTables b → lin < 2 ^ 32 → IsCovered b lin →
     EndsInFrame b (with_entry b lin (page_entry frame writable)) lin frame writable
-EndsInFrame-with_entry b lin frame writable t small covered = λ other write e.
-    page_walk b lin (page_entry frame writable) other write t small covered e
-    ∙ ended-page_entry (directory_entry b PAGE_DIRECTORY lin) frame writable other write covered
+EndsInFrame-with_entry b lin frame writable t small covered = grind (arith, ended-page_entry, page_walk)
 
 pub EndsNowhere-with_entry : (b : List ℕ) (lin : ℕ) → HasTables b → lin < 2 ^ 32 → IsCovered b lin → EndsNowhere (with_entry b lin 0) lin
 EndsNowhere-with_entry b lin t small covered = λ other write e.

@@ -1,5 +1,6 @@
 -- A walk goes on within its page: two addresses of one page meet the same entries.
-use Rattle.std.proofs.Common.{◌≡◌, ℕ, ◌+◌, ◌*◌, ◌/◌, ◌%◌, ◌<◌, ◌≤◌, ◌^◌, inl, inr, Bool, ◌&&◌, ◌||◌, not, List, Ok, refl, ap, ◌∙◌, sym, arith}
+use Rattle.std.proofs.Common.{◌≡◌, ℕ, ◌+◌, ◌*◌, ◌/◌, ◌%◌, ◌<◌, ◌≤◌, ◌^◌, inl, inr, Bool, ◌&&◌, ◌||◌, not, List, Ok, refl, ap, ◌∙◌, sym}
+use Rattle.std.proofs.Common.{arith}
 use Rattle.std.proofs.lemmas.Bool.{cases_Bool}
 use Rattle.client_world.specs.Access.{linear}
 use Rattle.client_world.specs.Registers.{has_bit}
@@ -13,14 +14,7 @@ use Rattle.page_tables.specs.declared.entry.TheConstants.{PRESENT, TABLE_SPAN}
 pub same_entries : (b : List ℕ) (root lin other : ℕ) (write : Bool) → page_of other ≡ page_of lin →
     walked b root other write ≡ walk_end (directory_entry b root lin) (table_entry b root lin) other write
 unfolding walked
-same_entries b root lin other write e =
-    let table : other / TABLE_SPAN ≡ lin / TABLE_SPAN = omega arith in
-    let directory : directory_entry b root other ≡ directory_entry b root lin = ap (λ (i : ℕ). dword b (entry_place root i)) table in
-    let entry : table_entry b root other ≡ table_entry b root lin =
-    ap (λ (d : ℕ). dword b (entry_place (frame_of d) (other / PAGE_SIZE % TABLE_ENTRIES))) directory
-    ∙ ap (λ (page : ℕ). dword b (entry_place (frame_of (directory_entry b root lin)) (page % TABLE_ENTRIES))) e in
-    ap (λ (d : ℕ). walk_end d (table_entry b root other) other write) directory
-    ∙ ap (λ (t : ℕ). walk_end (directory_entry b root lin) t other write) entry
+same_entries b root lin other write e = grind arith
 
 -- where a walk ends, and where one ends to another address of that page
 pub record EndsBeside (b : List ℕ) (root lin other p : ℕ) (write : Bool) : Type 0 where
@@ -35,26 +29,13 @@ record EndedBeside (directory table lin other p : ℕ) (write : Bool) : Type 0 w
 ended_beside : (directory table lin other p : ℕ) (write : Bool) → walk_end directory table lin write ≡ Ok p →
     EndedBeside directory table lin other p write
 unfolding walk_end
-ended_beside directory table lin other p write e = elim (cases_Bool (not (has_bit directory PRESENT) || not (has_bit table PRESENT))) [
-  | inl absent ↦ (let fails = rw absent at e in absurd cc)
-  | inr present ↦ elim (cases_Bool (allows directory write && allows table write)) [
-    | inl allowed ↦ (
-        let same : Ok (PAGE_SIZE * frame_of table + lin % PAGE_SIZE) ≡ Ok p = rw (present, allowed) at e in
-        record { here = cc; there = rw (present, allowed) refl })
-    | inr barred ↦ (let fails = rw (present, barred) at e in absurd cc)
-  ]
-]
+ended_beside directory table lin other p write e = grind (arith, cases_Bool)
 
 pub same_page : (b : List ℕ) (root lin other p : ℕ) (write : Bool) → page_of other ≡ page_of lin → walked b root lin write ≡ Ok p →
     EndsBeside b root lin other p write
 same_page b root lin other p write e ends =
     let beside = ended_beside (directory_entry b root lin) (table_entry b root lin) lin other p write
-    (sym (same_entries b root lin lin write refl) ∙ ends) in
-    record {
-      frame = frame_of (table_entry b root lin);
-      here = beside.here;
-      there = same_entries b root lin other write e ∙ beside.there;
-    }
+    (sym (same_entries b root lin lin write refl) ∙ ends) in grind (arith, same_entries)
 
 -- a run of bytes that does not leave its page
 pub run_page : (lin i n : ℕ) → lin % PAGE_SIZE + n ≤ PAGE_SIZE → i < n → page_of (lin + i) ≡ page_of lin

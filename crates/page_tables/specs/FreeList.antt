@@ -43,7 +43,8 @@ without_head bytes frame = slice_set (put bytes FREE_LIST_HEAD (dword_bytes (nex
 -- the bytes after a frame is given back: it is the head, what was the head follows it, and it is free
 abbrev pub with_head : List ℕ → ℕ → List ℕ
 with_head bytes frame =
-    slice_set (put (put bytes (PAGE_SIZE * frame) (dword_bytes (first_free bytes))) FREE_LIST_HEAD (dword_bytes frame)) (taken_place frame) 0
+    slice_set (put (put bytes (PAGE_SIZE * frame) (dword_bytes (first_free bytes))) FREE_LIST_HEAD (dword_bytes frame))
+    (taken_place frame) 0
 
 -- in the host's frames no byte but those of the head has changed
 abbrev pub KeepsBesideList : List ℕ → List ℕ → Type 0

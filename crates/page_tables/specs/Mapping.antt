@@ -1,6 +1,7 @@
 -- What maps a page, and what that changes. The directory is the host's own.
 -- Source: 80386 Programmer's Reference Manual, ch. 5, "Page Translation"; own.
-use Rattle.std.specs.Prelude.{◌≡◌, ◌≢◌, ℕ, ◌+◌, ◌*◌, ◌%◌, ◌<◌, ◌^◌, Bool, true, false, ◌&&◌, ◌||◌, not, if◌then◌else◌, IsTrue, Result, Ok, List}
+use Rattle.std.specs.Prelude.{◌≡◌, ◌≢◌, ℕ, ◌+◌, ◌*◌, ◌%◌, ◌<◌, ◌^◌, Bool, true, false, ◌&&◌, ◌||◌, not, if◌then◌else◌, IsTrue, Result, Ok}
+use Rattle.std.specs.Prelude.{List}
 use Rattle.client_world.specs.Registers.{has_bit}
 use Rattle.client_world.specs.declared.faults.PageFault.{PageFault}
 use Rattle.client_world.specs.declared.host_frames.TheConstants.{PAGE_SIZE, PAGE_DIRECTORY, TABLE_ENTRIES}

@@ -18,7 +18,7 @@ pub const FREE_LIST_HEAD: u32 = PAGE_SIZE * VECTORS
     + DOS_VIEW_PAGES;
 
 // The address of the taken byte of a frame.
-fn place_of(ram: &Ram, frame: u32) -> u32
+fn taken_place(ram: &Ram, frame: u32) -> u32
     requires frames { HasBudget ram.now }
     requires frame { IsBudgetFrame ram.now frame }
     ensures place { result ≡ taken_place frame }
@@ -48,7 +48,7 @@ pub fn take_frame(ram: &mut Ram) -> Option<u32>
     if frame == 0 {
         return None;
     }
-    let place = place_of(ram, frame);
+    let place = taken_place(ram, frame);
     let next = ram.get32(PAGE_SIZE * frame);
     ram.set32(FREE_LIST_HEAD, next);
     ram.set8(place, 1);
@@ -68,7 +68,7 @@ pub fn give_frame(ram: &mut Ram, frame: u32)
     ensures size { length ram.new ≡ length ram.old }
 {
     let _size = ram.len();
-    let place = place_of(ram, frame);
+    let place = taken_place(ram, frame);
     let head = ram.get32(FREE_LIST_HEAD);
     ram.set32(PAGE_SIZE * frame, head);
     ram.set32(FREE_LIST_HEAD, frame);

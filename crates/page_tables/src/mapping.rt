@@ -7,7 +7,7 @@ ghost use Rattle.page_tables.specs.Walk.{IsFrame, frame_of, table_entry, table_p
 ghost use Rattle.page_tables.specs.Mapping.{HasTables, IsCovered, IsUnmapped, IsMapped, EndsInFrame, EndsNowhere, KeepsOtherPages};
 
 use crate::entry::page_entry;
-use crate::translation::place_of;
+use crate::translation::table_place;
 use client_world::host_frames::{PAGE_DIRECTORY, PAGE_SIZE};
 use guest_ram::Ram;
 
@@ -27,7 +27,7 @@ pub fn map(ram: &mut Ram, lin: u32, frame: u32, writable: bool)
     ensures others { KeepsOtherPages ram.old ram.new lin }
 {
     let _size = ram.len();
-    let place = place_of(ram, PAGE_DIRECTORY, lin);
+    let place = table_place(ram, PAGE_DIRECTORY, lin);
     ram.set32(place, page_entry(frame, writable));
 }
 
@@ -45,7 +45,7 @@ pub fn unmap(ram: &mut Ram, lin: u32) -> u32
     ensures page { EndsNowhere ram.new lin }
     ensures others { KeepsOtherPages ram.old ram.new lin }
 {
-    let place = place_of(ram, PAGE_DIRECTORY, lin);
+    let place = table_place(ram, PAGE_DIRECTORY, lin);
     let frame = ram.get32(place) / PAGE_SIZE;
     ram.set32(place, 0);
     frame

@@ -36,7 +36,7 @@ pub(crate) fn directory_of(ram: &Ram, root: u32, lin: u32) -> u32
 
 // The address of the table entry of a linear address.
 #[inline(always)]
-pub(crate) fn place_of(ram: &Ram, root: u32, lin: u32) -> u32
+pub(crate) fn table_place(ram: &Ram, root: u32, lin: u32) -> u32
     requires root { IsFrame ram.now root }
     requires tables { TablesInside ram.now root }
     ensures place { result ≡ table_place ram.now root lin }
@@ -58,6 +58,6 @@ pub fn walk(ram: &Ram, root: u32, lin: u32, write: bool) -> Result<u32, PageFaul
     ensures { result ≡ walked ram.now root lin write }
 {
     let directory = directory_of(ram, root, lin);
-    let table = ram.get32(place_of(ram, root, lin));
+    let table = ram.get32(table_place(ram, root, lin));
     end(directory, table, lin, write)
 }

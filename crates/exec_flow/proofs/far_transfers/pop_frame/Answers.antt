@@ -12,6 +12,7 @@ pub returns : goal.returns
 unfolding with_general with_popped_flags first_write_fault after_writes after_commit regs_after_pops
 returns c =
     let frame = c.in_ok-frame.frame in
-    let made : after_commit c.args.m.now (pending_of_interrupt_frame c.args.m.now.world c.args.bits frame.ip frame.cs frame.image) ≡ Ok c.set_popped_flags.new.m =
+    let made : after_commit c.args.m.now (pending_of_interrupt_frame c.args.m.now.world c.args.bits frame.ip frame.cs frame.image)
+    ≡ Ok c.set_popped_flags.new.m =
     search rules in
     carried_by _ _ _ c.in_ok-frame.ensures ∙ made

@@ -1,4 +1,4 @@
-use Rattle.std.proofs.Common.{◌∙◌, refl}
+use Rattle.std.proofs.Common.{◌∙◌, refl, arith}
 use Rattle.std.proofs.lemmas.Bool.{ne_eqb}
 use Rattle.host_memory.specs.Vectors.{callback_at}
 use Rattle.guest_space.proofs.VectorCalls.{second_pointer}
@@ -10,6 +10,4 @@ returns-then-get8-eq0 c = rw (← c.get8.ensures, c.if-get8-eq0.true) refl
 
 pub returns-else-get8-eq0 : goal.returns-else-get8-eq0
 unfolding callback_at
-returns-else-get8-eq0 c =
-    let structure = c.pointer-else-get8-eq0.ensures ∙ second_pointer c.args.ram.now c.args.at in
-    rw (← c.get8.ensures, ne_eqb c.get8.result 0 c.if-get8-eq0.false, c.pointer.ensures, structure) refl
+returns-else-get8-eq0 c = grind (arith, ne_eqb, second_pointer)

@@ -3,5 +3,6 @@ use Rattle.insn_plan.proofs.stack.settle_pushes.Goals as goal
 
 pub returns : goal.returns
 returns c =
-    pushes_settled c.args.m.now c.write_all.new.self c.set_general.new.self c.args.writes.now c.args.esp c.in_ok-write_all.ensures.done.0 c.in_ok-write_all.ensures.done.1
+    pushes_settled c.args.m.now c.write_all.new.self c.set_general.new.self c.args.writes.now c.args.esp c.in_ok-write_all.ensures.done.0
+    c.in_ok-write_all.ensures.done.1
     c.set_general.ensures

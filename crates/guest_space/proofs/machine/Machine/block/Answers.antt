@@ -1,17 +1,15 @@
-use Rattle.guest_space.specs.Machines.{Processor}
 use Rattle.guest_space.proofs.BlockReads.{free_row, some_row}
+use Rattle.guest_space.proofs.Insides.{processor_of}
 use Rattle.guest_space.proofs.machine.Machine.block.Goals as goal
 
 pub returns-then-pages-eq0 : goal.returns-then-pages-eq0
 returns-then-pages-eq0 c =
-    let m = c.self.inside in
-    let k : Processor = record { budget = m.pages; mode = m.mode; regs = m.regs; vif = m.vif; width = m.width } in
-    free_row k m.ram c.args.self.now c.self.view_is c.args.handle c.get32-pages.result c.if-handle-eq0.false c.if-handle-gt-MAX_BLOCKS.false
+    free_row (processor_of c.self.inside) c.self.inside.ram c.args.self.now c.self.view_is c.args.handle c.get32-pages.result
+    c.if-handle-eq0.false c.if-handle-gt-MAX_BLOCKS.false
     c.get32-pages.ensures c.if-pages-eq0.true
 
 pub returns : goal.returns
 returns c =
-    let m = c.self.inside in
-    let k : Processor = record { budget = m.pages; mode = m.mode; regs = m.regs; vif = m.vif; width = m.width } in
-    some_row k m.ram c.args.self.now c.self.view_is c.self.invariant.0 c.self.invariant.1 c.args.handle c.get32-base.result c.get32-pages.result
+    some_row (processor_of c.self.inside) c.self.inside.ram c.args.self.now c.self.view_is c.self.invariant.0 c.self.invariant.1
+    c.args.handle c.get32-base.result c.get32-pages.result
     c.if-handle-eq0.false c.if-handle-gt-MAX_BLOCKS.false c.get32-base.ensures c.get32-pages.ensures c.if-pages-eq0.false

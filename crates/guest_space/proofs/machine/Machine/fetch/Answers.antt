@@ -1,4 +1,4 @@
-use Rattle.std.proofs.Common.{rules, ◌≡◌, ◌∙◌, sym, ap, Err}
+use Rattle.std.proofs.Common.{rules, ◌≡◌, ◌∙◌, sym, ap, Err, arith}
 use Rattle.host_memory.specs.View.{MachineView}
 use Rattle.host_memory.proofs.WorldParts.{regs_is}
 use Rattle.guest_space.specs.Code.{code_byte, one_byte}
@@ -6,14 +6,7 @@ use Rattle.guest_space.proofs.Codes.{fetched_by, not_fetched_by}
 use Rattle.guest_space.proofs.machine.Machine.fetch.Goals as goal
 
 pub returns-in_err-base : goal.returns-in_err-base
-returns-in_err-base c =
-    let m = c.self.inside in
-    let eip : m.regs.eip ≡ c.args.self.now.world.regs.eip =
-    sym (ap (λ (r : Rattle.client_world.specs.declared.registers.Regs.Regs). r.eip) (regs_is m.ram m.pages m.mode m.regs m.vif m.width))
-    ∙ ap (λ (v : MachineView). v.world.regs.eip) c.self.view_is in
-    let told : code_byte c.args.self.now.world c.args.at ≡ Err c.in_err-base.field-0.0 =
-    not_fetched_by c.args.self.now.world c.args.at m.regs.eip c.from.result c.in_err-base.field-0.0 eip c.from.ensures (sym c.segment_base.ensures ∙ c.in_err-base.was) in
-    search rules
+returns-in_err-base c = grind (arith, not_fetched_by, regs_is)
 
 pub returns-in_err-byte : goal.returns-in_err-byte
 returns-in_err-byte c =
@@ -22,7 +15,8 @@ returns-in_err-byte c =
     sym (ap (λ (r : Rattle.client_world.specs.declared.registers.Regs.Regs). r.eip) (regs_is m.ram m.pages m.mode m.regs m.vif m.width))
     ∙ ap (λ (v : MachineView). v.world.regs.eip) c.self.view_is in
     let told : code_byte c.args.self.now.world c.args.at ≡ Err c.in_err-byte.field-0.0 =
-    sym (fetched_by c.args.self.now.world c.args.at m.regs.eip c.from.result c.from-2.result c.in_ok-base.base eip c.from.ensures c.from-2.ensures
+    sym (fetched_by c.args.self.now.world c.args.at m.regs.eip c.from.result c.from-2.result c.in_ok-base.base eip c.from.ensures
+    c.from-2.ensures
     (sym c.segment_base.ensures ∙ c.in_ok-base.was))
     ∙ ap one_byte (sym c.load.ensures ∙ c.in_err-byte.was) in
     search rules
@@ -34,5 +28,6 @@ returns c =
     sym (ap (λ (r : Rattle.client_world.specs.declared.registers.Regs.Regs). r.eip) (regs_is m.ram m.pages m.mode m.regs m.vif m.width))
     ∙ ap (λ (v : MachineView). v.world.regs.eip) c.self.view_is in
     sym (ap one_byte (sym c.load.ensures ∙ c.in_ok-byte.was))
-    ∙ fetched_by c.args.self.now.world c.args.at m.regs.eip c.from.result c.from-2.result c.in_ok-base.base eip c.from.ensures c.from-2.ensures
+    ∙ fetched_by c.args.self.now.world c.args.at m.regs.eip c.from.result c.from-2.result c.in_ok-base.base eip c.from.ensures
+    c.from-2.ensures
     (sym c.segment_base.ensures ∙ c.in_ok-base.was)

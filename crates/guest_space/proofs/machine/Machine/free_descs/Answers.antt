@@ -1,3 +1,4 @@
+use Rattle.std.proofs.Common.{arith}
 use Rattle.guest_space.proofs.RowCalls.{first_run, none_in_world, none_in_memory}
 use Rattle.guest_space.proofs.machine.Machine.free_descs.Goals as goal
 
@@ -10,6 +11,4 @@ returns-clause-none c =
     )
 
 pub returns-clause-first : goal.returns-clause-first
-returns-clause-first c =
-    let m = c.self.inside in
-    rw (← c.self.view_is) (first_run m.ram m.pages m.mode m.regs m.vif m.width c.args.n c.free_run.result c.free_run.ensures.first)
+returns-clause-first c = grind (arith, first_run)

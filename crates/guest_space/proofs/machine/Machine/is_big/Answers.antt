@@ -1,4 +1,4 @@
-use Rattle.std.proofs.Common.{◌∙◌, ℕ, sym, ap}
+use Rattle.std.proofs.Common.{◌∙◌, ℕ, sym, ap, arith}
 use Rattle.client_world.specs.declared.registers.Regs.{Regs}
 use Rattle.client_world.specs.Segments.{selector}
 use Rattle.client_world.specs.Selector.{row_of_selector}
@@ -7,13 +7,7 @@ use Rattle.guest_space.proofs.HiddenLaws.{said_by_part, said_by_row}
 use Rattle.guest_space.proofs.machine.Machine.is_big.Goals as goal
 
 pub returns-in-Some : goal.returns-in-Some
-returns-in-Some c =
-    let w = c.args.self.now.world in
-    (said_by_part w.mode w.regs w.descriptors c.args.seg c.in-Some.part (sym c.part.ensures ∙ c.in-Some.is)).0
+returns-in-Some c = grind (arith, said_by_part)
 
 pub returns-in-None : goal.returns-in-None
-returns-in-None c =
-    let w = c.args.self.now.world in
-    c.has_size_bit.ensures
-    ∙ ap (λ (sel : ℕ). has_size_bit (row_of_selector w.descriptors sel)) (c.selector.ensures ∙ ap (λ (r : Regs). selector r c.args.seg) c.registers.ensures)
-    ∙ (said_by_row w.mode w.regs w.descriptors c.args.seg (sym c.part.ensures ∙ c.in-None.is)).0
+returns-in-None c = grind (arith, said_by_row)

@@ -11,7 +11,8 @@ make_at-requires c = c.loop-x.invariant.runs c.loop-x.x-index _ c.loop-x-test.tr
 pub loop-x-preserved : goal.loop-x-preserved
 loop-x-preserved c = record {
   runs = λ k d within. c.make_at.ensures.kept _ _ _ _ (c.loop-x.invariant.runs k d within);
-  left = left_written c.loop-x.self c.make_at.new.self _ c.args.writes.now c.loop-x.x-index _ c.loop-x-test.true c.make_at.ensures.written c.loop-x.invariant.left;
+  left = left_written c.loop-x.self c.make_at.new.self _ c.args.writes.now c.loop-x.x-index _ c.loop-x-test.true c.make_at.ensures.written
+      c.loop-x.invariant.left;
 }
 
 pub returns : goal.returns

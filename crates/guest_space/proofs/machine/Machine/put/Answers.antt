@@ -1,4 +1,4 @@
-use Rattle.std.proofs.Common.{◌+◌, ◌%◌, ◌∙◌, sym, ap, refl, true, [], ◌∷◌, length, drop, slice_index}
+use Rattle.std.proofs.Common.{◌+◌, ◌%◌, ◌∙◌, sym, ap, refl, true, [], ◌∷◌, length, drop, slice_index, arith}
 use Rattle.client_world.specs.declared.place.Place.{Place}
 use Rattle.client_world.specs.declared.place.Place.TheVariants.{Nothing}
 use Rattle.client_world.specs.Access.{may_touch, places_from}
@@ -13,9 +13,7 @@ pub loop-i-init : goal.loop-i-init
 loop-i-init c = record { left = refl; places = λ at. refl }
 
 pub put8-requires : goal.put8-requires
-put8-requires c =
-    ap (λ (p : Place). may_touch p true) (c.loop-i.invariant.places ((c.args.lin + c.loop-i.i) % 0x100000000))
-    ∙ all_touch c.args.self.now.world c.args.lin (length c.args.bytes.now) true c.requires.writable c.loop-i.i c.loop-i-test.true
+put8-requires c = grind (arith, all_touch)
 
 pub loop-i-preserved : goal.loop-i-preserved
 loop-i-preserved c =
@@ -25,11 +23,7 @@ loop-i-preserved c =
     let here = c.loop-i.invariant.places ((c.args.lin + c.loop-i.i) % 0x100000000)
     ∙ sym (places_from-at blocks c.args.lin (length bytes) c.loop-i.i Nothing c.loop-i-test.true) in
     let put = c.put8.ensures ∙ ap (λ (p : Place). with_places c.loop-i.self (p ∷ []) (slice_index bytes c.loop-i.i ∷ [])) here in
-    record {
-      left = ap (λ (u : MachineView). with_places u (drop (c.loop-i.i + 1) places) (drop (c.loop-i.i + 1) bytes)) put
-          ∙ put_step c.loop-i.self _ places bytes c.loop-i.i (length-places_from blocks c.args.lin (length bytes)) c.loop-i-test.true c.loop-i.invariant.left;
-      places = λ at. put_keeps c.loop-i.self c.put8.new.self _ _ at c.put8.ensures ∙ c.loop-i.invariant.places at;
-    }
+    grind (arith, length-places_from, put_keeps, put_step)
 
 pub returns : goal.returns
 returns c =

@@ -1,34 +1,22 @@
-use Rattle.std.proofs.Common.{◌<◌, [], ◌∷◌, arith, refl, ap, slice_set, inl}
+use Rattle.std.proofs.Common.{◌<◌, [], ◌∷◌, arith, refl, slice_set, inl}
 use Rattle.std.proofs.lemmas.Bool.{lt-ltb}
 use Rattle.client_world.specs.declared.memory_map.TheConstants.{ROM_START}
 use Rattle.host_memory.proofs.ClientWrites.{dos_world, dos_holds}
 use Rattle.guest_space.proofs.OwnParts.{byte_sound}
-use Rattle.client_world.specs.World.{World}
-use Rattle.guest_space.proofs.HiddenLaws.{kept}
-use Rattle.guest_space.specs.Machines.{Processor}
-use Rattle.guest_space.proofs.CacheLaws.{kept_warm, put_beside}
-use Rattle.client_world.specs.Access.{place_in}
+use Rattle.guest_space.proofs.CacheLaws.{put_beside}
+use Rattle.guest_space.proofs.Insides.{view_of, after_call}
 use Rattle.guest_space.proofs.machine.Machine.set_dos8.Goals as goal
 
 pub invariant_of-self : goal.invariant_of-self
 invariant_of-self c =
     let m = c.self.inside in
-    let k : Processor = record { budget = m.pages; mode = m.mode; regs = m.regs; vif = m.vif; width = m.width } in
     let low : c.args.at < ROM_START = c.if-at-lt-ROM_START.true in
-    rw c.set8.ensures.bytes (
-      dos_holds m.ram m.pages c.self.invariant.0 c.args.at (c.args.v ∷ []) (omega arith),
-      byte_sound m.ram m.pages c.self.invariant.0 m.mode m.regs m.vif m.width c.args.at c.args.v c.self.invariant.1 low c.ranges.v.fits,
-      kept k m.ram (slice_set m.ram c.args.at c.args.v) m.hidden _ refl
-          (ap (λ (w : World). w.descriptors)
-          (dos_world m.ram m.pages c.self.invariant.0 m.mode m.regs m.vif m.width c.args.at (c.args.v ∷ []) (omega arith))) c.self.invariant.2,
-      kept_warm k m.ram (slice_set m.ram c.args.at c.args.v) m.cache c.self.invariant.0 c.self.invariant.1
-          (dos_holds m.ram m.pages c.self.invariant.0 c.args.at (c.args.v ∷ []) (omega arith))
-          (byte_sound m.ram m.pages c.self.invariant.0 m.mode m.regs m.vif m.width c.args.at c.args.v c.self.invariant.1 low c.ranges.v.fits)
-          (λ lin. ap (λ (w : World). place_in w.blocks lin)
-          (dos_world m.ram m.pages c.self.invariant.0 m.mode m.regs m.vif m.width c.args.at (c.args.v ∷ []) (omega arith)))
-          (put_beside m.ram c.args.at (c.args.v ∷ []) (record { tables = inl (omega arith); handles = inl (omega arith) })
-          (omega (arith, c.self.invariant.0.size))) c.self.invariant.3,
-    )
+    rw c.set8.ensures.bytes (after_call m (view_of m) (slice_set m.ram c.args.at c.args.v) _ refl c.self.invariant
+    (dos_holds m.ram m.pages c.self.invariant.0 c.args.at (c.args.v ∷ []) (omega arith))
+    (byte_sound m.ram m.pages c.self.invariant.0 m.mode m.regs m.vif m.width c.args.at c.args.v c.self.invariant.1 low c.ranges.v.fits)
+    (dos_world m.ram m.pages c.self.invariant.0 m.mode m.regs m.vif m.width c.args.at (c.args.v ∷ []) (omega arith)) refl (λ lin. refl)
+    (put_beside m.ram c.args.at (c.args.v ∷ []) (record { tables = inl (omega arith); handles = inl (omega arith) })
+    (omega (arith, c.self.invariant.0.size)))).whole
 
 pub returns-then-at-lt-ROM_START-clause-world : goal.returns-then-at-lt-ROM_START-clause-world
 returns-then-at-lt-ROM_START-clause-world c =

@@ -1,13 +1,11 @@
+use Rattle.std.proofs.Common.{arith}
 use Rattle.client_world.specs.declared.registers.Regs.{Regs}
 use Rattle.guest_space.proofs.ChangedRegs.{changed_regs}
 use Rattle.guest_space.proofs.OwnParts.{regs_sound}
 use Rattle.guest_space.proofs.machine.Machine.set_eip.Goals as goal
 
 pub invariant_of-self : goal.invariant_of-self
-invariant_of-self c =
-    let m = c.self.inside in
-    let r = m.regs in
-    (c.self.invariant.0, regs_sound m.ram m.pages m.mode r (record r { eip = c.args.eip }) m.vif m.width c.self.invariant.1 c.segments_fit.ensures, c.self.invariant.2, c.self.invariant.3)
+invariant_of-self c = grind (arith, regs_sound)
 
 pub returns : goal.returns
 returns c =

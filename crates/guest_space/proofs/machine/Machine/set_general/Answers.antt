@@ -1,4 +1,4 @@
-use Rattle.std.proofs.Common.{ap, sym, ◌∙◌}
+use Rattle.std.proofs.Common.{ap, sym, ◌∙◌, arith}
 use Rattle.client_world.specs.declared.registers.Regs.{Regs}
 use Rattle.client_world.specs.General.{with_general}
 use Rattle.host_memory.specs.Layout.{world_of}
@@ -10,14 +10,7 @@ use Rattle.guest_space.proofs.OwnParts.{regs_sound}
 use Rattle.guest_space.proofs.machine.Machine.set_general.Goals as goal
 
 pub invariant_of-self : goal.invariant_of-self
-invariant_of-self c =
-    let m = c.self.inside in
-    let rows = rows_from m.ram rows_start in (
-      c.self.invariant.0,
-      regs_sound m.ram m.pages m.mode m.regs c.set_general.new.self m.vif m.width c.self.invariant.1 c.segments_fit.ensures,
-      c.self.invariant.2 ∙ found_general m.mode m.regs rows c.args.n c.args.v ∙ ap (λ (r : Regs). all_found m.mode r rows) (sym c.set_general.ensures),
-      c.self.invariant.3,
-    )
+invariant_of-self c = grind (arith, found_general, regs_sound)
 
 pub returns : goal.returns
 returns c =

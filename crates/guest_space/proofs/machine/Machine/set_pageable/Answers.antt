@@ -1,42 +1,18 @@
-use Rattle.std.proofs.Common.{◌≡◌, ◌∙◌, ◌+◌, ◌*◌, ℕ, ap, slice_set, subst, refl}
+use Rattle.std.proofs.Common.{◌∙◌, ◌+◌, ◌*◌, ℕ, ap, slice_set}
 use Rattle.client_world.specs.declared.host_frames.TheConstants.{PAGE_SIZE, VECTORS}
-use Rattle.client_world.specs.declared.place.Place.{Place}
-use Rattle.host_memory.specs.Layout.{address_of}
 use Rattle.host_memory.specs.Vectors.{pageable_start}
-use Rattle.host_memory.specs.View.{MachineView}
-use Rattle.guest_space.specs.Machines.{Processor}
 use Rattle.guest_space.proofs.VectorCalls.{set_pageable}
-use Rattle.client_world.specs.World.{World}
-use Rattle.guest_space.proofs.HiddenLaws.{kept}
-use Rattle.guest_space.proofs.CacheLaws.{kept_warm}
-use Rattle.client_world.specs.Access.{place_in}
 use Rattle.guest_space.proofs.machine.Machine.set_pageable.Goals as goal
 
 pub invariant_of-self : goal.invariant_of-self
 invariant_of-self c =
-    let m = c.self.inside in
-    let k : Processor = record { budget = m.pages; mode = m.mode; regs = m.regs; vif = m.vif; width = m.width } in
-    let on = ap (λ (x : ℕ). slice_set m.ram (PAGE_SIZE * VECTORS + pageable_start + c.args.page) x) c.bit.ensures in
-    let after = set_pageable k m.ram c.self.invariant.0 c.self.invariant.1 c.args.page c.args.on c.requires c.set8.new.self (c.set8.ensures.bytes ∙ on) in (
-      after.holds,
-      after.sound,
-      kept k m.ram c.set8.new.self m.hidden _ refl (ap (λ (w : World). w.descriptors) after.world) c.self.invariant.2,
-      kept_warm k m.ram c.set8.new.self m.cache c.self.invariant.0 c.self.invariant.1 after.holds after.sound
-          (λ lin. ap (λ (w : World). place_in w.blocks lin) after.world) after.addresses c.self.invariant.3,
-    )
+    (set_pageable c.self.inside c.args.self.now c.self.view_is c.self.invariant c.args.page c.args.on c.requires c.set8.new.self
+    (c.set8.ensures.bytes
+    ∙ ap (λ (x : ℕ). slice_set c.self.inside.ram (PAGE_SIZE * VECTORS + pageable_start + c.args.page) x) c.bit.ensures)).whole
 
-pub returns-clause-world : goal.returns-clause-world
-returns-clause-world c =
-    let m = c.self.inside in
-    let k : Processor = record { budget = m.pages; mode = m.mode; regs = m.regs; vif = m.vif; width = m.width } in
-    let on = ap (λ (x : ℕ). slice_set m.ram (PAGE_SIZE * VECTORS + pageable_start + c.args.page) x) c.bit.ensures in
-    let after = set_pageable k m.ram c.self.invariant.0 c.self.invariant.1 c.args.page c.args.on c.requires c.set8.new.self (c.set8.ensures.bytes ∙ on) in
-    rw (← c.self.view_is) after.world
-
-pub returns-clause-addresses : goal.returns-clause-addresses
-returns-clause-addresses c =
-    let m = c.self.inside in
-    let k : Processor = record { budget = m.pages; mode = m.mode; regs = m.regs; vif = m.vif; width = m.width } in
-    let on = ap (λ (x : ℕ). slice_set m.ram (PAGE_SIZE * VECTORS + pageable_start + c.args.page) x) c.bit.ensures in
-    let after = set_pageable k m.ram c.self.invariant.0 c.self.invariant.1 c.args.page c.args.on c.requires c.set8.new.self (c.set8.ensures.bytes ∙ on) in
-    subst (λ (v : MachineView). (p : Place) → address_of c.set8.new.self p ≡ address_of v.bytes p) c.self.view_is after.addresses
+pub returns : goal.returns
+returns c =
+    let after = set_pageable c.self.inside c.args.self.now c.self.view_is c.self.invariant c.args.page c.args.on c.requires c.set8.new.self
+    (c.set8.ensures.bytes
+    ∙ ap (λ (x : ℕ). slice_set c.self.inside.ram (PAGE_SIZE * VECTORS + pageable_start + c.args.page) x) c.bit.ensures) in
+    record { world = after.world; addresses = after.addresses }

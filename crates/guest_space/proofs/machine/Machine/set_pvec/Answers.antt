@@ -1,37 +1,13 @@
-use Rattle.std.proofs.Common.{◌≡◌, subst, arith, refl, ap}
-use Rattle.client_world.specs.declared.place.Place.{Place}
-use Rattle.host_memory.specs.Layout.{address_of}
-use Rattle.host_memory.specs.View.{MachineView}
-use Rattle.guest_space.specs.Machines.{Processor}
+use Rattle.std.proofs.Common.{arith}
 use Rattle.guest_space.proofs.VectorCalls.{set_interrupt}
-use Rattle.client_world.specs.World.{World}
-use Rattle.guest_space.proofs.HiddenLaws.{kept}
-use Rattle.guest_space.proofs.CacheLaws.{kept_warm}
-use Rattle.client_world.specs.Access.{place_in}
 use Rattle.guest_space.proofs.machine.Machine.set_pvec.Goals as goal
 
 pub invariant_of-self : goal.invariant_of-self
-invariant_of-self c =
-    let m = c.self.inside in
-    let k : Processor = record { budget = m.pages; mode = m.mode; regs = m.regs; vif = m.vif; width = m.width } in
-    let after = set_interrupt k m.ram c.self.invariant.0 c.self.invariant.1 c.args.n c.args.p (omega arith) c.set_pointer.new.ram c.set_pointer.ensures in (
-      after.holds,
-      after.sound,
-      kept k m.ram c.set_pointer.new.ram m.hidden _ refl (ap (λ (w : World). w.descriptors) after.world) c.self.invariant.2,
-      kept_warm k m.ram c.set_pointer.new.ram m.cache c.self.invariant.0 c.self.invariant.1 after.holds after.sound
-          (λ lin. ap (λ (w : World). place_in w.blocks lin) after.world) after.addresses c.self.invariant.3,
-    )
+invariant_of-self c = (set_interrupt c.self.inside c.args.self.now c.self.view_is c.self.invariant c.args.n c.args.p (omega arith)
+    c.set_pointer.new.ram c.set_pointer.ensures).whole
 
-pub returns-clause-world : goal.returns-clause-world
-returns-clause-world c =
-    let m = c.self.inside in
-    let k : Processor = record { budget = m.pages; mode = m.mode; regs = m.regs; vif = m.vif; width = m.width } in
-    let after = set_interrupt k m.ram c.self.invariant.0 c.self.invariant.1 c.args.n c.args.p (omega arith) c.set_pointer.new.ram c.set_pointer.ensures in
-    rw (← c.self.view_is) after.world
-
-pub returns-clause-addresses : goal.returns-clause-addresses
-returns-clause-addresses c =
-    let m = c.self.inside in
-    let k : Processor = record { budget = m.pages; mode = m.mode; regs = m.regs; vif = m.vif; width = m.width } in
-    let after = set_interrupt k m.ram c.self.invariant.0 c.self.invariant.1 c.args.n c.args.p (omega arith) c.set_pointer.new.ram c.set_pointer.ensures in
-    subst (λ (v : MachineView). (p : Place) → address_of c.set_pointer.new.ram p ≡ address_of v.bytes p) c.self.view_is after.addresses
+pub returns : goal.returns
+returns c =
+    let after = set_interrupt c.self.inside c.args.self.now c.self.view_is c.self.invariant c.args.n c.args.p (omega arith)
+    c.set_pointer.new.ram c.set_pointer.ensures in
+    record { world = after.world; addresses = after.addresses }

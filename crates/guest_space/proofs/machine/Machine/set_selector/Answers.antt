@@ -1,4 +1,4 @@
-use Rattle.std.proofs.Common.{◌≡◌, ◌∙◌, ℕ, List, ap, sym, slice_set}
+use Rattle.std.proofs.Common.{◌≡◌, ◌∙◌, ℕ, List, ap, sym, slice_set, arith}
 use Rattle.std.specs.declared.option.Option.{Option}
 use Rattle.client_world.specs.declared.registers.Regs.{Regs}
 use Rattle.client_world.specs.Segments.{selector, with_selector}
@@ -12,39 +12,21 @@ use Rattle.guest_space.proofs.OwnParts.{regs_sound}
 use Rattle.guest_space.proofs.machine.Machine.set_selector.Goals as goal
 
 pub invariant_of-self : goal.invariant_of-self
-invariant_of-self c =
-    let m = c.self.inside in
-    let rows = rows_from m.ram rows_start in (
-      c.self.invariant.0,
-      regs_sound m.ram m.pages m.mode m.regs c.set_selector.new.self m.vif m.width c.self.invariant.1 c.segments_fit.ensures,
-      ap (λ (place : ℕ). slice_set m.hidden place c.part_of_selector.result) c.number.ensures.value
-          ∙ ap (λ (part : Option Hidden). slice_set m.hidden (number c.args.seg) part) c.part_of_selector.ensures
-          ∙ ap (λ (parts : List (Option Hidden)). slice_set parts (number c.args.seg) (part_of_selector m.mode rows c.args.seg c.args.sel)) c.self.invariant.2
-          ∙ found_changed m.mode m.regs rows c.args.seg c.args.sel
-          ∙ ap (λ (r : Regs). all_found m.mode r rows) (sym c.set_selector.ensures),
-      c.self.invariant.3,
-    )
+invariant_of-self c = grind (arith, found_changed, regs_sound)
 
 pub invariant_of-self-else-not-is_same : goal.invariant_of-self-else-not-is_same
-invariant_of-self-else-not-is_same c =
-    let m = c.self.inside in
-    let rows = rows_from m.ram rows_start in
-    let same : selector m.regs c.args.seg ≡ c.args.sel = sym c.selector.ensures ∙ c.if-not-is_same.false in (
-      c.self.invariant.0,
-      regs_sound m.ram m.pages m.mode m.regs c.set_selector.new.self m.vif m.width c.self.invariant.1 c.segments_fit.ensures,
-      c.self.invariant.2 ∙ found_loaded m.mode m.regs rows c.args.seg c.args.sel same
-          ∙ ap (λ (r : Regs). all_found m.mode r rows) (sym c.set_selector.ensures),
-      c.self.invariant.3,
-    )
+invariant_of-self-else-not-is_same c = grind (arith, found_loaded, regs_sound)
 
 pub returns-then-not-is_same : goal.returns-then-not-is_same
 returns-then-not-is_same c =
     let m = c.self.inside in
     ap (λ (r : Regs). record { world = world_of m.ram m.pages m.mode r m.vif m.width; bytes = m.ram }) c.set_selector.ensures
-    ∙ changed_regs m.ram m.pages m.mode m.regs m.vif m.width (λ (r : Regs). with_selector r c.args.seg c.args.sel) c.args.self.now c.self.view_is
+    ∙ changed_regs m.ram m.pages m.mode m.regs m.vif m.width (λ (r : Regs). with_selector r c.args.seg c.args.sel) c.args.self.now
+    c.self.view_is
 
 pub returns-else-not-is_same : goal.returns-else-not-is_same
 returns-else-not-is_same c =
     let m = c.self.inside in
     ap (λ (r : Regs). record { world = world_of m.ram m.pages m.mode r m.vif m.width; bytes = m.ram }) c.set_selector.ensures
-    ∙ changed_regs m.ram m.pages m.mode m.regs m.vif m.width (λ (r : Regs). with_selector r c.args.seg c.args.sel) c.args.self.now c.self.view_is
+    ∙ changed_regs m.ram m.pages m.mode m.regs m.vif m.width (λ (r : Regs). with_selector r c.args.seg c.args.sel) c.args.self.now
+    c.self.view_is

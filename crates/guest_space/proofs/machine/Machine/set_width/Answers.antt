@@ -1,4 +1,4 @@
-use Rattle.std.proofs.Common.{◌≡◌, sym, subst, ap, None, Some}
+use Rattle.std.proofs.Common.{◌≡◌, sym, subst, ap, None, Some, arith}
 use Rattle.client_world.specs.Access.{place_in}
 use Rattle.client_world.specs.World.{World}
 use Rattle.host_memory.specs.View.{MachineView}
@@ -21,11 +21,9 @@ invariant_of-self c =
       c.all_parts-self-inside.ensures,
       rw (c.set-2.ensures.bytes, c.set.ensures.bytes, c.host_code.ensures, c.host_stacks.ensures)
           (kept_warm_of before after m.ram _ m.cache c.self.invariant.0 c.self.invariant.1 holds sound
-          (λ lin. ap (λ (w : World). place_in w.blocks lin) world) (entered_addresses m.ram m.pages c.self.invariant.0 c.args.w) c.self.invariant.3),
+          (λ lin. ap (λ (w : World). place_in w.blocks lin) world) (entered_addresses m.ram m.pages c.self.invariant.0 c.args.w)
+          c.self.invariant.3),
     )
 
 pub returns-clause-world : goal.returns-clause-world
-returns-clause-world c =
-    let m = c.self.inside in
-    rw (← c.self.view_is, c.set-2.ensures.bytes, c.set.ensures.bytes, c.host_code.ensures, c.host_stacks.ensures)
-    (entered_world m.ram m.pages c.self.invariant.0 m.mode m.regs m.vif m.width c.args.w)
+returns-clause-world c = grind (arith, entered_world)

@@ -1,8 +1,7 @@
 use Rattle.std.proofs.Common.{◌∙◌, sym, arith}
 use Rattle.host_memory.proofs.HostTables.{tables_inside}
-use Rattle.guest_space.specs.Machines.{Processor}
-use Rattle.guest_space.proofs.Machines.{machine_of}
 use Rattle.guest_space.proofs.Runs.{translated_by_walk, translated_by_failure}
+use Rattle.guest_space.proofs.Insides.{machine_inside}
 use Rattle.guest_space.proofs.machine.Machine.walk_to.Goals as goal
 
 pub walk-requires-clause-tables : goal.walk-requires-clause-tables
@@ -10,14 +9,11 @@ walk-requires-clause-tables c = tables_inside c.self.inside.ram c.self.inside.pa
 
 pub returns-in-Ok : goal.returns-in-Ok
 returns-in-Ok c =
-    let m = c.self.inside in
-    let k : Processor = record { budget = m.pages; mode = m.mode; regs = m.regs; vif = m.vif; width = m.width } in
-    rw (← c.self.view_is) (sym (translated_by_walk k _ c.args.lin c.args.write c.in-Ok.at (machine_of k m.ram c.self.invariant.0 c.self.invariant.1)
+    rw (← c.self.view_is) (sym (translated_by_walk _ _ c.args.lin c.args.write c.in-Ok.at (machine_inside c.self.inside c.self.invariant)
     (omega arith) (sym c.walk.ensures ∙ c.in-Ok.is)))
 
 pub returns-in-Err : goal.returns-in-Err
 returns-in-Err c =
-    let m = c.self.inside in
-    let k : Processor = record { budget = m.pages; mode = m.mode; regs = m.regs; vif = m.vif; width = m.width } in
-    rw (← c.self.view_is, c.page_fault.ensures) (sym (translated_by_failure k _ c.args.lin c.args.write c.in-Err.fault (machine_of k m.ram c.self.invariant.0 c.self.invariant.1)
+    rw (← c.self.view_is, c.page_fault.ensures)
+    (sym (translated_by_failure _ _ c.args.lin c.args.write c.in-Err.fault (machine_inside c.self.inside c.self.invariant)
     (omega arith) (sym c.walk.ensures ∙ c.in-Err.is)))

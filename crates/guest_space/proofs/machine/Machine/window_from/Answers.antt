@@ -1,4 +1,4 @@
-use Rattle.std.proofs.Common.{rules, ◌≡◌, ◌∙◌, ◌≤◌, ◌%◌, ℕ, ◌+◌, ap, refl, sym, false, arith}
+use Rattle.std.proofs.Common.{rules, ◌≡◌, ◌∙◌, ◌≤◌, ◌%◌, ℕ, ◌+◌, ap, refl, false, arith}
 use Rattle.client_world.specs.declared.segments.SegReg.TheVariants.{Cs}
 use Rattle.client_world.specs.declared.host_frames.TheConstants.{PAGE_SIZE}
 use Rattle.client_world.specs.Access.{linear, segment_base}
@@ -13,11 +13,6 @@ returns c some =
     record {
       cs = ap (λ r. r.cs) c.registers.ensures;
       big = c.is_big.ensures;
-      run = record {
-        base = c.in_ok-base.base;
-        allowed = ap (λ (n : ℕ). segment_base w.mode w.regs w.descriptors Cs c.args.first n false) whole ∙ c.in_ok-base.ensures;
-        room = omega arith;
-        ends = c.in_ok-address.ensures;
-      };
+      run = grind arith;
       start = refl;
     }

@@ -1,11 +1,10 @@
+use Rattle.std.proofs.Common.{arith}
 use Rattle.guest_space.proofs.Accesses.{write_done, write_refused}
 use Rattle.guest_space.proofs.MachineLaws.{stored_or_kept}
 use Rattle.guest_space.proofs.machine.Machine.write.Goals as goal
 
 pub returns-in-Some-clause-done : goal.returns-in-Some-clause-done
-returns-in-Some-clause-done g c =
-    write_done c.args.self.now c.store.new.self c.args.seg c.args.off g.row.N c.in-Some.base c.args.v c.store.result
-    c.in-Some.ensures c.store.ensures.done
+returns-in-Some-clause-done g c = grind (arith, write_done)
 
 pub returns-in-Some-clause-refused : goal.returns-in-Some-clause-refused
 returns-in-Some-clause-refused g c =
@@ -21,6 +20,4 @@ returns-in-Some-clause-only g c =
     c.in-Some.ensures c.store.ensures.refused)
 
 pub returns-in-None-clause-only : goal.returns-in-None-clause-only
-returns-in-None-clause-only g c =
-    stored_or_kept c.args.self.now c.write_checked.new.self c.holds_world.ensures c.args.seg c.args.off g.row.N c.args.v c.write_checked.result
-    c.write_checked.ensures.done c.write_checked.ensures.refused
+returns-in-None-clause-only g c = grind (arith, stored_or_kept)

@@ -1,3 +1,4 @@
+use Rattle.std.proofs.Common.{arith}
 use Rattle.guest_space.proofs.MachineLaws.{all_or_kept, all_made}
 use Rattle.guest_space.proofs.Writes.{one_made, one_refused}
 use Rattle.guest_space.proofs.machine.Machine.write_all.Goals as goal
@@ -17,10 +18,8 @@ returns-then-writes-eq1-clause-only c =
 
 pub returns-then-write_quickly-clause-only : goal.returns-then-write_quickly-clause-only
 returns-then-write_quickly-clause-only c =
-    all_made c.args.self.now c.write_quickly.new.self c.holds_world.ensures c.args.writes.now (c.write_quickly.ensures.made c.if-write_quickly.true).1
+    all_made c.args.self.now c.write_quickly.new.self c.holds_world.ensures c.args.writes.now
+    (c.write_quickly.ensures.made c.if-write_quickly.true).1
 
 pub returns-else-write_quickly-clause-only : goal.returns-else-write_quickly-clause-only
-returns-else-write_quickly-clause-only c =
-    let kept = c.write_quickly.ensures.kept c.if-write_quickly.false in
-    all_or_kept c.args.self.now c.write_probed.new.self c.holds_world.ensures c.args.writes.now c.write_probed.result
-    (rw kept at c.write_probed.ensures.done) (rw kept at c.write_probed.ensures.refused)
+returns-else-write_quickly-clause-only c = grind (arith, all_or_kept)

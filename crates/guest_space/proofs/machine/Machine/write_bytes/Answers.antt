@@ -1,22 +1,18 @@
-use Rattle.std.proofs.Common.{◌∙◌, sym, true, length}
+use Rattle.std.proofs.Common.{◌∙◌, sym, true, length, arith}
 use Rattle.guest_space.proofs.Fars.{reachable_linear, far_written_linear, reachable_not_refused}
 use Rattle.guest_space.proofs.MachineLaws.{far_made}
 use Rattle.guest_space.proofs.machine.Machine.write_bytes.Goals as goal
 
 pub put-requires-clause-writable : goal.put-requires-clause-writable
-put-requires-clause-writable c =
-    reachable_linear c.args.self.now.world c.args.p (length c.args.bytes.now) c.in-Ok.base true (sym c.protected_base.ensures ∙ c.in-Ok.is) c.requires.reachable
+put-requires-clause-writable c = grind (arith, reachable_linear)
 
 pub returns-in-Ok-clause-written : goal.returns-in-Ok-clause-written
-returns-in-Ok-clause-written c =
-    c.put.ensures
-    ∙ far_written_linear c.args.self.now c.args.p (length c.args.bytes.now) c.in-Ok.base c.args.bytes.now (sym c.protected_base.ensures ∙ c.in-Ok.is) c.requires.reachable
+returns-in-Ok-clause-written c = grind (arith, far_written_linear)
 
 pub returns-in-Ok-clause-only : goal.returns-in-Ok-clause-only
 returns-in-Ok-clause-only c =
-    far_made c.args.self.now c.put.new.self c.holds_world.ensures c.args.p (length c.args.bytes.now) c.args.bytes.now (returns-in-Ok-clause-written c)
+    far_made c.args.self.now c.put.new.self c.holds_world.ensures c.args.p (length c.args.bytes.now) c.args.bytes.now
+    (returns-in-Ok-clause-written c)
 
 pub returns-in_default : goal.returns-in_default
-returns-in_default c =
-    absurd (reachable_not_refused c.args.self.now.world c.args.p (length c.args.bytes.now) true c.in_default.field-0
-    (sym c.protected_base.ensures ∙ c.in_default.is) c.requires.reachable)
+returns-in_default c = grind (arith, reachable_not_refused)

@@ -1,18 +1,13 @@
-use Rattle.std.proofs.Common.{rules, ◌≡◌, ◌∙◌, sym, Some, true}
+use Rattle.std.proofs.Common.{rules, ◌≡◌, ◌∙◌, sym, Some, true, arith}
 use Rattle.guest_space.specs.Transfer.{access_fault}
 use Rattle.guest_space.proofs.Accesses.{refusal_refused, write_done, write_refused}
 use Rattle.guest_space.proofs.machine.Machine.write_checked.Goals as goal
 
 pub returns-in_err-base-clause-refused : goal.returns-in_err-base-clause-refused
-returns-in_err-base-clause-refused g c =
-    let told : access_fault c.args.self.now.world c.args.seg c.args.off g.row.N true ≡ Some c.in_err-base.field-0.0 =
-    refusal_refused c.args.self.now.world c.args.seg c.args.off g.row.N true c.in_err-base.field-0.0 (sym c.segment_base.ensures ∙ c.in_err-base.was) in
-    search rules
+returns-in_err-base-clause-refused g c = grind (arith, refusal_refused)
 
 pub returns-clause-done : goal.returns-clause-done
-returns-clause-done g c =
-    write_done c.args.self.now c.store.new.self c.args.seg c.args.off g.row.N c.in_ok-base.base c.args.v c.store.result
-    (sym c.segment_base.ensures ∙ c.in_ok-base.was) c.store.ensures.done
+returns-clause-done g c = grind (arith, write_done)
 
 pub returns-clause-refused : goal.returns-clause-refused
 returns-clause-refused g c =

@@ -18,7 +18,8 @@ loop-a-preserved c =
     let rest = drop (c.loop-a.a-index + 1) xs in
     record {
       goes_on = ap (λ (done : List Touch). touches_after v.world done rest) c.push.ensures.items
-          ∙ sym (left_some v.world c.loop-a.touches.items xs c.loop-a.a-index _ _ c.loop-a-test.true (sym c.touch_of_access.ensures ∙ c.in-Some.is))
+          ∙ sym (left_some v.world c.loop-a.touches.items xs c.loop-a.a-index _ _ c.loop-a-test.true
+          (sym c.touch_of_access.ensures ∙ c.in-Some.is))
           ∙ c.loop-a.invariant.goes_on;
       room = omega (arith, c.loop-a.invariant.room, c.push.ensures.len);
     }

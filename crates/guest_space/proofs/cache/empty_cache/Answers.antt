@@ -1,5 +1,0 @@
-use Rattle.guest_space.proofs.CacheLaws.{empty_warm}
-use Rattle.guest_space.proofs.cache.empty_cache.Goals as goal
-
-pub returns : goal.returns
-returns c = empty_warm

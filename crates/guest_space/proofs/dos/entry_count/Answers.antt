@@ -1,0 +1,10 @@
+use Rattle.std.proofs.Common.{sym, ◌∙◌, arith, refl, inl, inr}
+use Rattle.host_memory.specs.DosList.{entry_room}
+use Rattle.guest_space.proofs.ArenaReads.{counted}
+use Rattle.guest_space.proofs.dos.entry_count.Goals as goal
+
+pub returns-then-get8-eq0-clause-count : goal.returns-then-get8-eq0-clause-count
+returns-then-get8-eq0-clause-count c = grind (arith, counted)
+
+pub returns-clause-count : goal.returns-clause-count
+returns-clause-count c = grind (arith, counted)

@@ -1,0 +1,12 @@
+use Rattle.std.proofs.Common.{◌≡◌, length, drop}
+use Rattle.host_memory.specs.DosList.{arena_in}
+use Rattle.host_memory.specs.Headers.{with_headers}
+use Rattle.host_memory.specs.Layout.{arena_part}
+use Rattle.guest_space.proofs.dos.write_headers.Given as goal
+
+abbrev pub invariant-loop-place : goal.invariant-loop-place
+invariant-loop-place l = record {
+  size : length l.ram ≡ length l.fn.ram;
+  list : arena_part l.ram ≡ arena_part l.fn.ram;
+  written : with_headers l.ram (drop l.place (arena_in (arena_part l.fn.ram))) ≡ with_headers l.fn.ram (arena_in (arena_part l.fn.ram));
+}

@@ -1,7 +1,0 @@
-use Rattle.std.specs.List.{AllWithin}
-use Rattle.guest_space.specs.declared.pending.Write.{Write}
-use Rattle.guest_space.specs.WriteRuns.{LiesIn}
-use Rattle.guest_space.proofs.write_runs.span_of.Given as goal
-
-abbrev pub invariant-loop-x : goal.invariant-loop-x
-invariant-loop-x l = AllWithin (λ (x : Write). LiesIn l.seg l.low l.high x) l.writes 0 l.x-index
