@@ -131,7 +131,8 @@ only_verdict words None P none (first, (second, has)) =
 only_verdict words (Some fs) P none has = some_is (verdict words fs) (Refuses Words) P (no_verdict words fs fs none) has
 
 -- words that mean nothing are refused as such, or memory was short
-pub wrong_words : (words : List (List ℕ)) (files : Option Files) (fm fn : ℕ) (blamed : Option (List ℕ)) (before now : Shown) (m n result : ℕ) →
+pub wrong_words : (words : List (List ℕ)) (files : Option Files) (fm fn : ℕ) (blamed : Option (List ℕ)) (before now : Shown)
+    (m n result : ℕ) →
     (result ≡ 3 → NamedFailed words fm fn blamed ⊎ IsAbsent words files) →
     (result ≢ 3 → result ≢ 5 → HasVerdict words files (λ v. Answers v before now m n result)) → meaning words ≡ None →
     (result ≡ 5) ⊎ Answers (Refuses Words) before now m n result

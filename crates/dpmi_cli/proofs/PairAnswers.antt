@@ -41,7 +41,8 @@ closed_is w none = ap (λ (o : Option Exit). elim o as (λ _. WatchWorld) [ None
 ended_is : (w : HostWorld) → w.exit ≡ None → with_bound_exit w ≡ record w { exit = Some Bound }
 ended_is w none = ap (λ (o : Option Exit). elim o as (λ _. HostWorld) [ Some _ ↦ w | None ↦ record w { exit = Some Bound } ]) none
 
-bounded_by : (w : WatchWorld) (o : Option Exit) → w.host.exit ≡ o → closed_by host_with_bound_exit host_exit w ≡ with_host w (with_bound_exit w.host)
+bounded_by : (w : WatchWorld) (o : Option Exit) → w.host.exit ≡ o →
+    closed_by host_with_bound_exit host_exit w ≡ with_host w (with_bound_exit w.host)
 bounded_by w None none = closed_is w none ∙ sym (ap (with_host w) (ended_is w.host none))
 bounded_by w (Some exit) some =
     let closed : closed_by host_with_bound_exit host_exit w ≡ w =
@@ -53,7 +54,8 @@ bounded_by w (Some exit) some =
 -- and so is its run
 client_run : (w : WatchWorld) (n : ℕ) → run_of turn_with_watchpoints host_with_bound_exit host_exit n w ≡ run_with_watchpoints w n
 client_run w n =
-    ap (closed_by host_with_bound_exit host_exit) (client_turns w n) ∙ bounded_by (turns_with_watchpoints w n) (turns_with_watchpoints w n).host.exit refl
+    ap (closed_by host_with_bound_exit host_exit) (client_turns w n)
+    ∙ bounded_by (turns_with_watchpoints w n) (turns_with_watchpoints w n).host.exit refl
 
 -- the run of a host whose client has set no watchpoint ended so
 pub run_ended : (w : HostWorld) (s : Watching) (after : WatchWorld) (n : ℕ) → s ≡ no_watches →
@@ -71,7 +73,8 @@ pub next_turn : (first now after : WatchWorld) (n : ℕ) → now ≡ turns_of tu
 next_turn first now after n so_far is = is ∙ ap turn_with_watchpoints so_far ∙ sym (turns_more turn_with_watchpoints n first)
 
 -- the turns up to an exit are all
-pub all_turns : (first after : WatchWorld) (n bound : ℕ) → after ≡ turns_of turn_with_watchpoints n first → n ≤ bound → IsSome after.host.exit →
+pub all_turns : (first after : WatchWorld) (n bound : ℕ) → after ≡ turns_of turn_with_watchpoints n first → n ≤ bound →
+    IsSome after.host.exit →
     after ≡ turns_of turn_with_watchpoints bound first
 all_turns first after n bound is le ended = is ∙ sym (over (client_of stays counts extends) first after n bound is le ended)
 
@@ -91,14 +94,16 @@ pub gives_pair : (slice bound : ℕ) (a b end_a end_b : HostWorld) (before now :
     result ≡ max (run_status end_a) (run_status end_b) →
     Answers (StartsPair slice bound a b) before now m n result
 gives_pair slice bound a b end_a end_b before now m n result laws_a laws_b is_a is_b written status =
-    whole (StartsPair slice bound a b) before now m n result (laws_a, laws_b) (pair_status-small (watched_run a bound) (watched_run b bound))
+    whole (StartsPair slice bound a b) before now m n result (laws_a, laws_b)
+    (pair_status-small (watched_run a bound) (watched_run b bound))
     (status ∙ ap (λ (w : HostWorld). pair_status w end_b) is_a ∙ ap (λ (w : HostWorld). pair_status (watched_run a bound) w) is_b)
     written
 
 pub gives_pair_cut : (slice bound : ℕ) (a b : HostWorld) (before now : Shown) (m n : ℕ) → RunKeepsTheLaws a None → RunKeepsTheLaws b None →
     GainsPart before now (pair_text slice bound a b) → Rose m n → Answers (StartsPair slice bound a b) before now m n 4
 gives_pair_cut slice bound a b before now m n laws_a laws_b part rose =
-    cut (StartsPair slice bound a b) before now m n (laws_a, laws_b) (pair_status-small (watched_run a bound) (watched_run b bound)) part rose
+    cut (StartsPair slice bound a b) before now m n (laws_a, laws_b)
+    (pair_status-small (watched_run a bound) (watched_run b bound)) part rose
 
 -- ---- the slices, from hosts whose clients have set no watchpoint
 
@@ -112,7 +117,8 @@ same_slices slice bound a b s t none_a none_b =
     ∙ ap (λ x. slices_text slice (sliced bound a) (sliced_from bound b x)) none_b
 
 pub slices_gained : (slice bound : ℕ) (a b : HostWorld) (s t : Watching) (x y : Shown) → s ≡ no_watches → t ≡ no_watches →
-    Gains x y (slices_text slice (sliced_from bound a s) (sliced_from bound b t)) → Gains x y (slices_text slice (sliced bound a) (sliced bound b))
+    Gains x y (slices_text slice (sliced_from bound a s) (sliced_from bound b t)) →
+    Gains x y (slices_text slice (sliced bound a) (sliced bound b))
 slices_gained slice bound a b s t x y none_a none_b whole = subst (λ l. Gains x y l) (same_slices slice bound a b s t none_a none_b) whole
 
 pub slices_part : (slice bound : ℕ) (a b : HostWorld) (s t : Watching) (x y : Shown) → s ≡ no_watches → t ≡ no_watches →
@@ -122,7 +128,8 @@ slices_part slice bound a b s t x y none_a none_b part = subst (λ l. GainsPart 
 
 -- ---- the text of a pair, in its three parts
 
-pub pair_written : (slice bound : ℕ) (a b end_a end_b : HostWorld) (x y z u : Shown) → end_a ≡ watched_run a bound → end_b ≡ watched_run b bound →
+pub pair_written : (slice bound : ℕ) (a b end_a end_b : HostWorld) (x y z u : Shown) → end_a ≡ watched_run a bound →
+    end_b ≡ watched_run b bound →
     Gains x y (slices_text slice (sliced bound a) (sliced bound b)) → Gains y z (client_part A end_a) → Gains z u (client_part B end_b) →
     Gains x u (pair_text slice bound a b)
 pair_written slice bound a b end_a end_b x y z u is_a is_b slices first_text second_text =
@@ -139,15 +146,18 @@ slices_cut slice bound a b x y part =
     (client_part A (watched_run a bound) ++ client_part B (watched_run b bound)) part
 
 pub first_cut : (slice bound : ℕ) (a b end_a : HostWorld) (x y z : Shown) → end_a ≡ watched_run a bound →
-    Gains x y (slices_text slice (sliced bound a) (sliced bound b)) → GainsPart y z (client_part A end_a) → GainsPart x z (pair_text slice bound a b)
+    Gains x y (slices_text slice (sliced bound a) (sliced bound b)) → GainsPart y z (client_part A end_a) →
+    GainsPart x z (pair_text slice bound a b)
 first_cut slice bound a b end_a x y z is_a slices part =
     part_then x y z (slices_text slice (sliced bound a) (sliced bound b))
     (client_part A (watched_run a bound) ++ client_part B (watched_run b bound)) slices
     (part_longer y z (client_part A (watched_run a bound)) (client_part B (watched_run b bound))
     (subst (λ (w : HostWorld). GainsPart y z (client_part A w)) is_a part))
 
-pub second_cut : (slice bound : ℕ) (a b end_a end_b : HostWorld) (x y z u : Shown) → end_a ≡ watched_run a bound → end_b ≡ watched_run b bound →
-    Gains x y (slices_text slice (sliced bound a) (sliced bound b)) → Gains y z (client_part A end_a) → GainsPart z u (client_part B end_b) →
+pub second_cut : (slice bound : ℕ) (a b end_a end_b : HostWorld) (x y z u : Shown) → end_a ≡ watched_run a bound →
+    end_b ≡ watched_run b bound →
+    Gains x y (slices_text slice (sliced bound a) (sliced bound b)) → Gains y z (client_part A end_a) →
+    GainsPart z u (client_part B end_b) →
     GainsPart x u (pair_text slice bound a b)
 second_cut slice bound a b end_a end_b x y z u is_a is_b slices first_text part =
     part_then x y u (slices_text slice (sliced bound a) (sliced bound b))

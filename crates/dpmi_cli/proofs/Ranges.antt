@@ -1,11 +1,14 @@
 -- The numbers of a run that words mean lie in their ranges.
-use Rattle.std.proofs.Common.{arith, ◌≡◌, ◌≤◌, inl, inr, ℕ, List, [], ◌∷◌, ap, Option, None, Some, nat_le}
-use Rattle.std.specs.Prelude.{◌&&◌, codes, option_map, option_and_then}
+use Rattle.std.proofs.Common.{arith, ◌≡◌, ◌≤◌, inl, inr, ℕ, List, [], ◌∷◌, refl, ap, subst, ◌∙◌, Option, None, Some, nat_le}
+use Rattle.std.specs.Prelude.{◌&&◌, codes, option_map}
 use Rattle.std.specs.Str.{bytes_eq}
 use Rattle.std.specs.Str.Parse.{digits_value}
 use Rattle.std.proofs.lemmas.Bool.{and_parts, cases_Bool, leb-true}
-use Rattle.client_world.specs.declared.limits.TheConstants.{MAX_STEPS, DEFAULT_BOUND, MAX_PAGES, MAX_PAIR_PAGES, DEFAULT_PAGES, MAX_TRACE, DEFAULT_TRACE, DEFAULT_SLICE, GREATEST_TIMER, MAX_SLICE}
-use Rattle.dpmi_words.specs.Meaning.{Keys, PairMeaning, RunMeaning, Runs, Soaks, Pairs, pair_meaning, pair_of_values, pair_with, run_with, run_of_values, run_meaning, soak_meaning, meaning}
+use Rattle.std.proofs.lemmas.Option.{option_and_then_some, same_Some}
+use Rattle.client_world.specs.declared.limits.TheConstants.{MAX_STEPS, DEFAULT_BOUND, MAX_PAGES, MAX_PAIR_PAGES, DEFAULT_PAGES, MAX_TRACE}
+use Rattle.client_world.specs.declared.limits.TheConstants.{DEFAULT_TRACE, DEFAULT_SLICE, GREATEST_TIMER, MAX_SLICE}
+use Rattle.dpmi_words.specs.Meaning.{Keys, Meaning, PairMeaning, RunMeaning, Runs, Soaks, Pairs, pair_meaning, pair_of_values, pair_with}
+use Rattle.dpmi_words.specs.Meaning.{run_with, run_of_values, run_meaning, soak_meaning, meaning}
 use Rattle.dpmi_words.specs.Numbers.{number_if_given, is_between, is_decimal, number_in_text, number_or}
 use Rattle.dpmi_words.specs.Options.{pair_options, run_options}
 use Rattle.dpmi_words.specs.Reading.{Text, given_by, one_operand, pair_operands, value_given}
@@ -29,16 +32,17 @@ in_range : (usual least most n : ℕ) (text : Option Text) → least ≤ usual �
 in_range usual least most n None low high e = let same : usual ≡ n = cc in (omega arith, omega arith)
 in_range usual least most n (Some text) low high e = in_text 10 least most n text e
 
-of_map : (o : Option ℕ) (n : ℕ) → option_map Some o ≡ Some (Some n) → o ≡ Some n
-of_map None n e = absurd cc
-of_map (Some m) n e = let same : m ≡ n = cc in ap Some same
+-- what is mapped was there
+of_map : {A B P : Type 0} (f : A → B) (o : Option A) (y : B) → option_map f o ≡ Some y → ((x : A) → o ≡ Some x → f x ≡ y → P) → P
+of_map f None y e each = absurd cc
+of_map f (Some x) y e each = each x refl (same_Some (f x) y e)
 
 timer_range : (timer : Option ℕ) (text : Option Text) → number_if_given 1 GREATEST_TIMER text ≡ Some timer → CanTick timer
 timer_range None text e = tt
 timer_range (Some every) None e = absurd cc
 timer_range (Some every) (Some text) e =
-    let n = in_text 10 1 GREATEST_TIMER every text (of_map (number_in_text 10 1 GREATEST_TIMER text) every e) in
-    (omega (arith, n.0), n.1)
+    of_map Some (number_in_text 10 1 GREATEST_TIMER text) (Some every) e
+    (λ n is same. in_text 10 1 GREATEST_TIMER every text (is ∙ same))
 
 record Parts (bound pages trace : Option ℕ) (timer : Option (Option ℕ)) (r : RunMeaning) : Type 0 where
   bound_is : bound ≡ Some r.bound
@@ -56,12 +60,8 @@ parts (Some f) (Some k) (Some b) (Some p) None timer r e = absurd cc
 parts (Some f) (Some k) (Some b) (Some p) (Some t) None r e = absurd cc
 parts (Some f) (Some k) (Some b) (Some p) (Some t) (Some every) r e =
     let same : record { file = f; keys = k; bound = b; pages = p; trace = t; timer = every } ≡ r = cc in
-    record {
-      bound_is = ap (λ (x : RunMeaning). Some x.bound) same;
-      pages_is = ap (λ (x : RunMeaning). Some x.pages) same;
-      trace_is = ap (λ (x : RunMeaning). Some x.trace) same;
-      timer_is = ap (λ (x : RunMeaning). Some x.timer) same;
-    }
+    subst (λ (x : RunMeaning). Parts (Some b) (Some p) (Some t) (Some every) x) same
+    (record { bound_is = refl; pages_is = refl; trace_is = refl; timer_is = refl })
 
 of_values : (value : Text → Option Text) (r : RunMeaning) → run_of_values value ≡ Some r → HasRanges r
 of_values value r e =
@@ -77,42 +77,31 @@ of_values value r e =
       timer = timer_range r.timer (value (codes "timer")) each.timer_is;
     }
 
-of_given : (given : Option (List (Text × Text))) (r : RunMeaning) →
-    option_and_then (λ g. run_of_values (λ name. value_given name g)) given ≡ Some r → HasRanges r
-of_given None r e = absurd cc
-of_given (Some g) r e = of_values (λ name. value_given name g) r e
-
-of_runs : (m : Option RunMeaning) (r : RunMeaning) → option_map Runs m ≡ Some (Runs r) → m ≡ Some r
-of_runs None r e = absurd cc
-of_runs (Some x) r e = let same : x ≡ r = cc in ap Some same
-
-no_soak : (m : Option ℕ) (r : RunMeaning) → option_map Soaks m ≡ Some (Runs r) → ⊥
-no_soak None r e = absurd cc
-no_soak (Some x) r e = absurd cc
-
-no_pair : (m : Option PairMeaning) (r : RunMeaning) → option_map Pairs m ≡ Some (Runs r) → ⊥
-no_pair None r e = absurd cc
-no_pair (Some x) r e = absurd cc
+-- the first word tells of what kind the meaning is
+by_first : {P : Type 0} (first : Text) (rest : List Text) (m : Meaning) → meaning (first ∷ rest) ≡ Some m →
+    (option_map Runs (run_meaning rest) ≡ Some m → P) → (option_map Soaks (soak_meaning rest) ≡ Some m → P) →
+    (option_map Pairs (pair_meaning rest) ≡ Some m → P) → P
+by_first first rest m e run soak pair = elim (cases_Bool (bytes_eq first (codes "run"))) [
+  | inl t ↦ run (rw t at e)
+  | inr f ↦ elim (cases_Bool (bytes_eq first (codes "soak"))) [
+    | inl t ↦ soak (rw (f, t) at e)
+    | inr g ↦ elim (cases_Bool (bytes_eq first (codes "pair"))) [
+      | inl t ↦ pair (rw (f, g, t) at e)
+      | inr h ↦ let is : None ≡ Some m = rw (f, g, h) at e in absurd cc
+    ]
+  ]
+]
 
 -- a run that words mean has numbers such as a host takes
 pub run_ranges : (words : List Text) (r : RunMeaning) → meaning words ≡ Some (Runs r) → HasRanges r
 run_ranges [] r e = absurd cc
-run_ranges (first ∷ rest) r e = elim (cases_Bool (bytes_eq first (codes "run"))) [
-  | inl t ↦
-      let is : option_map Runs (run_meaning rest) ≡ Some (Runs r) = rw t at e in
-      of_given (given_by run_options one_operand rest) r (of_runs (run_meaning rest) r is)
-  | inr f ↦ elim (cases_Bool (bytes_eq first (codes "soak"))) [
-    | inl t ↦
-        let is : option_map Soaks (soak_meaning rest) ≡ Some (Runs r) = rw (f, t) at e in
-        absurd (no_soak (soak_meaning rest) r is)
-    | inr g ↦ elim (cases_Bool (bytes_eq first (codes "pair"))) [
-      | inl t ↦
-          let is : option_map Pairs (pair_meaning rest) ≡ Some (Runs r) = rw (f, g, t) at e in
-          absurd (no_pair (pair_meaning rest) r is)
-      | inr h ↦ let is : None ≡ Some (Runs r) = rw (f, g, h) at e in absurd cc
-    ]
-  ]
-]
+run_ranges (first ∷ rest) r e = by_first first rest (Runs r) e
+    (λ is. of_map Runs (run_meaning rest) (Runs r) is (λ x of same.
+    option_and_then_some (λ given. run_of_values (λ name. value_given name given)) (given_by run_options one_operand rest) x of
+    (λ given _ values.
+    of_values (λ name. value_given name given) r (values ∙ ap Some cc))))
+    (λ is. of_map Soaks (soak_meaning rest) (Runs r) is (λ n of same. absurd cc))
+    (λ is. of_map Pairs (pair_meaning rest) (Runs r) is (λ p of same. absurd cc))
 
 -- ---- pairs
 
@@ -132,12 +121,8 @@ pair_parts (Some f) (Some g) (Some s) (Some b) None pages_b p e = absurd cc
 pair_parts (Some f) (Some g) (Some s) (Some b) (Some x) None p e = absurd cc
 pair_parts (Some f) (Some g) (Some s) (Some b) (Some x) (Some y) p e =
     let same : record { first = f; second = g; slice = s; bound = b; pages_a = x; pages_b = y } ≡ p = cc in
-    record {
-      slice_is = ap (λ (q : PairMeaning). Some q.slice) same;
-      bound_is = ap (λ (q : PairMeaning). Some q.bound) same;
-      pages_a_is = ap (λ (q : PairMeaning). Some q.pages_a) same;
-      pages_b_is = ap (λ (q : PairMeaning). Some q.pages_b) same;
-    }
+    subst (λ (q : PairMeaning). PairParts (Some s) (Some b) (Some x) (Some y) q) same
+    (record { slice_is = refl; bound_is = refl; pages_a_is = refl; pages_b_is = refl })
 
 of_pair_values : (value : Text → Option Text) (p : PairMeaning) → pair_of_values value ≡ Some p → HasPairRanges p
 of_pair_values value p e =
@@ -154,39 +139,13 @@ of_pair_values value p e =
       pages_b = omega (arith, pages_b.1);
     }
 
-of_pair_given : (given : Option (List (Text × Text))) (p : PairMeaning) →
-    option_and_then (λ g. pair_of_values (λ name. value_given name g)) given ≡ Some p → HasPairRanges p
-of_pair_given None p e = absurd cc
-of_pair_given (Some g) p e = of_pair_values (λ name. value_given name g) p e
-
-of_pairs : (m : Option PairMeaning) (p : PairMeaning) → option_map Pairs m ≡ Some (Pairs p) → m ≡ Some p
-of_pairs None p e = absurd cc
-of_pairs (Some x) p e = let same : x ≡ p = cc in ap Some same
-
-no_run_pair : (m : Option RunMeaning) (p : PairMeaning) → option_map Runs m ≡ Some (Pairs p) → ⊥
-no_run_pair None p e = absurd cc
-no_run_pair (Some x) p e = absurd cc
-
-no_soak_pair : (m : Option ℕ) (p : PairMeaning) → option_map Soaks m ≡ Some (Pairs p) → ⊥
-no_soak_pair None p e = absurd cc
-no_soak_pair (Some x) p e = absurd cc
-
 -- a pair that words mean has numbers such as two hosts take
 pub pair_ranges : (words : List Text) (p : PairMeaning) → meaning words ≡ Some (Pairs p) → HasPairRanges p
 pair_ranges [] p e = absurd cc
-pair_ranges (first ∷ rest) p e = elim (cases_Bool (bytes_eq first (codes "run"))) [
-  | inl t ↦
-      let is : option_map Runs (run_meaning rest) ≡ Some (Pairs p) = rw t at e in
-      absurd (no_run_pair (run_meaning rest) p is)
-  | inr f ↦ elim (cases_Bool (bytes_eq first (codes "soak"))) [
-    | inl t ↦
-        let is : option_map Soaks (soak_meaning rest) ≡ Some (Pairs p) = rw (f, t) at e in
-        absurd (no_soak_pair (soak_meaning rest) p is)
-    | inr g ↦ elim (cases_Bool (bytes_eq first (codes "pair"))) [
-      | inl t ↦
-          let is : option_map Pairs (pair_meaning rest) ≡ Some (Pairs p) = rw (f, g, t) at e in
-          of_pair_given (given_by pair_options pair_operands rest) p (of_pairs (pair_meaning rest) p is)
-      | inr h ↦ let is : None ≡ Some (Pairs p) = rw (f, g, h) at e in absurd cc
-    ]
-  ]
-]
+pair_ranges (first ∷ rest) p e = by_first first rest (Pairs p) e
+    (λ is. of_map Runs (run_meaning rest) (Pairs p) is (λ r of same. absurd cc))
+    (λ is. of_map Soaks (soak_meaning rest) (Pairs p) is (λ n of same. absurd cc))
+    (λ is. of_map Pairs (pair_meaning rest) (Pairs p) is (λ x of same.
+    option_and_then_some (λ given. pair_of_values (λ name. value_given name given)) (given_by pair_options pair_operands rest) x of
+    (λ given _ values.
+    of_pair_values (λ name. value_given name given) p (values ∙ ap Some cc))))

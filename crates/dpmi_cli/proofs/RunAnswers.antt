@@ -80,7 +80,8 @@ cut v before now m n laws small part rose = record {
 }
 
 -- the run of a client up to a bound ended so, and its text was written
-pub gives_run : (w after : HostWorld) (timer : Option ℕ) (bound : ℕ) (e : Exit) (before now : Shown) (m n result : ℕ) → RunKeepsTheLaws w timer →
+pub gives_run : (w after : HostWorld) (timer : Option ℕ) (bound : ℕ) (e : Exit) (before now : Shown) (m n result : ℕ) →
+    RunKeepsTheLaws w timer →
     after ≡ host_at_end w timer bound → after.exit ≡ Some e → Gains before now (text after) → result ≡ exit_status e →
     Answers (Starts w timer bound) before now m n result
 gives_run w after timer bound e before now m n result laws is exited written status =
@@ -121,13 +122,15 @@ abbrev EachPartner : Type 0
 EachPartner = (source : InterruptSource) (w : ℕ → HostWorld) (n i j : ℕ) → HasTurns source w n → j < n → LastPush w i j → Matched w i j
 
 abbrev EachStays : Type 0
-EachStays = (source : InterruptSource) (w : ℕ → HostWorld) (n i j : ℕ) → HasTurns source w n → j < n → Matched w i j → IsHandedOver source w i j
+EachStays = (source : InterruptSource) (w : ℕ → HostWorld) (n i j : ℕ) → HasTurns source w n → j < n → Matched w i j →
+    IsHandedOver source w i j
 
 abbrev EachHandsOver : Type 0
 EachHandsOver = (source : InterruptSource) (w : ℕ → HostWorld) (i j : ℕ) → IsSound (w i).machine → IsSound (w j).machine →
     (h : IsHandedOver source w i j) → HandsOver source (w i) (w (i + 1)) (w j) (w (j + 1)) h.innermost
 
-in_order : (source : InterruptSource) (r : RunSeen) → NestsByOneRecord source r → EachDepth → EachPartner → EachStays → ReturnsInOrder source r
+in_order : (source : InterruptSource) (r : RunSeen) → NestsByOneRecord source r → EachDepth → EachPartner → EachStays →
+    ReturnsInOrder source r
 in_order source r nests depth partner stays = record {
   depth = λ k. depth source r.host (k + 1) k (λ i lt. nests i) (omega arith);
   partner = λ i j last. partner source r.host (j + 1) i j (λ k lt. nests k) (omega arith) last;

@@ -22,8 +22,9 @@ use Rattle.dpmi_cli.specs.Pairs.{pair_text}
 use Rattle.dpmi_cli.specs.Runs.{host_at_end}
 use Rattle.dpmi_cli.specs.Text.{line_of_refusal}
 
--- what comes of the words and the files: a refusal; the world in which a run starts, its timer, if it has one, and its bound; the number of a
--- made client and the world in which its run starts; or the turns of a slice, the bound and the worlds in which the runs of two clients start
+-- what comes of the words and the files: a refusal; the world in which a run starts, its timer, if it has one, and its bound; the number of
+-- a made client and the world in which its run starts; or the turns of a slice, the bound and the worlds in which the runs of two clients
+-- start
 pub data Verdict : Type 0 where
   Refuses : Reason → Verdict
   Starts : HostWorld → Option ℕ → ℕ → Verdict
@@ -67,7 +68,8 @@ made_verdict number = elim (refusal (made number)) [
   | Some fault ↦ Refuses (Load fault)
 ]
 
--- the load of the second client's file, once the first client is in this world. They have no keystrokes, and the usual number of trace lines
+-- the load of the second client's file, once the first client is in this world. They have no keystrokes, and the usual number of trace
+-- lines
 abbrev pub second_load : PairMeaning → HostWorld → List ℕ → Option LoadFault → Verdict
 second_load p a b None = StartsPair p.slice p.bound a (host_at_start p.pages_b [] DEFAULT_TRACE b)
 second_load p a b (Some fault) = Refuses (LoadOf B fault)

@@ -28,12 +28,13 @@ pub record RunSeen : Type 0 where
 abbrev pub TouchesWhatIsHeld : RunSeen → Type 0
 TouchesWhatIsHeld r = (n : ℕ) → All (IsHeld (r.host n).machine) (r.touched n)
 
--- each turn leaves the records of nested calls, adds an innermost one as its call starts, or takes the innermost one away as its call returns
+-- each turn leaves the records of nested calls, adds an innermost one as its call starts, or takes the innermost one away as its call
+-- returns
 abbrev pub NestsByOneRecord : InterruptSource → RunSeen → Type 0
 NestsByOneRecord source r = (n : ℕ) → Stacked source (r.host n) (r.host (n + 1))
 
--- calls return in order: the depth changes by one at most; a turn that takes a record away has a partner, the last turn before it that added one
--- at that depth; and it takes the record away that its partner added, which until then stayed in its place, with those below it
+-- calls return in order: the depth changes by one at most; a turn that takes a record away has a partner, the last turn before it that
+-- added one at that depth; and it takes the record away that its partner added, which until then stayed in its place, with those below it
 pub record ReturnsInOrder (source : InterruptSource) (r : RunSeen) : Type 0 where
   pub depth : (k : ℕ) →
       (host_depth (r.host (k + 1)) ≤ host_depth (r.host k) + 1) × (host_depth (r.host k) ≤ host_depth (r.host (k + 1)) + 1)

@@ -13,7 +13,8 @@ use Rattle.dpmi_cli.specs.declared.prepare.Prepared.{Prepared}
 use Rattle.dpmi_cli.specs.declared.prepare.Prepared.TheVariants as prepared
 use Rattle.dpmi_cli.specs.declared.prepare.Stop.{Stop}
 use Rattle.dpmi_cli.specs.declared.prepare.Stop.TheVariants.{Memory, Shelf}
-use Rattle.dpmi_cli.specs.Answer.{Verdict, Refuses, Starts, StartsMade, StartsPair, file_verdict, first_verdict, keys_from, bytes_within, pair_verdict, run_verdict}
+use Rattle.dpmi_cli.specs.Answer.{Verdict, Refuses, Starts, StartsMade, StartsPair, file_verdict, first_verdict, keys_from, bytes_within}
+use Rattle.dpmi_cli.specs.Answer.{pair_verdict, run_verdict}
 use Rattle.dpmi_cli.specs.Causes.{OfFiles}
 use Rattle.dpmi_cli.specs.Words.{key_file_names}
 

@@ -39,7 +39,8 @@ fn refuse<O: Sink>(reason: Reason, out: &mut O) -> u8
 // Runs a client that is loaded up to a bound, and writes its text.
 fn run_client<O: Sink>(host: &mut Host, timer: Option<u32>, bound: u32, out: &mut O) -> u8
     requires { IsNew (Starts host.old.world timer bound) }
-    ensures answers { Answers (Starts host.old.world timer bound) (O.taken out.old) (O.taken out.new) (O.faults out.old) (O.faults out.new) result }
+    ensures answers { Answers (Starts host.old.world timer bound) (O.taken out.old) (O.taken out.new) (O.faults out.old)
+        (O.faults out.new) result }
     ensures status { result ≤ OUTPUT_FAILED }
     ensures no_file_failed { result ≢ FILE_FAILED }
     ensures put { result < REFUSED → O.faults out.new ≡ O.faults out.old }
@@ -55,7 +56,8 @@ fn run_client<O: Sink>(host: &mut Host, timer: Option<u32>, bound: u32, out: &mu
 // Runs a made client that is loaded, and writes the summary.
 fn run_made_client<O: Sink>(host: &mut Host, number: u64, out: &mut O) -> u8
     requires { IsNew (StartsMade number host.old.world) }
-    ensures answers { Answers (StartsMade number host.old.world) (O.taken out.old) (O.taken out.new) (O.faults out.old) (O.faults out.new) result }
+    ensures answers { Answers (StartsMade number host.old.world) (O.taken out.old) (O.taken out.new) (O.faults out.old)
+        (O.faults out.new) result }
     ensures status { result ≤ OUTPUT_FAILED }
     ensures no_file_failed { result ≢ FILE_FAILED }
     ensures put { result < REFUSED → O.faults out.new ≡ O.faults out.old }
@@ -169,12 +171,14 @@ pub fn dpmi<F: Shelf, O: Sink>(alloc: Global, words: &[String], shelf: &mut F, o
     ensures known { result ≤ NO_MEMORY }
 
     // Where no file that the words name fails, nor the output, and the files are known.
-    ensures answers_when_it_can { (NamedFailed (map string_bytes words.now) (F.faults shelf.old) (F.faults shelf.new) (F.blamed shelf.new) → ⊥) →
+    ensures answers_when_it_can { (NamedFailed (map string_bytes words.now) (F.faults shelf.old) (F.faults shelf.new)
+        (F.blamed shelf.new) → ⊥) →
         (Rose (O.faults out.old) (O.faults out.new) → ⊥) →
         IfSome (F.files shelf.old) (λ files. IfSome (answer (map string_bytes words.now) files)
         (λ a. (result ≡ NO_MEMORY)
         ⊎ ((result ≡ a.status) × Gains (O.taken out.old) (O.taken out.new) a.text))) }
-    ensures ends_without_failure { (NamedFailed (map string_bytes words.now) (F.faults shelf.old) (F.faults shelf.new) (F.blamed shelf.new) → ⊥) →
+    ensures ends_without_failure { (NamedFailed (map string_bytes words.now) (F.faults shelf.old) (F.faults shelf.new)
+        (F.blamed shelf.new) → ⊥) →
         (IsAbsent (map string_bytes words.now) (F.files shelf.old) → ⊥) →
         (Rose (O.faults out.old) (O.faults out.new) → ⊥) →
         (result ≤ REFUSED) ⊎ (result ≡ NO_MEMORY) }

@@ -46,8 +46,8 @@ fn write_client<O: Sink>(client: Letter, host: &Host, out: &mut O) -> Result<(),
     write_all_of(host, out)
 }
 
-/// Runs two clients that are loaded in turns, and writes what they wrote slice by slice and then the text of each. Where it fails a prefix of it
-/// was written, and the output's count of faults rose. Source: own.
+/// Runs two clients that are loaded in turns, and writes what they wrote slice by slice and then the text of each. Where it fails a prefix
+/// of it was written, and the output's count of faults rose. Source: own.
 pub fn write_turns<O: Sink>(
     a: &mut WatchedHost,
     b: &mut WatchedHost,

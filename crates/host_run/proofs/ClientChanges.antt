@@ -19,7 +19,9 @@ use Rattle.fault_service.specs.Memory.{DeliveryLaw}
 use Rattle.fault_service.specs.StepMemory.{InterruptLaw, RealDeliveryLaw, StepLaw}
 use Rattle.host_run.specs.Turn.{Outcome}
 use Rattle.host_run.specs.View.{ComesTo, HostView, machine_view}
-use Rattle.host_run.specs.Footprint.{ChangesOnly, Footprint, at_places, at_places_and_row, unsaid, after_client_event, after_client_interrupt, client_footprint, client_turn, delivery_footprint, event_footprint, interrupt_footprint}
+use Rattle.host_run.specs.Footprint.{ChangesOnly, Footprint, at_places, at_places_and_row, unsaid, after_client_event}
+use Rattle.host_run.specs.Footprint.{after_client_interrupt, client_footprint, client_turn, delivery_footprint, event_footprint}
+use Rattle.host_run.specs.Footprint.{interrupt_footprint}
 
 -- what is known of the machine
 pub record HasLaws (v : MachineView) : Type 0 where

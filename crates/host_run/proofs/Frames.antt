@@ -18,14 +18,16 @@ use Rattle.interrupts.specs.Delivery.{after_iret, result_of_pop}
 use Rattle.interrupts.specs.RealFrames.{frame_fits}
 use Rattle.interrupts.specs.Worlds.{world_of_result, world_after_iret}
 use Rattle.host_memory.specs.View.{MachineView}
-use Rattle.host_run.specs.Turn.{Outcome, ends, after_exit_call, after_protected_pop, after_protected_call, is_exit_call, is_presence_call, after_default_vector, after_real_vector}
+use Rattle.host_run.specs.Turn.{Outcome, ends, after_exit_call, after_protected_pop, after_protected_call, is_exit_call, is_presence_call}
+use Rattle.host_run.specs.Turn.{after_default_vector, after_real_vector}
 
 same_outcome : (r : Result MachineView Exit) → is_ok (world_of_result r) ≡ is_ok r
 same_outcome (Ok v) = refl
 same_outcome (Err e) = refl
 
 -- the world determines whether it can
-pub can_by_world : (v : MachineView) → world_of_result (after_iret v) ≡ world_after_iret v.world → is_ok (after_iret v) ≡ is_ok (world_after_iret v.world)
+pub can_by_world : (v : MachineView) → world_of_result (after_iret v) ≡ world_after_iret v.world →
+    is_ok (after_iret v) ≡ is_ok (world_after_iret v.world)
 can_by_world v same = sym (same_outcome (after_iret v)) ∙ ap (λ (r : Result World Exit). is_ok r) same
 
 abbrev reached : HostWorld → ℕ → Result MachineView Event → Outcome
@@ -47,7 +49,8 @@ unfolding world_after_iret after_iret
 reached_bad h n fails = (by_frame h n _).1 fails
 
 -- of the default vectors of protected mode
-bad_frame : (r : Result MachineView Event) → is_ok (world_of_result (result_of_pop r)) ≡ false → world_of_result (result_of_pop r) ≡ Err BadFrame
+bad_frame : (r : Result MachineView Event) → is_ok (world_of_result (result_of_pop r)) ≡ false →
+    world_of_result (result_of_pop r) ≡ Err BadFrame
 bad_frame (Ok v) e = absurd cc
 bad_frame (Err f) e = refl
 
@@ -55,7 +58,8 @@ world_bad : (w : World) → is_ok (world_after_iret w) ≡ false → world_after
 unfolding world_after_iret after_iret
 world_bad w e = bad_frame _ e
 
-exit_by : (h : HostWorld) (n : ℕ) (r : Result World Exit) → is_exit_call h.machine n ≡ true → is_ok r ≡ true → after_protected_pop h n r ≡ after_exit_call h
+exit_by : (h : HostWorld) (n : ℕ) (r : Result World Exit) → is_exit_call h.machine n ≡ true → is_ok r ≡ true →
+    after_protected_pop h n r ≡ after_exit_call h
 unfolding after_protected_call
 exit_by h n (Ok w) exit e = rw exit refl
 exit_by h n (Err exit) is e = absurd cc
@@ -64,7 +68,8 @@ pub exit_popped : (h : HostWorld) (n : ℕ) → is_exit_call h.machine n ≡ tru
     after_protected_pop h n (world_after_iret h.machine) ≡ after_exit_call h
 exit_popped h n exit can = exit_by h n (world_after_iret h.machine) exit can
 
-pub popped_bad : (h : HostWorld) (n : ℕ) → is_ok (world_after_iret h.machine) ≡ false → after_protected_pop h n (world_after_iret h.machine) ≡ ends h BadFrame
+pub popped_bad : (h : HostWorld) (n : ℕ) → is_ok (world_after_iret h.machine) ≡ false →
+    after_protected_pop h n (world_after_iret h.machine) ≡ ends h BadFrame
 popped_bad h n fails = ap (after_protected_pop h n) (world_bad h.machine fails)
 
 -- an interrupt that is reflected, where calls are nested too deeply
@@ -72,7 +77,8 @@ deep_call : (h : HostWorld) (n : ℕ) (w : World) → is_exit_call h.machine n �
     nat_eq n 0x31 ≡ false → w.calls ≡ h.machine.calls → GREATEST_DEPTH ≤ depth h.machine → after_protected_call h n w ≡ ends h Deep
 unfolding after_protected_call reflect
 deep_call h n w exit presence other calls deep =
-    let much : nat_le GREATEST_DEPTH (depth w) ≡ true = le-leb GREATEST_DEPTH (depth w) (subst (λ (cs : List Record). GREATEST_DEPTH ≤ length cs) (sym calls) deep) in
+    let much : nat_le GREATEST_DEPTH (depth w) ≡ true =
+    le-leb GREATEST_DEPTH (depth w) (subst (λ (cs : List Record). GREATEST_DEPTH ≤ length cs) (sym calls) deep) in
     rw exit (rw presence (rw other (rw much refl)))
 
 deep_by : (h : HostWorld) (n : ℕ) (r : Result World Exit) → world_after_iret h.machine ≡ r → is_exit_call h.machine n ≡ false →
@@ -89,6 +95,7 @@ popped_deep h n exit presence other deep can = deep_by h n (world_after_iret h.m
 
 -- a service that leaves the mode and the place of the stack leaves a frame that can be popped one
 pub still_popped : ((w : World) → IsSound w → w.mode ≡ Real → is_ok (world_after_iret w) ≡ frame_fits w.regs.esp) →
-    (w u : World) → IsSound w → IsSound u → w.mode ≡ Real → HasSameStack w u → is_ok (world_after_iret w) ≡ true → is_ok (world_after_iret u) ≡ true
+    (w u : World) → IsSound w → IsSound u → w.mode ≡ Real → HasSameStack w u → is_ok (world_after_iret w) ≡ true →
+    is_ok (world_after_iret u) ≡ true
 still_popped fits w u before after real same can =
     fits u after (same.mode ∙ real) ∙ ap frame_fits same.pointer ∙ sym (fits w before real) ∙ can

@@ -1,5 +1,7 @@
--- What a turn makes of the console and of the count of turns, whatever the world: it adds to the console at its end alone, and is counted once.
-use Rattle.std.proofs.Common.{arith, ◌≡◌, ◌∙◌, ◌≤◌, ◌+◌, ◌-◌, ◌++◌, sym, ap, subst, ℕ, zero, suc, Bool, true, false, List, nat_eq, add-suc, add-zero, append_assoc, refl, Option, None, Some, Ok, Err}
+-- What a turn makes of the console and of the count of turns, whatever the world: it adds to the console at its end alone, and is counted
+-- once.
+use Rattle.std.proofs.Common.{arith, ◌≡◌, ◌∙◌, ◌≤◌, ◌+◌, ◌-◌, ◌++◌, sym, ap, subst, ℕ, zero, suc, Bool, true, false, List, nat_eq, add-suc}
+use Rattle.std.proofs.Common.{add-zero, append_assoc, refl, Option, None, Some, Ok, Err}
 use Rattle.std.specs.Prelude.{if◌then◌else◌}
 use Rattle.std.specs.declared.result.Result.{Result}
 use Rattle.client_world.specs.declared.calls.Call.{Call}
@@ -30,11 +32,20 @@ use Rattle.mode_gates.specs.Switches.{world_after_switch_to_protected}
 use Rattle.fault_service.specs.Worlds.{world_exception_return, world_protected_delivery}
 use Rattle.translation.specs.SimulatedCall.{begin_call, end_call, reflect}
 use Rattle.host_run.specs.declared.traps.Trap.{Trap}
-use Rattle.host_run.specs.declared.traps.Trap.TheVariants.{RealVector, Entry, ToProtected, RealState, CallReturn, Callback, ProtectedVector, ExceptionHandler, ToReal, ProtectedState, ExceptionReturn, CallbackReturn, NoTrap}
+use Rattle.host_run.specs.declared.traps.Trap.TheVariants.{RealVector, Entry, ToProtected, RealState, CallReturn, Callback, ProtectedVector}
+use Rattle.host_run.specs.declared.traps.Trap.TheVariants.{ExceptionHandler, ToReal, ProtectedState, ExceptionReturn, CallbackReturn}
+use Rattle.host_run.specs.declared.traps.Trap.TheVariants.{NoTrap}
 use Rattle.host_run.specs.Run.{turns, run}
 use Rattle.host_run.specs.Families.{service}
 use Rattle.host_run.specs.Traps.{current_trap}
-use Rattle.host_run.specs.Turn.{Outcome, ends, with_machine, with_trace_line, after_frame_pop, dos_call_state, after_dos_call, after_multiplex_call, ends_client, after_default_vector, after_entry, after_entry_trap, after_switch_to_protected, is_exit_call, is_presence_call, asked_call, call_enter_line, after_begin, after_call_return, after_reflected_interrupt, after_service, goes_on_with, after_int31, after_protected_call, after_protected_pop, after_protected_vector, after_protected_delivery, after_exception_return, after_callback, after_callback_return, after_exception, after_exception_in_mode, after_interrupt, after_step, after_next_instruction, after_trap, work, with_turn_counted, after_outcome, turn}
+use Rattle.host_run.specs.Turn.{Outcome, ends, with_machine, with_trace_line, after_frame_pop, dos_call_state, after_dos_call}
+use Rattle.host_run.specs.Turn.{after_multiplex_call, ends_client, after_default_vector, after_entry, after_entry_trap}
+use Rattle.host_run.specs.Turn.{after_switch_to_protected, is_exit_call, is_presence_call, asked_call, call_enter_line, after_begin}
+use Rattle.host_run.specs.Turn.{after_call_return, after_reflected_interrupt, after_service, goes_on_with, after_int31}
+use Rattle.host_run.specs.Turn.{after_protected_call, after_protected_pop, after_protected_vector, after_protected_delivery}
+use Rattle.host_run.specs.Turn.{after_exception_return, after_callback, after_callback_return, after_exception, after_exception_in_mode}
+use Rattle.host_run.specs.Turn.{after_interrupt, after_step, after_next_instruction, after_trap, work, with_turn_counted, after_outcome}
+use Rattle.host_run.specs.Turn.{turn}
 
 -- what the work of a turn makes of both
 pub record Grows (h : HostWorld) (o : Outcome) : Type 0 where
@@ -78,7 +89,8 @@ dos_grows h =
 multiplex_grows : (h : HostWorld) → Grows h (after_multiplex_call h)
 multiplex_grows h =
     let w = multiplex_call h.machine in
-    machine_grows h (record (with_trace_line (lines.Int2f (low_half h.machine.regs.eax)) h) { machine = w }) (world_after_iret w) (left.extends_itself h.console) refl
+    machine_grows h (record (with_trace_line (lines.Int2f (low_half h.machine.regs.eax)) h) { machine = w }) (world_after_iret w)
+    (left.extends_itself h.console) refl
 
 vector_grows : (h : HostWorld) (n : ℕ) → Grows h (after_default_vector h n)
 unfolding after_default_vector
@@ -88,7 +100,8 @@ vector_grows h n =
     (if_grows h (nat_eq n 0x21) _ _ (dos_grows h)
     (if_grows h (nat_eq n 0x2F) _ _ (multiplex_grows h) (with_machine_grows h (world_after_iret h.machine)))))
 
-reached_grows : (h : HostWorld) (n : ℕ) (r : Result World Exit) → Grows h (elim r [ Ok w ↦ after_default_vector h n | Err exit ↦ ends h exit ])
+reached_grows : (h : HostWorld) (n : ℕ) (r : Result World Exit) →
+    Grows h (elim r [ Ok w ↦ after_default_vector h n | Err exit ↦ ends h exit ])
 reached_grows h n (Ok w) = vector_grows h n
 reached_grows h n (Err exit) = still h _ refl refl
 
@@ -109,7 +122,8 @@ entry_trap_grows h = entry_grows h (entry h.machine)
 -- ---- the default vectors of protected mode
 
 begun_grows : (h : HostWorld) (ax : ℕ) (w : World) (call : Call) (s : Served) (c : Carry) →
-    Grows h (if is_set c then after_service h ax s else goes_on_with (with_trace_line (lines.Int31 ax Clear) h) (call_enter_line w call s.world) s.world)
+    Grows h (if is_set c then after_service h ax s
+    else goes_on_with (with_trace_line (lines.Int31 ax Clear) h) (call_enter_line w call s.world) s.world)
 begun_grows h ax w call s Clear = still h _ refl refl
 begun_grows h ax w call s Set = still h _ refl refl
 

@@ -17,7 +17,8 @@ use Rattle.callbacks.proofs.HandedOver.{has_entered, has_left}
 use Rattle.host_run.specs.HandOver.{HandsOver, HandsOverCall, HandsOverRealCall}
 use Rattle.host_run.specs.Keys.{HasKeys}
 use Rattle.host_run.specs.Nested.{IsHandedOver, PopsRecord, PushesRecord}
-use Rattle.host_run.specs.RealCalls.{InterruptSource, ReflectedFrom, ReturnsFromCall, StartsCall, StartsRealCall, from_anywhere, from_client}
+use Rattle.host_run.specs.RealCalls.{InterruptSource, ReflectedFrom, ReturnsFromCall, StartsCall, StartsRealCall, from_anywhere}
+use Rattle.host_run.specs.RealCalls.{from_client}
 use Rattle.host_run.specs.Run.{turns}
 use Rattle.host_run.proofs.HandedExceptions.{has_delivered, has_resumed}
 use Rattle.host_run.proofs.Sound.{turns_sound}
@@ -52,7 +53,8 @@ begun_call w u call s e =
     subst (λ (x : World). HasBegun w x call (structure_bytes w (es_di w))) (ap (λ (a : Served). a.world) e)
     (has_begun w call s (ap (λ (a : Served). a.carry) e))
 
-call_by : (w v x y : HostWorld) (call : Call) (r : Record) → IsSound w.machine → IsSound x.machine → StartsCall w call r v → ReturnsFromCall x call y →
+call_by : (w v x y : HostWorld) (call : Call) (r : Record) → IsSound w.machine → IsSound x.machine → StartsCall w call r v →
+    ReturnsFromCall x call y →
     x.machine.calls ≡ y.machine.calls ++ r ∷ [] → HandsOverCall w v x y call
 call_by w v x y call r starts ends pushes pops innermost =
     let ended = has_ended x.machine y.machine ends pops.returns in
@@ -129,4 +131,5 @@ hands_over source w i j first last h = by_record source (w i) (w (i + 1)) (w j) 
 
 pub run_hands_over : (w : HostWorld) (i j : ℕ) → IsSound w.machine → HasKeys w → (h : IsHandedOver from_client (turns w) i j) →
     HandsOver from_client (turns w i) (turns w (i + 1)) (turns w j) (turns w (j + 1)) h.innermost
-run_hands_over w i j s keys h = hands_over from_client (turns w) i j (turns_sound w i (record { machine = s; keys = keys })).machine (turns_sound w j (record { machine = s; keys = keys })).machine h
+run_hands_over w i j s keys h = hands_over from_client (turns w) i j (turns_sound w i (record { machine = s; keys = keys })).machine
+    (turns_sound w j (record { machine = s; keys = keys })).machine h

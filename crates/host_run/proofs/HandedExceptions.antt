@@ -19,7 +19,8 @@ use Rattle.insn_plan.specs.Plan.{after_commit, after_plan, plan_result, with_sta
 use Rattle.insn_plan.specs.Stack.{stack_item}
 use Rattle.mode_stack.specs.Stack.{after_pop, top}
 use Rattle.fault_service.specs.Delivery.{protected_delivery}
-use Rattle.fault_service.specs.Return.{pending_of_exception_frame, exception_frame_pop, exception_return, is_exception, result_of_exception_pop}
+use Rattle.fault_service.specs.Return.{pending_of_exception_frame, exception_frame_pop, exception_return, is_exception}
+use Rattle.fault_service.specs.Return.{result_of_exception_pop}
 use Rattle.fault_service.specs.Worlds.{world_exception_return, world_protected_delivery}
 use Rattle.fault_service.proofs.Plans.{settled_is}
 use Rattle.fault_service.proofs.RoundTrip.{frame_law}
@@ -30,7 +31,8 @@ use Rattle.host_run.specs.Exceptions.{HasDelivered, HasResumed}
 pub has_delivered : (w v : World) (f : Fault) → IsSound w → w.mode ≡ Protected → world_protected_delivery w f ≡ Ok v → HasDelivered w f v
 unfolding world_protected_delivery
 has_delivered w v f s mode e =
-    holds_of_world (λ (x : World). HasDelivered w f x) (protected_delivery (view_without_bytes w) f) v (λ u is. frame_law (view_without_bytes w) u f s mode is) e
+    holds_of_world (λ (x : World). HasDelivered w f x) (protected_delivery (view_without_bytes w) f) v
+    (λ u is. frame_law (view_without_bytes w) u f s mode is) e
 
 -- ---- a return
 
@@ -95,7 +97,8 @@ takes_items w bits p e =
       is = (let same = loads.is in cc);
     }
 
-resumed_by : (v u : MachineView) (p : Pending) → TakesItems v.world (frame_bits v.world) p → result_of_exception_pop (after_commit v p) ≡ Ok u →
+resumed_by : (v u : MachineView) (p : Pending) → TakesItems v.world (frame_bits v.world) p →
+    result_of_exception_pop (after_commit v p) ≡ Ok u →
     HasResumed v.world u.world
 resumed_by v u p t e =
     let none : p.writes ≡ [] = ap (λ (x : Pending). x.writes) t.is in
@@ -123,7 +126,8 @@ resumed_of v u (Ok p) is e = resumed_by v u p (takes_items v.world (frame_bits v
 resumed_of v u (Err g) is e = absurd cc
 
 resumed_where : (exception : Bool) (v u : MachineView) →
-    (if exception then result_of_exception_pop (after_plan v (plan_result v.world (exception_frame_pop v.world (frame_bits v.world)))) else Err exits.Stray) ≡ Ok u →
+    (if exception then result_of_exception_pop (after_plan v (plan_result v.world (exception_frame_pop v.world (frame_bits v.world))))
+    else Err exits.Stray) ≡ Ok u →
     HasResumed v.world u.world
 resumed_where true v u e = resumed_of v u (plan_result v.world (exception_frame_pop v.world (frame_bits v.world))) refl e
 resumed_where false v u e = absurd cc
@@ -135,4 +139,5 @@ machine_resumed v u e = resumed_where (is_exception (top v.world)) v u e
 pub has_resumed : (w v : World) → world_exception_return w ≡ Ok v → HasResumed w v
 unfolding world_exception_return
 has_resumed w v e =
-    holds_of_world (λ (x : World). HasResumed w x) (exception_return (view_without_bytes w)) v (λ u is. machine_resumed (view_without_bytes w) u is) e
+    holds_of_world (λ (x : World). HasResumed w x) (exception_return (view_without_bytes w)) v
+    (λ u is. machine_resumed (view_without_bytes w) u is) e

@@ -61,13 +61,15 @@ none_above w above small = none_at_sum w small (inr above)
 -- ---- in a window of code
 
 -- a real address is a sum, which may pass 32 bits; a protected one counts modulo 2^32
-real_outside : (sum linear from : ℕ) → linear ≡ sum % 2 ^ 32 → linear % PAGE_SIZE + from < PAGE_SIZE → IsOutside linear → IsOutside (sum + from)
+real_outside : (sum linear from : ℕ) → linear ≡ sum % 2 ^ 32 → linear % PAGE_SIZE + from < PAGE_SIZE → IsOutside linear →
+    IsOutside (sum + from)
 real_outside sum linear from is room outside = elim (cases_lt sum (2 ^ 32)) [
   | inl small ↦ elim outside [ inl below ↦ inl (omega arith) | inr above ↦ inr (omega arith) ]
   | inr great ↦ inr (omega arith)
 ]
 
-protected_outside : (sum linear from : ℕ) → linear ≡ sum % 2 ^ 32 → linear % PAGE_SIZE + from < PAGE_SIZE → IsOutside linear → IsOutside ((sum + from) % 2 ^ 32)
+protected_outside : (sum linear from : ℕ) → linear ≡ sum % 2 ^ 32 → linear % PAGE_SIZE + from < PAGE_SIZE → IsOutside linear →
+    IsOutside ((sum + from) % 2 ^ 32)
 protected_outside sum linear from is room (inl below) = inl (omega arith)
 protected_outside sum linear from is room (inr above) = inr (omega arith)
 
@@ -75,9 +77,11 @@ in_window : (mode : Mode) (w : World) (window : CodeWindow) (from : ℕ) →
     window.linear ≡ linear (first_byte mode w.descriptors w.regs.cs + window.first) → window.linear % PAGE_SIZE + from < PAGE_SIZE →
     window.first + from ≡ w.regs.eip → IsOutside window.linear → IsOutside (address_in mode w)
 in_window Real w window from is room here outside =
-    subst IsOutside (omega (arith, here)) (real_outside (first_byte Real w.descriptors w.regs.cs + window.first) window.linear from is room outside)
+    subst IsOutside (omega (arith, here))
+    (real_outside (first_byte Real w.descriptors w.regs.cs + window.first) window.linear from is room outside)
 in_window Protected w window from is room here outside =
-    let same : first_byte Protected w.descriptors w.regs.cs + window.first + from ≡ first_byte Protected w.descriptors w.regs.cs + w.regs.eip = omega arith in
+    let same : first_byte Protected w.descriptors w.regs.cs + window.first + from
+    ≡ first_byte Protected w.descriptors w.regs.cs + w.regs.eip = omega arith in
     subst (λ (n : ℕ). IsOutside (n % 2 ^ 32)) same
     (protected_outside (first_byte Protected w.descriptors w.regs.cs + window.first) window.linear from is room outside)
 

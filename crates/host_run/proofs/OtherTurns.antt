@@ -20,16 +20,21 @@ use Rattle.fault_service.specs.Worlds.{world_protected_delivery}
 use Rattle.translation.specs.SimulatedCall.{reflect}
 use Rattle.host_run.specs.Keys.{HasKeys}
 use Rattle.host_run.specs.Nested.{Stacked, kept}
-use Rattle.host_run.specs.OtherTurns.{IsOneQuietTurn, after_answer, with_answer, exception_turn, int31_turn, interrupt_turn, after_interrupt_in_mode, is_hosts_vector, with_interrupts_off}
+use Rattle.host_run.specs.OtherTurns.{IsOneQuietTurn, after_answer, with_answer, exception_turn, int31_turn, interrupt_turn}
+use Rattle.host_run.specs.OtherTurns.{after_interrupt_in_mode, is_hosts_vector, with_interrupts_off}
 use Rattle.host_run.specs.RealCalls.{InterruptSource, from_anywhere, from_client}
 use Rattle.host_run.specs.Run.{with_bound_exit}
-use Rattle.host_run.specs.Turn.{Outcome, after_interrupt, after_protected_delivery, after_reflected_interrupt, after_exception_in_mode, after_outcome, turn, with_machine, with_turn_counted}
+use Rattle.host_run.specs.Turn.{Outcome, after_interrupt, after_protected_delivery, after_reflected_interrupt, after_exception_in_mode}
+use Rattle.host_run.specs.Turn.{after_outcome, turn, with_machine, with_turn_counted}
 use Rattle.host_run.proofs.Nested.{anywhere}
-use Rattle.host_run.proofs.TurnLaws.{IsNext, IsReached, KeepsTurn, TurnKeeps, answer_next, counted_reached, delivered_keeps, interrupted_keeps, reflection_by, same_machine, service_keeps, settled_keeps, stops_same, turn_keeps, with_regs_sound}
+use Rattle.host_run.proofs.TurnLaws.{IsNext, IsReached, KeepsTurn, TurnKeeps, answer_next, counted_reached, delivered_keeps}
+use Rattle.host_run.proofs.TurnLaws.{interrupted_keeps, reflection_by, same_machine, service_keeps, settled_keeps, stops_same, turn_keeps}
+use Rattle.host_run.proofs.TurnLaws.{with_regs_sound}
 
 -- ---- what such a turn leaves of the world around the machine
 
--- the work of the turn, before it is settled: it touches neither keystrokes, nor console, nor the count of turns; and an exit leaves the machine
+-- the work of the turn, before it is settled: it touches neither keystrokes, nor console, nor the count of turns; and an exit leaves the
+-- machine
 record IsQuiet (h : HostWorld) (o : Outcome) : Type 0 where
   keys : o.host.keys ≡ h.keys
   console : o.host.console ≡ h.console
@@ -40,7 +45,8 @@ goes_on_without : (o : Option Exit) → o ≡ None → IsSome o → ⊥
 goes_on_without None on ended = cc
 goes_on_without (Some exit) on ended = cc
 
-quiet_on : (h : HostWorld) (o : Outcome) → o.host.keys ≡ h.keys → o.host.console ≡ h.console → o.host.steps ≡ h.steps → o.exit ≡ None → IsQuiet h o
+quiet_on : (h : HostWorld) (o : Outcome) → o.host.keys ≡ h.keys → o.host.console ≡ h.console → o.host.steps ≡ h.steps → o.exit ≡ None →
+    IsQuiet h o
 quiet_on h o keys console steps on =
     record { keys = keys; console = console; steps = steps; machine = λ ended. absurd (goes_on_without o.exit on ended) }
 
@@ -166,7 +172,8 @@ either_keeps : (h : HostWorld) (b : Bool) (x y : Outcome) → TurnKeeps from_any
 either_keeps h true x y p q = p
 either_keeps h false x y p q = q
 
-interrupt_in_keeps : (mode : Mode) (h : HostWorld) (n : ℕ) → IsReached h → h.machine.mode ≡ mode → TurnKeeps from_anywhere h (after_interrupt_in_mode mode h n)
+interrupt_in_keeps : (mode : Mode) (h : HostWorld) (n : ℕ) → IsReached h → h.machine.mode ≡ mode →
+    TurnKeeps from_anywhere h (after_interrupt_in_mode mode h n)
 interrupt_in_keeps Real h n s is =
     anywhere_keeps h _ (interrupted_keeps h (world_interrupt h.machine n 0) s (interrupt_next h.machine n s.machine))
 interrupt_in_keeps Protected h n s is =
@@ -198,7 +205,8 @@ bounded_calls_by w None = kept refl
 pub bounded_calls : (w : HostWorld) → Stacked from_client w (with_bound_exit w)
 bounded_calls w = bounded_calls_by w w.exit
 
-bounded_sound_by : (w : HostWorld) (o : Option Exit) → IsSoundHost w → IsSoundHost (elim o [ Some _ ↦ w | None ↦ record w { exit = Some Bound } ])
+bounded_sound_by : (w : HostWorld) (o : Option Exit) → IsSoundHost w →
+    IsSoundHost (elim o [ Some _ ↦ w | None ↦ record w { exit = Some Bound } ])
 bounded_sound_by w (Some exit) s = s
 bounded_sound_by w None s = record { machine = s.machine; lines = s.lines }
 

@@ -67,7 +67,8 @@ settled_leaves v u p same e =
     holds_of_answer (λ (m : MachineView). m.world.vif ≡ v.world.vif) (Ok x) u same
     (granted_was fault (first_write_fault v.world p.writes) (Ok x) u e)
 
-carried_leaves : (v u : MachineView) (r : Result Pending Event) → LeavesInterrupts v.world r → after_plan v r ≡ Ok u → u.world.vif ≡ v.world.vif
+carried_leaves : (v u : MachineView) (r : Result Pending Event) → LeavesInterrupts v.world r → after_plan v r ≡ Ok u →
+    u.world.vif ≡ v.world.vif
 unfolding after_plan
 carried_leaves v u (Ok p) same e = settled_leaves v u p same e
 carried_leaves v u (Err f) same e = absurd cc
@@ -79,4 +80,5 @@ machine_popped v u mode e = carried_leaves v u _ (frame_leaves v.world (frame_bi
 pub popped_keeps_interrupts : (w u : World) → w.mode ≡ Protected → world_after_iret w ≡ Ok u → u.vif ≡ w.vif
 unfolding world_after_iret
 popped_keeps_interrupts w u mode e =
-    holds_of_world (λ (x : World). x.vif ≡ w.vif) (after_iret (view_without_bytes w)) u (λ v is. machine_popped (view_without_bytes w) v mode is) e
+    holds_of_world (λ (x : World). x.vif ≡ w.vif) (after_iret (view_without_bytes w)) u
+    (λ v is. machine_popped (view_without_bytes w) v mode is) e

@@ -1,5 +1,6 @@
 -- Turns after an exit change nothing.
-use Rattle.std.proofs.Common.{arith, ◌≡◌, ◌≤◌, ◌<◌, ◌+◌, ◌-◌, ℕ, None, Some, zero, suc, refl, sym, ◌∙◌, ap, subst, add-zero, add-suc, add-one}
+use Rattle.std.proofs.Common.{arith, ◌≡◌, ◌≤◌, ◌<◌, ◌+◌, ◌-◌, ℕ, None, Some, zero, suc, refl, sym, ◌∙◌, ap, subst, add-zero, add-suc}
+use Rattle.std.proofs.Common.{add-one}
 use Rattle.std.specs.Prelude.{IsSome, IfSome, List}
 use Rattle.std.specs.declared.option.Option.{Option}
 use Rattle.client_world.specs.declared.outcome.Exit.{Exit}
@@ -20,7 +21,8 @@ turns_stop w i (suc k) e is = rw add-suc (ap turn (turns_stop w i k e is) ∙ tu
 -- once there is an exit after i turns, so it stays
 pub turns_past : (w : HostWorld) (i n : ℕ) (e : Exit) → i ≤ n → (turns w i).exit ≡ Some e →
     turns w n ≡ turns w i
-turns_past w i n e le is = let split : i + (n - i) ≡ n = omega arith in subst (λ m. turns w m ≡ turns w i) split (turns_stop w i (n - i) e is)
+turns_past w i n e le is = let split : i + (n - i) ≡ n = omega arith in
+    subst (λ m. turns w m ≡ turns w i) split (turns_stop w i (n - i) e is)
 
 pub turns_more : (w : HostWorld) (i : ℕ) → turns w (i + 1) ≡ turn (turns w i)
 unfolding turns
@@ -69,6 +71,17 @@ same_view : (a b : HostView) → a.world ≡ b.world → a.bytes ≡ b.bytes →
 same_view a b world bytes =
     ap (λ (w : HostWorld). let v : HostView = record { world = w; bytes = a.bytes } in v) world
     ∙ ap (λ (x : List ℕ). let v : HostView = record { world = b.world; bytes = x } in v) bytes
+
+bounded_by : (old now : HostView) (o : Option Exit) → old.world.exit ≡ o → IfSome o (λ _. now ≡ old) →
+    IfSome o (λ _. record now { world = with_bound_exit now.world } ≡ old)
+bounded_by old now None e same = tt
+bounded_by old now (Some exit) e same =
+    same_view (record now { world = with_bound_exit now.world }) old
+    (ap (λ (v : HostView). with_bound_exit v.world) same ∙ bounded_ended old.world exit e) (ap (λ (v : HostView). v.bytes) same)
+
+-- nor does the bound change anything then
+pub kept_bounded : (old now : HostView) → IsKept old now → IsKept old (record now { world = with_bound_exit now.world })
+kept_bounded old now same = bounded_by old now old.world.exit refl same
 
 kept_by : (old now after : HostView) (o : Option Exit) → old.world.exit ≡ o → IfSome o (λ _. now ≡ old) → after.world ≡ turn now.world →
     after.bytes ≡ now.bytes → IfSome o (λ _. after ≡ old)

@@ -1,5 +1,5 @@
--- What crates above may cite of a run: from a sound world with keys that are bytes each turn leads to such a one and leaves the records of calls
--- or adds or takes away the innermost one.
+-- What crates above may cite of a run: from a sound world with keys that are bytes each turn leads to such a one and leaves the records of
+-- calls or adds or takes away the innermost one.
 use Rattle.std.proofs.Common.{arith, ◌≡◌, ◌≢◌, ◌≤◌, ◌+◌, ◌*◌, ℕ, zero, suc, List, None, Some, sym, subst}
 use Rattle.std.specs.Prelude.{IsSome}
 use Rattle.std.specs.declared.option.Option.{Option}
@@ -42,7 +42,8 @@ exit_leaves_machine w sound keys ended =
 pub exit_leaves_outside : (w : HostWorld) (exit : Exit) → IsSound w.machine → HasKeys w → (turn w).exit ≡ Some exit → exit ≢ ConsoleFull →
     ((turn w).keys ≡ w.keys) × ((turn w).console ≡ w.console)
 exit_leaves_outside w exit sound keys is other =
-    (let l : LeavesAll w (turn w) exit = subst (LeavesBy w (turn w)) is (turn_keeps w (record { machine = sound; keys = keys })).leaves in l.outside) other
+    (let l : LeavesAll w (turn w) exit = subst (LeavesBy w (turn w)) is (turn_keeps w (record { machine = sound; keys = keys })).leaves in
+    l.outside) other
 
 -- so does any number of turns
 pub turns_sound : (w : HostWorld) (n : ℕ) → IsReached w → IsReached (turns w n)
@@ -64,7 +65,8 @@ bound_sound : (w : HostWorld) (o : Option Exit) → IsReached w → IsReached (e
 bound_sound w (Some _) s = s
 bound_sound w None s = record { machine = s.machine; keys = s.keys }
 
-bound_lines : (w : HostWorld) (o : Option Exit) → HasFewLines w → HasFewLines (elim o [ Some _ ↦ w | None ↦ record w { exit = Some Bound } ])
+bound_lines : (w : HostWorld) (o : Option Exit) → HasFewLines w →
+    HasFewLines (elim o [ Some _ ↦ w | None ↦ record w { exit = Some Bound } ])
 bound_lines w (Some _) few = few
 bound_lines w None few = few
 
@@ -95,5 +97,6 @@ pub blank_sound : (pages keep : ℕ) (keys : List ℕ) → IsSoundHost (blank pa
 blank_sound pages keep keys = record { machine = blank_is_sound pages; lines = omega arith }
 
 -- so is the world that a file starts, if the file is one of bytes and is taken
-pub started_sound : (pages keep : ℕ) (keys file : List ℕ) → AreBytes file → refusal file ≡ None → IsSoundHost (host_at_start pages keys keep file)
+pub started_sound : (pages keep : ℕ) (keys file : List ℕ) → AreBytes file → refusal file ≡ None →
+    IsSoundHost (host_at_start pages keys keep file)
 started_sound pages keep keys file small none = record { machine = sound_start file pages small none; lines = omega arith }

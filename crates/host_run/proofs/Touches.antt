@@ -37,7 +37,8 @@ touch_held steps w =
 
 -- what a turn touches that runs a client instruction
 by_exit : (w : HostWorld) (o : Option Exit) → o ≡ None →
-    elim o as (λ _. List Place) [ Some _ ↦ [] | None ↦ unless_trapped w.machine (current_trap w.machine) ] ≡ unless_trapped w.machine (current_trap w.machine)
+    elim o as (λ _. List Place) [ Some _ ↦ [] | None ↦ unless_trapped w.machine (current_trap w.machine) ]
+    ≡ unless_trapped w.machine (current_trap w.machine)
 by_exit w None none = refl
 by_exit w (Some exit) none = absurd cc
 
@@ -58,11 +59,14 @@ unfolding world_step
 written_by_turn law w u none free is =
     let m = w.machine in
     subst (λ (places : List Place). AreIn places (written_places m)) (sym (runs w none free))
-    (holds_of_world (λ _. AreIn (step_touches m) (written_places m)) (client_step (view_without_bytes m)) u (λ v. law (view_without_bytes m) v) is)
+    (holds_of_world (λ _. AreIn (step_touches m) (written_places m)) (client_step (view_without_bytes m)) u
+    (λ v. law (view_without_bytes m) v) is)
 
-pub pushed_by_turn : ((v u : MachineView) (number len : ℕ) → client_step v ≡ Err (Soft number len) → software_interrupt v number len ≡ Ok u →
+pub pushed_by_turn : ((v u : MachineView) (number len : ℕ) → client_step v ≡ Err (Soft number len) →
+    software_interrupt v number len ≡ Ok u →
     AreIn (step_touches v.world) (interrupt_places v.world len)) →
-    (w : HostWorld) (u : World) (number len : ℕ) → w.exit ≡ None → current_trap w.machine ≡ NoTrap → world_step w.machine ≡ Err (Soft number len) →
+    (w : HostWorld) (u : World) (number len : ℕ) → w.exit ≡ None → current_trap w.machine ≡ NoTrap →
+    world_step w.machine ≡ Err (Soft number len) →
     world_interrupt w.machine number len ≡ Ok u → AreIn (touched_by_turn w) (interrupt_places w.machine len)
 unfolding world_step world_interrupt
 pushed_by_turn law w u number len none free is made =

@@ -1,5 +1,6 @@
 -- A trap byte is HLT, which raises a general protection exception: no client instruction runs there.
-use Rattle.std.proofs.Common.{arith, ◌≡◌, ◌≢◌, ◌∙◌, ◌≤◌, ◌<◌, ◌+◌, ◌%◌, ◌^◌, ℕ, Bool, true, false, not, List, [], ◌∷◌, slice_index, nat_le, nat_lt, if◌then◌else◌, inl, inr, refl, sym, ap, subst, None, Some, Result, Ok, Err}
+use Rattle.std.proofs.Common.{arith, ◌≡◌, ◌≢◌, ◌∙◌, ◌≤◌, ◌<◌, ◌+◌, ◌%◌, ◌^◌, ℕ, Bool, true, false, not, List, [], ◌∷◌, slice_index, nat_le}
+use Rattle.std.proofs.Common.{nat_lt, if◌then◌else◌, inl, inr, refl, sym, ap, subst, None, Some, Result, Ok, Err}
 use Rattle.std.proofs.lemmas.Bool.{cases_lt, lt-ltb}
 use Rattle.client_world.specs.declared.faults.Event.TheVariants.{Fault as fault}
 use Rattle.client_world.specs.declared.faults.Fault.{Fault}
@@ -11,7 +12,8 @@ use Rattle.client_world.specs.declared.registers.Mode.{Mode}
 use Rattle.client_world.specs.declared.registers.Mode.TheVariants.{Real, Protected}
 use Rattle.client_world.specs.declared.registers.Regs.{Regs}
 use Rattle.client_world.specs.declared.segments.SegReg.TheVariants.{Cs}
-use Rattle.client_world.specs.Access.{base_in_row, byte_of, fault_with, linear, may_touch, place_in, places_from, segment_base, unless_forbidden}
+use Rattle.client_world.specs.Access.{base_in_row, byte_of, fault_with, linear, may_touch, place_in, places_from, segment_base}
+use Rattle.client_world.specs.Access.{unless_forbidden}
 use Rattle.client_world.specs.Descriptor.{is_code, is_inside}
 use Rattle.client_world.specs.Selector.{Row, is_null, row_of_selector}
 use Rattle.client_world.specs.Soundness.{IsSound}
@@ -124,7 +126,8 @@ real_base_was : (fits : Bool) (f : Fault) (first base : ℕ) → (if fits then O
 real_base_was true f first base e = cc
 real_base_was false f first base e = absurd cc
 
-row_base_was : (sel off base : ℕ) (row : Row) (rows : List Row) → row_of_selector rows sel ≡ row → base_in_row Cs sel row off 1 false ≡ Ok base →
+row_base_was : (sel off base : ℕ) (row : Row) (rows : List Row) → row_of_selector rows sel ≡ row →
+    base_in_row Cs sel row off 1 false ≡ Ok base →
     first_byte Protected rows sel ≡ base
 row_base_was sel off base None rows is e = absurd cc
 row_base_was sel off base (Some row) rows is e =

@@ -1,5 +1,6 @@
 -- What a turn keeps: one record, and one lemma for each kind of turn.
-use Rattle.std.proofs.Common.{arith, ◌≡◌, ◌≢◌, ◌≤◌, ◌+◌, ◌*◌, ◌∙◌, sym, ap, subst, ℕ, Bool, true, false, List, [], ◌∷◌, ◌++◌, nat_eq, refl, Option, None, Some, Ok, Err}
+use Rattle.std.proofs.Common.{arith, ◌≡◌, ◌≢◌, ◌≤◌, ◌+◌, ◌*◌, ◌∙◌, sym, ap, subst, ℕ, Bool, true, false, List, [], ◌∷◌, ◌++◌, nat_eq, refl}
+use Rattle.std.proofs.Common.{Option, None, Some, Ok, Err}
 use Rattle.std.specs.Prelude.{IfOk, is_ok, if◌then◌else◌}
 use Rattle.std.specs.declared.result.Result.{Result}
 use Rattle.client_world.specs.declared.calls.Call.{Call}
@@ -57,13 +58,22 @@ use Rattle.translation.proofs.SoundCalls.{sound_begin, sound_reflect}
 use Rattle.translation.proofs.SoundReturns.{sound_end}
 use Rattle.translation.proofs.Stacked.{begin_pushes, end_pops, reflect_pushes}
 use Rattle.host_run.specs.declared.traps.Trap.{Trap}
-use Rattle.host_run.specs.declared.traps.Trap.TheVariants.{RealVector, Entry, ToProtected, RealState, CallReturn, Callback, ProtectedVector, ExceptionHandler, ToReal, ProtectedState, ExceptionReturn, CallbackReturn, NoTrap}
+use Rattle.host_run.specs.declared.traps.Trap.TheVariants.{RealVector, Entry, ToProtected, RealState, CallReturn, Callback, ProtectedVector}
+use Rattle.host_run.specs.declared.traps.Trap.TheVariants.{ExceptionHandler, ToReal, ProtectedState, ExceptionReturn, CallbackReturn}
+use Rattle.host_run.specs.declared.traps.Trap.TheVariants.{NoTrap}
 use Rattle.host_run.specs.Keys.{HasKeys}
 use Rattle.host_run.specs.Nested.{PushesRecord, PopsRecord, Stacked, kept, popped as left_one, pushed}
 use Rattle.host_run.specs.RealCalls.{InterruptSource, ReflectedFrom, StartsCall, StartsRealCall, from_client}
 use Rattle.host_run.specs.Families.{service}
 use Rattle.host_run.specs.Traps.{current_trap}
-use Rattle.host_run.specs.Turn.{Outcome, goes_on, ends, with_machine, with_trace_line, after_frame_pop, dos_call_state, after_dos_call, after_multiplex_call, ends_client, after_default_vector, entry_line, after_entry, after_entry_trap, after_switch_to_protected, is_exit_call, is_presence_call, asked_call, call_enter_line, call_leave_line, call_of_record, after_begin, after_call_return, after_reflected_interrupt, after_service, goes_on_with, after_presence_call, after_int31, after_protected_call, after_protected_pop, after_protected_vector, enter_line, after_protected_delivery, exception_number, leave_line, after_exception_return, after_callback, callback_slot, after_callback_return, after_exception_in_mode, after_interrupt, after_step, after_next_instruction, after_trap, work, with_turn_counted, after_outcome, turn}
+use Rattle.host_run.specs.Turn.{Outcome, goes_on, ends, with_machine, with_trace_line, after_frame_pop, dos_call_state, after_dos_call}
+use Rattle.host_run.specs.Turn.{after_multiplex_call, ends_client, after_default_vector, entry_line, after_entry, after_entry_trap}
+use Rattle.host_run.specs.Turn.{after_switch_to_protected, is_exit_call, is_presence_call, asked_call, call_enter_line, call_leave_line}
+use Rattle.host_run.specs.Turn.{call_of_record, after_begin, after_call_return, after_reflected_interrupt, after_service, goes_on_with}
+use Rattle.host_run.specs.Turn.{after_presence_call, after_int31, after_protected_call, after_protected_pop, after_protected_vector}
+use Rattle.host_run.specs.Turn.{enter_line, after_protected_delivery, exception_number, leave_line, after_exception_return, after_callback}
+use Rattle.host_run.specs.Turn.{callback_slot, after_callback_return, after_exception_in_mode, after_interrupt, after_step}
+use Rattle.host_run.specs.Turn.{after_next_instruction, after_trap, work, with_turn_counted, after_outcome, turn}
 use Rattle.host_run.proofs.AskedCalls.{plain_call}
 use Rattle.host_run.proofs.Frames.{still_popped}
 use Rattle.host_run.proofs.Growth.{work_grows}
@@ -131,15 +141,18 @@ stops_noted : (h : HostWorld) (line : TraceLine) (exit : Exit) → IsReached h �
 stops_noted h line exit s =
     stops h (with_trace_line line h) exit s s.keys (omega arith) (record { machine = refl; outside = λ _. (refl, refl) })
 
-told_keeps : (h : HostWorld) (line : TraceLine) (w : World) → IsReached h → IsNext h.machine w → TurnKeeps from_client h (goes_on_with h line w)
+told_keeps : (h : HostWorld) (line : TraceLine) (w : World) → IsReached h → IsNext h.machine w →
+    TurnKeeps from_client h (goes_on_with h line w)
 told_keeps h line w s next =
     goes h (record (with_trace_line line h) { machine = w }) next s.keys (omega arith)
 
-machine_keeps : (h : HostWorld) (r : Result World Exit) → IsReached h → IfOk r (IsNext h.machine) → TurnKeeps from_client h (with_machine h r)
+machine_keeps : (h : HostWorld) (r : Result World Exit) → IsReached h → IfOk r (IsNext h.machine) →
+    TurnKeeps from_client h (with_machine h r)
 machine_keeps h (Ok w) s next = goes_with h w s next
 machine_keeps h (Err exit) s next = stops_same h exit s
 
-if_keeps : (h : HostWorld) (b : Bool) (x y : Outcome) → TurnKeeps from_client h x → TurnKeeps from_client h y → TurnKeeps from_client h (if b then x else y)
+if_keeps : (h : HostWorld) (b : Bool) (x y : Outcome) → TurnKeeps from_client h x → TurnKeeps from_client h y →
+    TurnKeeps from_client h (if b then x else y)
 if_keeps h true x y p q = p
 if_keeps h false x y p q = q
 
@@ -170,7 +183,8 @@ next_popped w u next = answer_next Exit w (world_after_iret u) (λ t e. record {
   calls = ap (λ (x : World). x.calls) (kept_world_popped u t e) ∙ next.calls;
 })
 
-by_done : (h after : HostWorld) (r : CallResult) (d : DosDone) → r.done ≡ d → IsReached h → IsGood h.console r → left.Leaves (dos_call_state h) r →
+by_done : (h after : HostWorld) (r : CallResult) (d : DosDone) → r.done ≡ d → IsReached h → IsGood h.console r →
+    left.Leaves (dos_call_state h) r →
     after.machine ≡ h.machine → after.lines ≤ h.lines + 2 → is_ok (world_after_iret r.world) ≡ true →
     TurnKeeps from_client h (elim d [
       | done.Served ↦ after_frame_pop (record after { machine = r.world; keys = r.keys; console = r.console })
@@ -235,13 +249,15 @@ switch_by : (h : HostWorld) (r : Result World Exit) → IsReached h → ((w : Wo
 switch_by h (Ok w) s next = told_keeps h lines.ToProtected w s (next w refl)
 switch_by h (Err exit) s next = stops_same h exit s
 
-to_protected_keeps : (h : HostWorld) → IsReached h → TurnKeeps from_client h (after_switch_to_protected h (world_after_switch_to_protected h.machine))
+to_protected_keeps : (h : HostWorld) → IsReached h →
+    TurnKeeps from_client h (after_switch_to_protected h (world_after_switch_to_protected h.machine))
 to_protected_keeps h s = switch_by h (world_after_switch_to_protected h.machine) s (λ w e. record {
   sound = sound_to_protected h.machine w s.machine e;
   calls = ap (λ (x : World). x.calls) (to_protected_switches h.machine w e);
 })
 
-to_real_keeps : (h : HostWorld) → IsReached h → h.machine.mode ≡ Protected → TurnKeeps from_client h (goes_on_with h lines.ToReal (world_after_switch_to_real h.machine))
+to_real_keeps : (h : HostWorld) → IsReached h → h.machine.mode ≡ Protected →
+    TurnKeeps from_client h (goes_on_with h lines.ToReal (world_after_switch_to_real h.machine))
 to_real_keeps h s mode = told_keeps h lines.ToReal (world_after_switch_to_real h.machine) s (record {
   sound = sound_to_real h.machine s.machine mode;
   calls = ap (λ (x : World). x.calls) (to_real_switches h.machine);
@@ -264,7 +280,8 @@ next_regs w u r next es cs ss ds fs gs =
     record { sound = with_regs_sound u r next.sound es cs ss ds fs gs; calls = next.calls }
 
 -- a turn that goes on and changes the records, with one or two lines of the trace more
-goes_changed : {source : InterruptSource} (h after : HostWorld) → IsReached h → IsSound after.machine → Stacked source h after → after.keys ≡ h.keys →
+goes_changed : {source : InterruptSource} (h after : HostWorld) → IsReached h → IsSound after.machine → Stacked source h after →
+    after.keys ≡ h.keys →
     after.lines ≤ h.lines + 2 → TurnKeeps source h (goes_on after)
 goes_changed h after s sound stacked keys lines = record {
   sound = sound;
@@ -274,7 +291,8 @@ goes_changed h after s sound stacked keys lines = record {
   leaves = tt;
 }
 
-pub service_keeps : (h : HostWorld) (ax : ℕ) (r : Served) → IsReached h → IsNext h.machine r.world → TurnKeeps from_client h (after_service h ax r)
+pub service_keeps : (h : HostWorld) (ax : ℕ) (r : Served) → IsReached h → IsNext h.machine r.world →
+    TurnKeeps from_client h (after_service h ax r)
 service_keeps h ax r s next =
     told_keeps h (lines.Int31 ax r.carry) (record r.world { regs = with_carry (is_set r.carry) r.world.regs }) s
     (next_regs h.machine r.world (with_carry (is_set r.carry) r.world.regs) next refl refl refl refl refl refl)
@@ -287,7 +305,8 @@ pub record IsServed (source : InterruptSource) (h : HostWorld) (w : World) : Typ
   pub vif : w.vif ≡ h.machine.vif
   pub from : ReflectedFrom source h.machine w
 
-is_popped : (h : HostWorld) (w : World) → IsReached h → h.machine.mode ≡ Protected → world_after_iret h.machine ≡ Ok w → IsServed from_client h w
+is_popped : (h : HostWorld) (w : World) → IsReached h → h.machine.mode ≡ Protected → world_after_iret h.machine ≡ Ok w →
+    IsServed from_client h w
 is_popped h w s mode pops =
     let same = kept_world_popped h.machine w pops in
     record {
@@ -303,7 +322,8 @@ record IsAsked (h : HostWorld) (w : World) (call : Call) : Type 0 where
   served : IsServed from_client h w
   asked : asked_call (low_half w.regs.eax) w ≡ Some call
 
-started : (w v : HostWorld) (call : Call) (r : Record) → is_reflection call ≡ false → StartsCall w call r v → StartsRealCall from_client w call r v
+started : (w v : HostWorld) (call : Call) (r : Record) → is_reflection call ≡ false → StartsCall w call r v →
+    StartsRealCall from_client w call r v
 started w v (Int n) r plain starts = starts
 started w v Far r plain starts = starts
 started w v Iret r plain starts = starts
@@ -316,7 +336,8 @@ same_served : (s : Served) → s.carry ≡ Clear → s ≡ served_with s.world C
 same_served s e = ap (served_with s.world) e
 
 starts_call : (h : HostWorld) (w : World) (call : Call) → IsAsked h w call → (begin_call w call).carry ≡ Clear →
-    Stacked from_client h (record (with_trace_line (call_enter_line w call (begin_call w call).world) (with_trace_line (lines.Int31 (low_half w.regs.eax) Clear) h))
+    Stacked from_client h (record
+    (with_trace_line (call_enter_line w call (begin_call w call).world) (with_trace_line (lines.Int31 (low_half w.regs.eax) Clear) h))
     { machine = (begin_call w call).world })
 starts_call h w call a clear =
     let r : Record = Sim call w.regs w.vif (es_di w) in
@@ -335,7 +356,8 @@ starts_call h w call a clear =
 
 begun_by : (h : HostWorld) (w : World) (call : Call) (c : Carry) → (begin_call w call).carry ≡ c → IsReached h → IsAsked h w call →
     TurnKeeps from_client h (if is_set c then after_service h (low_half w.regs.eax) (begin_call w call)
-    else goes_on_with (with_trace_line (lines.Int31 (low_half w.regs.eax) Clear) h) (call_enter_line w call (begin_call w call).world) (begin_call w call).world)
+    else goes_on_with (with_trace_line (lines.Int31 (low_half w.regs.eax) Clear) h) (call_enter_line w call (begin_call w call).world)
+    (begin_call w call).world)
 begun_by h w call Set e s a =
     let next : IsNext h.machine (begin_call w call).world = record {
       sound = sound_begin w call a.served.next.sound a.served.mode;
@@ -343,8 +365,10 @@ begun_by h w call Set e s a =
     } in
     service_keeps h (low_half w.regs.eax) (begin_call w call) s next
 begun_by h w call Clear e s a =
-    goes_changed h (record (with_trace_line (call_enter_line w call (begin_call w call).world) (with_trace_line (lines.Int31 (low_half w.regs.eax) Clear) h))
-    { machine = (begin_call w call).world }) s (sound_begin w call a.served.next.sound a.served.mode) (starts_call h w call a e) refl (omega arith)
+    goes_changed h (record
+    (with_trace_line (call_enter_line w call (begin_call w call).world) (with_trace_line (lines.Int31 (low_half w.regs.eax) Clear) h))
+    { machine = (begin_call w call).world }) s (sound_begin w call a.served.next.sound a.served.mode) (starts_call h w call a e) refl
+    (omega arith)
 
 int31_by : (h : HostWorld) (w : World) (o : Option Call) → asked_call (low_half w.regs.eax) w ≡ o → IsReached h → IsServed from_client h w →
     TurnKeeps from_client h (elim o [
@@ -372,12 +396,14 @@ pub reflection_by : (source : InterruptSource) (h : HostWorld) (n : ℕ) (w : Wo
     IsServed source h w → TurnKeeps source h (after_reflected_interrupt h n w r)
 reflection_by source h n w (Ok v) is s c =
     let r : Record = Sim (Reflect n) w.regs w.vif null_pointer in
-    goes_changed h (record (with_trace_line (call_enter_line w (Reflect n) v) h) { machine = v }) s (sound_reflect w v n c.next.sound c.mode is)
+    goes_changed h (record (with_trace_line (call_enter_line w (Reflect n) v) h) { machine = v }) s
+    (sound_reflect w v n c.next.sound c.mode is)
     (pushed r (reflect_pushes w v n is ∙ ap (λ (calls : List Record). calls ++ r ∷ []) c.next.calls)
     (record { client = w; from = c.from; mode = c.was; vif = c.vif; starts = is; keeps = refl; lines = (refl, refl) })) refl (omega arith)
 reflection_by source h n w (Err exit) is s c = stops_same h exit s
 
-protected_keeps : (h : HostWorld) (n : ℕ) (r : Result World Exit) → world_after_iret h.machine ≡ r → IsReached h → h.machine.mode ≡ Protected →
+protected_keeps : (h : HostWorld) (n : ℕ) (r : Result World Exit) → world_after_iret h.machine ≡ r → IsReached h →
+    h.machine.mode ≡ Protected →
     TurnKeeps from_client h (after_protected_pop h n r)
 unfolding after_protected_call
 protected_keeps h n (Ok w) is s mode =
@@ -388,7 +414,8 @@ protected_keeps h n (Ok w) is s mode =
     (if_keeps h (nat_eq n 0x31) _ _ (int31_keeps h w s c) (reflection_by from_client h n w (reflect w n) refl s c)))
 protected_keeps h n (Err exit) is s mode = stops_same h exit s
 
-protected_vector_keeps : (h : HostWorld) (n : ℕ) → IsReached h → h.machine.mode ≡ Protected → TurnKeeps from_client h (after_protected_vector h n)
+protected_vector_keeps : (h : HostWorld) (n : ℕ) → IsReached h → h.machine.mode ≡ Protected →
+    TurnKeeps from_client h (after_protected_vector h n)
 unfolding after_protected_vector
 protected_vector_keeps h n s protected = protected_keeps h n (world_after_iret h.machine) refl s protected
 
@@ -400,10 +427,12 @@ returned_line h w call s sound is p same =
     rw same (goes_changed h (record (with_trace_line (call_leave_line h.machine p.call w) h) { machine = w }) s sound
     (left_one (Sim p.call p.saved p.on p.at) p.popped (record { returns = is; lines = (refl, refl) })) refl (omega arith))
 
-call_return_by : (h : HostWorld) (r : Result World Exit) → end_call h.machine ≡ r → IsReached h → TurnKeeps from_client h (after_call_return h r)
+call_return_by : (h : HostWorld) (r : Result World Exit) → end_call h.machine ≡ r → IsReached h →
+    TurnKeeps from_client h (after_call_return h r)
 call_return_by h (Ok w) is s =
     let p = end_pops h.machine w is in
-    returned_line h w (call_of_record (top h.machine)) s (sound_end h.machine w s.machine is) is p (ap call_of_record (innermost_of h.machine w.calls (Sim p.call p.saved p.on p.at) p.popped))
+    returned_line h w (call_of_record (top h.machine)) s (sound_end h.machine w s.machine is) is p
+    (ap call_of_record (innermost_of h.machine w.calls (Sim p.call p.saved p.on p.at) p.popped))
 call_return_by h (Err exit) is s = stops_same h exit s
 
 -- ---- exceptions of protected mode
@@ -411,7 +440,8 @@ call_return_by h (Err exit) is s = stops_same h exit s
 delivery_by : (h : HostWorld) (f : Fault) (r : Result World Exit) → world_protected_delivery h.machine f ≡ r → IsReached h →
     h.machine.mode ≡ Protected → TurnKeeps from_client h (after_protected_delivery h f.number r)
 delivery_by h f (Ok w) is s mode =
-    goes_changed h (record (with_trace_line (enter_line h.machine (whats.Exc f.number)) h) { machine = w }) s (faults.sound_world_delivery h.machine w f s.machine mode is)
+    goes_changed h (record (with_trace_line (enter_line h.machine (whats.Exc f.number)) h) { machine = w }) s
+    (faults.sound_world_delivery h.machine w f s.machine mode is)
     (pushed (Exc f.number f.code) (faults.pushed_record h.machine w f is) (mode, is, (refl, refl))) refl (omega arith)
 delivery_by h f (Err exit) is s mode = stops_same h exit s
 
@@ -425,7 +455,8 @@ return_by : (h : HostWorld) (r : Result World Exit) → world_exception_return h
     TurnKeeps from_client h (after_exception_return h r)
 return_by h (Ok w) is s =
     let p = faults.popped_record h.machine w is in
-    popped_line h w (exception_number (top h.machine)) s (faults.sound_world_return h.machine w s.machine is) is p (ap exception_number p.top_is)
+    popped_line h w (exception_number (top h.machine)) s (faults.sound_world_return h.machine w s.machine is) is p
+    (ap exception_number p.top_is)
 return_by h (Err exit) is s = stops_same h exit s
 
 -- ---- callbacks
@@ -434,7 +465,8 @@ callback_by : (h : HostWorld) (slot : ℕ) (r : Result World Exit) → enter_cal
     TurnKeeps from_client h (after_callback h slot r)
 callback_by h slot (Ok w) is s =
     let p = enter_pushes h.machine w slot is in
-    goes_changed h (record (with_trace_line (enter_line h.machine (whats.Back slot)) h) { machine = w }) s (sound_enter h.machine w slot s.machine is)
+    goes_changed h (record (with_trace_line (enter_line h.machine (whats.Back slot)) h) { machine = w }) s
+    (sound_enter h.machine w slot s.machine is)
     (pushed (Back slot p.at) p.pushed (is, (refl, refl))) refl (omega arith)
 callback_by h slot (Err exit) is s = stops_same h exit s
 
@@ -444,7 +476,8 @@ callback_line h w slot s sound is p same =
     rw same (goes_changed h (record (with_trace_line (leave_line w (whats.Back p.slot)) h) { machine = w }) s sound
     (left_one (Back p.slot p.at) p.popped (is, (refl, refl))) refl (omega arith))
 
-callback_return_by : (h : HostWorld) (r : Result World Exit) → leave_callback h.machine ≡ r → IsReached h → TurnKeeps from_client h (after_callback_return h r)
+callback_return_by : (h : HostWorld) (r : Result World Exit) → leave_callback h.machine ≡ r → IsReached h →
+    TurnKeeps from_client h (after_callback_return h r)
 callback_return_by h (Ok w) is s =
     let p = leave_pops h.machine w is in
     callback_line h w (callback_slot (top h.machine)) s (sound_leave h.machine w s.machine is) is p
@@ -453,7 +486,8 @@ callback_return_by h (Err exit) is s = stops_same h exit s
 
 -- ---- client instructions
 
-pub delivered_keeps : (m : Mode) (h : HostWorld) (f : Fault) → IsReached h → h.machine.mode ≡ m → TurnKeeps from_client h (after_exception_in_mode m h f)
+pub delivered_keeps : (m : Mode) (h : HostWorld) (f : Fault) → IsReached h → h.machine.mode ≡ m →
+    TurnKeeps from_client h (after_exception_in_mode m h f)
 delivered_keeps Real h f s mode =
     let r = world_delivery h.machine f in
     machine_keeps h r s (answer_next Exit h.machine r (λ u e. record {
@@ -463,7 +497,8 @@ delivered_keeps Real h f s mode =
 delivered_keeps Protected h f s mode =
     delivery_by h f (world_protected_delivery h.machine f) refl s mode
 
-pub interrupted_keeps : (h : HostWorld) (r : Result World Fault) → IsReached h → IfOk r (IsNext h.machine) → TurnKeeps from_client h (after_interrupt h r)
+pub interrupted_keeps : (h : HostWorld) (r : Result World Fault) → IsReached h → IfOk r (IsNext h.machine) →
+    TurnKeeps from_client h (after_interrupt h r)
 interrupted_keeps h (Ok w) s next = goes_with h w s next
 interrupted_keeps h (Err f) s next = delivered_keeps h.machine.mode h f s refl
 
@@ -517,7 +552,8 @@ pub record KeepsTurn (source : InterruptSource) (w after : HostWorld) : Type 0 w
 pub counted_reached : (w : HostWorld) → IsReached w → IsReached (with_turn_counted w)
 counted_reached w s = record { machine = s.machine; keys = s.keys }
 
-leaves_settled : (w : HostWorld) (host : HostWorld) (e : Option Exit) → LeavesBy (with_turn_counted w) host e → LeavesBy w (record host { exit = e }) e
+leaves_settled : (w : HostWorld) (host : HostWorld) (e : Option Exit) → LeavesBy (with_turn_counted w) host e →
+    LeavesBy w (record host { exit = e }) e
 leaves_settled w host None l = tt
 leaves_settled w host (Some exit) l = record { machine = l.machine; outside = l.outside }
 
@@ -525,7 +561,16 @@ leaves_settled w host (Some exit) l = record { machine = l.machine; outside = l.
 call_settled : (w after : HostWorld) (e : Option Exit) (call : Call) (r : Record) → StartsCall (with_turn_counted w) call r after →
     StartsCall w call r (record after { exit = e })
 call_settled w after e call r h =
-    record { popped = h.popped; pops = h.pops; mode = h.mode; vif = h.vif; asked = h.asked; starts = h.starts; keeps = h.keeps; lines = h.lines }
+    record {
+      popped = h.popped;
+      pops = h.pops;
+      mode = h.mode;
+      vif = h.vif;
+      asked = h.asked;
+      starts = h.starts;
+      keeps = h.keeps;
+      lines = h.lines;
+    }
 
 starts_settled : (source : InterruptSource) (w after : HostWorld) (e : Option Exit) (call : Call) (r : Record) →
     StartsRealCall source (with_turn_counted w) call r after → StartsRealCall source w call r (record after { exit = e })
@@ -541,7 +586,8 @@ pushes_settled source w after e (Sim call saved vif at) h = starts_settled sourc
 pushes_settled source w after e (Back slot at) h = h
 pushes_settled source w after e (Exc number code) h = h
 
-pops_settled : (w after : HostWorld) (e : Option Exit) (r : Record) → PopsRecord (with_turn_counted w) r after → PopsRecord w r (record after { exit = e })
+pops_settled : (w after : HostWorld) (e : Option Exit) (r : Record) → PopsRecord (with_turn_counted w) r after →
+    PopsRecord w r (record after { exit = e })
 pops_settled w after e (Sim call saved vif at) h = record { returns = h.returns; lines = h.lines }
 pops_settled w after e (Back slot at) h = h
 pops_settled w after e (Exc number code) h = h

@@ -2,7 +2,8 @@
 -- exception's error code in the bits from 12 on. Source: own.
 use Rattle.std.specs.Prelude.{ℕ, ◌/◌, ◌%◌, nat_eq, if◌then◌else◌}
 use Rattle.client_world.specs.declared.outcome.Exit.{Exit}
-use Rattle.client_world.specs.declared.outcome.Exit.TheVariants.{Exited, Fault, Bound, NoKeys, ConsoleFull, Deep, Stray, LostStructure, BadFrame, BadSwitch}
+use Rattle.client_world.specs.declared.outcome.Exit.TheVariants.{Exited, Fault, Bound, NoKeys, ConsoleFull, Deep, Stray, LostStructure}
+use Rattle.client_world.specs.declared.outcome.Exit.TheVariants.{BadFrame, BadSwitch}
 
 abbrev number_in : ℕ → ℕ
 number_in word = word / 0x10 % 0x100

@@ -22,8 +22,8 @@ HasDelivered w f v = read_result v Ss v.regs.esp (exception_frame_size w) ≡ Ok
 abbrev pub item_left : World → ℕ → Result ℕ Event
 item_left w place = value_of w (stack_item w (frame_bits w) place)
 
--- from w an exception returned, which led to v: EIP, CS, the flags, ESP, SS and the virtual interrupt flag are those of the frame as the handler
--- left it, and all other registers those of w
+-- from w an exception returned, which led to v: EIP, CS, the flags, ESP, SS and the virtual interrupt flag are those of the frame as the
+-- handler left it, and all other registers those of w
 pub record HasResumed (w v : World) : Type 0 where
   pub ip : ℕ
   pub cs : ℕ

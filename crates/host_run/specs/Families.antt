@@ -1,4 +1,5 @@
--- The functions of INT 31h: which numbers have a service, and in which family. Source: DPMI 0.9; that all others are refused with a number is own.
+-- The functions of INT 31h: which numbers have a service, and in which family. Source: DPMI 0.9; that all others are refused with a number
+-- is own.
 use Rattle.std.specs.Prelude.{ℕ, Bool, ◌&&◌, ◌||◌, nat_eq, nat_le, if◌then◌else◌, None, Some}
 use Rattle.std.specs.declared.option.Option.{Option}
 use Rattle.client_world.specs.Services.{Served}

@@ -18,7 +18,8 @@ use Rattle.fault_service.specs.ByMode.{delivery}
 use Rattle.fault_service.specs.Memory.{frame_places}
 use Rattle.fault_service.specs.StepMemory.{interrupt_places, written_places}
 use Rattle.host_run.specs.declared.traps.Trap.{Trap}
-use Rattle.host_run.specs.declared.traps.Trap.TheVariants.{RealVector, Entry, CallReturn, Callback, ProtectedVector, ExceptionReturn, CallbackReturn, NoTrap}
+use Rattle.host_run.specs.declared.traps.Trap.TheVariants.{RealVector, Entry, CallReturn, Callback, ProtectedVector, ExceptionReturn}
+use Rattle.host_run.specs.declared.traps.Trap.TheVariants.{CallbackReturn, NoTrap}
 use Rattle.host_run.specs.Traps.{current_trap}
 
 -- the bytes of some places, and the host's frames keep theirs; or besides the bytes of the row of a record; or nothing is said

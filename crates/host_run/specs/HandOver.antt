@@ -1,7 +1,8 @@
--- What is handed over in a run by two turns of which the second takes away the record that the first added. A call of real mode: the turn that
--- starts it gives its procedure the client's registers, structure and words, and the turn that ends it gives the client those of the
--- procedure. A callback: its procedure finds the real caller's registers in its structure, and real mode goes on with those of the structure
--- that the procedure names at its return. An exception: the handler finds its frame, and the client goes on as the frame then says.
+-- What is handed over in a run by two turns of which the second takes away the record that the first added. A call of real mode: the turn
+-- that starts it gives its procedure the client's registers, structure and words, and the turn that ends it gives the client those of the
+-- procedure. A callback: its procedure finds the real caller's registers in its structure, and real mode goes on with those of the
+-- structure that the procedure names at its return. An exception: the handler finds its frame, and the client goes on as the frame then
+-- says.
 -- Source: DPMI 0.9, INT 31h functions 0300h to 0303h, "Interrupts" and "Exceptions".
 use Rattle.std.specs.Prelude.{◌≡◌, ℕ, [], ◌∷◌, Ok}
 use Rattle.client_world.specs.declared.calls.Call.{Call}
@@ -24,9 +25,9 @@ use Rattle.host_run.specs.Turn.{call_enter_line, call_leave_line, enter_line, le
 use Rattle.translation.specs.HandOver.{HasBegun, HasEnded, HasReflected}
 use Rattle.translation.specs.Structure.{structure_bytes}
 
--- the turn from w to v starts a call that the client asks for, and the turn from x to y ends it. `popped` is the machine with the frame of the
--- client's INT 31h popped: the procedure starts with the registers of its structure and with its words, and at the end the client has its
--- registers and virtual interrupt flag of then, and its structure of then the results
+-- the turn from w to v starts a call that the client asks for, and the turn from x to y ends it. `popped` is the machine with the frame of
+-- the client's INT 31h popped: the procedure starts with the registers of its structure and with its words, and at the end the client has
+-- its registers and virtual interrupt flag of then, and its structure of then the results
 pub record HandsOverCall (w v x y : HostWorld) (call : Call) : Type 0 where
   pub popped : World
   pub pops : world_after_iret w.machine ≡ Ok popped
@@ -37,8 +38,8 @@ pub record HandsOverCall (w v x y : HostWorld) (call : Call) : Type 0 where
   pub enter : HasMoreLines w (Int31 (low_half popped.regs.eax) Clear ∷ call_enter_line popped call v.machine ∷ []) v
   pub leave : HasMoreLines x (call_leave_line x.machine call y.machine ∷ []) y
 
--- the same of an interrupt that is reflected: the general registers and the flags pass both ways. `client` is the machine that it is reflected
--- from: with the interrupt's frame popped, where it pushed one
+-- the same of an interrupt that is reflected: the general registers and the flags pass both ways. `client` is the machine that it is
+-- reflected from: with the interrupt's frame popped, where it pushed one
 pub record HandsOverReflection (source : InterruptSource) (w v x y : HostWorld) (n : ℕ) : Type 0 where
   pub client : World
   pub from : ReflectedFrom source w.machine client
@@ -62,8 +63,8 @@ pub record HandsOverException (w v x y : HostWorld) (number code : ℕ) : Type 0
   pub enter : HasMoreLines w (enter_line w.machine (whats.Exc number) ∷ []) v
   pub leave : HasMoreLines x (leave_line y.machine (whats.Exc number) ∷ []) y
 
--- the turn from w to v starts the callback of a slot, whose structure is at a pointer, and the turn from x to y ends it: the procedure finds
--- the real caller's registers in its structure, and real mode has at the end those of the structure at the ES:(E)DI of x
+-- the turn from w to v starts the callback of a slot, whose structure is at a pointer, and the turn from x to y ends it: the procedure
+-- finds the real caller's registers in its structure, and real mode has at the end those of the structure at the ES:(E)DI of x
 pub record HandsOverCallback (w v x y : HostWorld) (slot : ℕ) (at : FarPtr) : Type 0 where
   pub entered : HasEntered w.machine v.machine slot
   pub place : entered.at ≡ at

@@ -4,6 +4,7 @@ pub mod Families
 pub mod Footprint
 pub mod HandOver
 pub mod Keys
+pub mod MakesTurn
 pub mod Nested
 pub mod OtherTurns
 pub mod RealCalls

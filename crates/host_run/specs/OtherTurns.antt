@@ -1,5 +1,5 @@
--- Turns that are made in place of the host's own: INT 31h that is served from outside, an exception and an interrupt that come from outside. Each
--- is counted as a turn. Source: own.
+-- Turns that are made in place of the host's own: INT 31h that is served from outside, an exception and an interrupt that come from
+-- outside. Each is counted as a turn. Source: own.
 use Rattle.std.specs.Prelude.{◌≡◌, ℕ, ◌+◌, Bool, false, ◌&&◌, is_ok, nat_eq, if◌then◌else◌, None, Some, Ok, Err}
 use Rattle.std.specs.declared.option.Option.{Option}
 use Rattle.std.specs.declared.result.Result.{Result}
@@ -19,7 +19,8 @@ use Rattle.host_memory.specs.Blank.{host_pointer}
 use Rattle.host_run.specs.declared.traps.Trap.{Trap}
 use Rattle.host_run.specs.declared.traps.Trap.TheVariants.{ProtectedVector}
 use Rattle.host_run.specs.Traps.{current_trap}
-use Rattle.host_run.specs.Turn.{Outcome, after_interrupt, after_reflected_interrupt, after_service, after_exception, ends, after_outcome, with_turn_counted}
+use Rattle.host_run.specs.Turn.{Outcome, after_interrupt, after_reflected_interrupt, after_service, after_exception, ends, after_outcome}
+use Rattle.host_run.specs.Turn.{with_turn_counted}
 use Rattle.translation.specs.SimulatedCall.{reflect}
 
 -- the second host is one turn later, with the same keystrokes and the same console
@@ -73,7 +74,8 @@ abbrev pub with_interrupts_off : Result World Fault → Result World Fault
 with_interrupts_off (Ok w) = Ok (record w { vif = false })
 with_interrupts_off (Err f) = Err f
 
--- in real mode and to the client's own handler it pushes the address of the present instruction; else it is reflected, with the present registers
+-- in real mode and to the client's own handler it pushes the address of the present instruction; else it is reflected, with the present
+-- registers
 abbrev pub after_interrupt_in_mode : Mode → HostWorld → ℕ → Outcome
 after_interrupt_in_mode Real h n = after_interrupt h (world_interrupt h.machine n 0)
 after_interrupt_in_mode Protected h n =

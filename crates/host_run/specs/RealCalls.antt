@@ -1,5 +1,5 @@
--- How a turn starts a call of real mode, and how a call returns: the world after it, the record that it keeps meanwhile, and its lines of the
--- trace. Source: own.
+-- How a turn starts a call of real mode, and how a call returns: the world after it, the record that it keeps meanwhile, and its lines of
+-- the trace. Source: own.
 use Rattle.std.specs.Prelude.{◌≡◌, ◌⊎◌, List, [], ◌∷◌, ℕ, Some, Ok}
 use Rattle.client_world.specs.declared.calls.Call.{Call}
 use Rattle.client_world.specs.declared.calls.Call.TheVariants.{Int, Far, Iret, Reflect}
@@ -22,8 +22,8 @@ abbrev pub HasMoreLines : HostWorld → List TraceLine → HostWorld → Type 0
 HasMoreLines w [] v = (v.kept ≡ w.kept) × (v.lines ≡ w.lines)
 HasMoreLines w (line ∷ lines) v = HasMoreLines (with_trace_line line w) lines v
 
--- the client asks for a call by a function of INT 31h. `popped` is the machine after the frame of that interrupt is popped, which in protected
--- mode leaves the virtual interrupt flag
+-- the client asks for a call by a function of INT 31h. `popped` is the machine after the frame of that interrupt is popped, which in
+-- protected mode leaves the virtual interrupt flag
 pub record StartsCall (w : HostWorld) (call : Call) (r : Record) (v : HostWorld) : Type 0 where
   pub popped : World
   pub pops : world_after_iret w.machine ≡ Ok popped

@@ -36,7 +36,9 @@ use Rattle.fault_service.specs.Return.{exit_of_record}
 use Rattle.fault_service.specs.Worlds.{world_exception_return, world_protected_delivery}
 use Rattle.translation.specs.SimulatedCall.{begin_call, end_call, reflect}
 use Rattle.host_run.specs.declared.traps.Trap.{Trap}
-use Rattle.host_run.specs.declared.traps.Trap.TheVariants.{RealVector, Entry, ToProtected, RealState, CallReturn, Callback, ProtectedVector, ExceptionHandler, ToReal, ProtectedState, ExceptionReturn, CallbackReturn, NoTrap}
+use Rattle.host_run.specs.declared.traps.Trap.TheVariants.{RealVector, Entry, ToProtected, RealState, CallReturn, Callback, ProtectedVector}
+use Rattle.host_run.specs.declared.traps.Trap.TheVariants.{ExceptionHandler, ToReal, ProtectedState, ExceptionReturn, CallbackReturn}
+use Rattle.host_run.specs.declared.traps.Trap.TheVariants.{NoTrap}
 use Rattle.host_run.specs.Families.{service}
 use Rattle.host_run.specs.Traps.{current_trap}
 
@@ -89,7 +91,8 @@ after_dos_call h = after_call (with_trace_line (lines.Int21 (high_byte h.machine
 
 -- INT 2Fh
 abbrev pub after_multiplex_call : HostWorld → Outcome
-after_multiplex_call h = after_frame_pop (record (with_trace_line (lines.Int2f (low_half h.machine.regs.eax)) h) { machine = multiplex_call h.machine })
+after_multiplex_call h =
+    after_frame_pop (record (with_trace_line (lines.Int2f (low_half h.machine.regs.eax)) h) { machine = multiplex_call h.machine })
 
 -- the exceptions whose default vectors end the client
 abbrev pub ends_client : ℕ → Bool
@@ -151,7 +154,8 @@ after_call_return h (Err exit) = ends h exit
 
 -- ---- the default vectors of protected mode
 
--- the call of real mode that a function of INT 31h asks for: 0300h the interrupt BL, 0301h a procedure with a far return, 0302h one with IRET
+-- the call of real mode that a function of INT 31h asks for: 0300h the interrupt BL, 0301h a procedure with a far return, 0302h one with
+-- IRET
 abbrev pub asked_call : ℕ → World → Option Call
 asked_call ax w =
     if nat_eq ax 0x0300 then Some (Int (low_byte w.regs.ebx)) else
@@ -173,7 +177,8 @@ abbrev pub after_service : HostWorld → ℕ → Served → Outcome
 after_service h ax s =
     goes_on_with h (lines.Int31 ax s.carry) (record s.world { regs = with_carry (is_set s.carry) s.world.regs })
 
--- a call that the client asks for, of a host; w is the machine after its frame is popped. It starts, after a line of its own; or the carry is set
+-- a call that the client asks for, of a host; w is the machine after its frame is popped. It starts, after a line of its own; or the carry
+-- is set
 abbrev pub after_begin : HostWorld → ℕ → World → Call → Served → Outcome
 after_begin h ax w call s =
     if is_set s.carry then after_service h ax s

@@ -19,8 +19,8 @@ machine_view h = record { world = h.world.machine; bytes = h.bytes }
 abbrev pub HasRoom : HostWorld → Type 0
 HasRoom h = h.lines + 2 ≤ 2 * h.steps
 
--- the result of some work in a turn, and the host after it, are what was expected: the run goes on; or it ends, and the memory is as it was.
--- It counts no turn and sets no exit
+-- the result of some work in a turn, and the host after it, are what was expected: the run goes on; or it ends, and the memory is as it
+-- was. It counts no turn and sets no exit
 abbrev pub ComesTo : HostView → HostView → Result (Unit {0}) Exit → Outcome → Type 0
 ComesTo old new result expected =
     (new.world.steps ≡ old.world.steps)

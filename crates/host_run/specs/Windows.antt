@@ -1,5 +1,6 @@
 -- A window of the client's code, in which turns find one instruction after another. Source: own.
-use Rattle.std.specs.Prelude.{◌≡◌, ◌⊎◌, ℕ, ◌+◌, ◌<◌, ◌≤◌}
+use Rattle.std.specs.Prelude.{◌≡◌, ◌⊎◌, ℕ, ◌+◌, ◌<◌, ◌≤◌, None, Some}
+use Rattle.std.specs.declared.option.Option.{Option}
 use Rattle.client_world.specs.declared.memory_map.TheConstants.{DOS_SIZE, ROM_START}
 use Rattle.client_world.specs.World.{World}
 use Rattle.guest_space.specs.declared.windows.CodeWindow.{CodeWindow}
@@ -21,3 +22,8 @@ HasWindow v w = 0 < w.starts → w.cs ≡ v.world.regs.cs → IsTrapFree v w
 -- CS:EIP is that start of it
 abbrev pub IsStart : World → CodeWindow → ℕ → Type 0
 IsStart machine w from = (w.first + from ≡ machine.regs.eip) × (from < w.starts)
+
+-- CS:EIP is that start of a window without traps; or none was found, and the window has no starts
+abbrev pub IsFound : MachineView → CodeWindow → Option ℕ → Type 0
+IsFound v w (Some from) = IsTrapFree v w × IsStart v.world w from
+IsFound v w None = w.starts ≡ 0

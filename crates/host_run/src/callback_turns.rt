@@ -11,7 +11,7 @@ use crate::trace::{enter_line, leave_line};
 use callbacks::{enter, leave};
 use client_world::{Exit, Record, What};
 use guest_space::Machine;
-use mode_stack::top;
+use mode_stack::{depth, top};
 
 // The slot of the innermost record's callback.
 fn callback_slot(m: &Machine) -> u8
@@ -32,14 +32,10 @@ impl Host {
         ensures { ComesTo self.old self.new result
             (after_callback self.old.world slot (enter_callback self.old.world.machine slot)) }
     {
-        let line = enter_line(&self.machine, What::Back(slot));
-        match enter(&mut self.machine, slot) {
-            Ok(()) => {
-                self.note(line);
-                Ok(())
-            }
-            Err(exit) => Err(exit),
-        }
+        let line = enter_line(depth(&self.machine), What::Back(slot), &self.machine);
+        enter(&mut self.machine, slot)?;
+        self.note(line);
+        Ok(())
     }
 
     // The return from a callback.

@@ -1,9 +1,7 @@
 // Calls of real mode: those that the client asks for, interrupts that are reflected, and the return from both.
 ghost use Rattle.std.specs.Prelude.{◌≡◌, ◌<◌, false, Ok, Err, IfSome, MatchResult};
-ghost use Rattle.client_world.specs.declared.calls.What.TheVariants.{Call as a_call};
 ghost use Rattle.client_world.specs.declared.limits.TheConstants.{GREATEST_DEPTH};
 ghost use Rattle.client_world.specs.declared.registers.Mode.TheVariants.{Protected as protected, Real as real};
-ghost use Rattle.client_world.specs.declared.trace.TraceLine.TheVariants.{Enter, Leave};
 ghost use Rattle.client_world.specs.World.{depth};
 ghost use Rattle.mode_stack.specs.Stack.{top};
 ghost use Rattle.host_run.specs.Turn.{after_begin, after_call_return, after_reflected_interrupt, asked_call, call_of_record, goes_on};
@@ -11,6 +9,7 @@ ghost use Rattle.host_run.specs.View.{ComesTo, HasRoom};
 ghost use Rattle.translation.specs.SimulatedCall.{begin_call, end_call, is_reflection, reflect};
 
 use crate::host::Host;
+use crate::trace::enter_line;
 use client_world::{Begun, Call, Carry, Exit, Record, TraceLine, What};
 use cpu_values::part8;
 use guest_space::Machine;
@@ -30,18 +29,6 @@ pub(crate) fn asked_call(m: &Machine, ax: u16) -> Option<Call>
     }
 }
 
-// The line of the trace of a call that starts, with the depth before it.
-fn enter_line(depth: u8, call: Call, m: &Machine) -> TraceLine
-    ensures { result ≡ Enter depth (a_call call) m.now.world.regs m.now.world.vif }
-{
-    TraceLine::Enter {
-        depth,
-        what: What::Call(call),
-        regs: m.regs(),
-        vif: m.vif(),
-    }
-}
-
 // The call of the innermost record.
 fn innermost_call(m: &Machine) -> Call
     ensures { result ≡ call_of_record (top m.now.world) }
@@ -58,7 +45,8 @@ impl Host {
         requires mode { self.old.world.machine.mode ≡ protected }
         requires call { is_reflection call ≡ false }
         requires room { HasRoom self.old.world }
-        ensures answer { after_begin self.old.world ax self.old.world.machine call (begin_call self.old.world.machine call) ≡ goes_on self.new.world }
+        ensures answer { after_begin self.old.world ax self.old.world.machine call (begin_call self.old.world.machine call)
+            ≡ goes_on self.new.world }
         ensures steps { self.new.world.steps ≡ self.old.world.steps }
     {
         let depth = depth(&self.machine);
@@ -68,7 +56,7 @@ impl Host {
                     ax,
                     carry: Carry::Clear,
                 });
-                let line = enter_line(depth, call, &self.machine);
+                let line = enter_line(depth, What::Call(call), &self.machine);
                 self.note(line);
             }
             Begun::Refused => self.finish_service(ax, Carry::Set),
@@ -81,13 +69,14 @@ impl Host {
         requires mode { self.old.world.machine.mode ≡ protected }
         requires shallow { depth self.old.world.machine < GREATEST_DEPTH }
         requires room { HasRoom self.old.world }
-        ensures answer { after_reflected_interrupt self.old.world n self.old.world.machine (reflect self.old.world.machine n) ≡ goes_on self.new.world }
+        ensures answer { after_reflected_interrupt self.old.world n self.old.world.machine (reflect self.old.world.machine n)
+            ≡ goes_on self.new.world }
         ensures steps { self.new.world.steps ≡ self.old.world.steps }
     {
         let depth = depth(&self.machine);
         // It isn't refused, since calls aren't nested too deeply.
         if let Ok(()) = reflect(&mut self.machine, n) {
-            let line = enter_line(depth, Call::Reflect(n), &self.machine);
+            let line = enter_line(depth, What::Call(Call::Reflect(n)), &self.machine);
             self.note(line);
         }
     }
@@ -102,18 +91,14 @@ impl Host {
         let call = innermost_call(&self.machine);
         let regs = self.machine.regs();
         let vif = self.machine.vif();
-        match end(&mut self.machine) {
-            Ok(()) => {
-                let line = TraceLine::Leave {
-                    depth: depth(&self.machine),
-                    what: What::Call(call),
-                    regs,
-                    vif,
-                };
-                self.note(line);
-                Ok(())
-            }
-            Err(exit) => Err(exit),
-        }
+        end(&mut self.machine)?;
+        let line = TraceLine::Leave {
+            depth: depth(&self.machine),
+            what: What::Call(call),
+            regs,
+            vif,
+        };
+        self.note(line);
+        Ok(())
     }
 }

@@ -19,7 +19,7 @@ use fault_service::{
     a_machine_changes_only_what_is_written, back, deliver, every_answer_depends_on_the_world_alone,
 };
 use guest_space::Machine;
-use mode_stack::top;
+use mode_stack::{depth, top};
 
 // The number of the innermost record's exception.
 fn exception_number(m: &Machine) -> u8
@@ -51,17 +51,13 @@ impl Host {
         ensures machine { OnOk result (delivery (machine_view self.old) f ≡ Ok (machine_view self.new)) }
     {
         let mode = self.machine.mode();
-        let line = enter_line(&self.machine, What::Exc(f.number));
-        match deliver(&mut self.machine, f) {
-            Ok(()) => {
-                match mode {
-                    Mode::Real => {}
-                    Mode::Protected => self.note(line),
-                }
-                Ok(())
-            }
-            Err(exit) => Err(exit),
+        let line = enter_line(depth(&self.machine), What::Exc(f.number), &self.machine);
+        deliver(&mut self.machine, f)?;
+        match mode {
+            Mode::Real => {}
+            Mode::Protected => self.note(line),
         }
+        Ok(())
     }
 
     // The return from an exception.

@@ -5,8 +5,10 @@ ghost use Rattle.client_world.specs.Soundness.{IsSound, IsSoundHost};
 ghost use Rattle.interrupts.specs.Worlds.{world_interrupt};
 ghost use Rattle.mz_loader.specs.Refusal.{refusal};
 ghost use Rattle.interrupts.specs.Delivery.{software_interrupt};
-ghost use Rattle.host_run.specs.Footprint.{ChangesOnly, after_client_event, after_client_interrupt, client_footprint, client_turn, trap_footprint, turn_footprint, work_footprint};
+ghost use Rattle.host_run.specs.Footprint.{ChangesOnly, after_client_event, after_client_interrupt, client_footprint, client_turn};
+ghost use Rattle.host_run.specs.Footprint.{trap_footprint, turn_footprint, work_footprint};
 ghost use Rattle.host_run.specs.Keys.{HasKeys};
+ghost use Rattle.host_run.specs.MakesTurn.{MakesTurn};
 ghost use Rattle.host_run.specs.Run.{run};
 ghost use Rattle.host_run.specs.Start.{blank, IsBlank, host_at_start};
 ghost use Rattle.host_run.specs.declared.traps.Trap.TheVariants.{NoTrap};
@@ -15,7 +17,6 @@ ghost use Rattle.host_run.specs.View.{ComesTo, HasRoom, HostView, machine_view};
 ghost use Rattle.host_run.specs.Turn.{after_interrupt, after_step, after_next_instruction, after_trap, work, turn};
 
 use crate::ending::Ending;
-use crate::serving::step_machine;
 use crate::traps::Trap;
 use client_world::limits::{MAX_KEYS, MAX_PAGES, MAX_STEPS, MAX_TRACE};
 use client_world::{Event, Exit, LoadFault, TraceLine};
@@ -59,7 +60,8 @@ impl Model for Host {
       bytes = h.machine.bytes;
     } };
 
-    ghost invariant = { λ h. (length h.kept.items ≤ h.keep) × (h.keep ≤ vec_capacity h.kept) × (h.lines ≤ 2 * h.steps) × (h.steps ≤ MAX_STEPS) };
+    ghost invariant = { λ h. (length h.kept.items ≤ h.keep) × (h.keep ≤ vec_capacity h.kept) × (h.lines ≤ 2 * h.steps)
+        × (h.steps ≤ MAX_STEPS) };
 }
 
 impl Host {
@@ -148,41 +150,12 @@ impl Host {
     /// exception. Of the memory it changes the bytes of its footprint alone. After an exit it returns that exit again and changes nothing.
     pub fn turn(&mut self) -> Result<(), Exit>
         requires { self.old.world.exit ≡ None → self.old.world.steps < MAX_STEPS }
-        ensures world { self.new.world ≡ turn self.old.world }
-        ensures bytes { ChangesOnly (turn_footprint self.old.world) self.old.bytes self.new.bytes }
-        ensures kept { IfErr result (λ _. self.new.bytes ≡ self.old.bytes) }
-        ensures goes_on { OnOk result (self.new.world.exit ≡ None) }
-        ensures ends { IfErr result (λ exit. self.new.world.exit ≡ Some exit) }
-        ensures steps { self.new.world.steps ≤ self.old.world.steps + 1 }
-        ensures was_on { self.new.world.exit ≡ None → self.old.world.exit ≡ None }
+        ensures { MakesTurn self.old self.new result self.new.world (turn self.old.world) (turn_footprint self.old.world) }
     {
         let mut window = CodeWindow::NONE;
         match self.turn_in(&mut window) {
             Ok(()) => Ok(()),
             Err(ending) => Err(ending.exit()),
-        }
-    }
-
-    // The turn of a client that has not ended, at that trap.
-    #[tactic(auto, unfolding(crate::specs::Turn::turn))]
-    pub(crate) fn turn_at(&mut self, t: Trap) -> Result<(), Exit>
-        requires no_exit { self.old.world.exit ≡ None }
-        requires trap { t ≡ current_trap self.old.world.machine }
-        requires room { self.old.world.steps < MAX_STEPS }
-        ensures world { self.new.world ≡ turn self.old.world }
-        ensures bytes { ChangesOnly (turn_footprint self.old.world) self.old.bytes self.new.bytes }
-        ensures kept { IfErr result (λ _. self.new.bytes ≡ self.old.bytes) }
-        ensures goes_on { OnOk result (self.new.world.exit ≡ None) }
-        ensures ends { IfErr result (λ exit. self.new.world.exit ≡ Some exit) }
-        ensures steps { self.new.world.steps ≡ self.old.world.steps + 1 }
-    {
-        self.steps += 1;
-        match self.work(t) {
-            Ok(()) => Ok(()),
-            Err(exit) => {
-                self.exit = Some(exit);
-                Err(exit)
-            }
         }
     }
 
@@ -200,20 +173,16 @@ impl Host {
                 return ending.exit();
             }
         }
-        match self.exit {
-            Some(exit) => exit,
-            None => {
-                self.exit = Some(Exit::Bound);
-                Exit::Bound
-            }
-        }
+        self.end_run()
     }
 
     // A software interrupt, or the exception that it raises.
     pub(crate) fn raise_interrupt(&mut self, number: u8, len: u8) -> Result<(), Exit>
         requires room { HasRoom self.old.world }
-        ensures host { ComesTo self.old self.new result (after_interrupt self.old.world (world_interrupt self.old.world.machine number len)) }
-        ensures machine { OnOk result (after_client_interrupt (machine_view self.old) (software_interrupt (machine_view self.old) number len)
+        ensures host { ComesTo self.old self.new result
+            (after_interrupt self.old.world (world_interrupt self.old.world.machine number len)) }
+        ensures machine { OnOk result
+            (after_client_interrupt (machine_view self.old) (software_interrupt (machine_view self.old) number len)
             ≡ Ok (machine_view self.new)) }
     {
         match soft_int(&mut self.machine, number, len) {
@@ -222,8 +191,8 @@ impl Host {
         }
     }
 
-    // What the event of a client's instruction comes to: its exception is delivered, or its software interrupt is raised. It is out of line, so
-    // that the turn of an instruction without an event has one answer to look at.
+    // What the event of a client's instruction comes to: its exception is delivered, or its software interrupt is raised. It is out of
+    // line, so that the turn of an instruction without an event has one answer to look at.
     #[cold]
     #[inline(never)]
     pub(crate) fn handle_event(&mut self, raised: Raised) -> Result<(), Ending>
@@ -238,34 +207,8 @@ impl Host {
         Ok(())
     }
 
-    // The next instruction.
-    #[tactic(auto, unfolding(crate::specs::Turn::after_next_instruction, crate::specs::Footprint::client_turn))]
-    fn step_client(&mut self) -> Result<(), Exit>
-        requires room { HasRoom self.old.world }
-        ensures host { ComesTo self.old self.new result (after_next_instruction self.old.world) }
-        ensures machine { OnOk result (client_turn (machine_view self.old) ≡ Ok (machine_view self.new)) }
-    {
-        match step_machine(&mut self.machine, &mut self.memo) {
-            Ok(()) => Ok(()),
-            Err(raised) => match self.handle_event(raised) {
-                Ok(()) => Ok(()),
-                Err(ending) => Err(ending.exit()),
-            },
-        }
-    }
-
-    // The next instruction, whose footprint alone changes.
-    fn run_client(&mut self) -> Result<(), Exit>
-        requires room { HasRoom self.old.world }
-        ensures host { ComesTo self.old self.new result (after_next_instruction self.old.world) }
-        ensures bytes { ChangesOnly (client_footprint self.old.world.machine) self.old.bytes self.new.bytes }
-    {
-        a_machine_changes_only_what_is_written(&self.machine);
-        self.step_client()
-    }
-
     // What a turn does at a trap.
-    fn serve_trap(&mut self, t: Trap) -> Result<(), Exit>
+    pub(crate) fn serve_trap(&mut self, t: Trap) -> Result<(), Exit>
         requires trap { t ≡ current_trap self.old.world.machine }
         requires some { t ≢ NoTrap }
         requires room { HasRoom self.old.world }
@@ -285,20 +228,6 @@ impl Host {
             Trap::ExceptionReturn => self.return_from_exception(),
             Trap::CallbackReturn => self.return_from_callback(),
             Trap::NoTrap => unreachable!(),
-        }
-    }
-
-    // What a turn does at a trap, or at none. It is counted already, so that there is room for two lines of the trace.
-    #[tactic(auto, unfolding(crate::specs::Turn::work, crate::specs::Footprint::work_footprint))]
-    fn work(&mut self, t: Trap) -> Result<(), Exit>
-        requires trap { t ≡ current_trap self.old.world.machine }
-        requires room { HasRoom self.old.world }
-        ensures host { ComesTo self.old self.new result (work self.old.world) }
-        ensures bytes { ChangesOnly (work_footprint self.old.world.machine) self.old.bytes self.new.bytes }
-    {
-        match t {
-            Trap::NoTrap => self.run_client(),
-            _ => self.serve_trap(t),
         }
     }
 }

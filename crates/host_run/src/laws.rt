@@ -43,7 +43,8 @@ pub fn every_touch_is_held()
     every_touched_place_is_held();
 }
 
-/// Each byte that a turn's client instruction changes, or that its software interrupt pushes, is that of a place which the instruction touches.
+/// Each byte that a turn's client instruction changes, or that its software interrupt pushes, is that of a place which the instruction
+/// touches.
 pub fn every_changed_place_is_touched()
     ensures written { (w : HostWorld) (u : World) → w.exit ≡ None → current_trap w.machine ≡ NoTrap → world_step w.machine ≡ Ok u →
         All (Contains (touched_by_turn w)) (written_places w.machine) }
@@ -59,9 +60,9 @@ pub fn no_instruction_runs_at_a_trap()
     ensures { (w : World) → IsSound w → current_trap w ≢ NoTrap → world_step w ≡ Err (a_fault (fault_with GENERAL_PROTECTION 0)) }
 {}
 
-/// A turn leads from a sound world to a sound world: the megabyte keeps its size, its read-only part and its bytes, each segment register stays
-/// a word, and what the services keep stays sound. So it is for a host, with two lines of the trace for each turn at most. The keystrokes
-/// are bytes, as `Host` takes them, and stay so.
+/// A turn leads from a sound world to a sound world: the megabyte keeps its size, its read-only part and its bytes, each segment register
+/// stays a word, and what the services keep stays sound. So it is for a host, with two lines of the trace for each turn at most. The
+/// keystrokes are bytes, as `Host` takes them, and stay so.
 pub fn every_turn_is_sound()
     ensures machine { (w : HostWorld) → IsSound w.machine → HasKeys w → IsSound (turn w).machine }
     ensures keys { (w : HostWorld) → IsSound w.machine → HasKeys w → HasKeys (turn w) }
@@ -77,9 +78,9 @@ pub fn every_run_is_sound()
     ensures host_end { (w : HostWorld) → IsSoundHost w → HasKeys w → (n : ℕ) → IsSoundHost (run w n) }
 {}
 
-/// A turn leaves the records of the nested calls as they are, or adds one as it starts a call of real mode or a callback or delivers an exception
-/// of protected mode, or takes the innermost one away as its call, callback or exception returns; and so does each turn of a run. A turn
-/// that meets this where only the client's interrupts are reflected meets it where interrupts from outside are reflected too.
+/// A turn leaves the records of the nested calls as they are, or adds one as it starts a call of real mode or a callback or delivers an
+/// exception of protected mode, or takes the innermost one away as its call, callback or exception returns; and so does each turn of a run.
+/// A turn that meets this where only the client's interrupts are reflected meets it where interrupts from outside are reflected too.
 pub fn every_turn_changes_the_innermost_record_at_most()
     ensures turn { (w : HostWorld) → IsSound w.machine → HasKeys w → Stacked from_client w (turn w) }
     ensures turns { (w : HostWorld) → IsSound w.machine → HasKeys w → (n : ℕ) → Stacked from_client (turns w n) (turns w (n + 1)) }
@@ -98,12 +99,13 @@ pub fn nested_calls_return_in_order()
         IsHandedOver source w i j }
 {}
 
-/// A call of real mode, a callback and an exception hand over what they should, whatever is nested in them. The procedure of a call starts with the registers
-/// of the client's structure and with the client's words, or a reflected interrupt with the client's general registers and flags; and the
-/// turn that takes its record away gives the client those of the procedure, and the structure its results. The procedure of a callback finds the
-/// real caller's registers in its structure, and the turn that takes its record away gives real mode those of the structure at the then
-/// present ES:(E)DI. The handler of an exception finds its frame at SS:ESP, and the turn that takes its record away takes what the frame then holds. So it is of each two turns of which
-/// the second takes away the record that the first added, in a row of hosts whose machines are sound, and in each run.
+/// A call of real mode, a callback and an exception hand over what they should, whatever is nested in them. The procedure of a call starts
+/// with the registers of the client's structure and with the client's words, or a reflected interrupt with the client's general registers
+/// and flags; and the turn that takes its record away gives the client those of the procedure, and the structure its results. The procedure
+/// of a callback finds the real caller's registers in its structure, and the turn that takes its record away gives real mode those of the
+/// structure at the then present ES:(E)DI. The handler of an exception finds its frame at SS:ESP, and the turn that takes its record away
+/// takes what the frame then holds. So it is of each two turns of which the second takes away the record that the first added, in a row of
+/// hosts whose machines are sound, and in each run.
 pub fn every_nested_call_hands_over()
     ensures matched { (source : InterruptSource) (w : ℕ → HostWorld) (i j : ℕ) → IsSound (w i).machine → IsSound (w j).machine →
         (h : IsHandedOver source w i j) → HandsOver source (w i) (w (i + 1)) (w j) (w (j + 1)) h.innermost }
@@ -111,16 +113,16 @@ pub fn every_nested_call_hands_over()
         HandsOver from_client (turns w i) (turns w (i + 1)) (turns w j) (turns w (j + 1)) h.innermost }
 {}
 
-/// What the client wrote stays: a turn adds bytes at the console's end alone. So the console after some turns is a prefix of the console after
-/// more, and of the console at the end of the run.
+/// What the client wrote stays: a turn adds bytes at the console's end alone. So the console after some turns is a prefix of the console
+/// after more, and of the console at the end of the run.
 pub fn every_turn_extends_the_console()
     ensures turn { (w : HostWorld) → Extends w.console (turn w).console }
     ensures turns { (w : HostWorld) (m n : ℕ) → m ≤ n → Extends (turns w m).console (turns w n).console }
     ensures end { (w : HostWorld) (m n : ℕ) → m ≤ n → Extends (turns w m).console (run w n).console }
 {}
 
-/// The turns made in place of the host's own change the innermost record at most, too. So every sequence of hosts made by these turns and the
-/// host's own nests.
+/// The turns made in place of the host's own change the innermost record at most, too. So every sequence of hosts made by these turns and
+/// the host's own nests.
 pub fn every_other_turn_changes_the_innermost_record_at_most()
     ensures int31 { (w : HostWorld) (r : AnyRegs) (carry : ACarry) → Stacked from_client w (int31_turn w r carry) }
     ensures exception { (w : HostWorld) (f : AFault) → IsSound w.machine → HasKeys w → Stacked from_client w (exception_turn w f) }
@@ -128,8 +130,8 @@ pub fn every_other_turn_changes_the_innermost_record_at_most()
     ensures bound { (w : HostWorld) → Stacked from_client w (with_bound_exit w) }
 {}
 
-/// They lead from a sound host to a sound host. Each is counted as one turn, takes no keystroke and adds nothing to the console. One that ends
-/// the run leaves the machine as it was.
+/// They lead from a sound host to a sound host. Each is counted as one turn, takes no keystroke and adds nothing to the console. One that
+/// ends the run leaves the machine as it was.
 pub fn every_other_turn_is_sound()
     ensures int31 { (w : HostWorld) (r : AnyRegs) (carry : ACarry) → IsSoundHost w → HasKeys w → IsSoundHost (int31_turn w r carry) }
     ensures exception { (w : HostWorld) (f : AFault) → IsSoundHost w → HasKeys w → IsSoundHost (exception_turn w f) }
@@ -154,9 +156,9 @@ pub fn every_touch_of_a_run_is_held()
     every_touch_is_held();
 }
 
-/// The client's part of a turn changes no bytes of the memory but those of its footprint: what the instruction writes or its software interrupt
-/// pushes, and not what it only reads; or the frame of its exception, and in protected mode the row of the exception's record. So it is of
-/// the view of every machine; `Host::turn` promises it of each turn.
+/// The client's part of a turn changes no bytes of the memory but those of its footprint: what the instruction writes or its software
+/// interrupt pushes, and not what it only reads; or the frame of its exception, and in protected mode the row of the exception's record. So
+/// it is of the view of every machine; `Host::turn` promises it of each turn.
 pub fn every_client_turn_changes_only_its_footprint()
     ensures { (v u : MachineView) → IsMachineView v → client_turn v ≡ Ok u → ChangesOnly (client_footprint v.world) v.bytes u.bytes }
 {
@@ -167,7 +169,8 @@ pub fn every_client_turn_changes_only_its_footprint()
 /// The world of a new host is sound, and so is the world that a file starts, if the file is one of bytes and is taken.
 pub fn every_start_is_sound()
     ensures blank { (pages keep : ℕ) (keys : List ℕ) → IsSoundHost (blank pages keys keep) }
-    ensures started { (pages keep : ℕ) (keys file : List ℕ) → AreBytes file → refusal file ≡ None → IsSoundHost (host_at_start pages keys keep file) }
+    ensures started { (pages keep : ℕ) (keys file : List ℕ) → AreBytes file → refusal file ≡ None →
+        IsSoundHost (host_at_start pages keys keep file) }
 {}
 
 /// A turn that ends the run leaves the machine, and but for a full console the keystrokes and the console too.

@@ -1,11 +1,13 @@
-// Turns that are made in place of the host's own: INT 31h that is served from outside, an exception and an interrupt that come from outside; and the
-// end of a run at its bound.
-ghost use Rattle.std.specs.Prelude.{◌≡◌, ◌<◌, true, Ok, Err, Some, None, IfErr, OnOk, IsSome, MatchResult};
+// Turns that are made in place of the host's own: INT 31h that is served from outside, an exception and an interrupt that come from
+// outside; and the end of a run at its bound.
+ghost use Rattle.std.specs.Prelude.{◌≡◌, ◌<◌, true, Ok, Err, Some, None, IsSome, MatchResult};
 ghost use Rattle.client_world.specs.declared.limits.TheConstants.{EXCEPTION_VECTORS, GREATEST_DEPTH, MAX_STEPS};
 ghost use Rattle.client_world.specs.declared.registers.Mode.TheVariants.{Protected as protected};
 ghost use Rattle.client_world.specs.World.{depth};
-ghost use Rattle.host_run.specs.Footprint.{ChangesOnly, delivery_footprint};
-ghost use Rattle.host_run.specs.OtherTurns.{exception_turn, int31_call, int31_turn, interrupt_turn, after_interrupt_in_mode, is_hosts_vector, is_int31};
+ghost use Rattle.host_run.specs.Footprint.{delivery_footprint, unsaid};
+ghost use Rattle.host_run.specs.MakesTurn.{MakesTurn};
+ghost use Rattle.host_run.specs.OtherTurns.{exception_turn, int31_call, int31_turn, interrupt_turn, after_interrupt_in_mode};
+ghost use Rattle.host_run.specs.OtherTurns.{is_hosts_vector, is_int31};
 ghost use Rattle.host_run.specs.Traps.{current_trap};
 ghost use Rattle.host_run.specs.Run.{with_bound_exit};
 ghost use Rattle.host_run.specs.View.{ComesTo, HasRoom};
@@ -40,8 +42,8 @@ fn is_hosts_vector(m: &Machine, n: u8) -> bool
 }
 
 impl Host {
-    /// AX of the call of INT 31h that the next turn would serve; `None` after an exit, where CS:EIP isn't at that vector's trap byte, and where
-    /// the interrupt's frame can't be popped.
+    /// AX of the call of INT 31h that the next turn would serve; `None` after an exit, where CS:EIP isn't at that vector's trap byte, and
+    /// where the interrupt's frame can't be popped.
     #[inline(always)]
     #[tactic(auto, unfolding(crate::specs::OtherTurns::int31_call))]
     pub fn int31_here(&self) -> Option<u16>
@@ -56,8 +58,8 @@ impl Host {
         }
     }
 
-    /// Makes the turn that serves the call of `int31_here`, with an answer from outside: the frame is popped, EAX and EBX become those of `r`, the
-    /// carry goes into the popped flags, and the line of the call is noted.
+    /// Makes the turn that serves the call of `int31_here`, with an answer from outside: the frame is popped, EAX and EBX become those of
+    /// `r`, the carry goes into the popped flags, and the line of the call is noted.
     #[tactic(auto, unfolding(crate::specs::OtherTurns::int31_call, crate::specs::OtherTurns::int31_turn))]
     pub fn int31_done(&mut self, r: Regs, carry: Carry)
         requires here { IsSome (int31_call self.old.world) }
@@ -83,19 +85,16 @@ impl Host {
         }
     }
 
-    /// Delivers an exception in protected mode, as a turn of its own. It ends the run with `Deep` at the greatest depth, else with `Fault` where the
-    /// handler can't be loaded; the machine then stays as it was.
+    /// Delivers an exception in protected mode, as a turn of its own. It ends the run with `Deep` at the greatest depth, else with `Fault`
+    /// where the handler can't be loaded; the machine then stays as it was.
     #[tactic(auto, unfolding(crate::specs::OtherTurns::exception_turn, fault_service::specs::ByMode::delivery))]
     pub fn deliver_turn(&mut self, f: Fault) -> Result<(), Exit>
         requires no_exit { self.old.world.exit ≡ None }
         requires mode { self.old.world.machine.mode ≡ protected }
         requires number { f.number < EXCEPTION_VECTORS }
         requires room { self.old.world.steps < MAX_STEPS }
-        ensures world { self.new.world ≡ exception_turn self.old.world f }
-        ensures bytes { ChangesOnly (delivery_footprint protected self.old.world.machine) self.old.bytes self.new.bytes }
-        ensures kept { IfErr result (λ _. self.new.bytes ≡ self.old.bytes) }
-        ensures goes_on { OnOk result (self.new.world.exit ≡ None) }
-        ensures ends { IfErr result (λ exit. self.new.world.exit ≡ Some exit) }
+        ensures { MakesTurn self.old self.new result self.new.world (exception_turn self.old.world f)
+            (delivery_footprint protected self.old.world.machine) }
     {
         a_machine_changes_only_what_is_written(&self.machine);
         self.steps += 1;
@@ -116,19 +115,30 @@ impl Host {
         self.exit = Some(Exit::Bound);
     }
 
-    /// Raises an interrupt from outside, as a turn of its own. In real mode, and for a handler that the client has set, it pushes the address of
-    /// the present instruction, and the handler starts with virtual interrupts off; otherwise it is reflected to real mode. A fault of the
-    /// push or load is delivered as an exception; where that can't be done the run ends, and the machine stays as it was.
+    /// Ends a run that has made its turns: with the exit that there is, or as one that has reached its bound.
+    pub fn end_run(&mut self) -> Exit
+        ensures host { self.new ≡ record self.old { world = with_bound_exit self.old.world } }
+        ensures answer { self.new.world.exit ≡ Some result }
+    {
+        match self.exit {
+            Some(exit) => exit,
+            None => {
+                self.stop_bound();
+                Exit::Bound
+            }
+        }
+    }
+
+    /// Raises an interrupt from outside, as a turn of its own. In real mode, and for a handler that the client has set, it pushes the
+    /// address of the present instruction, and the handler starts with virtual interrupts off; otherwise it is reflected to real mode. A
+    /// fault of the push or load is delivered as an exception; where that can't be done the run ends, and the machine stays as it was.
     #[tactic(auto, unfolding(crate::specs::OtherTurns::interrupt_turn))]
     pub fn int_turn(&mut self, n: u8) -> Result<(), Exit>
         requires no_exit { self.old.world.exit ≡ None }
         requires enabled { self.old.world.machine.vif ≡ true }
         requires shallow { self.old.world.machine.mode ≡ protected → depth self.old.world.machine < GREATEST_DEPTH }
         requires room { self.old.world.steps < MAX_STEPS }
-        ensures world { self.new.world ≡ interrupt_turn self.old.world n }
-        ensures kept { IfErr result (λ _. self.new.bytes ≡ self.old.bytes) }
-        ensures goes_on { OnOk result (self.new.world.exit ≡ None) }
-        ensures ends { IfErr result (λ exit. self.new.world.exit ≡ Some exit) }
+        ensures { MakesTurn self.old self.new result self.new.world (interrupt_turn self.old.world n) unsaid }
     {
         self.steps += 1;
         match self.interrupt(n) {

@@ -111,7 +111,8 @@ impl Host {
     // A service of INT 31h has returned: the carry goes into the flags that were popped.
     pub(crate) fn finish_service(&mut self, ax: u16, carry: Carry)
         requires room { HasRoom self.old.world }
-        ensures answer { after_service self.old.world ax (record { carry = carry; world = self.old.world.machine }) ≡ goes_on self.new.world }
+        ensures answer { after_service self.old.world ax (record { carry = carry; world = self.old.world.machine })
+            ≡ goes_on self.new.world }
         ensures steps { self.new.world.steps ≡ self.old.world.steps }
         ensures bytes { self.new.bytes ≡ self.old.bytes }
     {
@@ -148,10 +149,7 @@ impl Host {
             (after_protected_pop self.old.world n (world_after_iret self.old.world.machine)) }
     {
         let presence = is_presence_call(&self.machine, n);
-        match pop_in_mode(&mut self.machine) {
-            Ok(()) => {}
-            Err(exit) => return Err(exit),
-        }
+        pop_in_mode(&mut self.machine)?;
         if presence {
             self.report_presence();
         } else {
@@ -160,8 +158,10 @@ impl Host {
         Ok(())
     }
 
-    // A default vector of protected mode that is reflected: its frame is popped first. An exit leaves the machine, so both are asked before.
-    #[tactic(auto, unfolding(crate::specs::Turn::after_protected_call), using(crate::proofs::Frames::popped_bad, crate::proofs::Frames::popped_deep))]
+    // A default vector of protected mode that is reflected: its frame is popped first. An exit leaves the machine, so the depth is asked
+    // before.
+    #[tactic(auto, unfolding(crate::specs::Turn::after_protected_call), using(crate::proofs::Frames::popped_bad, //
+    crate::proofs::Frames::popped_deep))]
     fn pop_and_reflect(&mut self, n: u8) -> Result<(), Exit>
         requires mode { self.old.world.machine.mode ≡ protected }
         requires exit { is_exit_call self.old.world.machine n ≡ false }
@@ -171,19 +171,16 @@ impl Host {
         ensures { ComesTo self.old self.new result
             (after_protected_pop self.old.world n (world_after_iret self.old.world.machine)) }
     {
-        if !can_pop(&self.machine) {
-            return Err(Exit::BadFrame);
-        }
         if u32::from(depth(&self.machine)) >= GREATEST_DEPTH {
-            return Err(Exit::Deep);
+            return Err(if can_pop(&self.machine) {
+                Exit::Deep
+            } else {
+                Exit::BadFrame
+            });
         }
-        match pop_in_mode(&mut self.machine) {
-            Ok(()) => {
-                self.reflect_interrupt(n);
-                Ok(())
-            }
-            Err(exit) => Err(exit),
-        }
+        pop_in_mode(&mut self.machine)?;
+        self.reflect_interrupt(n);
+        Ok(())
     }
 
     // A default vector of protected mode.

@@ -5,11 +5,11 @@ ghost use Rattle.cpu_step.specs.Step.{client_step};
 ghost use Rattle.dos_calls.specs.Answering.{IfEnded};
 ghost use Rattle.dos_calls.specs.Calls.{dos_call};
 ghost use Rattle.dos_calls.specs.Multiplex.{multiplex_call};
-ghost use Rattle.host_run.specs.Windows.{HasWindow, IsStart, IsTrapFree};
+ghost use Rattle.host_run.specs.Windows.{HasWindow, IsFound};
 ghost use Rattle.interrupts.specs.Worlds.{world_step, world_after_iret};
 
-use client_world::{DosDone, Exit};
-use cpu_step::{step_in_window, step_with_memo};
+use client_world::{DosDone, Event, Exit};
+use cpu_step::{step, step_in_window};
 use dos_calls::{Console, Keys, every_dos_call_keeps_the_rest, int2f, int21};
 use fault_service::pop_iret;
 use guest_space::{CodeWindow, Machine};
@@ -19,27 +19,28 @@ use interrupts::{
     a_real_frame_is_popped_where_it_fits, can_pop_iret, every_answer_depends_on_the_world_alone,
 };
 
-/// The client's next instruction, or its event, which leaves the machine.
-pub(crate) fn step_machine(m: &mut Machine, memo: &mut Memo) -> Result<(), Raised>
-    ensures machine { MatchResult result (λ _. client_step m.old ≡ Ok m.new)
+// The client's next instruction, found without a window.
+fn step_outside(m: &mut Machine) -> Result<(), Raised>
+    ensures { MatchResult result (λ _. client_step m.old ≡ Ok m.new)
         (λ e. (client_step m.old ≡ Err e) × (m.new ≡ m.old)) }
-    ensures world { MatchResult result (λ _. world_step m.old.world ≡ Ok m.new.world)
-        (λ e. (world_step m.old.world ≡ Err e) × (m.new ≡ m.old)) }
 {
-    every_answer_depends_on_the_world_alone();
-    step_with_memo(m, memo)
+    match step(m) {
+        Ok(()) => Ok(()),
+        Err(Event::Fault(f)) => Err(Raised::from(f)),
+        Err(Event::Soft { number, len }) => Err(Raised::soft(number, len)),
+    }
 }
 
-/// The same of an instruction at a start of a window of code, which stays a window while CS holds what it held.
+/// The client's next instruction, or its event, which leaves the machine. A window of code at whose start it lies stays one while CS holds
+/// what it held.
 #[inline(always)]
-pub(crate) fn step_machine_in(
+pub(crate) fn step_machine(
     m: &mut Machine,
     memo: &mut Memo,
     window: &CodeWindow,
-    from: u32,
+    from: Option<u32>,
 ) -> Result<(), Raised>
-    requires window { IsTrapFree m.old window.now }
-    requires start { IsStart m.old.world window.now from }
+    requires { IsFound m.old window.now from }
     ensures machine { MatchResult result (λ _. client_step m.old ≡ Ok m.new)
         (λ e. (client_step m.old ≡ Err e) × (m.new ≡ m.old)) }
     ensures world { MatchResult result (λ _. world_step m.old.world ≡ Ok m.new.world)
@@ -47,7 +48,10 @@ pub(crate) fn step_machine_in(
     ensures window { OnOk result (HasWindow m.new window.now) }
 {
     every_answer_depends_on_the_world_alone();
-    step_in_window(m, memo, window, from)
+    match from {
+        Some(start) => step_in_window(m, memo, window, start),
+        None => step_outside(m),
+    }
 }
 
 /// Whether the frame of an interrupt can be popped.
@@ -67,10 +71,8 @@ pub(crate) fn pop_in_mode(m: &mut Machine) -> Result<(), Exit>
     ensures calls { m.new.world.calls ≡ m.old.world.calls }
     ensures bytes { m.new.bytes ≡ m.old.bytes }
 {
-    match pop_iret(m) {
-        Ok(()) => Ok(()),
-        Err(exit) => Err(exit),
-    }
+    pop_iret(m)?;
+    Ok(())
 }
 
 /// INT 21h, whose frame can be popped after it as before it. Where it ends the client, the machine is as it was.

@@ -31,7 +31,8 @@ impl Host {
     pub(crate) fn switch_to_real(&mut self) -> Result<(), Exit>
         requires mode { self.old.world.machine.mode ≡ protected }
         requires room { HasRoom self.old.world }
-        ensures host { ComesTo self.old self.new result (goes_on_with self.old.world ToReal (world_after_switch_to_real self.old.world.machine)) }
+        ensures host { ComesTo self.old self.new result
+            (goes_on_with self.old.world ToReal (world_after_switch_to_real self.old.world.machine)) }
         ensures bytes { self.new.bytes ≡ self.old.bytes }
     {
         to_real(&mut self.machine)?;

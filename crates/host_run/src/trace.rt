@@ -1,25 +1,26 @@
 // The trace.
 ghost use Rattle.std.specs.Prelude.{◌≡◌, ◌≤◌, ◌<◌, ◌*◌, length, slice_get};
-ghost use Rattle.host_run.specs.Turn.{enter_line, leave_line, with_trace_line};
+ghost use Rattle.client_world.specs.declared.trace.TraceLine.TheVariants.{Enter};
+ghost use Rattle.host_run.specs.Turn.{leave_line, with_trace_line};
 
 use crate::host::Host;
 use client_world::{TraceLine, What};
 use guest_space::Machine;
 use mode_stack::depth;
 
-// The line of an exception or a callback that starts.
-pub(crate) fn enter_line(m: &Machine, what: What) -> TraceLine
-    ensures { result ≡ enter_line m.now.world what }
+// The line of what starts at that depth: of a call with the registers of its procedure, of an exception or a callback with those before it.
+pub(crate) fn enter_line(depth: u8, what: What, m: &Machine) -> TraceLine
+    ensures { result ≡ Enter depth what m.now.world.regs m.now.world.vif }
 {
     TraceLine::Enter {
-        depth: depth(m),
+        depth,
         what,
         regs: m.regs(),
         vif: m.vif(),
     }
 }
 
-// The line of one that has returned.
+// The line of an exception or a callback that has returned.
 pub(crate) fn leave_line(m: &Machine, what: What) -> TraceLine
     ensures { result ≡ leave_line m.now.world what }
 {

@@ -140,8 +140,8 @@ fn trap_in_rom(m: &Machine) -> Trap
     }
 }
 
-/// The trap of CS:EIP. Where the first byte of CS and EIP add up to an address outside read-only memory there is none, and nothing is fetched:
-/// that sum is then the linear address in either mode.
+/// The trap of CS:EIP. Where the first byte of CS and EIP add up to an address outside read-only memory there is none, and nothing is
+/// fetched: that sum is then the linear address in either mode.
 #[tactic(auto, using(crate::proofs::NoTraps::none_below, crate::proofs::NoTraps::none_above))]
 pub(crate) fn current_trap(m: &Machine) -> Trap
     ensures { result ≡ current_trap m.now.world }

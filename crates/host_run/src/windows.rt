@@ -1,17 +1,18 @@
 // Turns in a window of code. While CS:EIP stays in one page outside read-only memory, a turn asks neither where its code is nor for a trap.
-ghost use Rattle.std.specs.Prelude.{◌≡◌, ◌+◌, ◌<◌, ◌≤◌, IfErr, IfSome, IsTrue, None, Ok, OnOk, Some};
+ghost use Rattle.std.specs.Prelude.{◌≡◌, ◌+◌, ◌<◌, IfSome, IsTrue, None, Ok, OnOk, Some};
 ghost use Rattle.client_world.specs.declared.limits.TheConstants.{MAX_STEPS};
 ghost use Rattle.host_run.specs.declared.traps.Trap.TheVariants.{NoTrap};
 ghost use Rattle.host_run.specs.Footprint.{ChangesOnly, client_footprint, client_turn, turn_footprint, work_footprint};
+ghost use Rattle.host_run.specs.MakesTurn.{MakesTurn};
 ghost use Rattle.host_run.specs.Traps.{current_trap};
 ghost use Rattle.host_run.specs.Turn.{after_next_instruction, turn, work};
 ghost use Rattle.host_run.specs.View.{ComesTo, HasRoom, machine_view};
-ghost use Rattle.host_run.specs.Windows.{HasWindow, IsOutside, IsStart, IsTrapFree};
+ghost use Rattle.host_run.specs.Windows.{HasWindow, IsFound, IsOutside, IsStart, IsTrapFree};
 
 use crate::ending::Ending;
 use crate::host::Host;
-use crate::serving::step_machine_in;
-use crate::traps::current_trap;
+use crate::serving::step_machine;
+use crate::traps::{Trap, current_trap};
 use client_world::SegReg;
 use client_world::memory_map::{DOS_SIZE, ROM_START};
 use fault_service::a_machine_changes_only_what_is_written;
@@ -25,11 +26,12 @@ fn is_outside(at: u32) -> bool
 }
 
 impl Host {
-    // Puts the window of the client's page in the place of another, and says which start of it CS:EIP is; `None` where no window has it, or its page
-    // is read-only memory, where the traps are.
+    // Puts the window of the client's page in the place of another, and says which start of it CS:EIP is; `None` where no window has it, or
+    // its page is read-only memory, where the traps are.
     #[cold]
     #[inline(never)]
-    #[tactic(auto, using(crate::proofs::WindowStarts::no_starts, crate::proofs::WindowStarts::outside_rom, crate::proofs::WindowStarts::start_found))]
+    #[tactic(auto, using(crate::proofs::WindowStarts::no_starts, crate::proofs::WindowStarts::outside_rom, //
+    crate::proofs::WindowStarts::start_found))]
     fn move_window(&mut self, window: &mut CodeWindow) -> Option<u32>
         ensures host { self.new ≡ self.old }
         ensures window { HasWindow (machine_view self.new) window.new }
@@ -44,8 +46,8 @@ impl Host {
         window.place_of(self.machine.registers())
     }
 
-    /// Which start of the window CS:EIP is: of the window that is there, or else of that of its page, which takes its place. `None` where no
-    /// window shows it, or a trap may be there: it says nothing.
+    /// Which start of the window CS:EIP is: of the window that is there, or else of that of its page, which takes its place. `None` where
+    /// no window shows it, or a trap may be there: it says nothing.
     #[inline(always)]
     #[tactic(auto, using(crate::proofs::WindowStarts::start_found))]
     pub fn find_start(&mut self, window: &mut CodeWindow) -> Option<u32>
@@ -61,18 +63,17 @@ impl Host {
         }
     }
 
-    // The next instruction, at that start of a window.
+    // The next instruction. Its event gives the window up.
     #[inline(always)]
     #[tactic(auto, unfolding(crate::specs::Turn::after_next_instruction, crate::specs::Footprint::client_turn))]
-    fn step_client_in(&mut self, window: &mut CodeWindow, from: u32) -> Result<(), Ending>
+    fn step_client(&mut self, window: &mut CodeWindow, from: Option<u32>) -> Result<(), Ending>
         requires room { HasRoom self.old.world }
-        requires window { IsTrapFree (machine_view self.old) window.old }
-        requires start { IsStart self.old.world.machine window.old from }
+        requires found { IsFound (machine_view self.old) window.old from }
         ensures host { ComesTo self.old self.new result (after_next_instruction self.old.world) }
         ensures machine { OnOk result (client_turn (machine_view self.old) ≡ Ok (machine_view self.new)) }
         ensures window { HasWindow (machine_view self.new) window.new }
     {
-        match step_machine_in(&mut self.machine, &mut self.memo, window, from) {
+        match step_machine(&mut self.machine, &mut self.memo, window, from) {
             Ok(()) => Ok(()),
             Err(raised) => {
                 *window = CodeWindow::NONE;
@@ -83,16 +84,15 @@ impl Host {
 
     // The next instruction, whose footprint alone changes.
     #[inline(always)]
-    fn run_client_in(&mut self, window: &mut CodeWindow, from: u32) -> Result<(), Ending>
+    fn run_client(&mut self, window: &mut CodeWindow, from: Option<u32>) -> Result<(), Ending>
         requires room { HasRoom self.old.world }
-        requires window { IsTrapFree (machine_view self.old) window.old }
-        requires start { IsStart self.old.world.machine window.old from }
+        requires found { IsFound (machine_view self.old) window.old from }
         ensures host { ComesTo self.old self.new result (after_next_instruction self.old.world) }
         ensures bytes { ChangesOnly (client_footprint self.old.world.machine) self.old.bytes self.new.bytes }
         ensures window { HasWindow (machine_view self.new) window.new }
     {
         a_machine_changes_only_what_is_written(&self.machine);
-        self.step_client_in(window, from)
+        self.step_client(window, from)
     }
 
     /// No start of such a window is a trap.
@@ -104,19 +104,25 @@ impl Host {
         ensures { current_trap self.now.world.machine ≡ NoTrap }
     {}
 
-    // What a turn does there.
+    // What a turn does at a trap, or at none. It is counted already, so that there is room for two lines of the trace.
     #[inline(always)]
     #[tactic(auto, unfolding(crate::specs::Turn::work, crate::specs::Footprint::work_footprint))]
-    fn work_in(&mut self, window: &mut CodeWindow, from: u32) -> Result<(), Ending>
+    fn work(&mut self, t: Trap, window: &mut CodeWindow, from: Option<u32>) -> Result<(), Ending>
+        requires trap { t ≡ current_trap self.old.world.machine }
         requires room { HasRoom self.old.world }
-        requires window { IsTrapFree (machine_view self.old) window.old }
-        requires start { IsStart self.old.world.machine window.old from }
+        requires found { IsFound (machine_view self.old) window.old from }
         ensures host { ComesTo self.old self.new result (work self.old.world) }
         ensures bytes { ChangesOnly (work_footprint self.old.world.machine) self.old.bytes self.new.bytes }
         ensures window { HasWindow (machine_view self.new) window.new }
     {
-        self.no_trap_in(window, from);
-        self.run_client_in(window, from)
+        match t {
+            Trap::NoTrap => self.run_client(window, from),
+            _ => {
+                *window = CodeWindow::NONE;
+                self.serve_trap(t)?;
+                Ok(())
+            }
+        }
     }
 
     // The run has ended so.
@@ -131,27 +137,38 @@ impl Host {
         ending
     }
 
-    /// The turn of a client that has not ended, at that start of a window.
+    // The turn of a client that has not ended, at that trap.
     #[inline(always)]
     #[tactic(auto, unfolding(crate::specs::Turn::turn))]
+    fn turn_at(&mut self, t: Trap, window: &mut CodeWindow, from: Option<u32>) -> Result<(), Ending>
+        requires no_exit { self.old.world.exit ≡ None }
+        requires trap { t ≡ current_trap self.old.world.machine }
+        requires room { self.old.world.steps < MAX_STEPS }
+        requires found { IsFound (machine_view self.old) window.old from }
+        ensures turn { MakesTurn self.old self.new result self.new.world (turn self.old.world) (turn_footprint self.old.world) }
+        ensures steps { self.new.world.steps ≡ self.old.world.steps + 1 }
+        ensures window { HasWindow (machine_view self.new) window.new }
+    {
+        self.steps += 1;
+        match self.work(t, window, from) {
+            Ok(()) => Ok(()),
+            Err(ending) => Err(self.stop(ending)),
+        }
+    }
+
+    /// The turn of a client that has not ended, at that start of a window.
+    #[inline(always)]
     pub fn turn_in_window(&mut self, window: &mut CodeWindow, from: u32) -> Result<(), Ending>
         requires no_exit { self.old.world.exit ≡ None }
         requires room { self.old.world.steps < MAX_STEPS }
         requires window { IsTrapFree (machine_view self.old) window.old }
         requires start { IsStart self.old.world.machine window.old from }
-        ensures world { self.new.world ≡ turn self.old.world }
-        ensures bytes { ChangesOnly (turn_footprint self.old.world) self.old.bytes self.new.bytes }
-        ensures kept { IfErr result (λ _. self.new.bytes ≡ self.old.bytes) }
-        ensures goes_on { OnOk result (self.new.world.exit ≡ None) }
-        ensures ends { IfErr result (λ exit. self.new.world.exit ≡ Some exit) }
+        ensures turn { MakesTurn self.old self.new result self.new.world (turn self.old.world) (turn_footprint self.old.world) }
         ensures steps { self.new.world.steps ≡ self.old.world.steps + 1 }
         ensures window { HasWindow (machine_view self.new) window.new }
     {
-        self.steps += 1;
-        match self.work_in(window, from) {
-            Ok(()) => Ok(()),
-            Err(ending) => Err(self.stop(ending)),
-        }
+        self.no_trap_in(window, from);
+        self.turn_at(Trap::NoTrap, window, Some(from))
     }
 
     // The turn of a client that is at no start of a window.
@@ -160,18 +177,12 @@ impl Host {
     fn turn_outside(&mut self, window: &mut CodeWindow) -> Result<(), Ending>
         requires no_exit { self.old.world.exit ≡ None }
         requires room { self.old.world.steps < MAX_STEPS }
-        ensures world { self.new.world ≡ turn self.old.world }
-        ensures bytes { ChangesOnly (turn_footprint self.old.world) self.old.bytes self.new.bytes }
-        ensures kept { IfErr result (λ _. self.new.bytes ≡ self.old.bytes) }
-        ensures goes_on { OnOk result (self.new.world.exit ≡ None) }
-        ensures ends { IfErr result (λ exit. self.new.world.exit ≡ Some exit) }
-        ensures steps { self.new.world.steps ≡ self.old.world.steps + 1 }
+        ensures turn { MakesTurn self.old self.new result self.new.world (turn self.old.world) (turn_footprint self.old.world) }
         ensures window { HasWindow (machine_view self.new) window.new }
     {
         *window = CodeWindow::NONE;
         let t = current_trap(&self.machine);
-        self.turn_at(t)?;
-        Ok(())
+        self.turn_at(t, window, None)
     }
 
     /// One turn, as `turn` makes it, with a window of code that turns hand on.
@@ -180,13 +191,7 @@ impl Host {
     pub fn turn_in(&mut self, window: &mut CodeWindow) -> Result<(), Ending>
         requires room { self.old.world.exit ≡ None → self.old.world.steps < MAX_STEPS }
         requires window { HasWindow (machine_view self.old) window.old }
-        ensures world { self.new.world ≡ turn self.old.world }
-        ensures bytes { ChangesOnly (turn_footprint self.old.world) self.old.bytes self.new.bytes }
-        ensures kept { IfErr result (λ _. self.new.bytes ≡ self.old.bytes) }
-        ensures goes_on { OnOk result (self.new.world.exit ≡ None) }
-        ensures ends { IfErr result (λ exit. self.new.world.exit ≡ Some exit) }
-        ensures steps { self.new.world.steps ≤ self.old.world.steps + 1 }
-        ensures was_on { self.new.world.exit ≡ None → self.old.world.exit ≡ None }
+        ensures turn { MakesTurn self.old self.new result self.new.world (turn self.old.world) (turn_footprint self.old.world) }
         ensures window { HasWindow (machine_view self.new) window.new }
     {
         if let Some(exit) = self.exit {

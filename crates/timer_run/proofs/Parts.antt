@@ -72,7 +72,8 @@ part_passed t h = part_has (λ p. p.taken ≡ false → p.host ≡ h) t h (λ _ 
 pub part_ended : (t : TimerState) (h : HostWorld) (exit : Exit) → (timer_part t h).host.exit ≡ Some exit → h.exit ≡ None →
     (timer_part t h).taken ≡ true
 part_ended t h exit =
-    part_has (λ p. p.host.exit ≡ Some exit → h.exit ≡ None → p.taken ≡ true) t h (λ other is ended none. cc) (λ _ _ _. refl) (λ _ ended none. cc)
+    part_has (λ p. p.host.exit ≡ Some exit → h.exit ≡ None → p.taken ≡ true) t h (λ other is ended none. cc) (λ _ _ _. refl)
+    (λ _ ended none. cc)
 
 -- ---- what `Timer::before` returns of it
 
@@ -84,7 +85,8 @@ on_by (Some exit) taken answer is = cc
 pub answered_on : (p : TimerPart) (answer : Bool) → Ok answer ≡ timer_answer p → (p.host.exit ≡ None) × (p.taken ≡ answer)
 answered_on p answer is = on_by p.host.exit p.taken answer is
 
-ended_by : (o : Option Exit) (taken : Bool) (end : Exit) → Err end ≡ elim o as (λ _. Result Bool Exit) [ Some exit ↦ Err exit | None ↦ Ok taken ] →
+ended_by : (o : Option Exit) (taken : Bool) (end : Exit) →
+    Err end ≡ elim o as (λ _. Result Bool Exit) [ Some exit ↦ Err exit | None ↦ Ok taken ] →
     o ≡ Some end
 ended_by None taken end is = cc
 ended_by (Some exit) taken end is = cc

@@ -1,5 +1,6 @@
 -- What rounds keep, count and write. Each is the timer's interrupt, or a turn with watchpoints.
-use Rattle.std.proofs.Common.{arith, ◌≡◌, ◌∙◌, ◌+◌, ℕ, zero, suc, Bool, true, false, List, [], ◌∷◌, ◌++◌, length, Option, None, Some, refl, sym, ap, subst}
+use Rattle.std.proofs.Common.{arith, ◌≡◌, ◌∙◌, ◌+◌, ℕ, zero, suc, Bool, true, false, List, [], ◌∷◌, ◌++◌, length, Option, None, Some, refl}
+use Rattle.std.proofs.Common.{sym, ap, subst}
 use Rattle.std.specs.Prelude.{All, if◌then◌else◌}
 use Rattle.std.proofs.lemmas.List.{append-nil, length_push, same_from_push}
 use Rattle.std.proofs.lemmas.List.Elements.{All-nil}
@@ -18,7 +19,8 @@ use Rattle.host_run.proofs.Nested.{anywhere}
 use Rattle.host_run.proofs.OtherTurns.{bounded_sound, host_sound, interrupt_keeps, interrupt_quiet, reached}
 use Rattle.host_run.proofs.TurnLaws.{IsReached}
 use Rattle.timer_run.specs.declared.timer.TheConstants.{TIMER_INTERRUPT}
-use Rattle.timer_run.specs.Rounds.{TimedWorld, after_part, is_interrupt, round_with_timer, rounds, timed_rounds, timed_run, timed_turns, timer_of, touched_by_round, with_new_timer}
+use Rattle.timer_run.specs.Rounds.{TimedWorld, after_part, is_interrupt, round_with_timer, rounds, timed_rounds, timed_run, timed_turns}
+use Rattle.timer_run.specs.Rounds.{timer_of, touched_by_round, with_new_timer}
 use Rattle.timer_run.specs.Timer.{TimerPart, TimerState, timer_part}
 use Rattle.timer_run.proofs.Parts.{part_has}
 use Rattle.timer_run.proofs.RoundParts.{round_on, round_over}
@@ -117,9 +119,11 @@ clients_by : (every : ℕ) (w : TimedWorld) (o : Option Exit) → w.watched.host
     Stacked from_client w.watched.host (turn_with_watchpoints w.watched).host → IsClients w (round_with_timer every w)
 clients_by every w (Some exit) is off turn = subst (IsClients w) (sym (round_over every w exit is)) (kept refl)
 clients_by every w None is off turn =
-    subst (IsClients w) (sym (round_on every w is)) (turn_made w (timer_part (timer_of every w) w.watched.host) (is_interrupt every w) refl off turn)
+    subst (IsClients w) (sym (round_on every w is))
+    (turn_made w (timer_part (timer_of every w) w.watched.host) (is_interrupt every w) refl off turn)
 
-pub round_clients : (every : ℕ) (w : TimedWorld) → IsReached w.watched.host → is_interrupt every w ≡ false → IsClients w (round_with_timer every w)
+pub round_clients : (every : ℕ) (w : TimedWorld) → IsReached w.watched.host → is_interrupt every w ≡ false →
+    IsClients w (round_with_timer every w)
 round_clients every w s off = clients_by every w w.watched.host.exit refl off (turn_keeps_all w.watched s).calls
 
 pub round_turn : (every : ℕ) (w : TimedWorld) → IsSound w.watched.host.machine → HasKeys w.watched.host → is_interrupt every w ≡ false →
@@ -143,7 +147,8 @@ rounds_sound every w (suc n) s keys =
 -- ---- from a host whose client has set no watchpoint
 
 timed_reached : (every : ℕ) (h : HostWorld) (n : ℕ) → IsSound h.machine → HasKeys h → IsReached (timed_turns every h n)
-timed_reached every h n sound keys = rounds_reached every (with_new_timer (host_without_watches h)) n (record { machine = sound; keys = keys })
+timed_reached every h n sound keys =
+    rounds_reached every (with_new_timer (host_without_watches h)) n (record { machine = sound; keys = keys })
 
 pub timed_sound : (every : ℕ) (h : HostWorld) (n : ℕ) → IsSound h.machine → HasKeys h → IsSound (timed_turns every h n).machine
 timed_sound every h n sound keys = (timed_reached every h n sound keys).machine
@@ -159,26 +164,32 @@ pub timed_calls : (every : ℕ) (h : HostWorld) (n : ℕ) → IsSound h.machine 
     Stacked from_anywhere (timed_turns every h n) (timed_turns every h (n + 1))
 timed_calls every h n sound keys =
     let w = rounds every (with_new_timer (host_without_watches h)) n in
-    subst (λ (v : TimedWorld). Stacked from_anywhere w.watched.host v.watched.host) (sym (one_more every (with_new_timer (host_without_watches h)) n))
+    subst (λ (v : TimedWorld). Stacked from_anywhere w.watched.host v.watched.host)
+    (sym (one_more every (with_new_timer (host_without_watches h)) n))
     (round_keeps every w (timed_reached every h n sound keys)).calls
 
-pub timed_turn_calls : (every : ℕ) (h : HostWorld) (n : ℕ) → IsSound h.machine → HasKeys h → is_interrupt every (timed_rounds every h n) ≡ false →
+pub timed_turn_calls : (every : ℕ) (h : HostWorld) (n : ℕ) → IsSound h.machine → HasKeys h →
+    is_interrupt every (timed_rounds every h n) ≡ false →
     Stacked from_client (timed_turns every h n) (timed_turns every h (n + 1))
 timed_turn_calls every h n sound keys off =
     let w = timed_rounds every h n in
-    subst (λ (v : TimedWorld). Stacked from_client w.watched.host v.watched.host) (sym (one_more every (with_new_timer (host_without_watches h)) n))
+    subst (λ (v : TimedWorld). Stacked from_client w.watched.host v.watched.host)
+    (sym (one_more every (with_new_timer (host_without_watches h)) n))
     (round_clients every w (timed_reached every h n sound keys) off)
 
 -- the record that such a round adds is one of the client's
-pub pushed_by : (w v : HostWorld) (r : Record) → v.machine.calls ≡ w.machine.calls ++ r ∷ [] → Stacked from_client w v → PushesRecord from_client w r v
+pub pushed_by : (w v : HostWorld) (r : Record) → v.machine.calls ≡ w.machine.calls ++ r ∷ [] → Stacked from_client w v →
+    PushesRecord from_client w r v
 pushed_by w v r is (kept same) = absurd (let e = ap length (sym same ∙ is) in let more = length_push w.machine.calls r in omega arith)
 pushed_by w v r is (pushed s e pushes) =
     let same = (same_from_push w.machine.calls w.machine.calls s r (sym e ∙ is)).1 in
     subst (λ (x : Record). PushesRecord from_client w x v) same pushes
 pushed_by w v r is (popped s e pops) =
-    absurd (let less = ap length e in let one = length_push v.machine.calls s in let more = length_push w.machine.calls r in let all = ap length is in omega arith)
+    absurd (let less = ap length e in let one = length_push v.machine.calls s in let more = length_push w.machine.calls r in
+    let all = ap length is in omega arith)
 
-abbrev pub clients_match : (every : ℕ) (h : HostWorld) (i j : ℕ) → IsSound h.machine → HasKeys h → is_interrupt every (timed_rounds every h i) ≡ false →
+abbrev pub clients_match : (every : ℕ) (h : HostWorld) (i j : ℕ) → IsSound h.machine → HasKeys h →
+    is_interrupt every (timed_rounds every h i) ≡ false →
     (m : IsHandedOver from_anywhere (timed_turns every h) i j) → IsHandedOver from_client (timed_turns every h) i j
 clients_match every h i j sound keys off m = record {
   innermost = m.innermost;

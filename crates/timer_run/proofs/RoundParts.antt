@@ -5,14 +5,10 @@ use Rattle.client_world.specs.declared.outcome.Exit.{Exit}
 use Rattle.client_world.specs.WatchWorld.{WatchWorld}
 use Rattle.client_world.specs.World.{HostWorld}
 use Rattle.host_run.specs.Footprint.{ChangesOnly, Footprint, unsaid}
-use Rattle.timer_run.specs.Rounds.{TimedWorld, after_part, round_footprint, round_with_timer, timer_of}
+use Rattle.timer_run.specs.Rounds.{TimedWorld, after_part, round_footprint, round_with_timer, timed, timer_of}
 use Rattle.timer_run.specs.Timer.{TimerPart, TimerState, timer_answer, timer_part}
 use Rattle.timer_run.proofs.Parts.{answered_exit, answered_on, part_ended, part_over, part_passed, part_was_on}
 use Rattle.watch_run.specs.Turn.{turn_with_watchpoints, watch_footprint}
-
--- a timer with a host and its watchpoints
-abbrev pub timed : TimerState → WatchWorld → TimedWorld
-timed t w = record { watched = w; count = t.count; waits = t.waits }
 
 -- ---- after an exit, and without one
 
@@ -21,7 +17,8 @@ round_is : (every : ℕ) (w : TimedWorld) (o : Option Exit) → w.watched.host.e
     ≡ elim o as (λ _. TimedWorld) [ Some _ ↦ w | None ↦ after_part w (timer_part (timer_of every w) w.watched.host) ]
 unfolding round_with_timer
 round_is every w o is =
-    ap (λ (x : Option Exit). elim x as (λ _. TimedWorld) [ Some _ ↦ w | None ↦ after_part w (timer_part (timer_of every w) w.watched.host) ]) is
+    ap (λ (x : Option Exit).
+    elim x as (λ _. TimedWorld) [ Some _ ↦ w | None ↦ after_part w (timer_part (timer_of every w) w.watched.host) ]) is
 
 pub round_over : (every : ℕ) (w : TimedWorld) (exit : Exit) → w.watched.host.exit ≡ Some exit → round_with_timer every w ≡ w
 round_over every w exit is = round_is every w (Some exit) is
@@ -45,7 +42,8 @@ answered_round t w taken answer =
     let is = answered_on p taken answer in
     round_on t.every (timed t w) (part_was_on t w.host is.0) ∙ after_taken (timed t w) p taken is.1
 
-ended_by : (t : TimerState) (w : WatchWorld) (exit : Exit) (o : Option Exit) → w.host.exit ≡ o → (timer_part t w.host).host.exit ≡ Some exit →
+ended_by : (t : TimerState) (w : WatchWorld) (exit : Exit) (o : Option Exit) → w.host.exit ≡ o →
+    (timer_part t w.host).host.exit ≡ Some exit →
     let p = timer_part t w.host in round_with_timer t.every (timed t w) ≡ timed p.timer (record w { host = p.host })
 ended_by t w exit (Some other) is ended =
     round_over t.every (timed t w) other is
@@ -59,7 +57,8 @@ part_made : (p : TimerPart) (w : WatchWorld) (t : TimerState) (h : HostWorld) �
 part_made p w t h timer host =
     ap (λ (u : TimerState). timed u (record w { host = h })) timer ∙ ap (λ (g : HostWorld). timed p.timer (record w { host = g })) host
 
-pub interrupt_made : (t next : TimerState) (w : WatchWorld) (h : HostWorld) → next ≡ (timer_part t w.host).timer → h ≡ (timer_part t w.host).host →
+pub interrupt_made : (t next : TimerState) (w : WatchWorld) (h : HostWorld) → next ≡ (timer_part t w.host).timer →
+    h ≡ (timer_part t w.host).host →
     Ok true ≡ timer_answer (timer_part t w.host) → timed next (record w { host = h }) ≡ round_with_timer t.every (timed t w)
 interrupt_made t next w h timer host answer = part_made (timer_part t w.host) w next h timer host ∙ sym (answered_round t w true answer)
 
@@ -71,7 +70,8 @@ exit_made t next w h exit timer host answer =
     ∙ sym (ended_by t w exit w.host.exit refl (answered_exit (timer_part t w.host) exit answer))
 
 -- the turn is made from the host as it was
-pub turn_from : (t : TimerState) (before h : HostWorld) → h ≡ (timer_part t before).host → Ok false ≡ timer_answer (timer_part t before) → h ≡ before
+pub turn_from : (t : TimerState) (before h : HostWorld) → h ≡ (timer_part t before).host →
+    Ok false ≡ timer_answer (timer_part t before) → h ≡ before
 turn_from t before h host answer = host ∙ part_passed t before (answered_on (timer_part t before) false answer).1
 
 pub turn_made : (t next : TimerState) (w : WatchWorld) (h : HostWorld) (after : WatchWorld) → next ≡ (timer_part t w.host).timer →
@@ -94,5 +94,6 @@ pub turn_changes : (t : TimerState) (w : WatchWorld) (h : HostWorld) (old before
     ChangesOnly (round_footprint t.every (timed t w)) old new
 turn_changes t w h old before new host answer same changes =
     subst (λ (f : Footprint). ChangesOnly f old new)
-    (ap (λ (g : HostWorld). watch_footprint (record w { host = g })) (turn_from t w.host h host answer) ∙ sym (turn_footprint_is t w answer))
+    (ap (λ (g : HostWorld). watch_footprint (record w { host = g })) (turn_from t w.host h host answer)
+    ∙ sym (turn_footprint_is t w answer))
     (subst (λ (b : List ℕ). ChangesOnly (watch_footprint (record w { host = h })) b new) same changes)

@@ -1,13 +1,13 @@
 -- A run: how it starts, one round after another, and how it ends.
-use Rattle.std.proofs.Common.{arith, ◌≡◌, ◌∙◌, ◌≤◌, ◌<◌, ◌+◌, ◌-◌, ℕ, zero, suc, false, None, Some, refl, sym, ap, subst, add-zero, add-suc, add-one}
+use Rattle.std.proofs.Common.{arith, ◌≡◌, ◌∙◌, ◌≤◌, ◌<◌, ◌+◌, ◌-◌, ℕ, zero, suc, false, None, Some, refl, sym, ap, subst, add-zero, add-suc}
+use Rattle.std.proofs.Common.{add-one}
 use Rattle.client_world.specs.declared.outcome.Exit.{Exit}
-use Rattle.client_world.specs.declared.outcome.Exit.TheVariants.{Bound}
 use Rattle.client_world.specs.WatchWorld.{WatchWorld, Watching, no_watches, host_without_watches}
 use Rattle.client_world.specs.World.{HostWorld}
 use Rattle.host_run.specs.Run.{with_bound_exit}
-use Rattle.timer_run.specs.Rounds.{TimedWorld, round_with_timer, rounds, timed_rounds, timed_run, with_new_timer}
+use Rattle.timer_run.specs.Rounds.{TimedWorld, round_with_timer, rounds, timed, timed_rounds, timed_run, with_new_timer}
 use Rattle.timer_run.specs.Timer.{TimerState}
-use Rattle.timer_run.proofs.RoundParts.{round_over, timed}
+use Rattle.timer_run.proofs.RoundParts.{round_over}
 
 -- ---- its start
 
@@ -50,9 +50,6 @@ rounds_past every w i n exit le is =
 bounded_ended : (h : HostWorld) (exit : Exit) → h.exit ≡ Some exit → with_bound_exit h ≡ h
 bounded_ended h exit is = rw is refl
 
-pub bounded_exit : (h : HostWorld) → h.exit ≡ None → (with_bound_exit h).exit ≡ Some Bound
-bounded_exit h is = rw is refl
-
 -- a run that ends with round i + 1 is over there
 pub run_ended : (every : ℕ) (h : HostWorld) (n i : ℕ) (exit : Exit) (last : TimedWorld) → last ≡ timed_rounds every h (i + 1) → i < n →
     last.watched.host.exit ≡ Some exit → last.watched.host ≡ timed_run every h n
@@ -68,8 +65,3 @@ pub run_bounded : (every : ℕ) (h : HostWorld) (n i : ℕ) (last : TimedWorld) 
     with_bound_exit last.watched.host ≡ timed_run every h n
 unfolding timed_run
 run_bounded every h n i last is all = ap (λ (w : TimedWorld). with_bound_exit w.watched.host) (is ∙ ap (timed_rounds every h) all)
-
--- the same where its last round ends it
-pub run_over : (every : ℕ) (h : HostWorld) (n i : ℕ) (exit : Exit) (last : TimedWorld) → last ≡ timed_rounds every h i → i ≡ n →
-    last.watched.host.exit ≡ Some exit → last.watched.host ≡ timed_run every h n
-run_over every h n i exit last is all ends = sym (bounded_ended last.watched.host exit ends) ∙ run_bounded every h n i last is all

@@ -1,10 +1,14 @@
 -- Rounds of a run with a timer. Each is the timer's part, and a turn with watchpoints where that part wasn't the whole round. Source: own.
 use Rattle.std.specs.Prelude.{ℕ, zero, suc, Bool, false, List, [], if◌then◌else◌, None, Some}
+use Rattle.std.specs.declared.result.Result.{Result}
+use Rattle.client_world.specs.declared.outcome.Exit.{Exit}
 use Rattle.client_world.specs.declared.place.Place.{Place}
-use Rattle.client_world.specs.WatchWorld.{WatchWorld, host_without_watches}
+use Rattle.client_world.specs.WatchWorld.{WatchWorld, Watching, host_without_watches}
 use Rattle.client_world.specs.World.{HostWorld}
 use Rattle.host_run.specs.Footprint.{Footprint, unsaid}
+use Rattle.host_run.specs.MakesTurn.{MakesTurn}
 use Rattle.host_run.specs.Run.{with_bound_exit}
+use Rattle.host_run.specs.View.{HostView}
 use Rattle.timer_run.specs.Timer.{TimerPart, TimerState, timer_part}
 use Rattle.watch_run.specs.Turn.{touched_by_watch_turn, turn_with_watchpoints, watch_footprint}
 
@@ -17,6 +21,10 @@ pub record TimedWorld : Type 0 where
 -- before the first round
 abbrev pub with_new_timer : WatchWorld → TimedWorld
 with_new_timer w = record { watched = w; count = 0; waits = false }
+
+-- a timer with a host and its watchpoints
+abbrev pub timed : TimerState → WatchWorld → TimedWorld
+timed t w = record { watched = w; count = t.count; waits = t.waits }
 
 -- its timer
 abbrev pub timer_of : ℕ → TimedWorld → TimerState
@@ -55,6 +63,13 @@ touched_by_round every w = if is_interrupt every w then [] else touched_by_watch
 -- the bytes of the memory that a round may change: where it is the interrupt nothing is said; otherwise those of the turn
 abbrev pub round_footprint : ℕ → TimedWorld → Footprint
 round_footprint every w = if is_interrupt every w then unsaid else watch_footprint w.watched
+
+-- such a round, of a host with these watchpoints and this timer before and after it
+abbrev pub MakesRound : HostView → HostView → Watching → Watching → TimerState → TimerState → Result (Unit {0}) Exit → Type 0
+MakesRound old new watching watching_after timer timer_after result =
+    let w = timed timer (record { host = old.world; watching = watching }) in
+    let after = timed timer_after (record { host = new.world; watching = watching_after }) in
+    MakesTurn old new result after (round_with_timer timer.every w) (round_footprint timer.every w)
 
 -- ---- from a host whose client has set no watchpoint
 

@@ -8,14 +8,15 @@ ghost use Rattle.host_run.specs.HandOver.{HandsOver};
 ghost use Rattle.host_run.specs.Keys.{HasKeys};
 ghost use Rattle.host_run.specs.Nested.{IsHandedOver, Stacked};
 ghost use Rattle.host_run.specs.RealCalls.{from_anywhere, from_client};
-ghost use Rattle.timer_run.specs.Rounds.{TimedWorld, is_interrupt, round_with_timer, timed_rounds, timed_run, timed_turns, touched_by_round};
+ghost use Rattle.timer_run.specs.Rounds.{TimedWorld, is_interrupt, round_with_timer, timed_rounds, timed_run, timed_turns};
+ghost use Rattle.timer_run.specs.Rounds.{touched_by_round};
 ghost use Rattle.timer_run.specs.Timer.{TimerState as ATimer, timer_part};
 
 use host_run::every_nested_call_hands_over;
 use watch_run::every_touch_of_a_watched_turn_is_held;
 
-/// The timer's part of a round leads from a sound host to a sound host. So does a round, and the keystrokes stay bytes. So do the rounds of a
-/// run, and the whole run.
+/// The timer's part of a round leads from a sound host to a sound host. So does a round, and the keystrokes stay bytes. So do the rounds of
+/// a run, and the whole run.
 pub fn every_round_is_sound()
     ensures part { (t : ATimer) (h : HostWorld) → IsSoundHost h → HasKeys h → IsSoundHost (timer_part t h).host }
     ensures round { (every : ℕ) (w : TimedWorld) → IsSoundHost w.watched.host → HasKeys w.watched.host →
@@ -35,7 +36,8 @@ pub fn every_round_changes_the_innermost_record_at_most()
         Stacked from_anywhere (timed_turns every h n) (timed_turns every h (n + 1)) }
     ensures turn { (every : ℕ) (w : TimedWorld) → IsSound w.watched.host.machine → HasKeys w.watched.host → is_interrupt every w ≡ false →
         Stacked from_client w.watched.host (round_with_timer every w).watched.host }
-    ensures turns { (every : ℕ) (h : HostWorld) (n : ℕ) → IsSound h.machine → HasKeys h → is_interrupt every (timed_rounds every h n) ≡ false →
+    ensures turns { (every : ℕ) (h : HostWorld) (n : ℕ) → IsSound h.machine → HasKeys h →
+        is_interrupt every (timed_rounds every h n) ≡ false →
         Stacked from_client (timed_turns every h n) (timed_turns every h (n + 1)) }
 {}
 
@@ -53,15 +55,19 @@ pub fn every_touch_of_a_round_is_held()
     every_touch_of_a_watched_turn_is_held();
 }
 
-/// Of two rounds of a run of which the second takes away the record that the first added, each call, reflection, callback and exception hands over what
-/// it should. So does each interrupt of the timer that is reflected. Where the first of the two isn't the timer's interrupt, a reflection is of the
-/// client's own interrupt, whose frame is popped.
+/// Of two rounds of a run of which the second takes away the record that the first added, each call, reflection, callback and exception
+/// hands over what it should. So does each interrupt of the timer that is reflected. Where the first of the two isn't the timer's
+/// interrupt, a reflection is of the client's own interrupt, whose frame is popped.
 pub fn every_nested_call_of_a_timed_run_hands_over()
-    ensures any { (every : ℕ) (h : HostWorld) (i j : ℕ) → IsSound h.machine → HasKeys h → (m : IsHandedOver from_anywhere (timed_turns every h) i j) →
-        HandsOver from_anywhere (timed_turns every h i) (timed_turns every h (i + 1)) (timed_turns every h j) (timed_turns every h (j + 1)) m.innermost }
-    ensures turn { (every : ℕ) (h : HostWorld) (i j : ℕ) → IsSound h.machine → HasKeys h → (m : IsHandedOver from_anywhere (timed_turns every h) i j) →
+    ensures any { (every : ℕ) (h : HostWorld) (i j : ℕ) → IsSound h.machine → HasKeys h →
+        (m : IsHandedOver from_anywhere (timed_turns every h) i j) →
+        HandsOver from_anywhere (timed_turns every h i) (timed_turns every h (i + 1)) (timed_turns every h j) (timed_turns every h (j + 1))
+        m.innermost }
+    ensures turn { (every : ℕ) (h : HostWorld) (i j : ℕ) → IsSound h.machine → HasKeys h →
+        (m : IsHandedOver from_anywhere (timed_turns every h) i j) →
         is_interrupt every (timed_rounds every h i) ≡ false →
-        HandsOver from_client (timed_turns every h i) (timed_turns every h (i + 1)) (timed_turns every h j) (timed_turns every h (j + 1)) m.innermost }
+        HandsOver from_client (timed_turns every h i) (timed_turns every h (i + 1)) (timed_turns every h j) (timed_turns every h (j + 1))
+        m.innermost }
 {
     every_nested_call_hands_over();
 }

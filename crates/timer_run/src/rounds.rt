@@ -1,10 +1,9 @@
 // Rounds of a run with a timer, and runs.
-ghost use Rattle.std.specs.Prelude.{◌≡◌, ◌≤◌, ◌<◌, ◌+◌, IfErr, OnOk, None, Some, Err};
+ghost use Rattle.std.specs.Prelude.{◌≡◌, ◌≤◌, ◌<◌, ◌+◌, None, Some};
 ghost use Rattle.client_world.specs.declared.limits.TheConstants.{GREATEST_TIMER, MAX_STEPS};
-ghost use Rattle.host_run.specs.Footprint.{ChangesOnly};
 ghost use Rattle.host_run.specs.View.{machine_view};
 ghost use Rattle.host_run.specs.Windows.{HasWindow};
-ghost use Rattle.timer_run.specs.Rounds.{round_footprint, round_with_timer, timed_run};
+ghost use Rattle.timer_run.specs.Rounds.{MakesRound, timed_run};
 
 use crate::timer::Timer;
 use client_world::Exit;
@@ -21,21 +20,8 @@ fn round_in(
 ) -> Result<(), Ending>
     requires room { host.old.world.exit ≡ None → host.old.world.steps < MAX_STEPS }
     requires window { HasWindow (machine_view host.old) window.old }
-    ensures world { record {
-      watched = record { host = host.new.world; watching = watches.new };
-      count = timer.new.count;
-      waits = timer.new.waits;
-    } ≡ round_with_timer timer.old.every
-        (record { watched = record { host = host.old.world; watching = watches.old }; count = timer.old.count; waits = timer.old.waits }) }
+    ensures round { MakesRound host.old host.new watches.old watches.new timer.old timer.new result }
     ensures every { timer.new.every ≡ timer.old.every }
-    ensures bytes { ChangesOnly (round_footprint timer.old.every
-        (record { watched = record { host = host.old.world; watching = watches.old }; count = timer.old.count; waits = timer.old.waits }))
-        host.old.bytes host.new.bytes }
-    ensures kept { IfErr result (λ _. host.new.bytes ≡ host.old.bytes) }
-    ensures goes_on { OnOk result (host.new.world.exit ≡ None) }
-    ensures ends { IfErr result (λ exit. host.new.world.exit ≡ Some exit) }
-    ensures steps { host.new.world.steps ≤ host.old.world.steps + 1 }
-    ensures was_on { host.new.world.exit ≡ None → host.old.world.exit ≡ None }
     ensures window { HasWindow (machine_view host.new) window.new }
 {
     match timer.before(host) {
@@ -51,29 +37,16 @@ fn round_in(
     }
 }
 
-/// One round: the timer's part, and a turn with the client's watchpoints where that part wasn't the whole round. After an exit it returns that exit
-/// again and changes nothing. Source: own.
+/// One round: the timer's part, and a turn with the client's watchpoints where that part wasn't the whole round. After an exit it returns
+/// that exit again and changes nothing. Source: own.
 pub fn round_with_timer(
     host: &mut Host,
     watches: &mut Watches,
     timer: &mut Timer,
 ) -> Result<(), Exit>
     requires { host.old.world.exit ≡ None → host.old.world.steps < MAX_STEPS }
-    ensures world { record {
-      watched = record { host = host.new.world; watching = watches.new };
-      count = timer.new.count;
-      waits = timer.new.waits;
-    } ≡ round_with_timer timer.old.every
-        (record { watched = record { host = host.old.world; watching = watches.old }; count = timer.old.count; waits = timer.old.waits }) }
+    ensures round { MakesRound host.old host.new watches.old watches.new timer.old timer.new result }
     ensures every { timer.new.every ≡ timer.old.every }
-    ensures bytes { ChangesOnly (round_footprint timer.old.every
-        (record { watched = record { host = host.old.world; watching = watches.old }; count = timer.old.count; waits = timer.old.waits }))
-        host.old.bytes host.new.bytes }
-    ensures kept { IfErr result (λ _. host.new.bytes ≡ host.old.bytes) }
-    ensures goes_on { OnOk result (host.new.world.exit ≡ None) }
-    ensures ends { IfErr result (λ exit. host.new.world.exit ≡ Some exit) }
-    ensures steps { host.new.world.steps ≤ host.old.world.steps + 1 }
-    ensures was_on { host.new.world.exit ≡ None → host.old.world.exit ≡ None }
 {
     let mut window = CodeWindow::NONE;
     match round_in(host, watches, timer, &mut window) {
@@ -82,8 +55,8 @@ pub fn round_with_timer(
     }
 }
 
-/// Rounds up to an exit, or as many as the bound, with the exit `Bound` then; from a host whose client has set no watchpoint. The timer's interrupt
-/// becomes due every `every` rounds, from 1 to 1,000,000,000. Source: own.
+/// Rounds up to an exit, or as many as the bound, with the exit `Bound` then; from a host whose client has set no watchpoint. The timer's
+/// interrupt becomes due every `every` rounds, from 1 to 1,000,000,000. Source: own.
 pub fn timed_run(host: &mut Host, every: u32, bound: u32) -> Exit
     requires some { 0 < every }
     requires most { every ≤ GREATEST_TIMER }
@@ -99,11 +72,5 @@ pub fn timed_run(host: &mut Host, every: u32, bound: u32) -> Exit
             return ending.exit();
         }
     }
-    match host.exit() {
-        Some(exit) => exit,
-        None => {
-            host.stop_bound();
-            Exit::Bound
-        }
-    }
+    host.end_run()
 }

@@ -72,8 +72,8 @@ impl Timer {
         }
     }
 
-    /// The timer's part of a round: whether the round was its interrupt, or the turn is still to be made; or the exit that ended the run. After an
-    /// exit nothing changes. The memory changes only where the interrupt was taken.
+    /// The timer's part of a round: whether the round was its interrupt, or the turn is still to be made; or the exit that ended the run.
+    /// After an exit nothing changes. The memory changes only where the interrupt was taken.
     #[tactic(auto, unfolding(crate::specs::Timer::timer_part))]
     pub fn before(&mut self, host: &mut Host) -> Result<bool, Exit>
         requires { host.old.world.exit ≡ None → host.old.world.steps < MAX_STEPS }

@@ -1,5 +1,6 @@
 -- Hits, one touch and one handle after another.
-use Rattle.std.proofs.Common.{◌≡◌, ℕ, suc, ◌+◌, ◌-◌, ◌*◌, ◌^◌, ◌<◌, ◌≤◌, Bool, true, false, List, [], ◌∷◌, None, Option, refl, ap, ◌∙◌, drop, length, arith}
+use Rattle.std.proofs.Common.{◌≡◌, ℕ, suc, ◌+◌, ◌-◌, ◌*◌, ◌^◌, ◌<◌, ◌≤◌, Bool, true, false, List, [], ◌∷◌, None, Option, refl, ap, ◌∙◌}
+use Rattle.std.proofs.Common.{drop, length, arith}
 use Rattle.std.specs.Prelude.{slice_index_or, cond, ◌||◌}
 use Rattle.std.proofs.lemmas.List.{drop_all, length-drop}
 use Rattle.std.proofs.Math.Seq.{drop-cons}
@@ -103,5 +104,6 @@ bits_all at touched slots k done =
     let none : 16 - k ≡ 0 = omega arith in
     ap (λ (n : ℕ). hit_bits at touched (drop n slots)) none
 
-pub bits_start : (at : ℕ) (touched : Option (List Touch)) (slots : List (Option Watch)) → length slots ≡ 16 → hit_bits at touched (drop (16 - 0) slots) ≡ 0
+pub bits_start : (at : ℕ) (touched : Option (List Touch)) (slots : List (Option Watch)) → length slots ≡ 16 →
+    hit_bits at touched (drop (16 - 0) slots) ≡ 0
 bits_start at touched slots all = ap (hit_bits at touched) (drop_all 16 slots (omega (arith, all))) ∙ bits_nil at touched

@@ -31,7 +31,8 @@ unfolding next_touches client_step
 none_is_an_event law v e = none_by law v (decoded (has_big_code v.world) (code v.world)) e
 
 abbrev pub SomeLaw : Type 0
-SomeLaw = (v : MachineView) (act : Act) (list : List Touch) → touches v.world act ≡ Some list → IsOk (after_plan v (plan_result v.world act))
+SomeLaw = (v : MachineView) (act : Act) (list : List Touch) → touches v.world act ≡ Some list →
+    IsOk (after_plan v (plan_result v.world act))
 
 some_by : SomeLaw → (v : MachineView) (d : Decoded) (list : List Touch) → touches_of_code v.world d ≡ Some list → IsOk (step_of v d)
 unfolding after_instruction
@@ -50,8 +51,10 @@ same_blocks : (w : World) (len : ℕ) (list : List Touch) → touch_places (with
 same_blocks w len [] = refl
 same_blocks w len (t ∷ rest) = ap (λ (more : List Place). places_from w.blocks t.lin t.len ++ more) (same_blocks w len rest)
 
-places_by : PlacesLaw → (w : World) (d : Decoded) (list : List Touch) → touches_of_code w d ≡ Some list → touched_by_decoded w d ≡ touch_places w list
-places_by law w (Whole insn len) list e = law (with_next_eip len w) (client_row (with_next_eip len w) insn len) list e ∙ same_blocks w len list
+places_by : PlacesLaw → (w : World) (d : Decoded) (list : List Touch) → touches_of_code w d ≡ Some list →
+    touched_by_decoded w d ≡ touch_places w list
+places_by law w (Whole insn len) list e = law (with_next_eip len w) (client_row (with_next_eip len w) insn len) list e
+    ∙ same_blocks w len list
 places_by law w More list e = cc
 places_by law w Invalid list e = cc
 

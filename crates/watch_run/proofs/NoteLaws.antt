@@ -1,5 +1,6 @@
 -- Hits noted, one handle after another.
-use Rattle.std.proofs.Common.{◌≡◌, ℕ, zero, suc, ◌+◌, ◌<◌, ◌≤◌, Bool, true, false, List, [], ◌∷◌, ◌++◌, None, Some, Option, refl, ap, sym, ◌∙◌, append_assoc, drop, take, length, arith}
+use Rattle.std.proofs.Common.{◌≡◌, ℕ, zero, suc, ◌+◌, ◌<◌, ◌≤◌, Bool, true, false, List, [], ◌∷◌, ◌++◌, None, Some, Option, refl, ap, sym}
+use Rattle.std.proofs.Common.{◌∙◌, append_assoc, drop, take, length, arith}
 use Rattle.std.specs.Prelude.{slice_index_or, slice_set, not, ◌&&◌, ◌||◌}
 use Rattle.std.proofs.lemmas.List.{append-nil, drop_all, drop-set-lt}
 use Rattle.std.proofs.Math.Seq.{drop-cons, take-suc-set}
@@ -43,7 +44,8 @@ slot_from slots i within =
 after_set : (slots : List (Option Watch)) (k : ℕ) (v : Option Watch) → drop (k + 1) (slice_set slots k v) ≡ drop (k + 1) slots
 after_set slots k v = drop-set-lt (k + 1) slots k v (omega arith)
 
-before_set : (slots : List (Option Watch)) (k : ℕ) (v : Option Watch) → k < length slots → take (k + 1) (slice_set slots k v) ≡ take k slots ++ v ∷ []
+before_set : (slots : List (Option Watch)) (k : ℕ) (v : Option Watch) → k < length slots →
+    take (k + 1) (slice_set slots k v) ≡ take k slots ++ v ∷ []
 before_set slots k v within =
     let next : k + 1 ≡ suc k = omega arith in
     ap (λ (n : ℕ). take n (slice_set slots k v)) next ∙ take-suc-set slots k v within
@@ -62,7 +64,8 @@ step_marked at touched slots k within =
     let joined = append_assoc (take k slots) (v ∷ []) rest in
     cc (front, back, here, joined)
 
-pub step_due : (at : ℕ) (touched : Option (List Touch)) (slots : List (Option Watch)) (k : ℕ) (due : Bool) (v : Option Watch) → k < length slots →
+pub step_due : (at : ℕ) (touched : Option (List Touch)) (slots : List (Option Watch)) (k : ℕ) (due : Bool) (v : Option Watch) →
+    k < length slots →
     ((due || is_first_hit at touched (slice_index_or slots k None)) || has_first_hit at touched (drop (k + 1) (slice_set slots k v)))
     ≡ (due || has_first_hit at touched (drop k slots))
 step_due at touched slots k due v within =

@@ -8,7 +8,8 @@ use Rattle.host_run.specs.Run.{with_bound_exit, run, turns}
 use Rattle.host_run.specs.Turn.{after_outcome, turn, with_turn_counted, work}
 use Rattle.watch_run.specs.Hits.{with_hits}
 use Rattle.watch_run.specs.Services.{watch_service}
-use Rattle.watch_run.specs.Turn.{after_watch_call, is_watch_call, run_with_watchpoints, turn_with_watchpoints, after_turn_or_call, turns_with_watchpoints, watches_after}
+use Rattle.watch_run.specs.Turn.{after_watch_call, is_watch_call, run_with_watchpoints, turn_with_watchpoints, after_turn_or_call}
+use Rattle.watch_run.specs.Turn.{turns_with_watchpoints, watches_after}
 
 nothing_watched : (w : World) → watches_after w no_watches ≡ no_watches
 unfolding watches_after with_hits
@@ -19,7 +20,8 @@ abbrev turn_by : Option Exit → HostWorld → HostWorld
 turn_by None h = after_outcome (work (with_turn_counted h))
 turn_by (Some exit) h = h
 
-turn_is : (o : Option Exit) (h : HostWorld) → elim o as (λ _. HostWorld) [ Some _ ↦ h | None ↦ after_outcome (work (with_turn_counted h)) ] ≡ turn_by o h
+turn_is : (o : Option Exit) (h : HostWorld) → elim o as (λ _. HostWorld) [ Some _ ↦ h | None ↦ after_outcome (work (with_turn_counted h)) ]
+    ≡ turn_by o h
 turn_is None h = refl
 turn_is (Some exit) h = refl
 
@@ -37,9 +39,11 @@ by_exit (Some exit) h x e t = ap host_without_watches (sym t)
 by_call : (h : HostWorld) (served : WatchWorld) (b : Bool) → b ≡ false →
     (if b then served else record { host = turn h; watching = watches_after h.machine no_watches }) ≡ host_without_watches (turn h)
 by_call h served true e = cc
-by_call h served false e = ap (λ (s : Watching). let w : WatchWorld = record { host = turn h; watching = s } in w) (nothing_watched h.machine)
+by_call h served false e =
+    ap (λ (s : Watching). let w : WatchWorld = record { host = turn h; watching = s } in w) (nothing_watched h.machine)
 
-plain_turn : (h : HostWorld) → is_watch_call (int31_call h) ≡ false → turn_with_watchpoints (host_without_watches h) ≡ host_without_watches (turn h)
+plain_turn : (h : HostWorld) → is_watch_call (int31_call h) ≡ false →
+    turn_with_watchpoints (host_without_watches h) ≡ host_without_watches (turn h)
 unfolding turn_with_watchpoints
 plain_turn h none =
     let served = after_watch_call (host_without_watches h) (watch_service h.machine.regs no_watches) in

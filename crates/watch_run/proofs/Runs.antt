@@ -1,5 +1,6 @@
 -- Turns with watchpoints change nothing after an exit.
-use Rattle.std.proofs.Common.{arith, ◌≡◌, ◌≤◌, ◌<◌, ◌+◌, ◌-◌, ℕ, None, Some, Option, zero, suc, refl, sym, ◌∙◌, ap, subst, add-zero, add-suc}
+use Rattle.std.proofs.Common.{arith, ◌≡◌, ◌≤◌, ◌<◌, ◌+◌, ◌-◌, ℕ, None, Some, Option, zero, suc, refl, sym, ◌∙◌, ap, subst, add-zero}
+use Rattle.std.proofs.Common.{add-suc}
 use Rattle.std.specs.Prelude.{IsSome}
 use Rattle.client_world.specs.declared.outcome.Exit.{Exit}
 use Rattle.client_world.specs.WatchWorld.{WatchWorld}

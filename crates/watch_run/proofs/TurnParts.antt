@@ -46,7 +46,8 @@ no_call : (o : Option Exit) (w : World) → is_trap (current_trap w) ≡ false �
     is_watch_call (elim o as (λ _. Option ℕ) [ Some _ ↦ None | None ↦ int31_at w ]) ≡ false
 no_call (Some exit) w free = refl
 no_call None w free =
-    ap (λ (b : Bool). is_watch_call (if b && is_ok (world_after_iret w) then Some (low_half w.regs.eax) else None)) (no_int31 (current_trap w) free)
+    ap (λ (b : Bool). is_watch_call (if b && is_ok (world_after_iret w) then Some (low_half w.regs.eax) else None))
+    (no_int31 (current_trap w) free)
 
 pub not_called : (h : HostWorld) → is_trap (current_trap h.machine) ≡ false → is_watch_call (int31_call h) ≡ false
 unfolding int31_call
@@ -71,12 +72,14 @@ none_watched w s none = noted_none (instruction_address w) (turn_touches w) s no
 noted_event : (at : ℕ) (s : Watching) → with_hits at None s ≡ s
 unfolding with_hits
 noted_event at s =
-    ap (λ (ws : List (Option Watch)). let t : Watching = record { watches = ws; due = s.due || has_first_hit at None s.watches } in t) (marked_none at s.watches)
+    ap (λ (ws : List (Option Watch)). let t : Watching = record { watches = ws; due = s.due || has_first_hit at None s.watches } in t)
+    (marked_none at s.watches)
     ∙ ap (λ (b : Bool). let t : Watching = record { watches = s.watches; due = b } in t) (none_due at s.watches s.due)
 
 pub event_watched : (w : World) (s : Watching) → is_trap (current_trap w) ≡ true → watches_after w s ≡ s
 unfolding watches_after
-event_watched w s trap = ap (λ (b : Bool). with_hits (instruction_address w) (if b then None else next_touches w) s) trap ∙ noted_event (instruction_address w) s
+event_watched w s trap = ap (λ (b : Bool). with_hits (instruction_address w) (if b then None else next_touches w) s) trap
+    ∙ noted_event (instruction_address w) s
 
 -- ---- of two worlds that are one
 
@@ -93,10 +96,13 @@ served_steps h r c = (int31_quiet h r c).2
 
 -- ---- where an instruction runs, and where a function is served
 
-pub step_watched : (w : World) (s : Watching) → is_trap (current_trap w) ≡ false → with_hits (instruction_address w) (next_touches w) s ≡ watches_after w s
+pub step_watched : (w : World) (s : Watching) → is_trap (current_trap w) ≡ false →
+    with_hits (instruction_address w) (next_touches w) s ≡ watches_after w s
 unfolding watches_after
 step_watched w s free = sym (ap (λ (b : Bool). with_hits (instruction_address w) (if b then None else next_touches w) s) free)
 
-pub answered_by : (w : WatchWorld) (after : HostWorld) (r : Regs) (c : Carry) (s : Watching) (a : WatchAnswer) → after ≡ int31_turn w.host r c →
+pub answered_by : (w : WatchWorld) (after : HostWorld) (r : Regs) (c : Carry) (s : Watching) (a : WatchAnswer) →
+    after ≡ int31_turn w.host r c →
     record { regs = r; carry = c; watching = s } ≡ a → record { host = after; watching = s } ≡ after_watch_call w a
-answered_by w after r c s a same is = ap (λ (h : HostWorld). let x : WatchWorld = record { host = h; watching = s } in x) same ∙ ap (after_watch_call w) is
+answered_by w after r c s a same is = ap (λ (h : HostWorld). let x : WatchWorld = record { host = h; watching = s } in x) same
+    ∙ ap (after_watch_call w) is

@@ -1,5 +1,7 @@
--- What turns with watchpoints keep, count and write. Each is an exception that delivers a hit, a function that is served, or the host's own turn.
-use Rattle.std.proofs.Common.{arith, ◌≡◌, ◌∙◌, ◌≤◌, ◌+◌, ◌*◌, ℕ, zero, suc, Bool, true, false, ◌||◌, [], None, Some, Option, refl, ap, sym, subst, add-one}
+-- What turns with watchpoints keep, count and write. Each is an exception that delivers a hit, a function that is served, or the host's own
+-- turn.
+use Rattle.std.proofs.Common.{arith, ◌≡◌, ◌∙◌, ◌≤◌, ◌+◌, ◌*◌, ℕ, zero, suc, Bool, true, false, ◌||◌, [], None, Some, Option, refl, ap, sym}
+use Rattle.std.proofs.Common.{subst, add-one}
 use Rattle.std.specs.Prelude.{All, IsSome, if◌then◌else◌}
 use Rattle.std.proofs.lemmas.List.Elements.{All-nil}
 use Rattle.client_world.specs.declared.faults.TheConstants.{DEBUG}
@@ -22,13 +24,16 @@ use Rattle.host_run.proofs.Growth.{turn_console, turn_counted}
 use Rattle.host_run.proofs.OtherTurns.{bounded_sound, exception_keeps, exception_quiet, host_sound, int31_keeps_turn, int31_quiet, reached}
 use Rattle.host_run.proofs.TurnLaws.{IsReached, KeepsTurn, turn_keeps}
 use Rattle.watch_run.specs.Services.{watch_service}
-use Rattle.watch_run.specs.Turn.{after_watch_call, after_hit_exception, is_watch_call, delivers_hit, touched_by_watch_turn, turn_with_watchpoints, after_turn_or_call, turns_with_watchpoints, watches_after, watched_run, watched_turns}
+use Rattle.watch_run.specs.Turn.{after_watch_call, after_hit_exception, is_watch_call, delivers_hit, touched_by_watch_turn}
+use Rattle.watch_run.specs.Turn.{turn_with_watchpoints, after_turn_or_call, turns_with_watchpoints, watches_after, watched_run}
+use Rattle.watch_run.specs.Turn.{watched_turns}
 
 -- ---- what each kind of turn has, every turn has
 
 by_kind : (P : HostWorld → Type 0) (w : WatchWorld) (told called : Bool) → P (exception_turn w.host (fault_with DEBUG 0)) →
     ((r : Regs) (c : Carry) → P (int31_turn w.host r c)) → P (turn w.host) →
-    let after : WatchWorld = if told then after_hit_exception w else if called then after_watch_call w (watch_service w.host.machine.regs w.watching)
+    let after : WatchWorld = if told then after_hit_exception w else if called
+    then after_watch_call w (watch_service w.host.machine.regs w.watching)
     else record { host = turn w.host; watching = watches_after w.host.machine w.watching } in P after.host
 by_kind P w true called x y z = x
 by_kind P w false true x y z = let a = watch_service w.host.machine.regs w.watching in y a.regs a.carry
@@ -43,7 +48,8 @@ has : (P : HostWorld → Type 0) (w : WatchWorld) → P w.host → P (exception_
     ((r : Regs) (c : Carry) → P (int31_turn w.host r c)) → P (turn w.host) → P (turn_with_watchpoints w).host
 unfolding turn_with_watchpoints
 has P w same x y z =
-    by_exit P w (if delivers_hit w then after_hit_exception w else after_turn_or_call w) w.host.exit same (by_kind P w (delivers_hit w) (is_watch_call (int31_call w.host)) x y z)
+    by_exit P w (if delivers_hit w then after_hit_exception w else after_turn_or_call w) w.host.exit same
+    (by_kind P w (delivers_hit w) (is_watch_call (int31_call w.host)) x y z)
 
 -- ---- the exit, the count of turns and the console
 
@@ -52,10 +58,12 @@ is_some None some = cc
 is_some (Some e) some = (e, refl)
 
 turn_is : (w : WatchWorld) (o : Option Exit) → w.host.exit ≡ o →
-    turn_with_watchpoints w ≡ elim o as (λ _. WatchWorld) [ Some _ ↦ w | None ↦ if delivers_hit w then after_hit_exception w else after_turn_or_call w ]
+    turn_with_watchpoints w
+    ≡ elim o as (λ _. WatchWorld) [ Some _ ↦ w | None ↦ if delivers_hit w then after_hit_exception w else after_turn_or_call w ]
 unfolding turn_with_watchpoints
 turn_is w o is =
-    ap (λ (x : Option Exit). elim x as (λ _. WatchWorld) [ Some _ ↦ w | None ↦ if delivers_hit w then after_hit_exception w else after_turn_or_call w ]) is
+    ap (λ (x : Option Exit).
+    elim x as (λ _. WatchWorld) [ Some _ ↦ w | None ↦ if delivers_hit w then after_hit_exception w else after_turn_or_call w ]) is
 
 -- a world with an exit stays as it is
 pub stays : (w : WatchWorld) → IsSome w.host.exit → turn_with_watchpoints w ≡ w
@@ -65,7 +73,8 @@ stays w some = let ended = is_some w.host.exit some in turn_is w (Some ended.0) 
 pub counts : (w : WatchWorld) → w.host.exit ≡ None → (turn_with_watchpoints w).host.steps ≡ w.host.steps + 1
 counts w none =
     ap (λ (v : WatchWorld). v.host.steps) (turn_is w None none)
-    ∙ by_kind (λ h. h.steps ≡ w.host.steps + 1) w (delivers_hit w) (is_watch_call (int31_call w.host)) (exception_quiet w.host (fault_with DEBUG 0)).2
+    ∙ by_kind (λ h. h.steps ≡ w.host.steps + 1) w (delivers_hit w) (is_watch_call (int31_call w.host))
+    (exception_quiet w.host (fault_with DEBUG 0)).2
     (λ r c. (int31_quiet w.host r c).2) (turn_counted w.host none)
 
 same_console : (w after : HostWorld) → after.console ≡ w.console → Extends w.console after.console
@@ -137,7 +146,8 @@ pub one_more : (w : WatchWorld) (n : ℕ) → turns_with_watchpoints w (n + 1) �
 unfolding turns_with_watchpoints
 one_more w n = rw add-one refl
 
-pub turns_calls : (h : HostWorld) (n : ℕ) → IsSound h.machine → HasKeys h → Stacked from_client (watched_turns h n) (watched_turns h (n + 1))
+pub turns_calls : (h : HostWorld) (n : ℕ) → IsSound h.machine → HasKeys h →
+    Stacked from_client (watched_turns h n) (watched_turns h (n + 1))
 turns_calls h n sound keys =
     let w = turns_with_watchpoints (host_without_watches h) n in
     subst (λ (x : WatchWorld). Stacked from_client w.host x.host) (sym (one_more (host_without_watches h) n))
@@ -145,7 +155,8 @@ turns_calls h n sound keys =
 
 -- ---- what is touched
 
-touched_by : (h : HostWorld) (other : Bool) → All (IsHeld h.machine) (touched_by_turn h) → All (IsHeld h.machine) (if other then [] else touched_by_turn h)
+touched_by : (h : HostWorld) (other : Bool) → All (IsHeld h.machine) (touched_by_turn h) →
+    All (IsHeld h.machine) (if other then [] else touched_by_turn h)
 touched_by h true held = All-nil (IsHeld h.machine)
 touched_by h false held = held
 

@@ -53,7 +53,8 @@ with_watch handle watch w = record w { watches = slice_set w.watches (handle - 1
 
 abbrev pub with_new_watch : Regs → Watching → Option ℕ → WatchAnswer
 with_new_watch r w None = watch_refused HandleUnavailable r w
-with_new_watch r w (Some handle) = watch_served (record r { ebx = with_low_half r.ebx handle }) (with_watch handle (Some (described_watch r)) w)
+with_new_watch r w (Some handle) =
+    watch_served (record r { ebx = with_low_half r.ebx handle }) (with_watch handle (Some (described_watch r)) w)
 
 -- 0B00h: a watchpoint on DL bytes at BX:CX, of the kind DH; BX becomes its handle, the lowest that is free
 unfoldable pub set_watch : Regs → Watching → WatchAnswer
@@ -80,7 +81,8 @@ watch_state r w = if_held r w (watch_in_bx r w) (λ watch. watch_served (record 
 
 -- 0B03h: it counts as not hit
 unfoldable pub reset_watch : Regs → Watching → WatchAnswer
-reset_watch r w = if_held r w (watch_in_bx r w) (λ watch. watch_served r (with_watch (low_half r.ebx) (Some (record watch { hit = false })) w))
+reset_watch r w =
+    if_held r w (watch_in_bx r w) (λ watch. watch_served r (with_watch (low_half r.ebx) (Some (record watch { hit = false })) w))
 
 -- the functions
 abbrev pub is_watch_function : ℕ → Bool

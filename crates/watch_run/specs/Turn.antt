@@ -1,7 +1,8 @@
--- One turn of a host with watchpoints, and runs. A hit sets the watchpoint's status, and in protected mode raises exception 1 in a turn of its
--- own after the instruction; one in real mode waits for protected mode. Source: own.
+-- One turn of a host with watchpoints, and runs. A hit sets the watchpoint's status, and in protected mode raises exception 1 in a turn of
+-- its own after the instruction; one in real mode waits for protected mode. Source: own.
 use Rattle.std.specs.Prelude.{ℕ, zero, suc, Bool, true, false, ◌&&◌, ◌||◌, List, [], if◌then◌else◌, None, Some}
 use Rattle.std.specs.declared.option.Option.{Option}
+use Rattle.std.specs.declared.result.Result.{Result}
 use Rattle.client_world.specs.declared.faults.TheConstants.{DEBUG}
 use Rattle.client_world.specs.declared.outcome.Exit.{Exit}
 use Rattle.client_world.specs.declared.registers.Mode.TheVariants.{Real, Protected}
@@ -12,10 +13,12 @@ use Rattle.client_world.specs.WatchWorld.{WatchWorld, Watching, host_without_wat
 use Rattle.client_world.specs.World.{HostWorld, World}
 use Rattle.host_run.specs.Footprint.{Footprint, at_places, delivery_footprint, turn_footprint}
 use Rattle.host_run.specs.OtherTurns.{exception_turn, int31_call, int31_turn}
+use Rattle.host_run.specs.MakesTurn.{MakesTurn}
 use Rattle.host_run.specs.Run.{with_bound_exit}
 use Rattle.host_run.specs.Touched.{touched_by_turn}
 use Rattle.host_run.specs.Traps.{current_trap, is_trap}
 use Rattle.host_run.specs.Turn.{turn}
+use Rattle.host_run.specs.View.{HostView}
 use Rattle.watch_run.specs.Hits.{instruction_address, next_touches, with_hits}
 use Rattle.watch_run.specs.Services.{WatchAnswer, is_watch_function, watch_service}
 
@@ -63,7 +66,8 @@ turn_with_watchpoints w = elim w.host.exit [
   | None ↦ if delivers_hit w then after_hit_exception w else after_turn_or_call w
 ]
 
--- the bytes of the memory that it may change, by the exit that there is, whether a hit is delivered, and whether a function on watchpoints is served
+-- the bytes of the memory that it may change, by the exit that there is, whether a hit is delivered, and whether a function on watchpoints
+-- is served
 abbrev pub footprint_by : Option Exit → Bool → Bool → HostWorld → Footprint
 footprint_by (Some exit) delivers serves h = at_places []
 footprint_by None true serves h = delivery_footprint Protected h.machine
@@ -72,6 +76,13 @@ footprint_by None false false h = turn_footprint h
 
 abbrev pub watch_footprint : WatchWorld → Footprint
 watch_footprint w = footprint_by w.host.exit (delivers_hit w) (is_watch_call (int31_call w.host)) w.host
+
+-- such a turn, of a host with these watchpoints before and after it
+abbrev pub MakesWatchedTurn : HostView → HostView → Watching → Watching → Result (Unit {0}) Exit → Type 0
+MakesWatchedTurn old new watching watching_after result =
+    let w : WatchWorld = record { host = old.world; watching = watching } in
+    let after : WatchWorld = record { host = new.world; watching = watching_after } in
+    MakesTurn old new result after (turn_with_watchpoints w) (watch_footprint w)
 
 -- ---- runs
 

@@ -138,7 +138,9 @@ fn is_first_hit(at: u32, touches: &[Touch], slot: Option<Watch>) -> bool
 impl Watches {
     /// Sets the status of each watchpoint that the instruction at CS:EIP hits. A hit is due where the status of one was clear.
     #[inline(never)]
-    #[tactic(auto, unfolding(crate::specs::Hits::with_hits), using(crate::proofs::NoteLaws::marked_none, crate::proofs::NoteLaws::none_due, crate::proofs::NoteLaws::step_marked, crate::proofs::NoteLaws::step_due, crate::proofs::NoteLaws::end_marked, crate::proofs::NoteLaws::end_due))]
+    #[tactic(auto, unfolding(crate::specs::Hits::with_hits), using(crate::proofs::NoteLaws::marked_none, //
+    crate::proofs::NoteLaws::none_due, crate::proofs::NoteLaws::step_marked, crate::proofs::NoteLaws::step_due, //
+    crate::proofs::NoteLaws::end_marked, crate::proofs::NoteLaws::end_due))]
     pub(crate) fn note_hits(&mut self, m: &Machine)
         ensures { self.new ≡ with_hits (instruction_address m.now.world) (next_touches m.now.world) self.old }
     {
@@ -155,7 +157,8 @@ impl Watches {
     }
 
     /// The handles that the instruction at CS:EIP hits: bit h − 1 is set exactly for each such handle h.
-    #[tactic(auto, using(crate::proofs::HitLaws::bits_none, crate::proofs::HitLaws::bits_start, crate::proofs::HitLaws::bits_next, crate::proofs::HitLaws::bits_room, crate::proofs::HitLaws::bits_all))]
+    #[tactic(auto, using(crate::proofs::HitLaws::bits_none, crate::proofs::HitLaws::bits_start, crate::proofs::HitLaws::bits_next, //
+    crate::proofs::HitLaws::bits_room, crate::proofs::HitLaws::bits_all))]
     pub fn hits(&self, m: &Machine) -> u16
         ensures { result ≡ hits m.now.world self.now.watches }
     {

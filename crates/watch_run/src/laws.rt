@@ -17,7 +17,8 @@ ghost use Rattle.host_run.specs.OtherTurns.{int31_call};
 ghost use Rattle.host_run.specs.RealCalls.{from_client};
 ghost use Rattle.host_run.specs.Run.{run, turns};
 ghost use Rattle.watch_run.specs.Hits.{next_touches};
-ghost use Rattle.watch_run.specs.Turn.{is_watch_call, run_with_watchpoints, touched_by_watch_turn, turn_with_watchpoints, watched_run, watched_turns};
+ghost use Rattle.watch_run.specs.Turn.{is_watch_call, run_with_watchpoints, touched_by_watch_turn, turn_with_watchpoints, watched_run};
+ghost use Rattle.watch_run.specs.Turn.{watched_turns};
 
 use cpu_step::{every_touch_is_an_access, only_an_event_has_no_touches};
 use host_run::{every_nested_call_hands_over, every_touch_is_held};
@@ -28,7 +29,8 @@ pub fn a_run_without_watchpoints_is_the_hosts_run()
         run_with_watchpoints (host_without_watches h) n ≡ host_without_watches (run h n) }
 {}
 
-/// A turn with watchpoints leads from a sound host to a sound host, and the keystrokes stay bytes. So do the turns of a run, and the whole run.
+/// A turn with watchpoints leads from a sound host to a sound host, and the keystrokes stay bytes. So do the turns of a run, and the whole
+/// run.
 pub fn every_watched_turn_is_sound()
     ensures turn { (w : WatchWorld) → IsSoundHost w.host → HasKeys w.host → IsSoundHost (turn_with_watchpoints w).host }
     ensures keys { (w : WatchWorld) → IsSound w.host.machine → HasKeys w.host → HasKeys (turn_with_watchpoints w).host }
@@ -41,7 +43,8 @@ pub fn every_watched_turn_is_sound()
 /// It changes the innermost record of a call at most, as the host's own turn does; and so does each turn of a run.
 pub fn every_watched_turn_changes_the_innermost_record_at_most()
     ensures turn { (w : WatchWorld) → IsSound w.host.machine → HasKeys w.host → Stacked from_client w.host (turn_with_watchpoints w).host }
-    ensures turns { (h : HostWorld) (n : ℕ) → IsSound h.machine → HasKeys h → Stacked from_client (watched_turns h n) (watched_turns h (n + 1)) }
+    ensures turns { (h : HostWorld) (n : ℕ) → IsSound h.machine → HasKeys h →
+        Stacked from_client (watched_turns h n) (watched_turns h (n + 1)) }
 {}
 
 /// It is counted as one turn, unless there is an exit, and adds bytes at the console's end alone.
@@ -57,8 +60,8 @@ pub fn every_touch_of_a_watched_turn_is_held()
     every_touch_is_held();
 }
 
-/// Of two turns of a run with watchpoints, of which the second takes away the record that the first added, each call, reflection, callback and
-/// exception hands over what it should.
+/// Of two turns of a run with watchpoints, of which the second takes away the record that the first added, each call, reflection, callback
+/// and exception hands over what it should.
 pub fn every_nested_call_of_a_watched_run_hands_over()
     ensures { (h : HostWorld) (i j : ℕ) → IsSound h.machine → HasKeys h → (m : IsHandedOver from_client (watched_turns h) i j) →
         HandsOver from_client (watched_turns h i) (watched_turns h (i + 1)) (watched_turns h j) (watched_turns h (j + 1)) m.innermost }
@@ -66,12 +69,13 @@ pub fn every_nested_call_of_a_watched_run_hands_over()
     every_nested_call_hands_over();
 }
 
-/// What watchpoints are compared with is what the client's next instruction accesses: there are touches exactly where its step is no event, and
-/// their places are those that the step reads and writes, in order.
+/// What watchpoints are compared with is what the client's next instruction accesses: there are touches exactly where its step is no event,
+/// and their places are those that the step reads and writes, in order.
 pub fn every_compared_touch_is_an_access()
     ensures none { (v : MachineView) → next_touches v.world ≡ None → IsErr (client_step v) }
     ensures some { (v : MachineView) (list : List ATouch) → next_touches v.world ≡ Some list → IsOk (client_step v) }
-    ensures places { (w : World) (list : List ATouch) → next_touches w ≡ Some list → touched_by_step w ≡ touched_by_fetch w 0 code_room ++ touch_places w list }
+    ensures places { (w : World) (list : List ATouch) → next_touches w ≡ Some list →
+        touched_by_step w ≡ touched_by_fetch w 0 code_room ++ touch_places w list }
 {
     only_an_event_has_no_touches();
     every_touch_is_an_access();

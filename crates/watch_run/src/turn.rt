@@ -1,14 +1,14 @@
 // Turns of a host with its client's watchpoints, and runs.
-ghost use Rattle.std.specs.Prelude.{◌≡◌, ◌≤◌, ◌<◌, ◌+◌, IfErr, IsTrue, OnOk, None, Some, Err};
+ghost use Rattle.std.specs.Prelude.{◌≡◌, ◌≤◌, ◌<◌, ◌+◌, IsTrue, None, Some};
 ghost use Rattle.client_world.specs.declared.limits.TheConstants.{MAX_STEPS};
 ghost use Rattle.client_world.specs.Registers.{low_half};
 ghost use Rattle.client_world.specs.WatchWorld.{WatchWorld};
-ghost use Rattle.host_run.specs.Footprint.{ChangesOnly};
 ghost use Rattle.host_run.specs.OtherTurns.{int31_call};
 ghost use Rattle.host_run.specs.View.{machine_view};
 ghost use Rattle.host_run.specs.Windows.{HasWindow};
 ghost use Rattle.watch_run.specs.Services.{is_watch_function, watch_service};
-ghost use Rattle.watch_run.specs.Turn.{after_watch_call, is_watch_call, run_with_watchpoints, delivers_hit, turn_with_watchpoints, watch_footprint, watches_after, watched_run};
+ghost use Rattle.watch_run.specs.Turn.{MakesWatchedTurn, after_watch_call, is_watch_call, run_with_watchpoints, delivers_hit};
+ghost use Rattle.watch_run.specs.Turn.{watches_after, watched_run};
 
 use crate::watch::Watches;
 use client_world::faults::DEBUG;
@@ -50,7 +50,8 @@ fn delivers_hit(h: &Host, w: &Watches) -> bool
 
 // Serves a function on watchpoints, as a turn.
 #[inline(never)]
-#[tactic(auto, using(crate::proofs::TurnParts::asked_function, crate::proofs::TurnParts::served_steps, crate::proofs::TurnParts::answered_by))]
+#[tactic(auto, using(crate::proofs::TurnParts::asked_function, crate::proofs::TurnParts::served_steps, //
+crate::proofs::TurnParts::answered_by))]
 fn serve_call(h: &mut Host, w: &mut Watches)
     requires call { IsTrue (is_watch_call (int31_call h.old.world)) }
     requires room { h.old.world.steps < MAX_STEPS }
@@ -66,7 +67,8 @@ fn serve_call(h: &mut Host, w: &mut Watches)
 
 // Notes the hits of the client instruction that a turn runs. Where no watchpoint was ever made, nothing is decoded.
 #[inline(always)]
-#[tactic(auto, unfolding(crate::specs::Turn::watches_after), using(crate::proofs::TurnParts::none_watched, crate::proofs::TurnParts::event_watched, crate::proofs::TurnParts::step_watched))]
+#[tactic(auto, unfolding(crate::specs::Turn::watches_after), using(crate::proofs::TurnParts::none_watched, //
+crate::proofs::TurnParts::event_watched, crate::proofs::TurnParts::step_watched))]
 fn note_turn(m: &Machine, w: &mut Watches)
     ensures { w.new ≡ watches_after m.now.world w.old }
 {
@@ -81,13 +83,7 @@ fn note_turn(m: &Machine, w: &mut Watches)
 fn watching_turn(h: &mut Host, w: &mut Watches) -> Result<(), Exit>
     requires no_exit { h.old.world.exit ≡ None }
     requires room { h.old.world.steps < MAX_STEPS }
-    ensures world { record { host = h.new.world; watching = w.new }
-        ≡ turn_with_watchpoints (record { host = h.old.world; watching = w.old }) }
-    ensures bytes { ChangesOnly (watch_footprint (record { host = h.old.world; watching = w.old })) h.old.bytes h.new.bytes }
-    ensures kept { IfErr result (λ _. h.new.bytes ≡ h.old.bytes) }
-    ensures goes_on { OnOk result (h.new.world.exit ≡ None) }
-    ensures ends { IfErr result (λ exit. h.new.world.exit ≡ Some exit) }
-    ensures steps { h.new.world.steps ≤ h.old.world.steps + 1 }
+    ensures { MakesWatchedTurn h.old h.new w.old w.new result }
 {
     if delivers_hit(h, w) {
         w.clear_due();
@@ -110,13 +106,7 @@ fn watching_turn(h: &mut Host, w: &mut Watches) -> Result<(), Exit>
 fn watching_turn_in(h: &mut Host, w: &mut Watches, window: &mut CodeWindow) -> Result<(), Ending>
     requires no_exit { h.old.world.exit ≡ None }
     requires room { h.old.world.steps < MAX_STEPS }
-    ensures world { record { host = h.new.world; watching = w.new }
-        ≡ turn_with_watchpoints (record { host = h.old.world; watching = w.old }) }
-    ensures bytes { ChangesOnly (watch_footprint (record { host = h.old.world; watching = w.old })) h.old.bytes h.new.bytes }
-    ensures kept { IfErr result (λ _. h.new.bytes ≡ h.old.bytes) }
-    ensures goes_on { OnOk result (h.new.world.exit ≡ None) }
-    ensures ends { IfErr result (λ exit. h.new.world.exit ≡ Some exit) }
-    ensures steps { h.new.world.steps ≤ h.old.world.steps + 1 }
+    ensures turn { MakesWatchedTurn h.old h.new w.old w.new result }
     ensures window { HasWindow (machine_view h.new) window.new }
 {
     *window = CodeWindow::NONE;
@@ -126,18 +116,12 @@ fn watching_turn_in(h: &mut Host, w: &mut Watches, window: &mut CodeWindow) -> R
 
 /// One turn, as `watch_turn` makes it, with a window of code that turns hand on.
 #[inline(always)]
-#[tactic(auto, unfolding(crate::specs::Turn::turn_with_watchpoints), using(crate::proofs::TurnParts::none_watched, crate::proofs::TurnParts::not_called))]
+#[tactic(auto, unfolding(crate::specs::Turn::turn_with_watchpoints), using(crate::proofs::TurnParts::none_watched, //
+crate::proofs::TurnParts::not_called))]
 pub fn watch_turn_in(h: &mut Host, w: &mut Watches, window: &mut CodeWindow) -> Result<(), Ending>
     requires room { h.old.world.exit ≡ None → h.old.world.steps < MAX_STEPS }
     requires window { HasWindow (machine_view h.old) window.old }
-    ensures world { record { host = h.new.world; watching = w.new }
-        ≡ turn_with_watchpoints (record { host = h.old.world; watching = w.old }) }
-    ensures bytes { ChangesOnly (watch_footprint (record { host = h.old.world; watching = w.old })) h.old.bytes h.new.bytes }
-    ensures kept { IfErr result (λ _. h.new.bytes ≡ h.old.bytes) }
-    ensures goes_on { OnOk result (h.new.world.exit ≡ None) }
-    ensures ends { IfErr result (λ exit. h.new.world.exit ≡ Some exit) }
-    ensures steps { h.new.world.steps ≤ h.old.world.steps + 1 }
-    ensures was_on { h.new.world.exit ≡ None → h.old.world.exit ≡ None }
+    ensures turn { MakesWatchedTurn h.old h.new w.old w.new result }
     ensures window { HasWindow (machine_view h.new) window.new }
 {
     if let Some(exit) = h.exit() {
@@ -153,19 +137,12 @@ pub fn watch_turn_in(h: &mut Host, w: &mut Watches, window: &mut CodeWindow) -> 
     watching_turn_in(h, w, window)
 }
 
-/// One turn of a host with its client's watchpoints. In protected mode a hit that is due is delivered as exception 1, in a turn of its own; INT 31h
-/// functions 0B00h to 0B03h are served here; any other turn is the host's, and what its instruction hits is noted. After an exit it returns
-/// that exit again and changes nothing. Source: own.
+/// One turn of a host with its client's watchpoints. In protected mode a hit that is due is delivered as exception 1, in a turn of its own;
+/// INT 31h functions 0B00h to 0B03h are served here; any other turn is the host's, and what its instruction hits is noted. After an exit it
+/// returns that exit again and changes nothing. Source: own.
 pub fn watch_turn(h: &mut Host, w: &mut Watches) -> Result<(), Exit>
     requires { h.old.world.exit ≡ None → h.old.world.steps < MAX_STEPS }
-    ensures world { record { host = h.new.world; watching = w.new }
-        ≡ turn_with_watchpoints (record { host = h.old.world; watching = w.old }) }
-    ensures bytes { ChangesOnly (watch_footprint (record { host = h.old.world; watching = w.old })) h.old.bytes h.new.bytes }
-    ensures kept { IfErr result (λ _. h.new.bytes ≡ h.old.bytes) }
-    ensures goes_on { OnOk result (h.new.world.exit ≡ None) }
-    ensures ends { IfErr result (λ exit. h.new.world.exit ≡ Some exit) }
-    ensures steps { h.new.world.steps ≤ h.old.world.steps + 1 }
-    ensures was_on { h.new.world.exit ≡ None → h.old.world.exit ≡ None }
+    ensures { MakesWatchedTurn h.old h.new w.old w.new result }
 {
     let mut window = CodeWindow::NONE;
     match watch_turn_in(h, w, &mut window) {
@@ -187,13 +164,7 @@ pub fn run_with_watchpoints(h: &mut Host, w: &mut Watches, bound: u32) -> Exit
             return ending.exit();
         }
     }
-    match h.exit() {
-        Some(exit) => exit,
-        None => {
-            h.stop_bound();
-            Exit::Bound
-        }
-    }
+    h.end_run()
 }
 
 /// The same, from a host whose client has set no watchpoint.

@@ -26,7 +26,8 @@ impl Model for Watches {
 
     ghost view = { λ w. record { watches = w.watches; due = w.due } };
 
-    ghost invariant = { λ w. (length w.watches ≡ WATCHES) × (w.used ≡ false → w.watches ≡ no_watches.watches) × (w.used ≡ false → w.due ≡ false) };
+    ghost invariant = { λ w. (length w.watches ≡ WATCHES) × (w.used ≡ false → w.watches ≡ no_watches.watches)
+        × (w.used ≡ false → w.due ≡ false) };
 }
 
 impl Watches {

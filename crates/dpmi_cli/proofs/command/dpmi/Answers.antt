@@ -4,7 +4,8 @@ use Rattle.dpmi_cli.proofs.command.dpmi.Goals as goal
 
 pub returns-clause-answers_when_it_can : goal.returns-clause-answers_when_it_can
 returns-clause-answers_when_it_can g c =
-    answers_of (map string_bytes c.args.words.now) _ _ _ _ _ _ _ c.answer_words.ensures.file_failure_has_cause c.answer_words.ensures.answers
+    answers_of (map string_bytes c.args.words.now) _ _ _ _ _ _ _ c.answer_words.ensures.file_failure_has_cause
+    c.answer_words.ensures.answers
 
 pub returns-clause-ends_without_failure : goal.returns-clause-ends_without_failure
 returns-clause-ends_without_failure g c =
@@ -13,4 +14,5 @@ returns-clause-ends_without_failure g c =
 
 pub returns-clause-wrong_words_are_refused : goal.returns-clause-wrong_words_are_refused
 returns-clause-wrong_words_are_refused g c =
-    wrong_words (map string_bytes c.args.words.now) _ _ _ _ _ _ _ _ _ c.answer_words.ensures.file_failure_has_cause c.answer_words.ensures.answers
+    wrong_words (map string_bytes c.args.words.now) _ _ _ _ _ _ _ _ _ c.answer_words.ensures.file_failure_has_cause
+    c.answer_words.ensures.answers

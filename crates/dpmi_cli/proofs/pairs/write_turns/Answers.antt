@@ -38,7 +38,8 @@ returns-in-Ok-write_client-2-clause-whole g c =
     let b = c.args.b.now.host.world in
     let none = c.requires.watches in
     pair_written c.args.slice c.args.bound a b c.pair.new.a.host.world c.pair.new.b.host.world
-    (g.O.Sink.taken c.args.out.now) (g.O.Sink.taken c.pair.new.out) (g.O.Sink.taken c.write_client.new.out) (g.O.Sink.taken c.write_client-2.new.out)
+    (g.O.Sink.taken c.args.out.now) (g.O.Sink.taken c.pair.new.out) (g.O.Sink.taken c.write_client.new.out)
+    (g.O.Sink.taken c.write_client-2.new.out)
     (run_ended a _ _ c.args.bound none.0 c.in-Ok.ensures.end_a) (run_ended b _ _ c.args.bound none.1 c.in-Ok.ensures.end_b)
     (slices_gained c.args.slice c.args.bound a b _ _ _ _ none.0 none.1 c.in-Ok.ensures.whole)
     c.in-Ok-write_client.ensures.whole c.in-Ok-write_client-2.ensures.whole
@@ -49,7 +50,8 @@ returns-in-Err-write_client-2-clause-part g c =
     let b = c.args.b.now.host.world in
     let none = c.requires.watches in
     second_cut c.args.slice c.args.bound a b c.pair.new.a.host.world c.pair.new.b.host.world
-    (g.O.Sink.taken c.args.out.now) (g.O.Sink.taken c.pair.new.out) (g.O.Sink.taken c.write_client.new.out) (g.O.Sink.taken c.write_client-2.new.out)
+    (g.O.Sink.taken c.args.out.now) (g.O.Sink.taken c.pair.new.out) (g.O.Sink.taken c.write_client.new.out)
+    (g.O.Sink.taken c.write_client-2.new.out)
     (run_ended a _ _ c.args.bound none.0 c.in-Ok.ensures.end_a) (run_ended b _ _ c.args.bound none.1 c.in-Ok.ensures.end_b)
     (slices_gained c.args.slice c.args.bound a b _ _ _ _ none.0 none.1 c.in-Ok.ensures.whole)
     c.in-Ok-write_client.ensures.whole c.in-Err-write_client-2.ensures.part

@@ -17,7 +17,8 @@ returns-in-Some-Run-clause-verdict g c =
     let is : meaning (map string_bytes c.args.words.now) ≡ Some (Runs (run_in c.in-Some-Run.run')) =
     sym c.in_ok-run.ensures ∙ ap (option_map meaning_in) (c.in-Some-Run.is ∙ ap Some c.in-Some-Run.field-0-is) in
     IfOk-weaker c.prepare_run.result _ _
-    (λ p h. meaning_comes (map string_bytes c.args.words.now) (Some (Runs (run_in c.in-Some-Run.run'))) _ _ is h) c.prepare_run.ensures.verdict
+    (λ p h. meaning_comes (map string_bytes c.args.words.now) (Some (Runs (run_in c.in-Some-Run.run'))) _ _ is h)
+    c.prepare_run.ensures.verdict
 
 pub returns-in_ok-prepare_soak-in-Some-Soak-clause-verdict : goal.returns-in_ok-prepare_soak-in-Some-Soak-clause-verdict
 returns-in_ok-prepare_soak-in-Some-Soak-clause-verdict g c =
@@ -42,4 +43,5 @@ returns-in-Some-Pair-clause-verdict g c =
     let is : meaning (map string_bytes c.args.words.now) ≡ Some (Pairs (pair_in c.in-Some-Pair.pair)) =
     sym c.in_ok-run.ensures ∙ ap (option_map meaning_in) (c.in-Some-Pair.is ∙ ap Some c.in-Some-Pair.field-0-is) in
     IfOk-weaker c.prepare_pair.result _ _
-    (λ p h. meaning_comes (map string_bytes c.args.words.now) (Some (Pairs (pair_in c.in-Some-Pair.pair))) _ _ is h) c.prepare_pair.ensures.verdict
+    (λ p h. meaning_comes (map string_bytes c.args.words.now) (Some (Pairs (pair_in c.in-Some-Pair.pair))) _ _ is h)
+    c.prepare_pair.ensures.verdict

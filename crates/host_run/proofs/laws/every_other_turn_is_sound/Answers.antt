@@ -1,4 +1,5 @@
-use Rattle.host_run.proofs.OtherTurns.{exception_exit, exception_keeps, exception_quiet, host_sound, int31_keeps_turn, int31_quiet, interrupt_exit, interrupt_keeps, interrupt_quiet, reached}
+use Rattle.host_run.proofs.OtherTurns.{exception_exit, exception_keeps, exception_quiet, host_sound, int31_keeps_turn, int31_quiet}
+use Rattle.host_run.proofs.OtherTurns.{interrupt_exit, interrupt_keeps, interrupt_quiet, reached}
 use Rattle.host_run.proofs.laws.every_other_turn_is_sound.Goals as goal
 
 pub returns-clause-int31 : goal.returns-clause-int31

@@ -2,7 +2,7 @@ use Rattle.std.proofs.Common.{arith, ◌∙◌, ap, refl, sym}
 use Rattle.host_run.proofs.WindowStarts.{no_starts}
 use Rattle.host_run.specs.View.{HostView}
 use Rattle.timer_run.specs.Timer.{TimerState}
-use Rattle.timer_run.proofs.Runs.{bounded_exit, run_bounded, run_ended, run_goes_on, run_over, run_starts}
+use Rattle.timer_run.proofs.Runs.{run_bounded, run_ended, run_goes_on, run_starts}
 use Rattle.timer_run.proofs.rounds.timed_run.Goals as goal
 
 pub loop-count-init : goal.loop-count-init
@@ -22,32 +22,25 @@ round_in-requires c = record {
 
 pub loop-count-preserved : goal.loop-count-preserved
 loop-count-preserved c = (
-  run_goes_on c.args.every c.loop-count.timer.every c.args.host.now.world c.loop-count.count _ _ c.loop-count.invariant.0 c.loop-count.invariant.1
-      c.round_in.ensures.world,
+  run_goes_on c.args.every c.loop-count.timer.every c.args.host.now.world c.loop-count.count _ _ c.loop-count.invariant.0
+      c.loop-count.invariant.1
+      c.round_in.ensures.round.world,
   c.round_in.ensures.every ∙ c.loop-count.invariant.1,
   omega arith,
-  λ none. c.loop-count.invariant.3 (c.round_in.ensures.was_on none),
+  λ none. c.loop-count.invariant.3 (c.round_in.ensures.round.was_on none),
   c.round_in.ensures.window,
 )
 
 pub returns-in-Err-clause-world : goal.returns-in-Err-clause-world
 returns-in-Err-clause-world c =
     run_ended c.args.every c.args.host.now.world c.args.bound c.loop-count.count c.in-Err.ending _
-    (run_goes_on c.args.every c.loop-count.timer.every c.args.host.now.world c.loop-count.count _ _ c.loop-count.invariant.0 c.loop-count.invariant.1
-    c.round_in.ensures.world)
-    c.loop-count-test.true c.in-Err.ensures.ends
+    (run_goes_on c.args.every c.loop-count.timer.every c.args.host.now.world c.loop-count.count _ _ c.loop-count.invariant.0
+    c.loop-count.invariant.1
+    c.round_in.ensures.round.world)
+    c.loop-count-test.true c.in-Err.ensures.round.ends
 
-pub returns-in-Some-clause-world : goal.returns-in-Some-clause-world
-returns-in-Some-clause-world c =
-    run_over c.args.every c.args.host.now.world c.args.bound c.loop-count.count c.in-Some.exit _ c.loop-count.invariant.0
-    (omega (arith, c.loop-count-test.false, c.loop-count.auto.count-end)) (sym c.exit-2.ensures ∙ c.in-Some.is)
-
-pub returns-in-None-clause-world : goal.returns-in-None-clause-world
-returns-in-None-clause-world c =
-    ap (λ (v : HostView). v.world) c.stop_bound.ensures
+pub returns-clause-world : goal.returns-clause-world
+returns-clause-world c =
+    ap (λ (v : HostView). v.world) c.end_run.ensures.host
     ∙ run_bounded c.args.every c.args.host.now.world c.args.bound c.loop-count.count _ c.loop-count.invariant.0
     (omega (arith, c.loop-count-test.false, c.loop-count.auto.count-end))
-
-pub returns-in-None-clause-answer : goal.returns-in-None-clause-answer
-returns-in-None-clause-answer c =
-    ap (λ (v : HostView). v.world.exit) c.stop_bound.ensures ∙ bounded_exit c.loop-count.host.world (sym c.exit-2.ensures ∙ c.in-None.is)

@@ -5,4 +5,5 @@ use Rattle.watch_run.proofs.laws.every_nested_call_of_a_watched_run_hands_over.G
 
 pub returns : goal.returns
 returns c = λ h i j sound keys m.
-    c.every_nested_call_hands_over.ensures.matched from_client (watched_turns h) i j (turns_sound h i sound keys) (turns_sound h j sound keys) m
+    c.every_nested_call_hands_over.ensures.matched from_client (watched_turns h) i j (turns_sound h i sound keys)
+    (turns_sound h j sound keys) m

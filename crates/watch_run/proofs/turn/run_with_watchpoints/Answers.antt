@@ -19,9 +19,9 @@ watch_turn_in-requires c = record {
 pub loop-count-preserved : goal.loop-count-preserved
 loop-count-preserved c =
     let first : WatchWorld = record { host = c.args.h.now.world; watching = c.args.w.now } in (
-      c.watch_turn_in.ensures.world ∙ ap turn_with_watchpoints c.loop-count.invariant.0 ∙ sym (one_more first c.loop-count.count),
+      c.watch_turn_in.ensures.turn.world ∙ ap turn_with_watchpoints c.loop-count.invariant.0 ∙ sym (one_more first c.loop-count.count),
       omega arith,
-      λ none. c.loop-count.invariant.2 (c.watch_turn_in.ensures.was_on none),
+      λ none. c.loop-count.invariant.2 (c.watch_turn_in.ensures.turn.was_on none),
       c.watch_turn_in.ensures.window,
     )
 
@@ -30,5 +30,5 @@ returns-in-Err-clause-world c =
     let first : WatchWorld = record { host = c.args.h.now.world; watching = c.args.w.now } in
     let new : WatchWorld = record { host = c.watch_turn_in.new.h.world; watching = c.watch_turn_in.new.w } in
     run_ended first new c.args.bound c.loop-count.count c.in-Err.ending
-    (c.watch_turn_in.ensures.world ∙ ap turn_with_watchpoints c.loop-count.invariant.0 ∙ sym (one_more first c.loop-count.count))
-    c.loop-count-test.true c.in-Err.ensures.ends
+    (c.watch_turn_in.ensures.turn.world ∙ ap turn_with_watchpoints c.loop-count.invariant.0 ∙ sym (one_more first c.loop-count.count))
+    c.loop-count-test.true c.in-Err.ensures.turn.ends

@@ -18,15 +18,21 @@ unfolding delivery
 in_protected v f mode =
     sym (ap (λ (m : Mode). elim m as (λ _. Result MachineView Exit) [ Real ↦ real_delivery v f | Protected ↦ protected_delivery v f ]) mode)
 
-pub returns-in-Ok-clause-world : goal.returns-in-Ok-clause-world
+pub returns-in-Ok : goal.returns-in-Ok
 unfolding exception_turn
-returns-in-Ok-clause-world c = search rules
-
-pub returns-in-Ok-clause-bytes : goal.returns-in-Ok-clause-bytes
-returns-in-Ok-clause-bytes c =
+returns-in-Ok c =
     let machine : c.self.inside.machine ≡ machine_view c.args.self.now = ap machine_view c.self.view_is in
-    let law : DeliveryLaw (machine_view c.args.self.now) = subst DeliveryLaw machine c.a_machine_changes_only_what_is_written.ensures.delivery in
+    let law : DeliveryLaw (machine_view c.args.self.now) =
+    subst DeliveryLaw machine c.a_machine_changes_only_what_is_written.ensures.delivery in
     let new = machine_view c.deliver.new.self in
     let made : delivery (machine_view c.args.self.now) c.args.f ≡ Ok new =
     subst (λ (v : MachineView). delivery v c.args.f ≡ Ok new) machine c.in-Ok.ensures.machine in
-    law c.args.f new (in_protected (machine_view c.args.self.now) c.args.f c.requires.mode ∙ made)
+    record {
+      world = search rules;
+      bytes = law c.args.f new (in_protected (machine_view c.args.self.now) c.args.f c.requires.mode ∙ made);
+      kept = tt;
+      goes_on = search rules;
+      ends = tt;
+      steps = search rules;
+      was_on = λ _. c.requires.no_exit;
+    }

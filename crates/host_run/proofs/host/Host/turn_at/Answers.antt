@@ -1,11 +1,20 @@
-use Rattle.std.proofs.Common.{rules}
+use Rattle.std.proofs.Common.{rules, ℕ, List, ap, subst, sym}
+use Rattle.client_world.specs.World.{HostWorld, World}
+use Rattle.host_run.specs.Windows.{HasWindow}
 use Rattle.host_run.specs.Turn.{turn}
 use Rattle.host_run.proofs.host.Host.turn_at.Goals as goal
 
-pub returns-in-Ok-clause-world : goal.returns-in-Ok-clause-world
+pub returns-in-Ok-clause-turn : goal.returns-in-Ok-clause-turn
 unfolding turn
-returns-in-Ok-clause-world c = search rules
+returns-in-Ok-clause-turn c = search rules
 
-pub returns-in-Err-clause-world : goal.returns-in-Err-clause-world
+pub returns-in-Err-clause-turn : goal.returns-in-Err-clause-turn
 unfolding turn
-returns-in-Err-clause-world c = search rules
+returns-in-Err-clause-turn c = search rules
+
+pub returns-in-Err-clause-window : goal.returns-in-Err-clause-window
+returns-in-Err-clause-window c =
+    let window = c.work.new.window in
+    let machine = ap (λ (h : HostWorld). h.machine) c.stop.ensures.world in
+    subst (λ (b : List ℕ). HasWindow (record { world = c.stop.new.self.world.machine; bytes = b }) window) (sym c.stop.ensures.bytes)
+    (subst (λ (w : World). HasWindow (record { world = w; bytes = c.work.new.self.bytes }) window) (sym machine) c.work.ensures.window)
