@@ -1,6 +1,7 @@
 -- The blocks of two states that differ in one page: the block that has it has one page more in the second one, and the others are the same.
-use Rattle.std.proofs.Common.{◌≡◌, ◌≢◌, ℕ, ◌+◌, ◌-◌, ◌*◌, ◌/◌, ◌%◌, ◌<◌, ◌≤◌, inl, inr, true, List, ◌++◌, length, get_or, take, slice_index, slice_set, refl, ap, ◌∙◌, sym, arith, Option, Some}
-use Rattle.std.proofs.lemmas.Bool.{cases_eq, cases_lt, eq-eqb, ne_eqb}
+use Rattle.std.proofs.Common.{◌≡◌, ◌≢◌, ℕ, ◌+◌, ◌-◌, ◌*◌, ◌/◌, ◌<◌, ◌≤◌, inl, inr, List, ◌++◌, length, get_or, take, slice_index, slice_set}
+use Rattle.std.proofs.Common.{refl, ap, ◌∙◌, sym, arith, Option, Some}
+use Rattle.std.proofs.lemmas.Bool.{cases_eq, eq-eqb, ne_eqb}
 use Rattle.std.proofs.lemmas.List.{nil_from_length, length-append, length-take-le, get_or-take, get_or_append_left, get_or-append_right}
 use Rattle.std.proofs.lemmas.Grind.{same_number_lists}
 use Rattle.client_world.specs.declared.host_frames.TheConstants.{PAGE_SIZE, BUDGET_FRAMES}
@@ -10,12 +11,12 @@ use Rattle.client_world.specs.Access.{bytes_of_block}
 use Rattle.client_world.specs.World.{MemoryBlock}
 use Rattle.guest_ram.specs.Listed.{listed, zeros}
 use Rattle.guest_ram.proofs.ListedLaws.{length-listed, at_listed, same_listed, listed-set, length-zeros, at_zeros}
-use Rattle.page_tables.specs.Entry.{page_entry}
 use Rattle.block_memory.specs.BlockSizes.{locks_of_block, longer, shorter}
 use Rattle.host_memory.specs.Layout.{base_of, pages_of, first_page_of, entry_of, lock_of, page_byte, held_block, block_in, blocks_in}
 use Rattle.host_memory.specs.Tables.{HasBlockEntries, NamesBudgetFrame}
 use Rattle.host_memory.proofs.BlockRows.{row_there, row_free, held_base}
-use Rattle.block_memory.proofs.PageMore.{BlockParts, HasPageMore, AgreesBeside, region_page, first_page, budget_entry, page_inside, is_away, first_new, first_old, first_other}
+use Rattle.block_memory.proofs.PageMore.{BlockParts, HasPageMore, AgreesBeside, region_page, first_page, budget_entry, page_inside, is_away}
+use Rattle.block_memory.proofs.PageMore.{first_new, first_old, first_other}
 
 -- the block of a handle less 1, in a state
 abbrev pub block_of : BlockParts → ℕ → Option MemoryBlock
@@ -26,7 +27,8 @@ blocks_of s = blocks_in s.handles s.tables s.locks s.frames
 
 -- the bytes and the lock counts of a block, whether or not there is one
 pub bytes_are : (s : BlockParts) (place : ℕ) →
-    bytes_of_block (block_of s place) ≡ listed (PAGE_SIZE * pages_of s.handles place) (page_byte s.tables s.frames (first_page_of s.handles place))
+    bytes_of_block (block_of s place)
+    ≡ listed (PAGE_SIZE * pages_of s.handles place) (page_byte s.tables s.frames (first_page_of s.handles place))
 unfolding held_block
 bytes_are s place = elim (cases_eq (pages_of s.handles place) 0) [
   | inl none ↦ ap bytes_of_block (row_free s.handles s.tables s.locks s.frames place none)
@@ -51,137 +53,64 @@ locks_are s place = elim (cases_eq (pages_of s.handles place) 0) [
 
 -- two blocks with the same fields are one
 same_block : (x y : MemoryBlock) → x.base ≡ y.base → x.bytes ≡ y.bytes → x.locks ≡ y.locks → x ≡ y
-same_block x y base bytes locks =
-    ap (λ (b : ℕ). record { base = b; bytes = x.bytes; locks = x.locks }) base
-    ∙ ap (λ (b : List ℕ). record { base = y.base; bytes = b; locks = x.locks }) bytes
-    ∙ ap (λ (l : List ℕ). record { base = y.base; bytes = y.bytes; locks = l }) locks
+same_block x y base bytes locks = grind arith
 
 -- a block that is there is its address, its bytes and its lock counts
 pub block_is : (s : BlockParts) (place : ℕ) → pages_of s.handles place ≢ 0 → (block : MemoryBlock) → block.base ≡ base_of s.handles place →
     block.bytes ≡ bytes_of_block (block_of s place) → block.locks ≡ locks_of_block (block_of s place) → block_of s place ≡ Some block
 unfolding held_block
-block_is s place some block base bytes locks =
-    row_there s.handles s.tables s.locks s.frames place some
-    ∙ ap (λ (x : MemoryBlock). Some x) (sym (same_block block (held_block s.handles s.tables s.locks s.frames place) base
-    (bytes ∙ bytes_are s place) (locks ∙ locks_are s place)))
+block_is s place some block base bytes locks = grind (arith, bytes_are, locks_are, row_there, same_block)
 
 -- a byte of a page that has a frame is the same in both states
 kept_byte : (old new : BlockParts) (budget place base n frame : ℕ) → HasPageMore old new budget place base n frame →
     AgreesBeside old new budget (region_page base n) frame → HasBlockEntries old.handles old.tables old.taken budget →
-    (page x : ℕ) → page < BLOCK_REGION_PAGES → page ≢ region_page base n → NamesBudgetFrame budget (entry_of old.tables page) → x < PAGE_SIZE →
+    (page x : ℕ) → page < BLOCK_REGION_PAGES → page ≢ region_page base n → NamesBudgetFrame budget (entry_of old.tables page) →
+    x < PAGE_SIZE →
     slice_index new.frames (PAGE_SIZE * (entry_of new.tables page / PAGE_SIZE - BUDGET_FRAMES) + x)
     ≡ slice_index old.frames (PAGE_SIZE * (entry_of old.tables page / PAGE_SIZE - BUDGET_FRAMES) + x)
-kept_byte old new budget place base n frame m beside h page x small ne names less =
-    let from = names.from in let to = names.to in
-    let entry = entry_of old.tables page in
-    let other : entry / PAGE_SIZE - BUDGET_FRAMES ≢ frame = (λ same. h.idle frame page m.few small m.free
-    (names.writable ∙ ap (λ (k : ℕ). page_entry k true) (let k : entry / PAGE_SIZE ≡ BUDGET_FRAMES + frame = omega arith in k))) in
-    ap (λ (e : ℕ). slice_index new.frames (PAGE_SIZE * (e / PAGE_SIZE - BUDGET_FRAMES) + x)) (m.other_entries page small ne)
-    ∙ beside.frames (PAGE_SIZE * (entry / PAGE_SIZE - BUDGET_FRAMES) + x) (omega arith) (elim (cases_lt (entry / PAGE_SIZE - BUDGET_FRAMES) frame) [
-      | inl below ↦ inl (omega arith)
-      | inr above ↦ (let more : frame < entry / PAGE_SIZE - BUDGET_FRAMES = omega arith in inr (omega arith))
-    ])
+kept_byte old new budget place base n frame m beside h page x small ne names less = grind arith
 
 -- another block is the same
 pub other_block : (old new : BlockParts) (budget place base n frame : ℕ) → HasPageMore old new budget place base n frame →
     AgreesBeside old new budget (region_page base n) frame → HasBlockEntries old.handles old.tables old.taken budget →
     (other : ℕ) → other < MAX_BLOCKS → other ≢ place → block_of new other ≡ block_of old other
 unfolding held_block
-other_block old new budget place base n frame m beside h other within ne = elim (cases_eq (pages_of old.handles other) 0) [
-  | inl none ↦ row_free new.handles new.tables new.locks new.frames other (m.other_pages other within ne ∙ none)
-      ∙ sym (row_free old.handles old.tables old.locks old.frames other none)
-  | inr some ↦ row_there new.handles new.tables new.locks new.frames other (λ none. some (sym (m.other_pages other within ne) ∙ none))
-      ∙ ap (λ (x : MemoryBlock). Some x) same
-      ∙ sym (row_there old.handles old.tables old.locks old.frames other some)
-]
-  where
-    first : first_page_of new.handles other ≡ first_page_of old.handles other
-    first = first_other old new budget place base n frame m other within ne
-
-    byte : (at : ℕ) → at < PAGE_SIZE * pages_of old.handles other →
-        page_byte new.tables new.frames (first_page_of old.handles other) at ≡ page_byte old.tables old.frames (first_page_of old.handles other) at
-    byte at inside =
-        let away = is_away old place base n m.room other (at / PAGE_SIZE) within ne (omega arith) in
-        kept_byte old new budget place base n frame m beside h (first_page_of old.handles other + at / PAGE_SIZE) (at % PAGE_SIZE)
-        away.small away.differs (h.named other (at / PAGE_SIZE) within (omega arith)) (omega arith)
-
-    lock : (page : ℕ) → page < pages_of old.handles other → lock_at new (first_page_of old.handles other) page ≡ lock_at old (first_page_of old.handles other) page
-    lock page inside =
-        let away = is_away old place base n m.room other page within ne inside in
-        beside.locks (first_page_of old.handles other + page) away.small away.differs
-
-    same : held_block new.handles new.tables new.locks new.frames other ≡ held_block old.handles old.tables old.locks old.frames other
-    same = rw (
-      m.other_bases other within ne,
-      m.other_pages other within ne,
-      same_listed (PAGE_SIZE * pages_of old.handles other) (page_byte new.tables new.frames (first_page_of old.handles other))
-          (page_byte old.tables old.frames (first_page_of old.handles other)) byte,
-      same_listed (pages_of old.handles other) (lock_at new (first_page_of old.handles other)) (lock_at old (first_page_of old.handles other)) lock,
-    ) refl
+other_block old new budget place base n frame m beside h other within ne =
+    grind (arith, first_other, is_away, kept_byte, row_free, row_there, same_listed)
 
 -- a list whose first part and rest are known
 append_listed : (f : ℕ → ℕ) (xs ys : List ℕ) (m n : ℕ) → length xs ≡ m → m + length ys ≡ n → ((k : ℕ) → k < m → f k ≡ get_or xs k 0) →
     ((k : ℕ) → k < length ys → f (m + k) ≡ get_or ys k 0) → listed n f ≡ xs ++ ys
 append_listed f xs ys m n long all front back =
-    same_number_lists (listed n f) (xs ++ ys) (length-listed n f ∙ sym (length-append xs ys ∙ (let e : length xs + length ys ≡ n = omega arith in e))) step
-  where
-    step : (k : ℕ) → k < length (listed n f) → get_or (listed n f) k 0 ≡ get_or (xs ++ ys) k 0
-    step k l =
-        let small : k < n = omega (arith, length-listed n f) in
-        at_listed n f k 0 small ∙ elim (cases_lt k m) [
-          | inl low ↦ front k low ∙ sym (get_or_append_left xs ys 0 k (omega arith))
-          | inr high ↦ (
-              let same : m + (k - m) ≡ k = omega arith in
-              ap f (sym same) ∙ back (k - m) (omega arith) ∙ sym (get_or-append_right xs ys m k 0 long high))
-        ]
+    grind (arith, at_listed, get_or-append_right, get_or_append_left, length-append, length-listed, same_number_lists)
 
 -- the pages that the block has in both states
 page_kept : (old new : BlockParts) (budget place base n frame : ℕ) → HasPageMore old new budget place base n frame →
     AgreesBeside old new budget (region_page base n) frame → HasBlockEntries old.handles old.tables old.taken budget →
     (at : ℕ) → at < PAGE_SIZE * n →
     page_byte new.tables new.frames (first_page base) at ≡ page_byte old.tables old.frames (first_page_of old.handles place) at
-page_kept old new budget place base n frame m beside h at inside =
-    let first = first_old old new budget place base n frame m (omega arith) in
-    let pages = m.room.pages in
-    let small = page_inside base n m.room.range in
-    ap (λ (k : ℕ). page_byte new.tables new.frames k at) (sym first)
-    ∙ kept_byte old new budget place base n frame m beside h (first_page_of old.handles place + at / PAGE_SIZE) (at % PAGE_SIZE)
-    (omega arith) (omega arith) (h.named place (at / PAGE_SIZE) m.room.within (omega arith)) (omega arith)
+page_kept old new budget place base n frame m beside h at inside = grind (arith, first_old, kept_byte, page_inside)
 
 lock_kept : (old new : BlockParts) (budget place base n frame : ℕ) → HasPageMore old new budget place base n frame →
     AgreesBeside old new budget (region_page base n) frame → (page : ℕ) → page < n →
     lock_at new (first_page base) page ≡ lock_at old (first_page_of old.handles place) page
-lock_kept old new budget place base n frame m beside page inside =
-    let first = first_old old new budget place base n frame m (omega arith) in
-    let small = page_inside base n m.room.range in
-    ap (λ (k : ℕ). lock_at new k page) (sym first)
-    ∙ beside.locks (first_page_of old.handles place + page) (omega arith) (omega arith)
+lock_kept old new budget place base n frame m beside page inside = grind (arith, first_old, page_inside)
 
 new_bytes : (old new : BlockParts) (budget place base n frame : ℕ) → HasPageMore old new budget place base n frame →
     bytes_of_block (block_of new place) ≡ listed (PAGE_SIZE * (n + 1)) (page_byte new.tables new.frames (first_page base))
-new_bytes old new budget place base n frame m =
-    bytes_are new place
-    ∙ ap (λ (k : ℕ). listed (PAGE_SIZE * k) (page_byte new.tables new.frames (first_page_of new.handles place))) m.new_pages
-    ∙ ap (λ (k : ℕ). listed (PAGE_SIZE * (n + 1)) (page_byte new.tables new.frames k)) (first_new old new budget place base n frame m)
+new_bytes old new budget place base n frame m = grind (arith, bytes_are, first_new)
 
 new_locks : (old new : BlockParts) (budget place base n frame : ℕ) → HasPageMore old new budget place base n frame →
     locks_of_block (block_of new place) ≡ listed (n + 1) (lock_at new (first_page base))
-new_locks old new budget place base n frame m =
-    locks_are new place
-    ∙ ap (λ (k : ℕ). listed k (lock_at new (first_page_of new.handles place))) m.new_pages
-    ∙ ap (λ (k : ℕ). listed (n + 1) (lock_at new k)) (first_new old new budget place base n frame m)
+new_locks old new budget place base n frame m = grind (arith, first_new, locks_are)
 
 old_bytes : (old new : BlockParts) (budget place base n frame : ℕ) → HasPageMore old new budget place base n frame →
     bytes_of_block (block_of old place) ≡ listed (PAGE_SIZE * n) (page_byte old.tables old.frames (first_page_of old.handles place))
-old_bytes old new budget place base n frame m =
-    bytes_are old place
-    ∙ ap (λ (k : ℕ). listed (PAGE_SIZE * k) (page_byte old.tables old.frames (first_page_of old.handles place))) m.room.pages
+old_bytes old new budget place base n frame m = grind (arith, bytes_are)
 
 old_locks : (old new : BlockParts) (budget place base n frame : ℕ) → HasPageMore old new budget place base n frame →
     locks_of_block (block_of old place) ≡ listed n (lock_at old (first_page_of old.handles place))
-old_locks old new budget place base n frame m =
-    locks_are old place
-    ∙ ap (λ (k : ℕ). listed k (lock_at old (first_page_of old.handles place))) m.room.pages
+old_locks old new budget place base n frame m = grind (arith, locks_are)
 
 -- the block that has grown by a page of zeros
 pub more_block : (old new : BlockParts) (budget place base n frame : ℕ) → HasPageMore old new budget place base n frame →
@@ -189,26 +118,23 @@ pub more_block : (old new : BlockParts) (budget place base n frame : ℕ) → Ha
     ((at : ℕ) → at < PAGE_SIZE → slice_index new.frames (PAGE_SIZE * frame + at) ≡ 0) → lock_of new.locks (region_page base n) ≡ 0 →
     block_of new place ≡ Some (longer base (block_of old place) 1)
 more_block old new budget place base n frame m beside h zero unlocked =
-    block_is new place (let pages = m.new_pages in omega arith) (longer base (block_of old place) 1) (sym m.new_base) (sym bytes) (sym locks)
+    block_is new place (let pages = m.new_pages in omega arith) (longer base (block_of old place) 1) (sym m.new_base) (sym bytes)
+    (sym locks)
   where
     byte : (k : ℕ) → k < PAGE_SIZE → page_byte new.tables new.frames (first_page base) (PAGE_SIZE * n + k) ≡ 0
-    byte k small =
-        let page : first_page base + (PAGE_SIZE * n + k) / PAGE_SIZE ≡ region_page base n = omega arith in
-        let offset : (PAGE_SIZE * n + k) % PAGE_SIZE ≡ k = omega arith in
-        let spot : PAGE_SIZE * (budget_entry frame / PAGE_SIZE - BUDGET_FRAMES) + (PAGE_SIZE * n + k) % PAGE_SIZE ≡ PAGE_SIZE * frame + k = omega arith in
-        ap (λ (q : ℕ). slice_index new.frames (PAGE_SIZE * (entry_of new.tables q / PAGE_SIZE - BUDGET_FRAMES) + (PAGE_SIZE * n + k) % PAGE_SIZE)) page
-        ∙ ap (λ (e : ℕ). slice_index new.frames (PAGE_SIZE * (e / PAGE_SIZE - BUDGET_FRAMES) + (PAGE_SIZE * n + k) % PAGE_SIZE)) m.entry
-        ∙ ap (slice_index new.frames) spot ∙ zero k small
+    byte k small = grind arith
 
     bytes : bytes_of_block (block_of new place) ≡ bytes_of_block (block_of old place) ++ zeros (PAGE_SIZE * 1)
     bytes =
         new_bytes old new budget place base n frame m
-        ∙ append_listed (page_byte new.tables new.frames (first_page base)) (bytes_of_block (block_of old place)) (zeros (PAGE_SIZE * 1)) (PAGE_SIZE * n) (PAGE_SIZE * (n + 1))
+        ∙ append_listed (page_byte new.tables new.frames (first_page base)) (bytes_of_block (block_of old place)) (zeros (PAGE_SIZE * 1))
+        (PAGE_SIZE * n) (PAGE_SIZE * (n + 1))
         (ap (λ (xs : List ℕ). length xs) (old_bytes old new budget place base n frame m) ∙ length-listed (PAGE_SIZE * n) _)
         (omega (arith, length-zeros (PAGE_SIZE * 1)))
         (λ k small. page_kept old new budget place base n frame m beside h k small
         ∙ sym (ap (λ (xs : List ℕ). get_or xs k 0) (old_bytes old new budget place base n frame m) ∙ at_listed (PAGE_SIZE * n) _ k 0 small))
-        (λ k small. byte k (omega (arith, length-zeros (PAGE_SIZE * 1))) ∙ sym (at_zeros (PAGE_SIZE * 1) k (omega (arith, length-zeros (PAGE_SIZE * 1)))))
+        (λ k small. byte k (omega (arith, length-zeros (PAGE_SIZE * 1)))
+        ∙ sym (at_zeros (PAGE_SIZE * 1) k (omega (arith, length-zeros (PAGE_SIZE * 1)))))
 
     locks : locks_of_block (block_of new place) ≡ locks_of_block (block_of old place) ++ zeros 1
     locks =
@@ -223,11 +149,7 @@ more_block old new budget place base n frame m beside h zero unlocked =
 
 -- the first part of a list
 take_listed : (f g : ℕ → ℕ) (m n : ℕ) → m ≤ n → ((k : ℕ) → k < m → g k ≡ f k) → listed m f ≡ take m (listed n g)
-take_listed f g m n few same =
-    same_number_lists (listed m f) (take m (listed n g))
-    (length-listed m f ∙ sym (length-take-le m (listed n g) (omega (arith, length-listed n g)))) (λ k l.
-    let small : k < m = omega (arith, length-listed m f) in
-    at_listed m f k 0 small ∙ sym (get_or-take m (listed n g) k 0 small ∙ at_listed n g k 0 (omega arith) ∙ same k small))
+take_listed f g m n few same = grind (arith, at_listed, get_or-take, length-listed, length-take-le, same_number_lists)
 
 -- the block that has shrunk by its last page
 pub less_block : (old new : BlockParts) (budget place base n frame : ℕ) → HasPageMore old new budget place base n frame →
@@ -243,7 +165,8 @@ less_block old new budget place base n frame m beside h = elim (cases_eq n 0) [
       (held_base new.handles new.tables new.locks new.frames place ∙ m.new_base ∙ sym (m.room.based some))
       (ap (take (PAGE_SIZE * n)) (held_bytes ∙ new_bytes old new budget place base n frame m)
       ∙ sym (old_bytes old new budget place base n frame m
-      ∙ take_listed (page_byte old.tables old.frames (first_page_of old.handles place)) (page_byte new.tables new.frames (first_page base)) (PAGE_SIZE * n) (PAGE_SIZE * (n + 1)) (omega arith)
+      ∙ take_listed (page_byte old.tables old.frames (first_page_of old.handles place)) (page_byte new.tables new.frames (first_page base))
+      (PAGE_SIZE * n) (PAGE_SIZE * (n + 1)) (omega arith)
       (page_kept old new budget place base n frame m beside h)))
       (ap (take n) (held_locks ∙ new_locks old new budget place base n frame m)
       ∙ sym (old_locks old new budget place base n frame m
@@ -272,15 +195,9 @@ pub more_blocks : (old new : BlockParts) (budget place base n frame : ℕ) → H
     AgreesBeside old new budget (region_page base n) frame → HasBlockEntries old.handles old.tables old.taken budget →
     ((at : ℕ) → at < PAGE_SIZE → slice_index new.frames (PAGE_SIZE * frame + at) ≡ 0) → lock_of new.locks (region_page base n) ≡ 0 →
     blocks_of new ≡ slice_set (blocks_of old) place (Some (longer base (block_of old place) 1))
-more_blocks old new budget place base n frame m beside h zero unlocked =
-    listed-set MAX_BLOCKS (block_of old) (block_of new) place (Some (longer base (block_of old place) 1)) m.room.within
-    (more_block old new budget place base n frame m beside h zero unlocked)
-    (λ other within ne. other_block old new budget place base n frame m beside h other within ne)
+more_blocks old new budget place base n frame m beside h zero unlocked = grind (arith, listed-set, more_block, other_block)
 
 pub less_blocks : (old new : BlockParts) (budget place base n frame : ℕ) → HasPageMore old new budget place base n frame →
     AgreesBeside old new budget (region_page base n) frame → HasBlockEntries old.handles old.tables old.taken budget →
     blocks_of old ≡ slice_set (blocks_of new) place (shorter (block_of new place) n)
-less_blocks old new budget place base n frame m beside h =
-    listed-set MAX_BLOCKS (block_of new) (block_of old) place (shorter (block_of new place) n) m.room.within
-    (less_block old new budget place base n frame m beside h)
-    (λ other within ne. sym (other_block old new budget place base n frame m beside h other within ne))
+less_blocks old new budget place base n frame m beside h = grind (arith, less_block, listed-set, other_block)

@@ -1,13 +1,12 @@
 -- Two states of the block region between which a block moves to another linear address: its entries and lock counts go along, whether or
 -- not its pages before and after have some in common. Its bytes stay where they are.
-use Rattle.std.proofs.Common.{◌≡◌, ◌≢◌, ℕ, ◌+◌, ◌-◌, ◌*◌, ◌/◌, ◌%◌, ◌<◌, ◌≤◌, ◌⊎◌, inl, inr, List, slice_index, slice_set, refl, ap, ◌∙◌, sym, subst, arith, Option, None, Some}
+use Rattle.std.proofs.Common.{◌≡◌, ◌≢◌, ℕ, ◌+◌, ◌-◌, ◌*◌, ◌/◌, ◌%◌, ◌<◌, ◌≤◌, ◌⊎◌, inl, inr, List, slice_index, slice_set, ap, ◌∙◌, sym}
+use Rattle.std.proofs.Common.{subst, arith, Some}
 use Rattle.std.proofs.lemmas.Bool.{cases_eq, cases_lt}
 use Rattle.client_world.specs.declared.host_frames.TheConstants.{PAGE_SIZE, BUDGET_FRAMES}
 use Rattle.client_world.specs.declared.limits.TheConstants.{MAX_BLOCKS}
 use Rattle.client_world.specs.declared.memory_map.TheConstants.{BLOCK_REGION_PAGES}
 use Rattle.client_world.specs.Access.{bytes_of_block}
-use Rattle.client_world.specs.World.{MemoryBlock}
-use Rattle.guest_ram.specs.Listed.{listed}
 use Rattle.guest_ram.proofs.ListedLaws.{same_listed, listed-set}
 use Rattle.block_memory.specs.BlockSizes.{locks_of_block, at_base}
 use Rattle.host_memory.specs.Holds.{KeepsLocks}
@@ -46,7 +45,8 @@ pub record MayMove (old : BlockParts) (place base n : ℕ) : Type 0 where
   pub ranges : (other : ℕ) → other < MAX_BLOCKS → other ≢ place → pages_of old.handles other ≢ 0 →
       IsRange (base_of old.handles other) (pages_of old.handles other)
   pub beside : (other : ℕ) → other < MAX_BLOCKS → other ≢ place → pages_of old.handles other ≢ 0 →
-      (base_of old.handles place + PAGE_SIZE * n ≤ base_of old.handles other) ⊎ (base_of old.handles other + PAGE_SIZE * pages_of old.handles other ≤ base_of old.handles place)
+      (base_of old.handles place + PAGE_SIZE * n ≤ base_of old.handles other)
+      ⊎ (base_of old.handles other + PAGE_SIZE * pages_of old.handles other ≤ base_of old.handles place)
   pub apart : (other : ℕ) → other < MAX_BLOCKS → other ≢ place → pages_of old.handles other ≢ 0 →
       (base + PAGE_SIZE * n ≤ base_of old.handles other) ⊎ (base_of old.handles other + PAGE_SIZE * pages_of old.handles other ≤ base)
 
@@ -86,118 +86,75 @@ record IsClear (old : BlockParts) (place base n other i : ℕ) : Type 0 where
 
 is_clear : (old : BlockParts) (place base n : ℕ) → MayMove old place base n → (other i : ℕ) → other < MAX_BLOCKS → other ≢ place →
     i < pages_of old.handles other → IsClear old place base n other i
-is_clear old place base n m other i within ne less =
-    let some : pages_of old.handles other ≢ 0 = omega arith in
-    let r = m.ranges other within ne some in
-    let whole = r.whole in let from = r.from in let to = r.to in
-    let own_whole = m.own.whole in let own_from = m.own.from in let own_to = m.own.to in
-    let new_whole = m.range.whole in let new_from = m.range.from in let new_to = m.range.to in
-    record {
-      small = omega arith;
-      off_old = elim (m.beside other within ne some) [ inl above ↦ inr (omega arith) | inr below ↦ inl (omega arith) ];
-      off_new = elim (m.apart other within ne some) [ inl above ↦ inr (omega arith) | inr below ↦ inl (omega arith) ];
-    }
+is_clear old place base n m other i within ne less = grind arith
 
 -- from which page an entry that isn't 0 comes
 record ComesFrom (old : BlockParts) (place base n page entry : ℕ) : Type 0 where
   source : ℕ
   small : source < BLOCK_REGION_PAGES
   is : entry ≡ entry_of old.tables source
-  way : ((i : ℕ) × ((i < n) × ((page ≡ first_page base + i) × (source ≡ first_page_of old.handles place + i)))) ⊎ ((source ≡ page) × (IsOff (first_page_of old.handles place) n page × IsOff (first_page base) n page))
+  way : ((i : ℕ) × ((i < n) × ((page ≡ first_page base + i) × (source ≡ first_page_of old.handles place + i))))
+      ⊎ ((source ≡ page) × (IsOff (first_page_of old.handles place) n page × IsOff (first_page base) n page))
 
-comes_from : (old new : BlockParts) (place base n : ℕ) → HasMoved old new place base n → (page : ℕ) → page < BLOCK_REGION_PAGES → entry_of new.tables page ≢ 0 →
+comes_from : (old new : BlockParts) (place base n : ℕ) → HasMoved old new place base n → (page : ℕ) → page < BLOCK_REGION_PAGES →
+    entry_of new.tables page ≢ 0 →
     ComesFrom old place base n page (entry_of new.tables page)
 comes_from old new place base n m page small some = elim (in_or_off (first_page base) n page) [
-  | inl here ↦ (
-      let is = here.is in
-      record {
-        source = first_page_of old.handles place + here.i;
-        small = pages_small (base_of old.handles place) n here.i m.may.own here.less;
-        is = ap (entry_of new.tables) here.is ∙ m.entries.there here.i here.less;
-        way = inl (here.i, (here.less, (here.is, refl)));
-      })
-  | inr off ↦ elim (in_or_off (first_page_of old.handles place) n page) [
-    | inl left ↦ absurd (some (m.entries.left page small left off))
-    | inr clear ↦ record { source = page; small = small; is = m.entries.others page small clear off; way = inr (refl, (clear, off)) }
-  ]
+  | inl here ↦ (grind (arith, pages_small))
+  | inr off ↦ grind (arith, in_or_off)
 ]
 
-apart_sources : (old : BlockParts) (place base n page other x y : ℕ) → page ≢ other → (p : ComesFrom old place base n page x) (q : ComesFrom old place base n other y) →
+apart_sources : (old : BlockParts) (place base n page other x y : ℕ) → page ≢ other →
+    (p : ComesFrom old place base n page x) (q : ComesFrom old place base n other y) →
     p.source ≢ q.source
-apart_sources old place base n page other x y ne p q same = elim p.way [
-  | inl moved ↦ elim q.way [
-    | inl too ↦ (let a = moved.1.1.0 in let b = moved.1.1.1 in let c = too.1.1.0 in let d = too.1.1.1 in omega arith)
-    | inr stays ↦ (
-        let less = moved.1.0 in let a = moved.1.1.1 in let b = stays.0 in
-        elim stays.1.0 [ inl below ↦ omega arith | inr above ↦ omega arith ])
-  ]
-  | inr stays ↦ elim q.way [
-    | inl moved ↦ (
-        let less = moved.1.0 in let a = moved.1.1.1 in let b = stays.0 in
-        elim stays.1.0 [ inl below ↦ omega arith | inr above ↦ omega arith ])
-    | inr too ↦ (let a = stays.0 in let b = too.0 in omega arith)
-  ]
-]
+apart_sources old place base n page other x y ne p q same = grind arith
 
 -- a page that no block has after
 outside_before : (old new : BlockParts) (place base n : ℕ) → HasMoved old new place base n → (page : ℕ) → IsOutside new.handles page →
     IsOff (first_page_of old.handles place) n page → IsOutside old.handles page
 outside_before old new place base n m page none off = λ other i within less same. elim (cases_eq other place) [
-  | inl e ↦ (
-      let few : i < n = subst (λ (k : ℕ). i < k) (ap (pages_of old.handles) e ∙ m.may.pages) less in
-      let first : first_page_of old.handles other ≡ first_page_of old.handles place = ap (first_page_of old.handles) e in
-      elim off [ inl below ↦ omega arith | inr above ↦ omega arith ])
+  | inl e ↦ (grind arith)
   | inr ne ↦ (
       let pages = m.other_pages other within ne in
       let first = first_stays old new place base n m other within ne in
       none other i within (omega arith) (omega arith))
 ]
 
-off_new_of : (old new : BlockParts) (place base n : ℕ) → HasMoved old new place base n → (page : ℕ) → IsOutside new.handles page → IsOff (first_page base) n page
+off_new_of : (old new : BlockParts) (place base n : ℕ) → HasMoved old new place base n → (page : ℕ) → IsOutside new.handles page →
+    IsOff (first_page base) n page
 off_new_of old new place base n m page none = elim (in_or_off (first_page base) n page) [
   | inl here ↦ (
       let less = here.less in let pages = m.new_pages in
-      absurd (none place here.i m.may.within (omega arith) (here.is ∙ ap (λ (k : ℕ). k + here.i) (sym (first_moved old new place base n m)))))
+      absurd
+      (none place here.i m.may.within (omega arith) (here.is ∙ ap (λ (k : ℕ). k + here.i) (sym (first_moved old new place base n m)))))
   | inr off ↦ off
 ]
 
 -- a page among those of after and not among those of before is no block's before
 free_before : (old : BlockParts) (place base n : ℕ) → MayMove old place base n → (page : ℕ) → IsIn (first_page base) n page →
     IsOff (first_page_of old.handles place) n page → IsOutside old.handles page
-free_before old place base n m page here off = λ other i within less same. elim (cases_eq other place) [
-  | inl e ↦ (
-      let few : i < n = subst (λ (k : ℕ). i < k) (ap (pages_of old.handles) e ∙ m.pages) less in
-      let first : first_page_of old.handles other ≡ first_page_of old.handles place = ap (first_page_of old.handles) e in
-      elim off [ inl below ↦ omega arith | inr above ↦ omega arith ])
-  | inr ne ↦ (
-      let clear = is_clear old place base n m other i within ne less in
-      let few = here.less in let is = here.is in
-      elim clear.off_new [ inl below ↦ omega arith | inr above ↦ omega arith ])
-]
+free_before old place base n m page here off = λ other i within less same. grind (arith, is_clear)
 
 pub moved_entries : (old new : BlockParts) (budget place base n : ℕ) → HasMoved old new place base n →
     HasBlockEntries old.handles old.tables old.taken budget → HasBlockEntries new.handles new.tables new.taken budget
-moved_entries old new budget place base n m h = record {
-  named = named;
-  absent = absent;
-  once = once;
-  idle = idle;
-  busy = busy;
-  bits = λ k. (let bit = h.bits k in rw m.taken bit);
-  beyond = λ k from small. rw m.taken (h.beyond k from small);
-}
+moved_entries old new budget place base n m h = grind (arith, absent, busy, idle, named, once)
   where
-    named : (other i : ℕ) → other < MAX_BLOCKS → i < pages_of new.handles other → NamesBudgetFrame budget (entry_of new.tables (first_page_of new.handles other + i))
+    named : (other i : ℕ) → other < MAX_BLOCKS → i < pages_of new.handles other →
+        NamesBudgetFrame budget (entry_of new.tables (first_page_of new.handles other + i))
     named other i within less = elim (cases_eq other place) [
       | inl e ↦ (
           let few : i < n = subst (λ (k : ℕ). i < k) (ap (pages_of new.handles) e ∙ m.new_pages) less in
-          let first : first_page_of new.handles other ≡ first_page base = ap (first_page_of new.handles) e ∙ first_moved old new place base n m in
+          let first : first_page_of new.handles other ≡ first_page base = ap (first_page_of new.handles) e
+          ∙ first_moved old new place base n m in
           let pages = m.may.pages in
           rw (first, m.entries.there i few) (h.named place i m.may.within (omega arith)))
       | inr ne ↦ (
           let pages = m.other_pages other within ne in
           let clear = is_clear old place base n m.may other i within ne (omega arith) in
-          rw (first_stays old new place base n m other within ne, m.entries.others (first_page_of old.handles other + i) clear.small clear.off_old clear.off_new)
+          rw (
+            first_stays old new place base n m other within ne,
+            m.entries.others (first_page_of old.handles other + i) clear.small clear.off_old clear.off_new,
+          )
           (h.named other i within (omega arith)))
     ]
 
@@ -227,18 +184,12 @@ moved_entries old new budget place base n m h = record {
         let was = h.busy k few (λ none. some (ap (λ (t : List ℕ). slice_index t k) m.taken ∙ none)) in
         let named = was.named in
         elim (in_or_off (first_page_of old.handles place) n was.page) [
-          | inl left ↦ record {
-            page = first_page base + left.i;
-            inside = pages_small base n left.i m.may.range left.less;
-            named = m.entries.there left.i left.less ∙ ap (entry_of old.tables) (sym left.is) ∙ named;
-          }
-          | inr clear ↦ elim (in_or_off (first_page base) n was.page) [
-            | inl here ↦ (let none = h.absent was.page was.inside (free_before old place base n m.may was.page here clear) in absurd (omega arith))
-            | inr off ↦ record { page = was.page; inside = was.inside; named = m.entries.others was.page was.inside clear off ∙ named }
-          ]
+          | inl left ↦ grind (arith, named, pages_small)
+          | inr clear ↦ grind (arith, absent, free_before, in_or_off, named)
         ]
 
-pub moved_locks : (old new : BlockParts) (place base n : ℕ) → HasMoved old new place base n → KeepsLocks old.handles old.locks → KeepsLocks new.handles new.locks
+pub moved_locks : (old new : BlockParts) (place base n : ℕ) → HasMoved old new place base n → KeepsLocks old.handles old.locks →
+    KeepsLocks new.handles new.locks
 moved_locks old new place base n m h = record {
   outside = λ page small none. (
       let off = off_new_of old new place base n m page none in
@@ -252,71 +203,26 @@ moved_locks old new place base n m h = record {
 other_stays : (old new : BlockParts) (place base n : ℕ) → HasMoved old new place base n → (other : ℕ) → other < MAX_BLOCKS → other ≢ place →
     block_of new other ≡ block_of old other
 unfolding held_block
-other_stays old new place base n m other within ne = elim (cases_eq (pages_of old.handles other) 0) [
-  | inl none ↦ row_free new.handles new.tables new.locks new.frames other (m.other_pages other within ne ∙ none)
-      ∙ sym (row_free old.handles old.tables old.locks old.frames other none)
-  | inr some ↦ row_there new.handles new.tables new.locks new.frames other (λ none. some (sym (m.other_pages other within ne) ∙ none))
-      ∙ ap (λ (x : MemoryBlock). Some x) same
-      ∙ sym (row_there old.handles old.tables old.locks old.frames other some)
-]
-  where
-    byte : (at : ℕ) → at < PAGE_SIZE * pages_of old.handles other →
-        page_byte new.tables old.frames (first_page_of old.handles other) at ≡ page_byte old.tables old.frames (first_page_of old.handles other) at
-    byte at inside =
-        let clear = is_clear old place base n m.may other (at / PAGE_SIZE) within ne (omega arith) in
-        ap (λ (e : ℕ). slice_index old.frames (PAGE_SIZE * (e / PAGE_SIZE - BUDGET_FRAMES) + at % PAGE_SIZE))
-        (m.entries.others (first_page_of old.handles other + at / PAGE_SIZE) clear.small clear.off_old clear.off_new)
-
-    lock : (page : ℕ) → page < pages_of old.handles other → lock_of new.locks (first_page_of old.handles other + page) ≡ lock_of old.locks (first_page_of old.handles other + page)
-    lock page inside =
-        let clear = is_clear old place base n m.may other page within ne inside in
-        m.locks.others (first_page_of old.handles other + page) clear.small clear.off_old clear.off_new
-
-    same : held_block new.handles new.tables new.locks new.frames other ≡ held_block old.handles old.tables old.locks old.frames other
-    same = rw (
-      m.frames,
-      m.other_bases other within ne,
-      m.other_pages other within ne,
-      same_listed (PAGE_SIZE * pages_of old.handles other) (page_byte new.tables old.frames (first_page_of old.handles other))
-          (page_byte old.tables old.frames (first_page_of old.handles other)) byte,
-      same_listed (pages_of old.handles other) (λ page. lock_of new.locks (first_page_of old.handles other + page))
-          (λ page. lock_of old.locks (first_page_of old.handles other + page)) lock,
-    ) refl
+other_stays old new place base n m other within ne = grind (arith, is_clear, row_free, row_there, same_listed)
 
 block_moves : (old new : BlockParts) (place base n : ℕ) → HasMoved old new place base n →
-    block_of new place ≡ Some (record { base = base; bytes = bytes_of_block (block_of old place); locks = locks_of_block (block_of old place) })
+    block_of new place
+    ≡ Some (record { base = base; bytes = bytes_of_block (block_of old place); locks = locks_of_block (block_of old place) })
 block_moves old new place base n m =
     block_is new place (λ none. m.may.some (sym m.new_pages ∙ none))
     (record { base = base; bytes = bytes_of_block (block_of old place); locks = locks_of_block (block_of old place) }) (sym m.new_base)
-    (bytes_are old place
-    ∙ ap (λ (k : ℕ). listed (PAGE_SIZE * k) (page_byte old.tables old.frames (first_page_of old.handles place))) m.may.pages
-    ∙ sym (bytes_are new place
-    ∙ ap (λ (k : ℕ). listed (PAGE_SIZE * k) (page_byte new.tables new.frames (first_page_of new.handles place))) m.new_pages
-    ∙ ap (λ (k : ℕ). listed (PAGE_SIZE * n) (page_byte new.tables new.frames k)) (first_moved old new place base n m)
-    ∙ ap (λ (f : List ℕ). listed (PAGE_SIZE * n) (page_byte new.tables f (first_page base))) m.frames
-    ∙ same_listed (PAGE_SIZE * n) (page_byte new.tables old.frames (first_page base)) (page_byte old.tables old.frames (first_page_of old.handles place)) byte))
-    (locks_are old place
-    ∙ ap (λ (k : ℕ). listed k (λ page. lock_of old.locks (first_page_of old.handles place + page))) m.may.pages
-    ∙ sym (locks_are new place
-    ∙ ap (λ (k : ℕ). listed k (λ page. lock_of new.locks (first_page_of new.handles place + page))) m.new_pages
-    ∙ ap (λ (k : ℕ). listed n (λ page. lock_of new.locks (k + page))) (first_moved old new place base n m)
-    ∙ same_listed n (λ page. lock_of new.locks (first_page base + page)) (λ page. lock_of old.locks (first_page_of old.handles place + page)) m.locks.there))
+    (grind (arith, byte, bytes_are, first_moved, same_listed))
+    (grind (arith, first_moved, locks_are, same_listed))
   where
-    byte : (at : ℕ) → at < PAGE_SIZE * n → page_byte new.tables old.frames (first_page base) at ≡ page_byte old.tables old.frames (first_page_of old.handles place) at
+    byte : (at : ℕ) → at < PAGE_SIZE * n → page_byte new.tables old.frames (first_page base) at
+        ≡ page_byte old.tables old.frames (first_page_of old.handles place) at
     byte at inside =
-        ap (λ (e : ℕ). slice_index old.frames (PAGE_SIZE * (e / PAGE_SIZE - BUDGET_FRAMES) + at % PAGE_SIZE)) (m.entries.there (at / PAGE_SIZE) (omega arith))
+        ap (λ (e : ℕ). slice_index old.frames (PAGE_SIZE * (e / PAGE_SIZE - BUDGET_FRAMES) + at % PAGE_SIZE))
+        (m.entries.there (at / PAGE_SIZE) (omega arith))
 
 pub moved_blocks : (old new : BlockParts) (place base n : ℕ) → HasMoved old new place base n →
     blocks_of new ≡ slice_set (blocks_of old) place (at_base base (block_of old place))
-moved_blocks old new place base n m =
-    listed-set MAX_BLOCKS (block_of old) (block_of new) place (at_base base (block_of old place)) m.may.within
-    (block_moves old new place base n m ∙ based (block_of old place) (row_there old.handles old.tables old.locks old.frames place (λ none. m.may.some (sym m.may.pages ∙ none))))
-    (λ other within ne. other_stays old new place base n m other within ne)
-  where
-    based : (o : Option MemoryBlock) → o ≡ Some (held_block old.handles old.tables old.locks old.frames place) →
-        Some (record { base = base; bytes = bytes_of_block o; locks = locks_of_block o }) ≡ at_base base o
-    based None e = absurd cc
-    based (Some block) e = refl
+moved_blocks old new place base n m = grind (arith, block_moves, listed-set, other_stays, row_there)
 
 -- bytes of blocks stay where they are
 abbrev pub byte_place : BlockParts → ℕ → ℕ → ℕ
@@ -324,17 +230,4 @@ byte_place s place at = PAGE_SIZE * (entry_of s.tables (first_page_of s.handles 
 
 pub moved_place : (old new : BlockParts) (place base n : ℕ) → HasMoved old new place base n → (other at : ℕ) → other < MAX_BLOCKS →
     at < PAGE_SIZE * pages_of old.handles other → byte_place new other at ≡ byte_place old other at
-moved_place old new place base n m other at within inside = elim (cases_eq other place) [
-  | inl e ↦ (
-      let pages : pages_of old.handles other ≡ n = ap (pages_of old.handles) e ∙ m.may.pages in
-      let few : at / PAGE_SIZE < n = omega arith in
-      ap (λ (k : ℕ). byte_place new k at) e
-      ∙ ap (λ (k : ℕ). PAGE_SIZE * (entry_of new.tables (k + at / PAGE_SIZE) / PAGE_SIZE) + at % PAGE_SIZE) (first_moved old new place base n m)
-      ∙ ap (λ (x : ℕ). PAGE_SIZE * (x / PAGE_SIZE) + at % PAGE_SIZE) (m.entries.there (at / PAGE_SIZE) few)
-      ∙ ap (λ (k : ℕ). byte_place old k at) (sym e))
-  | inr ne ↦ (
-      let clear = is_clear old place base n m.may other (at / PAGE_SIZE) within ne (omega arith) in
-      ap (λ (k : ℕ). PAGE_SIZE * (entry_of new.tables (k + at / PAGE_SIZE) / PAGE_SIZE) + at % PAGE_SIZE) (first_stays old new place base n m other within ne)
-      ∙ ap (λ (x : ℕ). PAGE_SIZE * (x / PAGE_SIZE) + at % PAGE_SIZE)
-      (m.entries.others (first_page_of old.handles other + at / PAGE_SIZE) clear.small clear.off_old clear.off_new))
-]
+moved_place old new place base n m other at within inside = grind (arith, first_moved, first_stays, is_clear)

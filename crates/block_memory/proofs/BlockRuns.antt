@@ -1,11 +1,10 @@
 -- Pages added to a block, or removed from it, one after another.
-use Rattle.std.proofs.Common.{◌≡◌, ℕ, ◌+◌, ◌*◌, ◌-◌, ◌<◌, ◌≤◌, inl, inr, List, length, slice_index_or, slice_set, length-set, ap, ◌∙◌, sym, subst, arith, Option, None, Some}
-use Rattle.std.proofs.lemmas.Bool.{cases_eq, eq-eqb, ne_eqb}
+use Rattle.std.proofs.Common.{◌≡◌, ℕ, ◌+◌, ◌-◌, ◌<◌, ◌≤◌, List, length, slice_index_or, slice_set, length-set, ap, ◌∙◌, sym, subst, arith}
+use Rattle.std.proofs.Common.{Option, None, Some}
+use Rattle.std.proofs.lemmas.Bool.{eq-eqb, ne_eqb}
 use Rattle.std.proofs.lemmas.List.{length-append}
-use Rattle.client_world.specs.declared.host_frames.TheConstants.{PAGE_SIZE}
 use Rattle.client_world.specs.Access.{HasByte}
 use Rattle.client_world.specs.World.{MemoryBlock}
-use Rattle.guest_ram.specs.Listed.{zeros}
 use Rattle.host_memory.specs.Holds.{Holds}
 use Rattle.block_memory.specs.BlockChanges.{blocks_held, CanHoldIn, HasPagesIn, ReplacesBlock, ReplacesBlocks, with_at}
 use Rattle.block_memory.specs.BlockSizes.{CanHold, HasPages, block_with_zero_pages, longer, shorter}
@@ -16,19 +15,7 @@ use Rattle.block_memory.proofs.SizedSound.{can_hold_next, has_pages_next}
 -- one page more is asked
 one_more : (blocks : List (Option MemoryBlock)) (budget place base n to : ℕ) → CanHold blocks budget place base n to → n < to →
     CanHold blocks budget place base n (n + 1)
-one_more blocks budget place base n to can more =
-    let below = can.below in let room = can.room in
-    record {
-      handles = can.handles;
-      within = can.within;
-      pages = can.pages;
-      based = can.based;
-      whole = can.whole;
-      above = can.above;
-      below = omega arith;
-      apart = λ other block ne e. elim (can.apart other block ne e) [ inl far ↦ inl (omega arith) | inr near ↦ inr near ];
-      room = omega arith;
-    }
+one_more blocks budget place base n to can more = grind arith
 
 pub next_page : (b : List ℕ) (place base n to : ℕ) → CanHoldIn b place base n to → n < to → CanHoldIn b place base n (n + 1)
 next_page b place base n to g more =
@@ -56,10 +43,7 @@ extending_in old now place base from n to s = record { budget = s.budget; holds 
 extended_byte : (base : ℕ) (o : Option MemoryBlock) (more at : ℕ) → HasByte o at → HasByte (block_with_zero_pages base o more) at
 unfolding block_with_zero_pages
 extended_byte base None more at has = absurd has
-extended_byte base (Some block) more at has = elim (cases_eq more 0) [
-  | inl none ↦ rw (eq-eqb more 0 none) has
-  | inr some ↦ rw (ne_eqb more 0 some) (omega (arith, length-append block.bytes (zeros (PAGE_SIZE * more))))
-]
+extended_byte base (Some block) more at has = grind (arith, eq-eqb, length-append, ne_eqb)
 
 pub extended_more : (old now next : List ℕ) (place base from n to : ℕ) → from ≤ n → n < to → (s : Extending old now place base from n to) →
     ReplacesBlock now next place (λ o. Some (longer base o 1)) → Extending old next place base from (n + 1) to
@@ -69,8 +53,10 @@ extended_more old now next place base from n to low more s step =
     let o = slice_index_or blocks place None in
     let last = step budget s.steps.after.holds in
     let within = s.can.within in let handles = s.can.handles in
-    let long : length (blocks_held now budget) ≡ length blocks = ap (λ (bs : List (Option MemoryBlock)). length bs) s.steps.are ∙ length-set blocks place _ in
-    let goal : with_at (blocks_held now budget) place (λ x. Some (longer base x 1)) ≡ slice_set blocks place (block_with_zero_pages base o (n + 1 - from)) =
+    let long : length (blocks_held now budget) ≡ length blocks = ap (λ (bs : List (Option MemoryBlock)). length bs) s.steps.are
+    ∙ length-set blocks place _ in
+    let goal : with_at (blocks_held now budget) place (λ x. Some (longer base x 1))
+    ≡ slice_set blocks place (block_with_zero_pages base o (n + 1 - from)) =
     ap (λ (bs : List (Option MemoryBlock)). with_at bs place (λ x. Some (longer base x 1))) s.steps.are
     ∙ step_longer blocks place base (n - from) o (omega arith)
     ∙ ap (λ (k : ℕ). slice_set blocks place (block_with_zero_pages base o k)) (omega arith) in
@@ -78,16 +64,15 @@ extended_more old now next place base from n to low more s step =
       budget = budget;
       before = s.before;
       steps = replaced_by old now next budget _ _ s.steps (becomes now next budget _ _ last goal)
-          (held_there blocks place (block_with_zero_pages base o (n + 1 - from)) (block_with_zero_pages base o (n - from)) (omega arith) (λ at one two. extended_byte base o (n - from) at one));
+          (held_there blocks place (block_with_zero_pages base o (n + 1 - from)) (block_with_zero_pages base o (n - from)) (omega arith)
+          (λ at one two. extended_byte base o (n - from) at one));
       can = subst (λ (bs : List (Option MemoryBlock)). CanHold bs budget place base (n + 1) to) (sym last.are)
           (can_hold_next (blocks_held now budget) budget place base n to s.can more);
     }
 
 pub extended_all : (old now : List ℕ) (place base from n to : ℕ) → n ≡ to → Extending old now place base from n to →
     ReplacesBlock old now place (λ o. block_with_zero_pages base o (to - from))
-extended_all old now place base from n to end s =
-    for_budget old now place (λ o. block_with_zero_pages base o (to - from)) s.budget s.before
-    (subst (λ (k : ℕ). ReplacesBlocks old now s.budget (with_at (blocks_held old s.budget) place (λ o. block_with_zero_pages base o (k - from)))) end s.steps)
+extended_all old now place base from n to end s = grind (arith, for_budget)
 
 -- how far pages are removed
 pub record Cutting (old now : List ℕ) (place base n : ℕ) : Type 0 where
@@ -107,7 +92,8 @@ cutting b place base n d = record {
 pub cutting_in : (old now : List ℕ) (place base n : ℕ) → Cutting old now place base n → HasPagesIn now place base n
 cutting_in old now place base n s = record { budget = s.budget; holds = s.steps.after; has = s.has }
 
-pub cut_more : (old now next : List ℕ) (place base n : ℕ) → Cutting old now place base (n + 1) → ReplacesBlock now next place (λ o. shorter o n) →
+pub cut_more : (old now next : List ℕ) (place base n : ℕ) → Cutting old now place base (n + 1) →
+    ReplacesBlock now next place (λ o. shorter o n) →
     Cutting old next place base n
 cut_more old now next place base n s step =
     let budget = s.budget in
@@ -115,16 +101,17 @@ cut_more old now next place base n s step =
     let o = slice_index_or blocks place None in
     let last = step budget s.steps.after.holds in
     let within = s.has.within in let handles = s.has.handles in
-    let long : length (blocks_held now budget) ≡ length blocks = ap (λ (bs : List (Option MemoryBlock)). length bs) s.steps.are ∙ length-set blocks place _ in
+    let long : length (blocks_held now budget) ≡ length blocks = ap (λ (bs : List (Option MemoryBlock)). length bs) s.steps.are
+    ∙ length-set blocks place _ in
     let goal : with_at (blocks_held now budget) place (λ x. shorter x n) ≡ slice_set blocks place (shorter o n) =
-    ap (λ (bs : List (Option MemoryBlock)). with_at bs place (λ x. shorter x n)) s.steps.are ∙ step_shorter blocks place n o (omega arith) in
+    ap (λ (bs : List (Option MemoryBlock)). with_at bs place (λ x. shorter x n)) s.steps.are
+    ∙ step_shorter blocks place n o (omega arith) in
     record {
       budget = budget;
       before = s.before;
-      steps = replaced_by old now next budget _ _ s.steps (becomes now next budget _ _ last goal)
-          (held_there blocks place (shorter o n) (shorter o (n + 1)) (omega arith)
-          (λ at one two. shorter_byte (shorter o (n + 1)) n at (subst (λ (x : Option MemoryBlock). HasByte x at) (sym (shorter_next o n)) two)));
-      has = subst (λ (bs : List (Option MemoryBlock)). HasPages bs place base n) (sym last.are) (has_pages_next (blocks_held now budget) place base n s.has);
+      steps = grind (arith, becomes, held_there, replaced_by, shorter_byte, shorter_next);
+      has = subst (λ (bs : List (Option MemoryBlock)). HasPages bs place base n) (sym last.are)
+          (has_pages_next (blocks_held now budget) place base n s.has);
     }
 
 pub cut_all : (old now : List ℕ) (place base n : ℕ) → Cutting old now place base n → ReplacesBlock old now place (λ o. shorter o n)

@@ -1,5 +1,6 @@
 -- A change of the blocks of a memory: one after another, and a page added to a block or removed from it.
-use Rattle.std.proofs.Common.{◌≡◌, ◌≢◌, ℕ, zero, suc, ◌+◌, ◌*◌, ◌-◌, ◌<◌, inl, inr, true, List, length, slice_index, slice_index_or, slice_set, refl, ap, ◌∙◌, sym, subst, arith, Option, None, Some, get_or-set_same, get_or-set_other}
+use Rattle.std.proofs.Common.{◌≡◌, ◌≢◌, ℕ, zero, suc, ◌+◌, ◌*◌, ◌-◌, ◌<◌, inl, inr, true, List, length, slice_index_or, slice_set, ap, ◌∙◌}
+use Rattle.std.proofs.Common.{sym, subst, arith, Option, None, Some, get_or-set_same, get_or-set_other}
 use Rattle.std.proofs.lemmas.Bool.{cases_eq}
 use Rattle.std.proofs.lemmas.List.{set-get_or}
 use Rattle.client_world.specs.declared.host_frames.TheConstants.{PAGE_SIZE, BUDGET_FRAMES, PAGE_ENTRY_SIZE}
@@ -8,7 +9,7 @@ use Rattle.client_world.specs.declared.place.Place.{Place}
 use Rattle.client_world.specs.declared.place.Place.TheVariants.{Dos, Block, Host, Nothing}
 use Rattle.client_world.specs.Access.{HasByte}
 use Rattle.client_world.specs.Soundness.{SoundBlocks, HoldBytes}
-use Rattle.client_world.specs.World.{World, MemoryBlock}
+use Rattle.client_world.specs.World.{MemoryBlock}
 use Rattle.guest_ram.specs.Bytes.{put, dword_bytes}
 use Rattle.guest_ram.specs.Listed.{copies}
 use Rattle.page_tables.specs.Budget.{HasBudget, IsBudgetFrame, IsFree, IsTaken, IsNamedNowhere, AllTaken}
@@ -23,13 +24,17 @@ use Rattle.host_memory.proofs.BlockRows.{HasRanges, IsRange, ranges}
 use Rattle.host_memory.proofs.FreeParts.{list_of_parts}
 use Rattle.host_memory.proofs.HostTables.{has_tables}
 use Rattle.host_memory.proofs.Parts.{MemoryParts, parts_of, holds_parts}
-use Rattle.block_memory.specs.BlockChanges.{blocks_held, CanHoldIn, HasPagesIn, HoldsSoundBlocks, IsHeldIn, ReplacesBlock, ReplacesBlocks, with_at}
+use Rattle.block_memory.specs.BlockChanges.{blocks_held, CanHoldIn, HasPagesIn, HoldsSoundBlocks, IsHeldIn, ReplacesBlock, ReplacesBlocks}
+use Rattle.block_memory.specs.BlockChanges.{with_at}
 use Rattle.block_memory.specs.BlockSizes.{longer, shorter}
-use Rattle.block_memory.proofs.PageChanges.{ChangesBlocks, HasLast, HasLastFrame, last_frame, last_range, has_last_frame, may_shrink, not_all_taken, in_budget, room_of, grown_changes, shrunk_changes}
+use Rattle.block_memory.proofs.PageChanges.{ChangesBlocks, HasLast, HasLastFrame, last_frame, last_range, has_last_frame, may_shrink}
+use Rattle.block_memory.proofs.PageChanges.{not_all_taken, in_budget, room_of, grown_changes, shrunk_changes}
 use Rattle.block_memory.proofs.PageMore.{page_inside, page_outside, region_page}
 use Rattle.block_memory.proofs.PageParts.{block_parts, base_in_row, shrunk_less}
-use Rattle.block_memory.proofs.PageWrites.{cleared, cleared_are, cleared_host, grown, shrunk, unlocked, with_block_row, host_of, page_in_region, page_is, entry_are, entry_host}
-use Rattle.block_memory.proofs.RegionPages.{tables_of, budget_of, region_covered, region_mapped, region_unmapped, named_nowhere, entry_kinds, page_at, taken_byte}
+use Rattle.block_memory.proofs.PageWrites.{cleared, cleared_are, cleared_host, grown, shrunk, unlocked, with_block_row, host_of}
+use Rattle.block_memory.proofs.PageWrites.{page_in_region, page_is, entry_are, entry_host}
+use Rattle.block_memory.proofs.RegionPages.{tables_of, budget_of, region_covered, region_mapped, region_unmapped, named_nowhere}
+use Rattle.block_memory.proofs.RegionPages.{entry_kinds, page_at, taken_byte}
 use Rattle.block_memory.proofs.SizedSound.{longer_sound, longer_fits, shorter_sound, shorter_fits, last_of}
 
 -- a memory holds a world for one budget alone
@@ -46,30 +51,19 @@ ranges_held b budget h = ranges (handles_part b) (tables_part b) (locks_part b) 
 
 -- no change, and one change after another
 
-pub same_blocks : (b : List ℕ) (budget : ℕ) (blocks : List (Option MemoryBlock)) → HoldsSoundBlocks b budget → blocks_held b budget ≡ blocks →
+pub same_blocks : (b : List ℕ) (budget : ℕ) (blocks : List (Option MemoryBlock)) → HoldsSoundBlocks b budget →
+    blocks_held b budget ≡ blocks →
     ReplacesBlocks b b budget blocks
 unfolding world_of
-same_blocks b budget blocks holds e = record {
-  after = holds;
-  are = e;
-  world = λ mode regs vif width. ap (λ (bs : List (Option MemoryBlock)). record (world_of b budget mode regs vif width) { blocks = bs }) e;
-  rows = refl;
-  addresses = λ p before after. refl;
-}
+same_blocks b budget blocks holds e = grind arith
 
-pub replaced_by : (b c d : List ℕ) (budget : ℕ) (first last : List (Option MemoryBlock)) → ReplacesBlocks b c budget first → ReplacesBlocks c d budget last →
+pub replaced_by : (b c d : List ℕ) (budget : ℕ) (first last : List (Option MemoryBlock)) → ReplacesBlocks b c budget first →
+    ReplacesBlocks c d budget last →
     ((p : Place) → IsHeldIn (blocks_held b budget) p → IsHeldIn last p → IsHeldIn first p) → ReplacesBlocks b d budget last
-replaced_by b c d budget first last one two between = record {
-  after = two.after;
-  are = two.are;
-  world = λ mode regs vif width. two.world mode regs vif width ∙ ap (λ (w : World). record w { blocks = last }) (one.world mode regs vif width);
-  rows = two.rows ∙ one.rows;
-  addresses = λ p before after. (
-      let held = between p before after in
-      two.addresses p (subst (λ (bs : List (Option MemoryBlock)). IsHeldIn bs p) (sym one.are) held) after ∙ one.addresses p before held);
-}
+replaced_by b c d budget first last one two between = grind arith
 
-pub becomes : (b c : List ℕ) (budget : ℕ) (blocks others : List (Option MemoryBlock)) → ReplacesBlocks b c budget blocks → blocks ≡ others → ReplacesBlocks b c budget others
+pub becomes : (b c : List ℕ) (budget : ℕ) (blocks others : List (Option MemoryBlock)) → ReplacesBlocks b c budget blocks → blocks ≡ others →
+    ReplacesBlocks b c budget others
 becomes b c budget blocks others replaces e = subst (ReplacesBlocks b c budget) e replaces
 
 -- a place that is held with two blocks at an index is held with a third
@@ -78,44 +72,30 @@ pub held_there : (blocks : List (Option MemoryBlock)) (place : ℕ) (x y : Optio
     (p : Place) → IsHeldIn blocks p → IsHeldIn (slice_set blocks place x) p → IsHeldIn (slice_set blocks place y) p
 held_there blocks place x y within keeps (Dos at) one two = tt
 held_there blocks place x y within keeps (Block zero at) one two = absurd one
-held_there blocks place x y within keeps (Block (suc other) at) one two = elim (cases_eq other place) [
-  | inl same ↦ (
-      let here = λ (z : Option MemoryBlock). ap (λ (k : ℕ). slice_index_or (slice_set blocks place z) k None) same ∙ get_or-set_same blocks place z None within in
-      subst (λ (o : Option MemoryBlock). HasByte o at) (sym (here y))
-      (keeps at (subst (λ (k : ℕ). HasByte (slice_index_or blocks k None) at) same one) (subst (λ (o : Option MemoryBlock). HasByte o at) (here x) two)))
-  | inr ne ↦ subst (λ (o : Option MemoryBlock). HasByte o at) (sym (get_or-set_other blocks place other y None ne)) one
-]
+held_there blocks place x y within keeps (Block (suc other) at) one two = grind (arith, get_or-set_other, get_or-set_same)
 held_there blocks place x y within keeps Host one two = absurd one
 held_there blocks place x y within keeps Nothing one two = absurd one
 
 -- and with one that has the block's bytes
 pub held_still : (blocks : List (Option MemoryBlock)) (place : ℕ) (y : Option MemoryBlock) → place < length blocks →
-    ((at : ℕ) → HasByte (slice_index_or blocks place None) at → HasByte y at) → (p : Place) → IsHeldIn blocks p → IsHeldIn (slice_set blocks place y) p
+    ((at : ℕ) → HasByte (slice_index_or blocks place None) at → HasByte y at) → (p : Place) → IsHeldIn blocks p →
+    IsHeldIn (slice_set blocks place y) p
 held_still blocks place y within keeps p held =
     held_there blocks place (slice_index_or blocks place None) y within (λ at one two. keeps at one) p held
     (subst (λ (bs : List (Option MemoryBlock)). IsHeldIn bs p) (sym (set-get_or blocks place None)) held)
 
-replaced : (b c : List ℕ) (budget : ℕ) (blocks : List (Option MemoryBlock)) → ChangesBlocks b c budget blocks → SoundBlocks blocks budget → HoldBytes blocks →
+replaced : (b c : List ℕ) (budget : ℕ) (blocks : List (Option MemoryBlock)) → ChangesBlocks b c budget blocks → SoundBlocks blocks budget →
+    HoldBytes blocks →
     ReplacesBlocks b c budget blocks
-replaced b c budget blocks changes sound fits = record {
-  after = record {
-    holds = changes.holds;
-    sound = subst (λ (bs : List (Option MemoryBlock)). SoundBlocks bs budget) (sym changes.are) sound;
-    fits = subst HoldBytes (sym changes.are) fits;
-  };
-  are = changes.are;
-  world = changes.world;
-  rows = changes.rows;
-  addresses = changes.addresses;
-}
+replaced b c budget blocks changes sound fits = grind arith
 
 -- so the block at an index changes
-pub replaced_at : (b c d : List ℕ) (budget place : ℕ) (change : Option MemoryBlock → Option MemoryBlock) → HoldsSoundBlocks b budget → d ≡ c →
-    ChangesBlocks b c budget (with_at (blocks_held b budget) place change) → SoundBlocks (with_at (blocks_held b budget) place change) budget →
+pub replaced_at : (b c d : List ℕ) (budget place : ℕ) (change : Option MemoryBlock → Option MemoryBlock) →
+    HoldsSoundBlocks b budget → d ≡ c →
+    ChangesBlocks b c budget (with_at (blocks_held b budget) place change) →
+    SoundBlocks (with_at (blocks_held b budget) place change) budget →
     HoldBytes (with_at (blocks_held b budget) place change) → ReplacesBlock b d place change
-replaced_at b c d budget place change holds e changes sound fits =
-    for_budget b d place change budget holds.holds
-    (subst (λ (x : List ℕ). ReplacesBlocks b x budget (with_at (blocks_held b budget) place change)) (sym e) (replaced b c budget _ changes sound fits))
+replaced_at b c d budget place change holds e changes sound fits = grind (arith, for_budget, replaced)
 
 -- the memory lists its free frames
 pub free_list : (b : List ℕ) (budget : ℕ) → Holds b budget → HasFreeList b
@@ -159,14 +139,14 @@ can_map b place base n frame g is b1 c e1 e2 =
     cleared_is b b1 b2 frame e f = f ∙ ap (λ (x : List ℕ). put x (PAGE_SIZE * frame) (copies PAGE_SIZE 0)) e
 
 -- the four writes
-grown_is : (b b1 b2 b3 b4 : List ℕ) (place base n frame : ℕ) → b1 ≡ without_head b frame → b2 ≡ put b1 (PAGE_SIZE * frame) (copies PAGE_SIZE 0) →
-    b3 ≡ with_entry b2 (base + PAGE_SIZE * n) (page_entry frame true) → b4 ≡ with_block_row b3 place base (n + 1) → b4 ≡ grown b place base n frame
-grown_is b b1 b2 b3 b4 place base n frame e1 e2 e3 e4 =
-    e4 ∙ ap (λ (x : List ℕ). with_block_row x place base (n + 1))
-    (e3 ∙ ap (λ (x : List ℕ). with_entry x (base + PAGE_SIZE * n) (page_entry frame true))
-    (e2 ∙ ap (λ (x : List ℕ). put x (PAGE_SIZE * frame) (copies PAGE_SIZE 0)) e1))
+grown_is : (b b1 b2 b3 b4 : List ℕ) (place base n frame : ℕ) → b1 ≡ without_head b frame →
+    b2 ≡ put b1 (PAGE_SIZE * frame) (copies PAGE_SIZE 0) →
+    b3 ≡ with_entry b2 (base + PAGE_SIZE * n) (page_entry frame true) → b4 ≡ with_block_row b3 place base (n + 1) →
+    b4 ≡ grown b place base n frame
+grown_is b b1 b2 b3 b4 place base n frame e1 e2 e3 e4 = grind arith
 
-pub page_added : (b b1 b2 b3 b4 : List ℕ) (place base n frame : ℕ) → CanHoldIn b place base n (n + 1) → IsBudgetFrame b frame → IsFree b frame → first_free b ≡ frame →
+pub page_added : (b b1 b2 b3 b4 : List ℕ) (place base n frame : ℕ) → CanHoldIn b place base n (n + 1) → IsBudgetFrame b frame →
+    IsFree b frame → first_free b ≡ frame →
     b1 ≡ without_head b frame → b2 ≡ put b1 (PAGE_SIZE * frame) (copies PAGE_SIZE 0) →
     b3 ≡ with_entry b2 (base + PAGE_SIZE * n) (page_entry frame true) → b4 ≡ with_block_row b3 place base (n + 1) →
     ReplacesBlock b b4 place (λ o. Some (longer base o 1))
@@ -216,19 +196,16 @@ pub record CanGive (b : List ℕ) (frame : ℕ) : Type 0 where
   pub nowhere : IsNamedNowhere b frame
 
 -- no other page names the frame
-no_other : (b : List ℕ) (place base n : ℕ) → HasPagesIn b place base (n + 1) → (page : ℕ) → page < BLOCK_REGION_PAGES → page ≢ region_page base n →
+no_other : (b : List ℕ) (place base n : ℕ) → HasPagesIn b place base (n + 1) → (page : ℕ) → page < BLOCK_REGION_PAGES →
+    page ≢ region_page base n →
     frame_of (entry_of (tables_part b) page) ≢ last_frame b base n
 no_other b place base n d page small ne same =
     let s = dropping b place base n d in
     let from = s.last.inside.from in
-    elim (entry_kinds (handles_part b) (tables_part b) (locks_part b) (budget_part b d.budget) (taken_part b) d.budget page (ranges_held b d.budget d.holds) d.holds.holds.blocks small) [
-      | inl none ↦ (let zero : frame_of (entry_of (tables_part b) page) ≡ 0 = ap frame_of none in omega arith)
-      | inr names ↦ (
-          let named : entry_of (tables_part b) page ≡ page_entry (last_frame b base n) true = names.writable ∙ ap (λ (f : ℕ). page_entry f true) same in
-          d.holds.holds.blocks.once page (region_page base n) small (page_inside base n s.range) ne (omega arith) (named ∙ sym s.last.entry))
-    ]
+    grind (arith, entry_kinds, page_inside, ranges_held)
 
-pub can_give : (b : List ℕ) (place base n : ℕ) → HasPagesIn b place base (n + 1) → (c : List ℕ) → c ≡ with_entry b (base + PAGE_SIZE * n) 0 →
+pub can_give : (b : List ℕ) (place base n : ℕ) → HasPagesIn b place base (n + 1) → (c : List ℕ) →
+    c ≡ with_entry b (base + PAGE_SIZE * n) 0 →
     (frame : ℕ) → frame ≡ last_frame b base n → CanGive c frame
 can_give b place base n d c e frame f =
     let budget = d.budget in
@@ -242,7 +219,8 @@ can_give b place base n d c e frame f =
     let parts = entry_are b budget lin (region_page base n) 0 host in_region page in
     let after_host = entry_host b budget lin (region_page base n) 0 host in_region page in
     let from = s.last.inside.from in let to = s.last.inside.to in let most = holds.most in let size = after_host.size in
-    let tables : tables_part after ≡ put (tables_part b) (PAGE_ENTRY_SIZE * region_page base n) (dword_bytes 0) = ap (λ (p : MemoryParts). p.tables) parts in
+    let tables : tables_part after ≡ put (tables_part b) (PAGE_ENTRY_SIZE * region_page base n) (dword_bytes 0) =
+    ap (λ (p : MemoryParts). p.tables) parts in
     let taken : taken_part after ≡ taken_part b = ap (λ (p : MemoryParts). p.taken) parts in
     let more = shrunk_less (parts_of b budget) budget place base n (last_frame b base n - BUDGET_FRAMES) (holds_parts b budget holds)
     (may_shrink b budget place base n holds (ranges_held b budget d.holds) s.has) in
@@ -252,31 +230,24 @@ can_give b place base n d c e frame f =
       list = list_of_parts after budget (record { size = after_host.size; most = holds.most })
           (subst (λ (p : MemoryParts). ListsFreeFrames p.vectors p.taken p.frames budget) (sym parts) holds.free);
       is = record { from = s.last.inside.from; inside = omega arith };
-      taken = λ none. (
-          let free : slice_index (taken_part b) (last_frame b base n - BUDGET_FRAMES) ≡ 0 =
-          ap (λ (t : List ℕ). slice_index t (last_frame b base n - BUDGET_FRAMES)) (sym taken) ∙ sym (taken_byte after (last_frame b base n - BUDGET_FRAMES) (omega arith)) ∙ none in
-          omega arith);
-      nowhere = named_nowhere after budget (last_frame b base n) after_host s.last.inside.from (λ p small same. elim (cases_eq p (region_page base n)) [
-        | inl here ↦ (
-            let zero : entry_of (tables_part after) p ≡ 0 = ap (λ (t : List ℕ). entry_of t p) tables ∙ ap (entry_of (put (tables_part b) (PAGE_ENTRY_SIZE * region_page base n) (dword_bytes 0))) here ∙ more.no_entry in
-            let none : frame_of (entry_of (tables_part after) p) ≡ 0 = ap frame_of zero in
-            omega arith)
-        | inr ne ↦ no_other b place base n d p small ne
-            (ap frame_of (more.other_entries p small ne) ∙ ap (λ (t : List ℕ). frame_of (entry_of t p)) (sym tables) ∙ same)
-      ]);
+      taken = λ none. (grind (arith, taken_byte));
+      nowhere = named_nowhere after budget (last_frame b base n) after_host s.last.inside.from
+          (λ p small same. elim (cases_eq p (region_page base n)) [
+            | inl here ↦ (grind arith)
+            | inr ne ↦ no_other b place base n d p small ne
+                (ap frame_of (more.other_entries p small ne) ∙ ap (λ (t : List ℕ). frame_of (entry_of t p)) (sym tables) ∙ same)
+          ]);
     })
 
 -- the five writes
 shrunk_is : (b b1 b2 b3 b4 : List ℕ) (place base n frame other kept : ℕ) → b1 ≡ with_entry b (base + PAGE_SIZE * n) 0 →
-    b2 ≡ with_head b1 other → other ≡ frame → b3 ≡ unlocked b2 (region_page base n) → b4 ≡ with_block_row b3 place kept n → kept ≡ base_in_row base n →
+    b2 ≡ with_head b1 other → other ≡ frame → b3 ≡ unlocked b2 (region_page base n) → b4 ≡ with_block_row b3 place kept n →
+    kept ≡ base_in_row base n →
     b4 ≡ shrunk b place base n frame
-shrunk_is b b1 b2 b3 b4 place base n frame other kept e f same g h row =
-    h ∙ ap (λ (x : ℕ). with_block_row b3 place x n) row
-    ∙ ap (λ (x : List ℕ). with_block_row x place (base_in_row base n) n)
-    (g ∙ ap (λ (x : List ℕ). unlocked x (region_page base n))
-    (f ∙ ap (λ (k : ℕ). with_head b1 k) same ∙ ap (λ (x : List ℕ). with_head x frame) e))
+shrunk_is b b1 b2 b3 b4 place base n frame other kept e f same g h row = grind (arith, base_in_row)
 
-pub page_removed : (b b1 b2 b3 b4 : List ℕ) (place base n frame kept : ℕ) → HasPagesIn b place base (n + 1) → b1 ≡ with_entry b (base + PAGE_SIZE * n) 0 →
+pub page_removed : (b b1 b2 b3 b4 : List ℕ) (place base n frame kept : ℕ) → HasPagesIn b place base (n + 1) →
+    b1 ≡ with_entry b (base + PAGE_SIZE * n) 0 →
     b2 ≡ with_head b1 frame → frame ≡ last_frame b base n → b3 ≡ unlocked b2 (region_page base n) → b4 ≡ with_block_row b3 place kept n →
     kept ≡ base_in_row base n → ReplacesBlock b b4 place (λ o. shorter o n)
 page_removed b b1 b2 b3 b4 place base n frame kept d e1 e2 same e3 e4 row =

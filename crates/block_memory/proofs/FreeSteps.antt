@@ -1,11 +1,11 @@
 -- The list of free frames as its first frame is taken and as a frame is given back, in the parts of the memory. A frame is counted from the
 -- first one of the budget.
-use Rattle.std.proofs.Common.{◌≡◌, ◌≢◌, ◌⊎◌, inl, inr, ℕ, ◌+◌, ◌-◌, ◌*◌, ◌<◌, ◌≤◌, List, length, slice_index, slice_set, ap, ◌∙◌, sym, subst, arith, get_or-set_same, get_or-set_other}
-use Rattle.std.proofs.lemmas.Bool.{cases_eq, cases_lt}
+use Rattle.std.proofs.Common.{◌≡◌, ◌≢◌, ◌⊎◌, inl, inr, ℕ, ◌+◌, ◌-◌, ◌*◌, ◌<◌, ◌≤◌, List, length, slice_index, slice_set, ap, ◌∙◌, sym}
+use Rattle.std.proofs.Common.{arith, get_or-set_same, get_or-set_other}
+use Rattle.std.proofs.lemmas.Bool.{cases_eq}
 use Rattle.client_world.specs.declared.host_frames.TheConstants.{PAGE_SIZE, BUDGET_FRAMES}
 use Rattle.guest_ram.specs.Bytes.{dword, dword_bytes, put}
 use Rattle.guest_ram.proofs.PutLaws.{dword_put, dword_put_other}
-use Rattle.page_tables.specs.FreeList.{ListsFree}
 use Rattle.page_tables.proofs.FreeFrames.{more_of_free, rest_of_free}
 use Rattle.host_memory.specs.Holds.{ListsFreeFrames}
 use Rattle.host_memory.specs.Tables.{IsIdle, next_frame}
@@ -13,28 +13,29 @@ use Rattle.host_memory.specs.Vectors.{head_end, head_start}
 use Rattle.host_memory.proofs.VectorParts.{put_head}
 
 -- another frame is idle before and after the byte of one is written
-idle_before : (taken : List ℕ) (budget frame other v : ℕ) → other ≢ BUDGET_FRAMES + frame → IsIdle (slice_set taken frame v) budget other → IsIdle taken budget other
-idle_before taken budget frame other v ne is =
-    let from = is.from in
-    record { from = from; to = is.to; idle = sym (get_or-set_other taken frame (other - BUDGET_FRAMES) v 0 (omega arith)) ∙ is.idle }
+idle_before : (taken : List ℕ) (budget frame other v : ℕ) → other ≢ BUDGET_FRAMES + frame → IsIdle (slice_set taken frame v) budget other →
+    IsIdle taken budget other
+idle_before taken budget frame other v ne is = grind (arith, get_or-set_other)
 
-idle_after : (taken : List ℕ) (budget frame other v : ℕ) → other ≢ BUDGET_FRAMES + frame → IsIdle taken budget other → IsIdle (slice_set taken frame v) budget other
-idle_after taken budget frame other v ne is =
-    let from = is.from in
-    record { from = from; to = is.to; idle = get_or-set_other taken frame (other - BUDGET_FRAMES) v 0 (omega arith) ∙ is.idle }
+idle_after : (taken : List ℕ) (budget frame other v : ℕ) → other ≢ BUDGET_FRAMES + frame → IsIdle taken budget other →
+    IsIdle (slice_set taken frame v) budget other
+idle_after taken budget frame other v ne is = grind (arith, get_or-set_other)
 
 -- a frame whose byte isn't 0 isn't idle
-not_idle : (taken : List ℕ) (budget frame other : ℕ) → slice_index taken frame ≢ 0 → IsIdle taken budget other → other ≢ BUDGET_FRAMES + frame
+not_idle : (taken : List ℕ) (budget frame other : ℕ) → slice_index taken frame ≢ 0 → IsIdle taken budget other →
+    other ≢ BUDGET_FRAMES + frame
 not_idle taken budget frame other busy is same =
     busy (ap (slice_index taken) (let e : frame ≡ other - BUDGET_FRAMES = omega arith in e) ∙ is.idle)
 
 -- the first frame is taken, and its bytes are written
 pub list_taken : (vectors taken frames writes : List ℕ) (budget frame : ℕ) → head_end ≤ length vectors → frame < length taken →
     dword vectors head_start ≡ BUDGET_FRAMES + frame →
-    ((other : ℕ) → other ≢ frame → dword writes (PAGE_SIZE * other) ≡ dword frames (PAGE_SIZE * other)) → ListsFreeFrames vectors taken frames budget →
+    ((other : ℕ) → other ≢ frame → dword writes (PAGE_SIZE * other) ≡ dword frames (PAGE_SIZE * other)) →
+    ListsFreeFrames vectors taken frames budget →
     ListsFreeFrames (put_head vectors (dword frames (PAGE_SIZE * frame))) (slice_set taken frame 1) writes budget
 list_taken vectors taken frames writes budget frame room small head next list =
-    rest_of_free first (dword (put_head vectors (dword frames (PAGE_SIZE * frame))) head_start) (next_frame frames) (next_frame writes) (IsIdle taken budget)
+    rest_of_free first (dword (put_head vectors (dword frames (PAGE_SIZE * frame))) head_start) (next_frame frames) (next_frame writes)
+    (IsIdle taken budget)
     (IsIdle (slice_set taken frame 1) budget) list (omega arith)
     (dword_put vectors head_start (dword frames (PAGE_SIZE * frame)) (omega arith)
     ∙ ap (λ (f : ℕ). dword frames (PAGE_SIZE * f)) (let e : frame ≡ first - BUDGET_FRAMES = omega arith in e))
@@ -48,23 +49,16 @@ list_taken vectors taken frames writes budget frame room small head next list =
     first = dword vectors head_start
 
     away : (other : ℕ) → IsIdle (slice_set taken frame 1) budget other → other ≢ BUDGET_FRAMES + frame
-    away other is = not_idle (slice_set taken frame 1) budget frame other (λ none. (let busy = get_or-set_same taken frame 1 0 small in omega arith)) is
+    away other is =
+        not_idle (slice_set taken frame 1) budget frame other (λ none. (let busy = get_or-set_same taken frame 1 0 small in omega arith)) is
 
 -- a frame is given back
 pub list_given : (vectors taken frames : List ℕ) (budget frame : ℕ) → head_end ≤ length vectors → frame < budget → frame < length taken →
     PAGE_SIZE * frame + 4 ≤ length frames → slice_index taken frame ≢ 0 → ListsFreeFrames vectors taken frames budget →
-    ListsFreeFrames (put_head vectors (BUDGET_FRAMES + frame)) (slice_set taken frame 0) (put frames (PAGE_SIZE * frame) (dword_bytes (dword vectors head_start))) budget
+    ListsFreeFrames (put_head vectors (BUDGET_FRAMES + frame)) (slice_set taken frame 0)
+    (put frames (PAGE_SIZE * frame) (dword_bytes (dword vectors head_start))) budget
 list_given vectors taken frames budget frame room few small inside busy list =
-    subst (λ (f : ℕ). ListsFree f (next_frame writes) (IsIdle (slice_set taken frame 0) budget)) (sym (dword_put vectors head_start (BUDGET_FRAMES + frame) (omega arith)))
-    (more_of_free first (BUDGET_FRAMES + frame) (next_frame frames) (next_frame writes) (IsIdle taken budget) (IsIdle (slice_set taken frame 0) budget) list
-    (λ is. not_idle taken budget frame (BUDGET_FRAMES + frame) busy is (omega arith))
-    (ap (λ (f : ℕ). dword writes (PAGE_SIZE * f)) (let e : BUDGET_FRAMES + frame - BUDGET_FRAMES ≡ frame = omega arith in e) ∙ dword_put frames (PAGE_SIZE * frame) first inside)
-    (λ other is. (let apart = not_idle taken budget frame other busy is in let from = is.from in
-    dword_put_other frames (PAGE_SIZE * frame) (PAGE_SIZE * (other - BUDGET_FRAMES)) first (elim (cases_lt (BUDGET_FRAMES + frame) other) [
-      | inl below ↦ inl (omega arith)
-      | inr above ↦ inr (omega arith)
-    ])))
-    (λ other. (into other, back other)))
+    grind (arith, back, dword_put, dword_put_other, first, into, more_of_free, not_idle, writes)
   where
     first : ℕ
     first = dword vectors head_start
@@ -81,9 +75,5 @@ list_given vectors taken frames budget frame room few small inside busy list =
     back : (other : ℕ) → IsIdle taken budget other ⊎ (other ≡ BUDGET_FRAMES + frame) → IsIdle (slice_set taken frame 0) budget other
     back other was = elim was [
       | inl is ↦ idle_after taken budget frame other 0 (not_idle taken budget frame other busy is) is
-      | inr here ↦ record {
-        from = omega arith;
-        to = omega arith;
-        idle = ap (slice_index (slice_set taken frame 0)) (let e : other - BUDGET_FRAMES ≡ frame = omega arith in e) ∙ get_or-set_same taken frame 0 0 small;
-      }
+      | inr here ↦ grind (arith, get_or-set_same)
     ]

@@ -1,22 +1,24 @@
 -- The lock count of a page of a block, read and written.
-use Rattle.std.proofs.Common.{◌≡◌, ◌≢◌, ℕ, suc, ◌+◌, ◌*◌, ◌/◌, ◌%◌, ◌<◌, ◌≤◌, ◌&&◌, ◌⊎◌, inl, inr, Bool, false, List, length, slice_index, slice_set, refl, ap, ◌∙◌, sym, subst, arith, Option, Some, nat_lt, nat_le}
-use Rattle.std.proofs.lemmas.Bool.{cases_eq, cases_lt, cases_Bool, le-ltb, lt-leb}
+use Rattle.std.proofs.Common.{◌≡◌, ◌≢◌, ℕ, suc, ◌+◌, ◌*◌, ◌/◌, ◌%◌, ◌<◌, ◌≤◌, ◌⊎◌, inl, inr, Bool, List, length, slice_index, slice_set}
+use Rattle.std.proofs.Common.{refl, ap, ◌∙◌, sym, subst, arith, Option, nat_lt, nat_le}
+use Rattle.std.proofs.lemmas.Bool.{cases_lt, cases_Bool, le-ltb, lt-leb}
 use Rattle.client_world.specs.declared.host_frames.TheConstants.{PAGE_SIZE, LOCK_COUNTS, LOCK_COUNT_SIZE}
 use Rattle.client_world.specs.declared.limits.TheConstants.{MAX_BLOCKS}
-use Rattle.client_world.specs.declared.memory_map.TheConstants.{BLOCK_REGION, BLOCK_REGION_END, BLOCK_REGION_PAGES, DOS_VIEW_END, HOST_WINDOW, HOST_WINDOW_END}
+use Rattle.client_world.specs.declared.memory_map.TheConstants.{BLOCK_REGION, BLOCK_REGION_END, BLOCK_REGION_PAGES}
 use Rattle.client_world.specs.declared.place.Place.{Place}
 use Rattle.client_world.specs.declared.place.Place.TheVariants.{Block}
 use Rattle.client_world.specs.declared.registers.Mode.{Mode}
 use Rattle.client_world.specs.declared.registers.Regs.{Regs}
 use Rattle.client_world.specs.declared.registers.Width.{Width}
 use Rattle.client_world.specs.Access.{place_in}
-use Rattle.client_world.specs.World.{MemoryBlock, block_at}
+use Rattle.client_world.specs.World.{MemoryBlock}
 use Rattle.guest_ram.specs.Bytes.{put}
 use Rattle.guest_ram.proofs.PutLaws.{put_away, put_within}
 use Rattle.guest_ram.proofs.ListedLaws.{same_listed, listed-set}
-use Rattle.block_memory.specs.BlockSizes.{IsBlocks, lock_in, with_lock, with_page_lock, locks_of_block}
+use Rattle.block_memory.specs.BlockSizes.{IsBlocks, lock_in, with_lock}
 use Rattle.host_memory.specs.Holds.{Holds, KeepsLocks}
-use Rattle.host_memory.specs.Layout.{world_of, address_of, handles_part, rows_part, base_of, pages_of, first_page_of, lock_of, held_block, block_in, blocks_in}
+use Rattle.host_memory.specs.Layout.{world_of, address_of, handles_part, rows_part, base_of, pages_of, first_page_of, lock_of, held_block}
+use Rattle.host_memory.specs.Layout.{block_in, blocks_in}
 use Rattle.host_memory.specs.Vectors.{word_bytes}
 use Rattle.host_memory.proofs.BlockBytes.{apart_pages, page_small}
 use Rattle.host_memory.proofs.BlockRows.{HasRanges, over_tells, block_there, held_lock, row_there, row_free, block_at_row}
@@ -30,50 +32,24 @@ use Rattle.block_memory.proofs.RegionPages.{InRegion, page_at}
 -- reading
 
 -- the page of a byte of a block
-page_of_byte : (handles : List ℕ) (place at lin : ℕ) → HasRanges handles → place < MAX_BLOCKS → pages_of handles place ≢ 0 → lin ≡ base_of handles place + at →
+page_of_byte : (handles : List ℕ) (place at lin : ℕ) → HasRanges handles → place < MAX_BLOCKS → pages_of handles place ≢ 0 →
+    lin ≡ base_of handles place + at →
     page_at lin ≡ first_page_of handles place + at / PAGE_SIZE
-page_of_byte handles place at lin ranges within some e =
-    let r = ranges.each place within some in
-    let whole = r.whole in let from = r.from in
-    omega arith
+page_of_byte handles place at lin ranges within some e = grind arith
 
 pub lock_reads : (handles tables locks frames : List ℕ) (lin : ℕ) → HasRanges handles → KeepsLocks handles locks → InRegion lin →
     lock_of locks (page_at lin) ≡ lock_in (blocks_in handles tables locks frames) (place_in (blocks_in handles tables locks frames) lin)
 lock_reads handles tables locks frames lin ranges keeps in_region =
     let from = in_region.from in let to = in_region.to in
     elim (over_tells handles tables locks frames lin in_region.from in_region.to) [
-      | inl found ↦ (
-          let inside = found.inside in
-          ap (lock_of locks) (page_of_byte handles found.place found.at lin ranges found.within found.some found.offset)
-          ∙ sym (ap (lock_in (blocks_in handles tables locks frames)) found.answer
-          ∙ ap (λ (o : Option MemoryBlock). slice_index (locks_of_block o) (found.at / PAGE_SIZE)) (block_there handles tables locks frames found.place found.within found.some)
-          ∙ held_lock handles tables locks frames found.place (found.at / PAGE_SIZE) (omega arith)))
-      | inr missed ↦ keeps.outside (page_at lin) (omega arith) (λ place offset within less same. (
-          let some : pages_of handles place ≢ 0 = omega arith in
-          let r = ranges.each place within some in
-          let whole = r.whole in let low = r.from in let high = r.to in
-          missed.none place (record { within = within; from = omega arith; to = omega arith })))
-          ∙ sym (ap (lock_in (blocks_in handles tables locks frames)) missed.answer)
+      | inl found ↦ (grind (arith, block_there, held_lock, page_of_byte))
+      | inr missed ↦ grind arith
     ]
 
-pub no_lock : (blocks : List (Option MemoryBlock)) (lin : ℕ) → (lin < BLOCK_REGION) ⊎ (BLOCK_REGION_END ≤ lin) → lock_in blocks (place_in blocks lin) ≡ 0
+pub no_lock : (blocks : List (Option MemoryBlock)) (lin : ℕ) → (lin < BLOCK_REGION) ⊎ (BLOCK_REGION_END ≤ lin) →
+    lock_in blocks (place_in blocks lin) ≡ 0
 unfolding place_in
-no_lock blocks lin out = elim (cases_Bool (nat_lt lin DOS_VIEW_END)) [
-  | inl view ↦ rw view refl
-  | inr above ↦ rw (above, barred) (elim (cases_Bool (nat_le HOST_WINDOW lin && nat_lt lin HOST_WINDOW_END)) [
-    | inl window ↦ rw window refl
-    | inr none ↦ rw none refl
-  ])
-]
-  where
-    barred : (nat_le BLOCK_REGION lin && nat_lt lin BLOCK_REGION_END) ≡ false
-    barred = elim out [
-      | inl below ↦ rw (lt-leb BLOCK_REGION lin below) refl
-      | inr over ↦ elim (cases_Bool (nat_le BLOCK_REGION lin)) [
-        | inl from ↦ rw (from, le-ltb lin BLOCK_REGION_END over) refl
-        | inr low ↦ rw low refl
-      ]
-    ]
+no_lock blocks lin out = grind (arith, cases_Bool, le-ltb, lt-leb)
 
 -- writing
 
@@ -87,50 +63,21 @@ pub record BlockByte (handles : List ℕ) (blocks : List (Option MemoryBlock)) (
   pub page : page_at lin ≡ first_page_of handles place + at / PAGE_SIZE
   pub answer : place_in blocks lin ≡ Block (suc place) at
 
-no_blocks : (blocks : List (Option MemoryBlock)) (lin : ℕ) → (lin < BLOCK_REGION) ⊎ (BLOCK_REGION_END ≤ lin) → IsBlocks (place_in blocks lin) → ⊥
+no_blocks : (blocks : List (Option MemoryBlock)) (lin : ℕ) → (lin < BLOCK_REGION) ⊎ (BLOCK_REGION_END ≤ lin) →
+    IsBlocks (place_in blocks lin) → ⊥
 unfolding place_in
-no_blocks blocks lin out is = elim (cases_Bool (nat_lt lin DOS_VIEW_END)) [
-  | inl view ↦ rw view at is
-  | inr above ↦ (
-      let rest = rw (above, barred) at is in
-      elim (cases_Bool (nat_le HOST_WINDOW lin && nat_lt lin HOST_WINDOW_END)) [
-        | inl window ↦ rw window at rest
-        | inr none ↦ rw none at rest
-      ])
-]
-  where
-    barred : (nat_le BLOCK_REGION lin && nat_lt lin BLOCK_REGION_END) ≡ false
-    barred = elim out [
-      | inl below ↦ rw (lt-leb BLOCK_REGION lin below) refl
-      | inr over ↦ elim (cases_Bool (nat_le BLOCK_REGION lin)) [
-        | inl from ↦ rw (from, le-ltb lin BLOCK_REGION_END over) refl
-        | inr low ↦ rw low refl
-      ]
-    ]
+no_blocks blocks lin out is = grind (arith, cases_Bool, le-ltb, lt-leb)
 
 pub in_region_of : (blocks : List (Option MemoryBlock)) (lin : ℕ) → IsBlocks (place_in blocks lin) → InRegion lin
-in_region_of blocks lin is = elim (cases_lt lin BLOCK_REGION) [
-  | inl below ↦ absurd (no_blocks blocks lin (inl below) is)
-  | inr from ↦ elim (cases_lt lin BLOCK_REGION_END) [
-    | inl to ↦ record { from = from; to = to }
-    | inr over ↦ absurd (no_blocks blocks lin (inr over) is)
-  ]
-]
+in_region_of blocks lin is = grind (arith, no_blocks)
 
-pub block_byte : (handles tables locks frames : List ℕ) (lin : ℕ) → HasRanges handles → IsBlocks (place_in (blocks_in handles tables locks frames) lin) →
+pub block_byte : (handles tables locks frames : List ℕ) (lin : ℕ) → HasRanges handles →
+    IsBlocks (place_in (blocks_in handles tables locks frames) lin) →
     BlockByte handles (blocks_in handles tables locks frames) lin
 block_byte handles tables locks frames lin ranges is =
     let r = in_region_of (blocks_in handles tables locks frames) lin is in
     elim (over_tells handles tables locks frames lin r.from r.to) [
-      | inl found ↦ record {
-        place = found.place;
-        at = found.at;
-        within = found.within;
-        some = found.some;
-        inside = found.inside;
-        page = page_of_byte handles found.place found.at lin ranges found.within found.some found.offset;
-        answer = found.answer;
-      }
+      | inl found ↦ grind (arith, page_of_byte)
       | inr missed ↦ absurd (subst IsBlocks missed.answer is)
     ]
 
@@ -138,16 +85,21 @@ block_byte handles tables locks frames lin ranges is =
 abbrev pub put_lock : List ℕ → ℕ → ℕ → List ℕ
 put_lock locks page n = put locks (LOCK_COUNT_SIZE * page) (word_bytes n)
 
-lock_there : (locks : List ℕ) (page n : ℕ) → length locks ≡ LOCK_COUNT_SIZE * BLOCK_REGION_PAGES → page < BLOCK_REGION_PAGES → lock_of (put_lock locks page n) page ≡ n
+lock_there : (locks : List ℕ) (page n : ℕ) → length locks ≡ LOCK_COUNT_SIZE * BLOCK_REGION_PAGES → page < BLOCK_REGION_PAGES →
+    lock_of (put_lock locks page n) page ≡ n
 lock_there locks page n long small =
-    let low : slice_index (put_lock locks page n) (LOCK_COUNT_SIZE * page) ≡ n % 0x100 = put_within locks (LOCK_COUNT_SIZE * page) (word_bytes n) 0 (LOCK_COUNT_SIZE * page) (omega arith) (omega arith) (omega arith) in
-    let high : slice_index (put_lock locks page n) (LOCK_COUNT_SIZE * page + 1) ≡ n / 0x100 = put_within locks (LOCK_COUNT_SIZE * page) (word_bytes n) 1 (LOCK_COUNT_SIZE * page + 1) (omega arith) (omega arith) refl in
+    let low : slice_index (put_lock locks page n) (LOCK_COUNT_SIZE * page) ≡ n % 0x100 =
+    put_within locks (LOCK_COUNT_SIZE * page) (word_bytes n) 0 (LOCK_COUNT_SIZE * page) (omega arith) (omega arith) (omega arith) in
+    let high : slice_index (put_lock locks page n) (LOCK_COUNT_SIZE * page + 1) ≡ n / 0x100 =
+    put_within locks (LOCK_COUNT_SIZE * page) (word_bytes n) 1 (LOCK_COUNT_SIZE * page + 1) (omega arith) (omega arith) refl in
     rw (low, high) (omega arith)
 
 lock_beside : (locks : List ℕ) (page n other : ℕ) → other ≢ page → lock_of (put_lock locks page n) other ≡ lock_of locks other
 lock_beside locks page n other ne =
-    let low : slice_index (put_lock locks page n) (LOCK_COUNT_SIZE * other) ≡ slice_index locks (LOCK_COUNT_SIZE * other) = put_away locks (LOCK_COUNT_SIZE * page) (word_bytes n) (LOCK_COUNT_SIZE * other) (beside 0) in
-    let high : slice_index (put_lock locks page n) (LOCK_COUNT_SIZE * other + 1) ≡ slice_index locks (LOCK_COUNT_SIZE * other + 1) = put_away locks (LOCK_COUNT_SIZE * page) (word_bytes n) (LOCK_COUNT_SIZE * other + 1) (beside_one 0) in
+    let low : slice_index (put_lock locks page n) (LOCK_COUNT_SIZE * other) ≡ slice_index locks (LOCK_COUNT_SIZE * other) =
+    put_away locks (LOCK_COUNT_SIZE * page) (word_bytes n) (LOCK_COUNT_SIZE * other) (beside 0) in
+    let high : slice_index (put_lock locks page n) (LOCK_COUNT_SIZE * other + 1) ≡ slice_index locks (LOCK_COUNT_SIZE * other + 1) =
+    put_away locks (LOCK_COUNT_SIZE * page) (word_bytes n) (LOCK_COUNT_SIZE * other + 1) (beside_one 0) in
     rw (low, high) refl
   where
     beside : ℕ → (LOCK_COUNT_SIZE * page + 2 ≤ LOCK_COUNT_SIZE * other) ⊎ (LOCK_COUNT_SIZE * other < LOCK_COUNT_SIZE * page)
@@ -166,48 +118,30 @@ locked_keeps handles locks place at page n within inside e h = record {
 }
 
 -- the block has that lock count, and the others are the same
-lock_block : (handles tables locks frames : List ℕ) (place at page n : ℕ) → length locks ≡ LOCK_COUNT_SIZE * BLOCK_REGION_PAGES → place < MAX_BLOCKS → at < PAGE_SIZE * pages_of handles place →
+lock_block : (handles tables locks frames : List ℕ) (place at page n : ℕ) → length locks ≡ LOCK_COUNT_SIZE * BLOCK_REGION_PAGES →
+    place < MAX_BLOCKS → at < PAGE_SIZE * pages_of handles place →
     page ≡ first_page_of handles place + at / PAGE_SIZE → page < BLOCK_REGION_PAGES →
     held_block handles tables (put_lock locks page n) frames place
-    ≡ record (held_block handles tables locks frames place) { locks = slice_set (held_block handles tables locks frames place).locks (at / PAGE_SIZE) n }
+    ≡ record (held_block handles tables locks frames
+    place) { locks = slice_set (held_block handles tables locks frames place).locks (at / PAGE_SIZE) n }
 unfolding held_block
-lock_block handles tables locks frames place at page n long within inside e small =
-    rw (listed-set (pages_of handles place) (λ k. lock_of locks (first_page_of handles place + k)) (λ k. lock_of (put_lock locks page n) (first_page_of handles place + k))
-    (at / PAGE_SIZE) n (omega arith) (ap (lock_of (put_lock locks page n)) (sym e) ∙ lock_there locks page n long small)
-    (λ k less ne. lock_beside locks page n (first_page_of handles place + k) (omega arith))) refl
+lock_block handles tables locks frames place at page n long within inside e small = grind (arith, listed-set, lock_beside, lock_there)
 
-lock_other : (handles tables locks frames : List ℕ) (place at page n other : ℕ) → HasRanges handles → place < MAX_BLOCKS → at < PAGE_SIZE * pages_of handles place →
+lock_other : (handles tables locks frames : List ℕ) (place at page n other : ℕ) → HasRanges handles → place < MAX_BLOCKS →
+    at < PAGE_SIZE * pages_of handles place →
     page ≡ first_page_of handles place + at / PAGE_SIZE → other < MAX_BLOCKS → other ≢ place →
     block_in handles tables (put_lock locks page n) frames other ≡ block_in handles tables locks frames other
 unfolding held_block
-lock_other handles tables locks frames place at page n other ranges within inside e small ne = elim (cases_eq (pages_of handles other) 0) [
-  | inl none ↦ row_free handles tables (put_lock locks page n) frames other none ∙ sym (row_free handles tables locks frames other none)
-  | inr some ↦ row_there handles tables (put_lock locks page n) frames other some
-      ∙ ap (λ (x : MemoryBlock). Some x) same
-      ∙ sym (row_there handles tables locks frames other some)
-]
-  where
-    same : held_block handles tables (put_lock locks page n) frames other ≡ held_block handles tables locks frames other
-    same = rw (same_listed (pages_of handles other) (λ k. lock_of (put_lock locks page n) (first_page_of handles other + k)) (λ k. lock_of locks (first_page_of handles other + k))
-        (λ k less. lock_beside locks page n (first_page_of handles other + k) (λ equal.
-        apart_pages handles ranges place other (at / PAGE_SIZE) k within small (λ z. ne (sym z)) (omega arith) less (sym e ∙ sym equal)))) refl
+lock_other handles tables locks frames place at page n other ranges within inside e small ne =
+    grind (arith, apart_pages, lock_beside, row_free, row_there, same_listed)
 
-lock_blocks : (handles tables locks frames : List ℕ) (place at page n : ℕ) → HasRanges handles → length locks ≡ LOCK_COUNT_SIZE * BLOCK_REGION_PAGES → place < MAX_BLOCKS →
-    pages_of handles place ≢ 0 → at < PAGE_SIZE * pages_of handles place → page ≡ first_page_of handles place + at / PAGE_SIZE → page < BLOCK_REGION_PAGES →
+lock_blocks : (handles tables locks frames : List ℕ) (place at page n : ℕ) → HasRanges handles →
+    length locks ≡ LOCK_COUNT_SIZE * BLOCK_REGION_PAGES → place < MAX_BLOCKS →
+    pages_of handles place ≢ 0 → at < PAGE_SIZE * pages_of handles place → page ≡ first_page_of handles place + at / PAGE_SIZE →
+    page < BLOCK_REGION_PAGES →
     blocks_in handles tables (put_lock locks page n) frames ≡ with_lock (blocks_in handles tables locks frames) (Block (suc place) at) n
 lock_blocks handles tables locks frames place at page n ranges long within some inside e small =
-    listed-set MAX_BLOCKS (block_in handles tables locks frames) (block_in handles tables (put_lock locks page n) frames) place
-    (with_page_lock (block_in handles tables locks frames place) (at / PAGE_SIZE) n) within
-    (row_there handles tables (put_lock locks page n) frames place some
-    ∙ ap (λ (x : MemoryBlock). Some x) (lock_block handles tables locks frames place at page n long within inside e small)
-    ∙ sym (ap (λ (o : Option MemoryBlock). with_page_lock o (at / PAGE_SIZE) n) (row_there handles tables locks frames place some)))
-    (λ other less ne. lock_other handles tables locks frames place at page n other ranges within inside e less ne)
-    ∙ ap (λ (o : Option MemoryBlock). slice_set (blocks_in handles tables locks frames) place (with_page_lock o (at / PAGE_SIZE) n))
-    (sym (at_row handles tables locks frames place within))
-  where
-    at_row : (handles tables locks frames : List ℕ) (place : ℕ) → place < MAX_BLOCKS →
-        block_at (blocks_in handles tables locks frames) (suc place) ≡ block_in handles tables locks frames place
-    at_row handles tables locks frames place within = block_at_row handles tables locks frames place within
+    grind (arith, block_at_row, listed-set, lock_block, lock_other, row_there)
 
 -- the memory after the write
 abbrev pub locked : List ℕ → ℕ → ℕ → List ℕ
@@ -221,32 +155,26 @@ pub record LocksPage (b : List ℕ) (budget lin n : ℕ) : Type 0 where
   pub rows : rows_part (locked b lin n) ≡ rows_part b
   pub addresses : (p : Place) → address_of (locked b lin n) p ≡ address_of b p
 
-pub locks_page : (b : List ℕ) (budget lin n : ℕ) → Holds b budget → HasRanges (handles_part b) → IsBlocks (place_in (blocks_held b budget) lin) →
+pub locks_page : (b : List ℕ) (budget lin n : ℕ) → Holds b budget → HasRanges (handles_part b) →
+    IsBlocks (place_in (blocks_held b budget) lin) →
     LocksPage b budget lin n
 locks_page b budget lin n holds ranges is =
     let p = parts_of b budget in
     let sizes = sizes_of b budget (host_of b budget holds) in
     let byte = block_byte p.handles p.tables p.locks p.frames lin ranges is in
     let inside = byte.inside in let page = byte.page in
-    let small : page_at lin < BLOCK_REGION_PAGES = (let s = page_small p.handles ranges byte.place (byte.at / PAGE_SIZE) byte.within (omega arith) in omega arith) in
-    let e = put_locks b budget (PAGE_SIZE * LOCK_COUNTS + LOCK_COUNT_SIZE * page_at lin) (LOCK_COUNT_SIZE * page_at lin) (word_bytes n) holds.size refl (omega arith) in
+    let small : page_at lin < BLOCK_REGION_PAGES =
+    (let s = page_small p.handles ranges byte.place (byte.at / PAGE_SIZE) byte.within (omega arith) in omega arith) in
+    let e = put_locks b budget (PAGE_SIZE * LOCK_COUNTS + LOCK_COUNT_SIZE * page_at lin) (LOCK_COUNT_SIZE * page_at lin) (word_bytes n)
+    holds.size refl (omega arith) in
     let q : MemoryParts = record p { locks = put_lock p.locks (page_at lin) n } in
     let h = holds_parts b budget holds in
-    let blocks = lock_blocks p.handles p.tables p.locks p.frames byte.place byte.at (page_at lin) n ranges sizes.locks byte.within byte.some byte.inside byte.page small
+    let blocks = lock_blocks p.handles p.tables p.locks p.frames byte.place byte.at (page_at lin) n ranges sizes.locks byte.within byte.some
+    byte.inside byte.page small
     ∙ ap (λ (x : Place). with_lock (blocks_held b budget) x n) (sym byte.answer) in
     record {
-      holds = holds_by (locked b lin n) budget q e (size_put b budget (PAGE_SIZE * LOCK_COUNTS + LOCK_COUNT_SIZE * page_at lin) (word_bytes n) holds.size) holds.most (record {
-        fixed = h.fixed;
-        rows = h.rows;
-        vectors = h.vectors;
-        records = h.records;
-        handles = h.handles;
-        blocks = h.blocks;
-        free = h.free;
-        count = h.count;
-        locks = locked_keeps p.handles p.locks byte.place byte.at (page_at lin) n byte.within byte.inside byte.page h.locks;
-        arena = h.arena;
-      });
+      holds = holds_by (locked b lin n) budget q e (size_put b budget (PAGE_SIZE * LOCK_COUNTS + LOCK_COUNT_SIZE * page_at lin)
+          (word_bytes n) holds.size) holds.most (grind (arith, locked_keeps));
       world = λ mode regs vif width. world_after b (locked b lin n) budget q e refl mode regs vif width
           ∙ ap (λ (bs : List (Option MemoryBlock)). record (world_of b budget mode regs vif width) { blocks = bs }) blocks;
       rows = ap (λ (x : MemoryParts). x.rows) e;

@@ -1,8 +1,10 @@
 -- A block that moves to another linear address: the writes, the world after them, that the memory still holds one, and what stays.
-use Rattle.std.proofs.Common.{◌≡◌, ◌≢◌, ℕ, zero, suc, ◌+◌, ◌*◌, ◌<◌, ◌≤◌, ◌⊎◌, inl, inr, List, length, get_or, slice_index_or, slice_set, refl, ap, ◌∙◌, sym, subst, arith, add_assoc, Option, None}
-use Rattle.std.proofs.lemmas.Bool.{cases_eq, cases_lt, lt-ltb, le-ltb}
+use Rattle.std.proofs.Common.{◌≡◌, ◌≢◌, ℕ, zero, suc, ◌+◌, ◌*◌, ◌<◌, ◌≤◌, inl, inr, List, length, slice_index_or, slice_set, refl, ap, ◌∙◌}
+use Rattle.std.proofs.Common.{sym, subst, arith, add_assoc, Option, None}
+use Rattle.std.proofs.lemmas.Bool.{lt-ltb, le-ltb}
 use Rattle.std.proofs.lemmas.Grind.{same_number_lists}
-use Rattle.client_world.specs.declared.host_frames.TheConstants.{PAGE_SIZE, BLOCK_TABLES, LOCK_COUNTS, BLOCK_TABLE_FRAMES, LOCK_COUNT_FRAMES, LOCK_COUNT_SIZE, PAGE_ENTRY_SIZE}
+use Rattle.client_world.specs.declared.host_frames.TheConstants.{PAGE_SIZE, BLOCK_TABLES, LOCK_COUNTS, BLOCK_TABLE_FRAMES}
+use Rattle.client_world.specs.declared.host_frames.TheConstants.{LOCK_COUNT_FRAMES, LOCK_COUNT_SIZE, PAGE_ENTRY_SIZE}
 use Rattle.client_world.specs.declared.limits.TheConstants.{MAX_BLOCKS}
 use Rattle.client_world.specs.declared.place.Place.{Place}
 use Rattle.client_world.specs.declared.place.Place.TheVariants.{Dos, Block, Host, Nothing}
@@ -13,7 +15,7 @@ use Rattle.guest_ram.proofs.ListedLaws.{length-copies}
 use Rattle.guest_ram.proofs.PutLaws.{length-region, at_region}
 use Rattle.block_memory.specs.BlockSizes.{CanMove, HasPages, at_base, vacant_count, vacant_start, after_slide}
 use Rattle.host_memory.specs.Holds.{Holds}
-use Rattle.host_memory.specs.Layout.{world_of, address_of, handles_part, tables_part, locks_part, base_of, pages_of, first_page_of, held_block}
+use Rattle.host_memory.specs.Layout.{world_of, address_of, handles_part, tables_part, locks_part, base_of, pages_of, held_block}
 use Rattle.block_memory.proofs.BlockMore.{blocks_of}
 use Rattle.block_memory.proofs.BlockMoves.{MayMove, HasMoved, moved_entries, moved_locks, moved_blocks, moved_place, byte_place}
 use Rattle.host_memory.proofs.BlockRows.{HasRanges, IsRange, held_base, length-held_bytes, row_there}
@@ -29,31 +31,16 @@ use Rattle.block_memory.proofs.RegionPages.{HasHost}
 use Rattle.block_memory.proofs.SlideLaws.{length-slid, entries_go, locks_go}
 
 region_region : (b : List ℕ) (lo n at m : ℕ) → lo + n ≤ length b → at + m ≤ n → region b (lo + at) m ≡ region (region b lo n) at m
-region_region b lo n at m room within =
-    let outer : length (region b lo n) ≡ n = length-region b lo n room in
-    let inner : length (region (region b lo n) at m) ≡ m = length-region (region b lo n) at m (omega arith) in
-    let long : length (region b (lo + at) m) ≡ m = length-region b (lo + at) m (omega arith) in
-    same_number_lists (region b (lo + at) m) (region (region b lo n) at m) (long ∙ sym inner) (λ k small.
-    at_region b (lo + at) m k (omega arith) ∙ ap (λ (j : ℕ). get_or b j 0) (add_assoc lo at k)
-    ∙ sym (at_region (region b lo n) at m k (omega arith) ∙ at_region b lo n (at + k) (omega arith)))
+region_region b lo n at m room within = grind (arith, add_assoc, at_region, length-region, same_number_lists)
 
 shift_vacant : (lo from to n : ℕ) → vacant_count (lo + from) (lo + to) n ≡ vacant_count from to n
-shift_vacant lo from to n = elim (cases_lt from to) [
-  | inl up ↦ rw (lt-ltb from to up, lt-ltb (lo + from) (lo + to) (let e : lo + from < lo + to = omega arith in e)) (omega arith)
-  | inr down ↦ rw (le-ltb from to down, le-ltb (lo + from) (lo + to) (let e : lo + to ≤ lo + from = omega arith in e)) (omega arith)
-]
+shift_vacant lo from to n = grind (arith, le-ltb, lt-ltb)
 
 shift_vacated : (lo from to n : ℕ) → vacant_start (lo + from) (lo + to) n ≡ lo + vacant_start from to n
-shift_vacated lo from to n = elim (cases_lt from to) [
-  | inl up ↦ rw (lt-ltb from to up, lt-ltb (lo + from) (lo + to) (let e : lo + from < lo + to = omega arith in e)) refl
-  | inr down ↦ rw (le-ltb from to down, le-ltb (lo + from) (lo + to) (let e : lo + to ≤ lo + from = omega arith in e)) (omega arith)
-]
+shift_vacated lo from to n = grind (arith, le-ltb, lt-ltb)
 
 left_inside : (from to n room : ℕ) → from + n ≤ room → vacant_start from to n + vacant_count from to n ≤ room
-left_inside from to n room fits = elim (cases_lt from to) [
-  | inl up ↦ rw (lt-ltb from to up) (omega arith)
-  | inr down ↦ rw (le-ltb from to down) (omega arith)
-]
+left_inside from to n room fits = grind (arith, le-ltb, lt-ltb)
 
 -- a run moves within a part of the memory. The parts with other bytes there are `with_part` of these
 slid_part : (b : List ℕ) (budget lo room from to n : ℕ) (with_part : List ℕ → MemoryParts) → HasSize b budget → lo + room ≤ length b →
@@ -68,25 +55,31 @@ slid_part b budget lo room from to n with_part size within source target e puts 
     let left = copies (vacant_count from to n) 0 in
     rw (shift_vacated lo from to n, shift_vacant lo from to n, region_region b lo room from n within source)
     (puts (put b (lo + to) xs) (put (region b lo room) to xs) left (vacant_start from to n) (size_put b budget (lo + to) xs size)
-    (puts b (region b lo room) xs to size e (omega arith)) (omega (arith, length-copies (vacant_count from to n) 0, left_inside from to n room source)))
+    (puts b (region b lo room) xs to size e (omega arith))
+    (omega (arith, length-copies (vacant_count from to n) 0, left_inside from to n room source)))
 
 -- entries move in the tables
-slid_tables : (b : List ℕ) (budget from to n : ℕ) → HasSize b budget → from + n ≤ PAGE_SIZE * BLOCK_TABLE_FRAMES → to + n ≤ PAGE_SIZE * BLOCK_TABLE_FRAMES →
+slid_tables : (b : List ℕ) (budget from to n : ℕ) → HasSize b budget → from + n ≤ PAGE_SIZE * BLOCK_TABLE_FRAMES →
+    to + n ≤ PAGE_SIZE * BLOCK_TABLE_FRAMES →
     parts_of (after_slide b (PAGE_SIZE * BLOCK_TABLES + from) (PAGE_SIZE * BLOCK_TABLES + to) n) budget
     ≡ record (parts_of b budget) { tables = after_slide (tables_part b) from to n }
 slid_tables b budget from to n size source target =
-    slid_part b budget (PAGE_SIZE * BLOCK_TABLES) (PAGE_SIZE * BLOCK_TABLE_FRAMES) from to n (λ ys. record (parts_of b budget) { tables = ys })
+    slid_part b budget (PAGE_SIZE * BLOCK_TABLES) (PAGE_SIZE * BLOCK_TABLE_FRAMES) from to n
+    (λ ys. record (parts_of b budget) { tables = ys })
     size (omega arith) source target refl
-    (λ c ys xs at long e fits. put_tables c budget _ at xs long refl fits ∙ ap (λ (p : MemoryParts). record p { tables = put p.tables at xs }) e)
+    (λ c ys xs at long e fits. put_tables c budget _ at xs long refl fits
+    ∙ ap (λ (p : MemoryParts). record p { tables = put p.tables at xs }) e)
 
 -- and words in the lock counts
-slid_locks : (b : List ℕ) (budget from to n : ℕ) → HasSize b budget → from + n ≤ PAGE_SIZE * LOCK_COUNT_FRAMES → to + n ≤ PAGE_SIZE * LOCK_COUNT_FRAMES →
+slid_locks : (b : List ℕ) (budget from to n : ℕ) → HasSize b budget → from + n ≤ PAGE_SIZE * LOCK_COUNT_FRAMES →
+    to + n ≤ PAGE_SIZE * LOCK_COUNT_FRAMES →
     parts_of (after_slide b (PAGE_SIZE * LOCK_COUNTS + from) (PAGE_SIZE * LOCK_COUNTS + to) n) budget
     ≡ record (parts_of b budget) { locks = after_slide (locks_part b) from to n }
 slid_locks b budget from to n size source target =
     slid_part b budget (PAGE_SIZE * LOCK_COUNTS) (PAGE_SIZE * LOCK_COUNT_FRAMES) from to n (λ ys. record (parts_of b budget) { locks = ys })
     size (omega arith) source target refl
-    (λ c ys xs at long e fits. put_locks c budget _ at xs long refl fits ∙ ap (λ (p : MemoryParts). record p { locks = put p.locks at xs }) e)
+    (λ c ys xs at long e fits. put_locks c budget _ at xs long refl fits
+    ∙ ap (λ (p : MemoryParts). record p { locks = put p.locks at xs }) e)
 
 -- the parts after a move
 abbrev pub moved_parts : MemoryParts → ℕ → ℕ → ℕ → ℕ → MemoryParts
@@ -96,25 +89,14 @@ moved_parts p place old base n = record p {
   locks = after_slide p.locks (LOCK_COUNT_SIZE * first_page old) (LOCK_COUNT_SIZE * first_page base) (LOCK_COUNT_SIZE * n);
 }
 
-pub moved_more : (p : MemoryParts) (budget place old base n : ℕ) → HasSizes p budget → MayMove (block_parts p) place base n → base_of p.handles place ≡ old →
+pub moved_more : (p : MemoryParts) (budget place old base n : ℕ) → HasSizes p budget → MayMove (block_parts p) place base n →
+    base_of p.handles place ≡ old →
     HasMoved (block_parts p) (block_parts (moved_parts p place old base n)) place base n
 moved_more p budget place old base n sizes may based =
-    let own_whole = may.own.whole in let own_from = may.own.from in let own_to = may.own.to in
-    let new_whole = may.range.whole in let new_from = may.range.from in let new_to = may.range.to in
-    let first : first_page_of p.handles place ≡ first_page old = ap first_page based in
-    record {
-      may = may;
-      new_pages = row_pages p.handles place base n sizes.handles may.within;
-      new_base = row_base p.handles place base n sizes.handles may.within;
-      other_pages = λ other inside ne. other_pages p.handles place base n other ne;
-      other_bases = λ other inside ne. other_base p.handles place base n other ne;
-      entries = rw first (entries_go p.tables (first_page old) (first_page base) n sizes.tables (omega arith) (omega arith));
-      locks = rw first (locks_go p.locks (first_page old) (first_page base) n sizes.locks (omega arith) (omega arith));
-      taken = refl;
-      frames = refl;
-    }
+    grind (arith, entries_go, locks_go, other_base, other_pages, row_base, row_pages)
 
-pub moved_holds : (p : MemoryParts) (budget place old base n : ℕ) → HasSizes p budget → HoldsParts p budget → MayMove (block_parts p) place base n → base_of p.handles place ≡ old →
+pub moved_holds : (p : MemoryParts) (budget place old base n : ℕ) → HasSizes p budget → HoldsParts p budget →
+    MayMove (block_parts p) place base n → base_of p.handles place ≡ old →
     HoldsParts (moved_parts p place old base n) budget
 moved_holds p budget place old base n sizes h may based =
     let m = moved_more p budget place old base n sizes may based in
@@ -126,10 +108,7 @@ moved_holds p budget place old base n sizes h may based =
       handles = keeps_handles p.handles place base n sizes.handles may.within (λ none. absurd (may.some none)) h.handles;
       blocks = moved_entries (block_parts p) (block_parts (moved_parts p place old base n)) budget place base n m h.blocks;
       free = h.free;
-      count = h.count ∙ sym (same_pages p.handles (with_row p.handles place base n) (λ other within. elim (cases_eq other place) [
-        | inl e ↦ ap (pages_of (with_row p.handles place base n)) e ∙ m.new_pages ∙ sym may.pages ∙ ap (pages_of p.handles) (sym e)
-        | inr ne ↦ m.other_pages other within ne
-      ]));
+      count = h.count ∙ sym (same_pages p.handles (with_row p.handles place base n) (λ other within. grind (arith, other_pages)));
       locks = moved_locks (block_parts p) (block_parts (moved_parts p place old base n)) place base n m h.locks;
       arena = h.arena;
     }
@@ -137,34 +116,19 @@ moved_holds p budget place old base n sizes h may based =
 -- the writes
 abbrev pub moved : List ℕ → ℕ → ℕ → ℕ → ℕ → List ℕ
 moved b place old base n = with_block_row
-    (after_slide (after_slide b (PAGE_SIZE * BLOCK_TABLES + PAGE_ENTRY_SIZE * first_page old) (PAGE_SIZE * BLOCK_TABLES + PAGE_ENTRY_SIZE * first_page base) (PAGE_ENTRY_SIZE * n))
-    (PAGE_SIZE * LOCK_COUNTS + LOCK_COUNT_SIZE * first_page old) (PAGE_SIZE * LOCK_COUNTS + LOCK_COUNT_SIZE * first_page base) (LOCK_COUNT_SIZE * n))
+    (after_slide (after_slide b (PAGE_SIZE * BLOCK_TABLES + PAGE_ENTRY_SIZE * first_page old)
+    (PAGE_SIZE * BLOCK_TABLES + PAGE_ENTRY_SIZE * first_page base) (PAGE_ENTRY_SIZE * n))
+    (PAGE_SIZE * LOCK_COUNTS + LOCK_COUNT_SIZE * first_page old) (PAGE_SIZE * LOCK_COUNTS + LOCK_COUNT_SIZE * first_page base)
+    (LOCK_COUNT_SIZE * n))
     place base n
 
 pub moved_size : (b : List ℕ) (budget place old base n : ℕ) → HasSize b budget → HasSize (moved b place old base n) budget
-moved_size b budget place old base n size =
-    row_size _ place base n
-    ∙ length-slid (after_slide b (PAGE_SIZE * BLOCK_TABLES + PAGE_ENTRY_SIZE * first_page old) (PAGE_SIZE * BLOCK_TABLES + PAGE_ENTRY_SIZE * first_page base) (PAGE_ENTRY_SIZE * n))
-    (PAGE_SIZE * LOCK_COUNTS + LOCK_COUNT_SIZE * first_page old) (PAGE_SIZE * LOCK_COUNTS + LOCK_COUNT_SIZE * first_page base) (LOCK_COUNT_SIZE * n)
-    ∙ length-slid b (PAGE_SIZE * BLOCK_TABLES + PAGE_ENTRY_SIZE * first_page old) (PAGE_SIZE * BLOCK_TABLES + PAGE_ENTRY_SIZE * first_page base) (PAGE_ENTRY_SIZE * n)
-    ∙ size
+moved_size b budget place old base n size = grind (arith, length-slid, row_size)
 
 pub moved_are : (b : List ℕ) (budget place old base n : ℕ) → HasHost b budget → place < MAX_BLOCKS → IsRange old n → IsRange base n →
     parts_of (moved b place old base n) budget ≡ moved_parts (parts_of b budget) place old base n
 moved_are b budget place old base n host within own range =
-    let own_from = own.from in let own_to = own.to in
-    let from = range.from in let to = range.to in
-    let b1 = after_slide b (PAGE_SIZE * BLOCK_TABLES + PAGE_ENTRY_SIZE * first_page old) (PAGE_SIZE * BLOCK_TABLES + PAGE_ENTRY_SIZE * first_page base) (PAGE_ENTRY_SIZE * n) in
-    let e1 = slid_tables b budget (PAGE_ENTRY_SIZE * first_page old) (PAGE_ENTRY_SIZE * first_page base) (PAGE_ENTRY_SIZE * n) host.size (omega arith) (omega arith) in
-    let host1 : HasHost b1 budget = host_by b b1 budget _ host
-    (length-slid b (PAGE_SIZE * BLOCK_TABLES + PAGE_ENTRY_SIZE * first_page old) (PAGE_SIZE * BLOCK_TABLES + PAGE_ENTRY_SIZE * first_page base) (PAGE_ENTRY_SIZE * n) ∙ host.size) e1 refl in
-    let b2 = after_slide b1 (PAGE_SIZE * LOCK_COUNTS + LOCK_COUNT_SIZE * first_page old) (PAGE_SIZE * LOCK_COUNTS + LOCK_COUNT_SIZE * first_page base) (LOCK_COUNT_SIZE * n) in
-    let e2 = slid_locks b1 budget (LOCK_COUNT_SIZE * first_page old) (LOCK_COUNT_SIZE * first_page base) (LOCK_COUNT_SIZE * n) host1.size (omega arith) (omega arith) in
-    let host2 : HasHost b2 budget = host_by b1 b2 budget _ host1
-    (length-slid b1 (PAGE_SIZE * LOCK_COUNTS + LOCK_COUNT_SIZE * first_page old) (PAGE_SIZE * LOCK_COUNTS + LOCK_COUNT_SIZE * first_page base) (LOCK_COUNT_SIZE * n) ∙ host1.size) e2 refl in
-    row_are b2 budget place base n host2 within
-    ∙ ap (λ (p : MemoryParts). record p { handles = with_row p.handles place base n })
-    (e2 ∙ ap (λ (p : MemoryParts). record p { locks = after_slide p.locks (LOCK_COUNT_SIZE * first_page old) (LOCK_COUNT_SIZE * first_page base) (LOCK_COUNT_SIZE * n) }) e1)
+    grind (arith, host_by, length-slid, row_are, slid_locks, slid_tables)
 
 -- what the world says of the blocks, the rows say
 pub may_move : (s : BlockParts) (place base n : ℕ) → HasRanges s.handles → CanMove (blocks_of s) place base n → MayMove s place base n
@@ -178,9 +142,7 @@ may_move s place base n ranges can =
       own = subst (λ (k : ℕ). IsRange (base_of s.handles place) k) pages (ranges.each place can.within some);
       range = record { whole = can.whole; from = can.above; to = can.below };
       ranges = λ other inside ne more. ranges.each other inside more;
-      beside = λ other inside ne more. subst (λ (k : ℕ). (base_of s.handles place + PAGE_SIZE * k ≤ base_of s.handles other)
-          ⊎ (base_of s.handles other + PAGE_SIZE * pages_of s.handles other ≤ base_of s.handles place)) pages
-          (ranges.apart place other can.within inside (λ same. ne (sym same)) some more);
+      beside = λ other inside ne more. grind arith;
       apart = λ other inside ne more. (
           let own_base = held_base s.handles s.tables s.locks s.frames other in
           let long = length-held_bytes s.handles s.tables s.locks s.frames other in
@@ -198,17 +160,14 @@ moved_addresses : (b c : List ℕ) (old new : BlockParts) (budget place base n :
 unfolding address_of
 moved_addresses b c old new budget place base n m e f (Dos at) held = refl
 moved_addresses b c old new budget place base n m e f (Block zero at) held = absurd held
-moved_addresses b c old new budget place base n m e f (Block (suc other) at) held =
-    let byte = held_byte old other at held in
-    ap (λ (s : BlockParts). byte_place s other at) f
-    ∙ moved_place old new place base n m other at byte.0 byte.1
-    ∙ sym (ap (λ (s : BlockParts). byte_place s other at) e)
+moved_addresses b c old new budget place base n m e f (Block (suc other) at) held = grind (arith, held_byte, moved_place)
 moved_addresses b c old new budget place base n m e f Host held = absurd held
 moved_addresses b c old new budget place base n m e f Nothing held = absurd held
 
 pub moved_changes : (b : List ℕ) (budget place old base n : ℕ) → Holds b budget → HasRanges (handles_part b) →
     HasPages (blocks_held b budget) place old n → CanMove (blocks_held b budget) place base n →
-    ChangesBlocks b (moved b place old base n) budget (slice_set (blocks_held b budget) place (at_base base (slice_index_or (blocks_held b budget) place None)))
+    ChangesBlocks b (moved b place old base n) budget
+    (slice_set (blocks_held b budget) place (at_base base (slice_index_or (blocks_held b budget) place None)))
 moved_changes b budget place old base n holds ranges has can =
     let p = parts_of b budget in
     let s = block_parts p in
@@ -216,18 +175,22 @@ moved_changes b budget place old base n holds ranges has can =
     let sizes = sizes_of b budget host in
     let h = holds_parts b budget holds in
     let may = may_move s place base n ranges can in
-    let based : base_of (handles_part b) place ≡ old = base_read s place old can.within (λ none. can.some (sym may.pages ∙ none)) (has.based can.some) in
+    let based : base_of (handles_part b) place ≡ old =
+    base_read s place old can.within (λ none. can.some (sym may.pages ∙ none)) (has.based can.some) in
     let q = moved_parts p place old base n in
     let e = moved_are b budget place old base n host can.within (subst (λ (x : ℕ). IsRange x n) based may.own) may.range in
     let m = moved_more p budget place old base n sizes may based in
-    let blocks : blocks_of (block_parts q) ≡ slice_set (blocks_held b budget) place (at_base base (slice_index_or (blocks_held b budget) place None)) =
+    let blocks : blocks_of (block_parts q)
+    ≡ slice_set (blocks_held b budget) place (at_base base (slice_index_or (blocks_held b budget) place None)) =
     moved_blocks s (block_parts q) place base n m
     ∙ ap (λ (o : Option MemoryBlock). slice_set (blocks_held b budget) place (at_base base o)) (sym (block_reads s place can.within)) in
     record {
-      holds = holds_by (moved b place old base n) budget q e (moved_size b budget place old base n holds.size) holds.most (moved_holds p budget place old base n sizes h may based);
+      holds = holds_by (moved b place old base n) budget q e (moved_size b budget place old base n holds.size) holds.most
+          (moved_holds p budget place old base n sizes h may based);
       are = ap (λ (x : MemoryParts). blocks_of (block_parts x)) e ∙ blocks;
       world = λ mode regs vif width. world_after b (moved b place old base n) budget q e refl mode regs vif width
           ∙ ap (λ (bs : List (Option MemoryBlock)). record (world_of b budget mode regs vif width) { blocks = bs }) blocks;
       rows = ap (λ (x : MemoryParts). x.rows) e;
-      addresses = λ it before after. moved_addresses b (moved b place old base n) s (block_parts q) budget place base n m refl (ap block_parts e) it before;
+      addresses = λ it before after.
+          moved_addresses b (moved b place old base n) s (block_parts q) budget place base n m refl (ap block_parts e) it before;
     }

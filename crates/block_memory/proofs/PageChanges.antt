@@ -1,7 +1,6 @@
 -- A block with one page more, and with one page less: the world after it, that the memory still holds one, and what stays.
-use Rattle.std.proofs.Common.{◌≡◌, ◌≢◌, ℕ, zero, suc, ◌+◌, ◌-◌, ◌*◌, ◌/◌, ◌%◌, ◌<◌, ◌≤◌, inl, inr, true, Bool, List, slice_index, slice_index_or, slice_set, refl, ap, ◌∙◌, sym, subst, arith, Option, None, Some}
-use Rattle.std.proofs.lemmas.Bool.{cases_eq}
-use Rattle.client_world.specs.declared.memory_map.TheConstants.{BLOCK_REGION}
+use Rattle.std.proofs.Common.{◌≡◌, ◌≢◌, ℕ, zero, suc, ◌+◌, ◌-◌, ◌*◌, ◌/◌, ◌%◌, ◌<◌, ◌≤◌, inl, inr, true, Bool, List, slice_index}
+use Rattle.std.proofs.Common.{slice_index_or, slice_set, refl, ap, ◌∙◌, sym, subst, arith, Option, None, Some}
 use Rattle.client_world.specs.declared.host_frames.TheConstants.{PAGE_SIZE, PAGE_DIRECTORY, BUDGET_FRAMES, TAKEN_FRAMES}
 use Rattle.client_world.specs.declared.limits.TheConstants.{MAX_BLOCKS}
 use Rattle.client_world.specs.declared.place.Place.{Place}
@@ -21,15 +20,18 @@ use Rattle.page_tables.specs.Walk.{table_entry, frame_of}
 use Rattle.block_memory.specs.BlockChanges.{blocks_held, IsHeldIn}
 use Rattle.block_memory.specs.BlockSizes.{CanHold, longer, shorter, base_of_held}
 use Rattle.host_memory.specs.Holds.{Holds}
-use Rattle.host_memory.specs.Layout.{world_of, address_of, rows_part, vectors_part, handles_part, tables_part, taken_part, base_of, pages_of, first_page_of, entry_of, held_block}
+use Rattle.host_memory.specs.Layout.{world_of, address_of, rows_part, vectors_part, handles_part, tables_part, taken_part, base_of}
+use Rattle.host_memory.specs.Layout.{pages_of, first_page_of, entry_of, held_block}
 use Rattle.host_memory.specs.Tables.{NamesBudgetFrame}
-use Rattle.host_memory.specs.Vectors.{interrupt_vectors_in, exception_vectors_in, callbacks_in, pageable_in}
 use Rattle.block_memory.proofs.BlockMore.{block_of, blocks_of, more_blocks, less_blocks}
 use Rattle.host_memory.proofs.BlockRows.{HasRanges, IsRange, held_base, length-held_bytes, row_there, row_at_block}
 use Rattle.block_memory.proofs.PageCounts.{used_front, pages_of_row, all_pages_are}
-use Rattle.block_memory.proofs.PageMore.{BlockParts, HasRoom, HasPageMore, region_page, page_inside, is_away, first_new, first_old, first_other}
-use Rattle.block_memory.proofs.PageParts.{block_parts, MayGrow, MayShrink, grown_parts, grown_more, grown_beside, grown_zero, grown_unlocked, grown_holds, shrunk_parts, shrunk_less, shrunk_beside, shrunk_holds}
-use Rattle.block_memory.proofs.PageWrites.{InBudget, grown, grown_are, grown_size, shrunk, shrunk_are, shrunk_size, sizes_of, host_of, page_in_region, page_is}
+use Rattle.block_memory.proofs.PageMore.{BlockParts, HasRoom, HasPageMore, region_page, page_inside, is_away, first_new, first_old}
+use Rattle.block_memory.proofs.PageMore.{first_other}
+use Rattle.block_memory.proofs.PageParts.{block_parts, MayGrow, MayShrink, grown_parts, grown_more, grown_beside, grown_zero}
+use Rattle.block_memory.proofs.PageParts.{grown_unlocked, grown_holds, shrunk_parts, shrunk_less, shrunk_beside, shrunk_holds}
+use Rattle.block_memory.proofs.PageWrites.{InBudget, grown, grown_are, grown_size, shrunk, shrunk_are, shrunk_size, sizes_of, host_of}
+use Rattle.block_memory.proofs.PageWrites.{page_in_region, page_is}
 use Rattle.host_memory.proofs.FreeParts.{head_is}
 use Rattle.host_memory.proofs.Parts.{MemoryParts, parts_of, world_by, holds_by, holds_parts}
 use Rattle.host_memory.proofs.VectorParts.{put_head}
@@ -64,33 +66,16 @@ byte_place s place at = PAGE_SIZE * (entry_of s.tables (first_page_of s.handles 
 -- it is the same in two states that differ in one page
 kept_place : (old new : BlockParts) (budget place base n frame : ℕ) → HasPageMore old new budget place base n frame →
     (other at : ℕ) → other < MAX_BLOCKS → at < PAGE_SIZE * pages_of old.handles other → byte_place new other at ≡ byte_place old other at
-kept_place old new budget place base n frame m other at within inside = elim (cases_eq other place) [
-  | inl e ↦ (
-      let pages : pages_of old.handles other ≡ n = ap (pages_of old.handles) e ∙ m.room.pages in
-      let first : first_page_of new.handles other ≡ first_page_of old.handles other =
-      ap (first_page_of new.handles) e ∙ first_new old new budget place base n frame m ∙ sym (first_old old new budget place base n frame m (omega arith)) ∙ ap (first_page_of old.handles) (sym e) in
-      let known : first_page_of old.handles other ≡ region_page base n - n =
-      ap (first_page_of old.handles) e ∙ first_old old new budget place base n frame m (omega arith) ∙ (let k : (base - BLOCK_REGION) / PAGE_SIZE ≡ region_page base n - n = omega arith in k) in
-      let small = page_inside base n m.room.range in
-      same_place first (m.other_entries (first_page_of old.handles other + at / PAGE_SIZE) (omega arith) (omega arith)))
-  | inr ne ↦ (
-      let away = is_away old place base n m.room other (at / PAGE_SIZE) within ne (omega arith) in
-      same_place (first_other old new budget place base n frame m other within ne)
-      (m.other_entries (first_page_of old.handles other + at / PAGE_SIZE) away.small away.differs))
-]
-  where
-    same_place : first_page_of new.handles other ≡ first_page_of old.handles other →
-        entry_of new.tables (first_page_of old.handles other + at / PAGE_SIZE) ≡ entry_of old.tables (first_page_of old.handles other + at / PAGE_SIZE) →
-        byte_place new other at ≡ byte_place old other at
-    same_place first entry =
-        ap (λ (k : ℕ). PAGE_SIZE * (entry_of new.tables (k + at / PAGE_SIZE) / PAGE_SIZE) + at % PAGE_SIZE) first
-        ∙ ap (λ (e : ℕ). PAGE_SIZE * (e / PAGE_SIZE) + at % PAGE_SIZE) entry
+kept_place old new budget place base n frame m other at within inside =
+    grind (arith, first_new, first_old, first_other, is_away, page_inside)
 
 -- a byte that is held is one of a row
-pub held_byte : (s : BlockParts) (place at : ℕ) → HasByte (block_at (blocks_of s) (suc place)) at → (place < MAX_BLOCKS) × (at < PAGE_SIZE * pages_of s.handles place)
+pub held_byte : (s : BlockParts) (place at : ℕ) → HasByte (block_at (blocks_of s) (suc place)) at →
+    (place < MAX_BLOCKS) × (at < PAGE_SIZE * pages_of s.handles place)
 held_byte s place at held = by_block (block_at (blocks_of s) (suc place)) refl held
   where
-    by_block : (o : Option MemoryBlock) → block_at (blocks_of s) (suc place) ≡ o → HasByte o at → (place < MAX_BLOCKS) × (at < PAGE_SIZE * pages_of s.handles place)
+    by_block : (o : Option MemoryBlock) → block_at (blocks_of s) (suc place) ≡ o → HasByte o at →
+        (place < MAX_BLOCKS) × (at < PAGE_SIZE * pages_of s.handles place)
     by_block None e has = absurd has
     by_block (Some block) e has =
         let row = row_at_block s.handles s.tables s.locks s.frames place block e in
@@ -98,17 +83,14 @@ held_byte s place at held = by_block (block_at (blocks_of s) (suc place)) refl h
         (row.0, omega arith)
 
 -- so places that are held in the state of fewer pages have one address in both
-kept_addresses : (few many : List ℕ) (old new : BlockParts) (budget place base n frame : ℕ) → HasPageMore old new budget place base n frame →
+kept_addresses : (few many : List ℕ) (old new : BlockParts) (budget place base n frame : ℕ) →
+    HasPageMore old new budget place base n frame →
     block_parts (parts_of few budget) ≡ old → block_parts (parts_of many budget) ≡ new →
     (p : Place) → IsHeldIn (blocks_of old) p → address_of many p ≡ address_of few p
 unfolding address_of
 kept_addresses few many old new budget place base n frame m e f (Dos at) held = refl
 kept_addresses few many old new budget place base n frame m e f (Block zero at) held = absurd held
-kept_addresses few many old new budget place base n frame m e f (Block (suc other) at) held =
-    let byte = held_byte old other at held in
-    ap (λ (s : BlockParts). byte_place s other at) f
-    ∙ kept_place old new budget place base n frame m other at byte.0 byte.1
-    ∙ sym (ap (λ (s : BlockParts). byte_place s other at) e)
+kept_addresses few many old new budget place base n frame m e f (Block (suc other) at) held = grind (arith, held_byte, kept_place)
 kept_addresses few many old new budget place base n frame m e f Host held = absurd held
 kept_addresses few many old new budget place base n frame m e f Nothing held = absurd held
 
@@ -118,37 +100,37 @@ pub world_after : (b c : List ℕ) (budget : ℕ) (q : MemoryParts) → parts_of
     (mode : Mode) (regs : Regs) (vif : Bool) (width : Option Width) →
     world_of c budget mode regs vif width ≡ record (world_of b budget mode regs vif width) { blocks = blocks_of (block_parts q) }
 unfolding world_of
-world_after b c budget q e same mode regs vif width =
-    world_by c budget (record (parts_of b budget) { handles = q.handles; tables = q.tables; taken = q.taken; locks = q.locks; frames = q.frames })
-    (e ∙ same) mode regs vif width
+world_after b c budget q e same mode regs vif width = grind (arith, world_by)
 
 -- and where the head of the list of free frames changes too
 pub world_after_head : (b c : List ℕ) (budget head : ℕ) (q : MemoryParts) → parts_of c budget ≡ q →
-    q ≡ record (parts_of b budget) { vectors = put_head (vectors_part b) head; handles = q.handles; tables = q.tables; taken = q.taken; locks = q.locks; frames = q.frames } →
+    q ≡ record (parts_of b budget) {
+      vectors = put_head (vectors_part b) head;
+      handles = q.handles;
+      tables = q.tables;
+      taken = q.taken;
+      locks = q.locks;
+      frames = q.frames;
+    } →
     (mode : Mode) (regs : Regs) (vif : Bool) (width : Option Width) →
     world_of c budget mode regs vif width ≡ record (world_of b budget mode regs vif width) { blocks = blocks_of (block_parts q) }
 unfolding world_of
 world_after_head b c budget head q e same mode regs vif width =
-    let part = vectors_part b in
-    world_by c budget (record (parts_of b budget) { vectors = put_head part head; handles = q.handles; tables = q.tables; taken = q.taken; locks = q.locks; frames = q.frames })
-    (e ∙ same) mode regs vif width
-    ∙ same_lists (record (world_of b budget mode regs vif width) { blocks = blocks_of (block_parts q) }) (put_head part head) (interrupt_vectors_in part)
-    (exception_vectors_in part) (callbacks_in part) (pageable_in part) (head_lists part head)
+    grind (arith, head_lists, same_lists, world_by)
 
 -- what the world says of the blocks, the rows say
 
 pub block_reads : (s : BlockParts) (place : ℕ) → place < MAX_BLOCKS → slice_index_or (blocks_of s) place None ≡ block_of s place
 block_reads s place within = at_listed MAX_BLOCKS (block_of s) place None within
 
-pub pages_read : (s : BlockParts) (place n : ℕ) → place < MAX_BLOCKS → pages_of_block (slice_index_or (blocks_of s) place None) ≡ n → pages_of s.handles place ≡ n
+pub pages_read : (s : BlockParts) (place n : ℕ) → place < MAX_BLOCKS → pages_of_block (slice_index_or (blocks_of s) place None) ≡ n →
+    pages_of s.handles place ≡ n
 pages_read s place n within pages =
     sym (pages_of_row s.handles s.tables s.locks s.frames place) ∙ ap pages_of_block (sym (block_reads s place within)) ∙ pages
 
 pub base_read : (s : BlockParts) (place base : ℕ) → place < MAX_BLOCKS → pages_of s.handles place ≢ 0 →
     base_of_held (slice_index_or (blocks_of s) place None) ≡ base → base_of s.handles place ≡ base
-base_read s place base within some based =
-    sym (held_base s.handles s.tables s.locks s.frames place)
-    ∙ sym (ap base_of_held (block_reads s place within ∙ row_there s.handles s.tables s.locks s.frames place some)) ∙ based
+base_read s place base within some based = grind (arith, block_reads, held_base, row_there)
 
 pub room_of : (s : BlockParts) (budget place base n to : ℕ) → HasRanges s.handles → CanHold (blocks_of s) budget place base n to → n < to →
     HasRoom s place base n
@@ -172,7 +154,8 @@ room_of s budget place base n to ranges can more =
     }
 
 -- a frame of the budget is free where the blocks have fewer pages
-pub not_all_taken : (b : List ℕ) (budget place base n to : ℕ) → Holds b budget → CanHold (blocks_held b budget) budget place base n to → n < to → AllTaken b → ⊥
+pub not_all_taken : (b : List ℕ) (budget place base n to : ℕ) → Holds b budget → CanHold (blocks_held b budget) budget place base n to →
+    n < to → AllTaken b → ⊥
 not_all_taken b budget place base n to holds can more all =
     let size = holds.size in let most = holds.most in let room = can.room in
     let sizes = sizes_of b budget (host_of b budget holds) in
@@ -181,13 +164,12 @@ not_all_taken b budget place base n to holds can more all =
     let front : budget ≤ _ = used_front (taken_part b) budget (omega (arith, sizes.taken)) (λ k small.
     let taken = all (BUDGET_FRAMES + k) (record { from = omega arith; inside = omega arith }) in
     let byte = taken_byte b k (omega arith) in
-    λ none. taken (ap (slice_index b) (let e : taken_place (BUDGET_FRAMES + k) ≡ PAGE_SIZE * TAKEN_FRAMES + k = omega arith in e) ∙ byte ∙ none)) in
+    λ none. taken (ap (slice_index b) (let e : taken_place (BUDGET_FRAMES + k) ≡ PAGE_SIZE * TAKEN_FRAMES + k = omega arith in e) ∙ byte
+    ∙ none)) in
     omega (arith, front, holds.count, together)
 
 pub in_budget : (b : List ℕ) (budget frame : ℕ) → Holds b budget → IsBudgetFrame b frame → InBudget budget frame
-in_budget b budget frame holds is =
-    let size = holds.size in let inside = is.inside in
-    record { from = is.from; to = omega arith }
+in_budget b budget frame holds is = grind arith
 
 pub may_grow : (b : List ℕ) (budget place base n to frame : ℕ) → Holds b budget → HasRanges (handles_part b) →
     CanHold (blocks_held b budget) budget place base n to → n < to → InBudget budget frame → IsFree b frame → first_free b ≡ frame →
@@ -215,17 +197,22 @@ grown_changes b budget place base n to frame holds ranges can further inside fre
     let may = may_grow b budget place base n to frame holds ranges can further inside free head in
     let e = grown_are b budget place base n frame (host_of b budget holds) inside can.within may.room.range in
     let more = grown_more p budget place base n f h may in
-    let blocks : blocks_of (block_parts q) ≡ slice_set (blocks_held b budget) place (Some (longer base (slice_index_or (blocks_held b budget) place None) 1)) =
+    let blocks : blocks_of (block_parts q)
+    ≡ slice_set (blocks_held b budget) place (Some (longer base (slice_index_or (blocks_held b budget) place None) 1)) =
     more_blocks (block_parts p) (block_parts q) budget place base n f more (grown_beside p budget place base n f) h.blocks
     (grown_zero p budget place base n f may) (grown_unlocked p budget place base n f h may)
-    ∙ ap (λ (o : Option MemoryBlock). slice_set (blocks_held b budget) place (Some (longer base o 1))) (sym (block_reads (block_parts p) place can.within)) in
+    ∙ ap (λ (o : Option MemoryBlock). slice_set (blocks_held b budget) place (Some (longer base o 1)))
+    (sym (block_reads (block_parts p) place can.within)) in
     record {
-      holds = holds_by (grown b place base n frame) budget q e (grown_size b budget place base n frame holds.size) holds.most (grown_holds p budget place base n f h may);
+      holds = holds_by (grown b place base n frame) budget q e (grown_size b budget place base n frame holds.size) holds.most
+          (grown_holds p budget place base n f h may);
       are = ap (λ (x : MemoryParts). blocks_of (block_parts x)) e ∙ blocks;
-      world = λ mode regs vif width. world_after_head b (grown b place base n frame) budget (dword p.frames (PAGE_SIZE * f)) q e refl mode regs vif width
+      world = λ mode regs vif width.
+          world_after_head b (grown b place base n frame) budget (dword p.frames (PAGE_SIZE * f)) q e refl mode regs vif width
           ∙ ap (λ (bs : List (Option MemoryBlock)). record (world_of b budget mode regs vif width) { blocks = bs }) blocks;
       rows = ap (λ (x : MemoryParts). x.rows) e;
-      addresses = λ place_of_it before after. kept_addresses b (grown b place base n frame) (block_parts p) (block_parts q) budget place base n f more
+      addresses = λ place_of_it before after.
+          kept_addresses b (grown b place base n frame) (block_parts p) (block_parts q) budget place base n f more
           refl (ap block_parts e) place_of_it before;
     }
 
@@ -240,7 +227,8 @@ pub record HasLast (blocks : List (Option MemoryBlock)) (place base n : ℕ) : T
   pub pages : pages_of_block (slice_index_or blocks place None) ≡ n + 1
   pub based : base_of_held (slice_index_or blocks place None) ≡ base
 
-pub last_range : (b : List ℕ) (budget place base n : ℕ) → HasRanges (handles_part b) → HasLast (blocks_held b budget) place base n → IsRange base (n + 1)
+pub last_range : (b : List ℕ) (budget place base n : ℕ) → HasRanges (handles_part b) → HasLast (blocks_held b budget) place base n →
+    IsRange base (n + 1)
 last_range b budget place base n ranges has =
     let s = block_parts (parts_of b budget) in
     let pages = pages_read s place (n + 1) has.within has.pages in
@@ -251,7 +239,8 @@ pub record HasLastFrame (b : List ℕ) (budget base n : ℕ) : Type 0 where
   pub inside : InBudget budget (last_frame b base n)
   pub entry : entry_of (tables_part b) (region_page base n) ≡ page_entry (last_frame b base n) true
 
-pub has_last_frame : (b : List ℕ) (budget place base n : ℕ) → Holds b budget → HasRanges (handles_part b) → HasLast (blocks_held b budget) place base n →
+pub has_last_frame : (b : List ℕ) (budget place base n : ℕ) → Holds b budget → HasRanges (handles_part b) →
+    HasLast (blocks_held b budget) place base n →
     HasLastFrame b budget base n
 has_last_frame b budget place base n holds ranges has =
     let s = block_parts (parts_of b budget) in
@@ -262,14 +251,13 @@ has_last_frame b budget place base n holds ranges has =
     let names : NamesBudgetFrame budget (entry_of (tables_part b) (region_page base n)) =
     subst (λ (k : ℕ). NamesBudgetFrame budget (entry_of (tables_part b) k)) first (holds.blocks.named place n has.within (omega arith)) in
     let entry : table_entry b PAGE_DIRECTORY (base + PAGE_SIZE * n) ≡ entry_of (tables_part b) (region_page base n) =
-    region_entry b budget (base + PAGE_SIZE * n) (host_of b budget holds) (page_in_region base n range) ∙ ap (entry_of (tables_part b)) (page_is base n range) in
+    region_entry b budget (base + PAGE_SIZE * n) (host_of b budget holds) (page_in_region base n range)
+    ∙ ap (entry_of (tables_part b)) (page_is base n range) in
     let from = names.from in let to = names.to in
-    record {
-      inside = record { from = rw entry names.from; to = rw entry names.to };
-      entry = names.writable ∙ ap (λ (k : ℕ). page_entry (k / PAGE_SIZE) true) (sym entry);
-    }
+    grind arith
 
-pub may_shrink : (b : List ℕ) (budget place base n : ℕ) → Holds b budget → HasRanges (handles_part b) → HasLast (blocks_held b budget) place base n →
+pub may_shrink : (b : List ℕ) (budget place base n : ℕ) → Holds b budget → HasRanges (handles_part b) →
+    HasLast (blocks_held b budget) place base n →
     MayShrink (parts_of b budget) budget place base n (last_frame b base n - BUDGET_FRAMES)
 may_shrink b budget place base n holds ranges has =
     let s = block_parts (parts_of b budget) in
@@ -283,11 +271,13 @@ may_shrink b budget place base n holds ranges has =
       pages = pages;
       based = base_read s place base has.within (omega arith) has.based;
       few = omega arith;
-      named = last.entry ∙ ap (λ (k : ℕ). page_entry k true) (let e : last_frame b base n ≡ BUDGET_FRAMES + (last_frame b base n - BUDGET_FRAMES) = omega arith in e);
+      named = last.entry ∙ ap (λ (k : ℕ). page_entry k true)
+          (let e : last_frame b base n ≡ BUDGET_FRAMES + (last_frame b base n - BUDGET_FRAMES) = omega arith in e);
     }
 
 -- a page less
-pub shrunk_changes : (b : List ℕ) (budget place base n : ℕ) → Holds b budget → HasRanges (handles_part b) → HasLast (blocks_held b budget) place base n →
+pub shrunk_changes : (b : List ℕ) (budget place base n : ℕ) → Holds b budget → HasRanges (handles_part b) →
+    HasLast (blocks_held b budget) place base n →
     ChangesBlocks b (shrunk b place base n (last_frame b base n)) budget
     (slice_set (blocks_held b budget) place (shorter (slice_index_or (blocks_held b budget) place None) n))
 shrunk_changes b budget place base n holds ranges has =
@@ -298,18 +288,23 @@ shrunk_changes b budget place base n holds ranges has =
     let h = holds_parts b budget holds in
     let may = may_shrink b budget place base n holds ranges has in
     let last = has_last_frame b budget place base n holds ranges has in
-    let e = shrunk_are b budget place base n frame (host_of b budget holds) last.inside has.within (last_range b budget place base n ranges has) in
+    let e = shrunk_are b budget place base n frame (host_of b budget holds) last.inside has.within
+    (last_range b budget place base n ranges has) in
     let more = shrunk_less p budget place base n f h may in
     let after = shrunk_holds p budget place base n f h may in
-    let blocks : blocks_of (block_parts q) ≡ slice_set (blocks_held b budget) place (shorter (slice_index_or (blocks_held b budget) place None) n) =
+    let blocks : blocks_of (block_parts q)
+    ≡ slice_set (blocks_held b budget) place (shorter (slice_index_or (blocks_held b budget) place None) n) =
     less_blocks (block_parts q) (block_parts p) budget place base n f more (shrunk_beside p budget place base n f) after.blocks
-    ∙ ap (λ (o : Option MemoryBlock). slice_set (blocks_held b budget) place (shorter o n)) (sym (block_reads (block_parts p) place has.within)) in
+    ∙ ap (λ (o : Option MemoryBlock). slice_set (blocks_held b budget) place (shorter o n))
+    (sym (block_reads (block_parts p) place has.within)) in
     record {
       holds = holds_by (shrunk b place base n frame) budget q e (shrunk_size b budget place base n frame holds.size) holds.most after;
       are = ap (λ (x : MemoryParts). blocks_of (block_parts x)) e ∙ blocks;
-      world = λ mode regs vif width. world_after_head b (shrunk b place base n frame) budget (BUDGET_FRAMES + f) q e refl mode regs vif width
+      world = λ mode regs vif width.
+          world_after_head b (shrunk b place base n frame) budget (BUDGET_FRAMES + f) q e refl mode regs vif width
           ∙ ap (λ (bs : List (Option MemoryBlock)). record (world_of b budget mode regs vif width) { blocks = bs }) blocks;
       rows = ap (λ (x : MemoryParts). x.rows) e;
-      addresses = λ place_of_it before held. sym (kept_addresses (shrunk b place base n frame) b (block_parts q) (block_parts p) budget place base n f more
+      addresses = λ place_of_it before held.
+          sym (kept_addresses (shrunk b place base n frame) b (block_parts q) (block_parts p) budget place base n f more
           (ap block_parts e) refl place_of_it (subst (λ (bs : List (Option MemoryBlock)). IsHeldIn bs place_of_it) (sym blocks) held));
     }

@@ -1,5 +1,5 @@
 -- How many frames are taken, and how many pages the blocks have together.
-use Rattle.std.proofs.Common.{◌≡◌, ◌≢◌, ℕ, zero, suc, ◌+◌, ◌<◌, ◌≤◌, inl, inr, List, [], ◌∷◌, length, get_or, refl, ap, ◌∙◌, sym, arith, Option}
+use Rattle.std.proofs.Common.{◌≡◌, ◌≢◌, ℕ, zero, suc, ◌+◌, ◌<◌, ◌≤◌, inl, inr, List, [], ◌∷◌, length, get_or, refl, ◌∙◌, arith, Option}
 use Rattle.std.specs.Prelude.{map}
 use Rattle.std.specs.List.{range_with_len}
 use Rattle.std.proofs.lemmas.Bool.{cases_eq, ne_eqb}
@@ -50,23 +50,24 @@ one_more_total : (f g : ℕ → ℕ) (from n i : ℕ) → from ≤ i → i < fro
     ((k : ℕ) → from ≤ k → k < from + n → k ≢ i → g k ≡ f k) → total g (range_with_len from n) ≡ total f (range_with_len from n) + 1
 one_more_total f g from zero i low high here others = absurd (omega arith)
 one_more_total f g from (suc n) i low high here others = elim (cases_eq from i) [
-  | inl same ↦ (
-      let first : g from ≡ f from + 1 = rw same here in
-      let rest = same_totals f g (from + 1) n (λ k above below. others k (omega arith) (omega arith) (omega arith)) in
-      omega arith)
+  | inl same ↦ (grind (arith, same_totals))
   | inr ne ↦ (
       let first = others from (omega arith) (omega arith) ne in
-      let rest = one_more_total f g (from + 1) n i (omega arith) (omega arith) here (λ k above below other. others k (omega arith) (omega arith) other) in
+      let rest = one_more_total f g (from + 1) n i (omega arith) (omega arith) here
+      (λ k above below other. others k (omega arith) (omega arith) other) in
       omega arith)
 ]
 
 pub one_page_more : (handles more : List ℕ) (place : ℕ) → place < MAX_BLOCKS → pages_of more place ≡ pages_of handles place + 1 →
-    ((other : ℕ) → other < MAX_BLOCKS → other ≢ place → pages_of more other ≡ pages_of handles other) → all_pages more ≡ all_pages handles + 1
+    ((other : ℕ) → other < MAX_BLOCKS → other ≢ place → pages_of more other ≡ pages_of handles other) →
+    all_pages more ≡ all_pages handles + 1
 unfolding all_pages
 one_page_more handles more place within here others =
-    one_more_total (pages_of handles) (pages_of more) 0 MAX_BLOCKS place (omega arith) (omega arith) here (λ k low high ne. others k (omega arith) ne)
+    one_more_total (pages_of handles) (pages_of more) 0 MAX_BLOCKS place (omega arith) (omega arith) here
+    (λ k low high ne. others k (omega arith) ne)
 
-pub same_pages : (handles other : List ℕ) → ((place : ℕ) → place < MAX_BLOCKS → pages_of other place ≡ pages_of handles place) → all_pages other ≡ all_pages handles
+pub same_pages : (handles other : List ℕ) → ((place : ℕ) → place < MAX_BLOCKS → pages_of other place ≡ pages_of handles place) →
+    all_pages other ≡ all_pages handles
 unfolding all_pages
 same_pages handles other same = same_totals (pages_of handles) (pages_of other) 0 MAX_BLOCKS (λ k low high. same k (omega arith))
 
@@ -75,15 +76,14 @@ pages_of_map : (f : ℕ → Option MemoryBlock) (xs : List ℕ) → pages_of_blo
 pages_of_map f [] = refl
 pages_of_map f (x ∷ xs) = let rest = pages_of_map f xs in omega arith
 
-pages_of_listed : (n : ℕ) (f : ℕ → Option MemoryBlock) → pages_of_blocks (listed n f) ≡ total (λ k. pages_of_block (f k)) (range_with_len 0 n)
+pages_of_listed : (n : ℕ) (f : ℕ → Option MemoryBlock) →
+    pages_of_blocks (listed n f) ≡ total (λ k. pages_of_block (f k)) (range_with_len 0 n)
 unfolding listed
 pages_of_listed n f = pages_of_map f (range_with_len 0 n)
 
-pub pages_of_row : (handles tables locks frames : List ℕ) (place : ℕ) → pages_of_block (block_in handles tables locks frames place) ≡ pages_of handles place
-pages_of_row handles tables locks frames place = elim (cases_eq (pages_of handles place) 0) [
-  | inl none ↦ ap pages_of_block (row_free handles tables locks frames place none) ∙ sym none
-  | inr some ↦ ap pages_of_block (row_there handles tables locks frames place some) ∙ length-held_locks handles tables locks frames place
-]
+pub pages_of_row : (handles tables locks frames : List ℕ) (place : ℕ) →
+    pages_of_block (block_in handles tables locks frames place) ≡ pages_of handles place
+pages_of_row handles tables locks frames place = grind (arith, length-held_locks, row_free, row_there)
 
 pub all_pages_are : (handles tables locks frames : List ℕ) → pages_of_blocks (blocks_in handles tables locks frames) ≡ all_pages handles
 unfolding all_pages

@@ -1,6 +1,6 @@
 -- Two states of the block region that differ in one page: the block of a handle less 1 has it in the second one, in a frame that is free
 -- in the first one. Each of the two keeps its page entries where the other one does: so a block grows and shrinks by the same record.
-use Rattle.std.proofs.Common.{◌≡◌, ◌≢◌, ℕ, ◌+◌, ◌-◌, ◌*◌, ◌/◌, ◌<◌, ◌≤◌, ◌⊎◌, inl, inr, true, List, slice_index, ap, ◌∙◌, sym, subst, refl, arith}
+use Rattle.std.proofs.Common.{◌≡◌, ◌≢◌, ℕ, ◌+◌, ◌-◌, ◌*◌, ◌/◌, ◌<◌, ◌≤◌, ◌⊎◌, inl, inr, true, List, slice_index, ap, ◌∙◌, sym, subst, arith}
 use Rattle.std.proofs.lemmas.Bool.{cases_eq}
 use Rattle.client_world.specs.declared.host_frames.TheConstants.{PAGE_SIZE, BUDGET_FRAMES}
 use Rattle.client_world.specs.declared.limits.TheConstants.{MAX_BLOCKS}
@@ -50,7 +50,8 @@ pub record HasPageMore (old new : BlockParts) (budget place base n frame : ℕ) 
   pub other_bases : (other : ℕ) → other < MAX_BLOCKS → other ≢ place → base_of new.handles other ≡ base_of old.handles other
   pub no_entry : entry_of old.tables (region_page base n) ≡ 0
   pub entry : entry_of new.tables (region_page base n) ≡ budget_entry frame
-  pub other_entries : (page : ℕ) → page < BLOCK_REGION_PAGES → page ≢ region_page base n → entry_of new.tables page ≡ entry_of old.tables page
+  pub other_entries : (page : ℕ) → page < BLOCK_REGION_PAGES → page ≢ region_page base n →
+      entry_of new.tables page ≡ entry_of old.tables page
   pub few : frame < budget
   pub free : slice_index old.taken frame ≡ 0
   pub busy : slice_index new.taken frame ≡ 1
@@ -79,27 +80,11 @@ pub record IsAway (old : BlockParts) (base n other i : ℕ) : Type 0 where
 
 pub is_away : (old : BlockParts) (place base n : ℕ) → HasRoom old place base n → (other i : ℕ) → other < MAX_BLOCKS → other ≢ place →
     i < pages_of old.handles other → IsAway old base n other i
-is_away old place base n m other i within ne less =
-    let some : pages_of old.handles other ≢ 0 = omega arith in
-    let r = m.ranges other within ne some in
-    let whole = r.whole in let from = r.from in let to = r.to in
-    let s = m.range in
-    let own_whole = s.whole in let own_from = s.from in let own_to = s.to in
-    elim (m.apart other within ne some) [
-      | inl above ↦ record { small = omega arith; differs = omega arith }
-      | inr below ↦ record { small = omega arith; differs = omega arith }
-    ]
+is_away old place base n m other i within ne less = grind arith
 
 -- no block has that page in the first state
 pub page_outside : (old : BlockParts) (place base n : ℕ) → HasRoom old place base n → IsOutside old.handles (region_page base n)
-page_outside old place base n m = λ other i within less same. elim (cases_eq other place) [
-  | inl e ↦ (
-      let few : i < n = subst (λ (k : ℕ). i < k) (ap (pages_of old.handles) e ∙ m.pages) less in
-      let based = m.based (omega arith) in
-      let first : first_page_of old.handles other ≡ first_page base = ap (first_page_of old.handles) e ∙ ap (λ (b : ℕ). first_page b) based in
-      omega arith)
-  | inr ne ↦ (is_away old place base n m other i within ne less).differs (sym same)
-]
+page_outside old place base n m = λ other i within less same. grind (arith, is_away)
 
 -- what follows holds in both directions. In each of the two states the page and the frame are free, or the page lies in the frame
 pub record IsFree (s : BlockParts) (page frame : ℕ) : Type 0 where
@@ -145,30 +130,8 @@ grows old new budget place base n frame m =
       few = m.few;
       before = inl (record { entry = m.no_entry; taken = m.free; outside = page_outside old place base n room });
       after = inr (record { entry = m.entry; taken = m.busy; held = λ none. none place n room.within (omega arith) (omega arith) });
-      pages = λ other i within less. elim (cases_eq other place) [
-        | inl e ↦ (
-            let few : i < pages_of new.handles place = subst (λ (k : ℕ). i < pages_of new.handles k) e less in
-            rw e (elim (cases_eq i n) [
-              | inl last ↦ inl (omega arith)
-              | inr more ↦ (
-                  let was = first_old old new budget place base n frame m (omega arith) in
-                  inr (record { less = omega arith; is = omega arith; small = omega arith; differs = omega arith }))
-            ]))
-        | inr ne ↦ (
-            let same = m.other_pages other within ne in let there = first_other old new budget place base n frame m other within ne in
-            let away = is_away old place base n room other i within ne (omega arith) in
-            rw there (inr (record { less = omega arith; is = refl; small = away.small; differs = away.differs })))
-      ];
-      back = λ other i within less. elim (cases_eq other place) [
-        | inl e ↦ (
-            let few : i < pages_of old.handles place = subst (λ (k : ℕ). i < pages_of old.handles k) e less in
-            let was = first_old old new budget place base n frame m (omega arith) in
-            rw e (inr (record { less = omega arith; is = omega arith; small = omega arith; differs = omega arith })))
-        | inr ne ↦ (
-            let same = m.other_pages other within ne in let there = first_other old new budget place base n frame m other within ne in
-            let away = is_away old place base n room other i within ne less in
-            inr (record { less = omega arith; is = omega arith; small = away.small; differs = away.differs }))
-      ];
+      pages = λ other i within less. grind (arith, first_old, first_other, is_away);
+      back = λ other i within less. grind (arith, first_old, first_other, is_away);
       entries = m.other_entries;
       frames = m.other_frames;
     }
@@ -178,16 +141,7 @@ pub shrinks : (old new : BlockParts) (budget place base n frame : ℕ) → HasPa
     AgreesButFor new old budget (region_page base n) frame
 shrinks old new budget place base n frame m =
     let g = grows old new budget place base n frame m in
-    record {
-      inside = g.inside;
-      few = g.few;
-      before = g.after;
-      after = g.before;
-      pages = g.back;
-      back = g.pages;
-      entries = λ other small ne. sym (g.entries other small ne);
-      frames = λ other ne. sym (g.frames other ne);
-    }
+    grind arith
 
 module _ (was is : BlockParts) (budget page frame : ℕ) (m : AgreesButFor was is budget page frame) where
   still_outside : (other : ℕ) → other ≢ page → IsOutside is.handles other → IsOutside was.handles other
@@ -203,7 +157,8 @@ module _ (was is : BlockParts) (budget page frame : ℕ) (m : AgreesButFor was i
         | inl free ↦ absurd (free.outside place i within less (sym e))
         | inr used ↦ let few = m.few in rw (e, used.entry) (record { writable = omega arith; from = omega arith; to = omega arith })
       ]
-      | inr there ↦ rw (m.entries (first_page_of is.handles place + i) there.small there.differs, there.is) (h.named place i within there.less)
+      | inr there ↦
+          rw (m.entries (first_page_of is.handles place + i) there.small there.differs, there.is) (h.named place i within there.less)
     ];
     absent = λ other small none. elim (cases_eq other page) [
       | inl e ↦ elim m.after [
@@ -241,11 +196,13 @@ module _ (was is : BlockParts) (budget page frame : ℕ) (m : AgreesButFor was i
         | inl e ↦ (let q : two ≢ page = omega arith in alone two less q (sym (m.entries two less q) ∙ sym same ∙ own one e some))
         | inr p ↦ elim (cases_eq two page) [
           | inl e ↦ alone one small p (sym (m.entries one small p) ∙ same ∙ own two e (λ none. some (same ∙ none)))
-          | inr q ↦ h.once one two small less ne (λ none. some (m.entries one small p ∙ none)) (sym (m.entries one small p) ∙ same ∙ m.entries two less q)
+          | inr q ↦ h.once one two small less ne (λ none. some (m.entries one small p ∙ none))
+              (sym (m.entries one small p) ∙ same ∙ m.entries two less q)
         ]
       ]
 
-      idle : (k other : ℕ) → k < budget → other < BLOCK_REGION_PAGES → slice_index is.taken k ≡ 0 → entry_of is.tables other ≢ budget_entry k
+      idle : (k other : ℕ) → k < budget → other < BLOCK_REGION_PAGES → slice_index is.taken k ≡ 0 →
+          entry_of is.tables other ≢ budget_entry k
       idle k other few small none same = elim (cases_eq other page) [
         | inl e ↦ (
             let there = own other e (omega arith) in
@@ -268,13 +225,15 @@ module _ (was is : BlockParts) (budget page frame : ℕ) (m : AgreesButFor was i
         ]
         | inr differs ↦ (
             let there = h.busy k few (λ none. some (m.frames k differs ∙ none)) in
-            let ne : there.page ≢ page = (λ e. let here : entry_of was.tables page ≡ budget_entry k = ap (entry_of was.tables) (sym e) ∙ there.named in
+            let ne : there.page ≢ page =
+            (λ e. let here : entry_of was.tables page ≡ budget_entry k = ap (entry_of was.tables) (sym e) ∙ there.named in
             elim m.before [ inl free ↦ (let zero = free.entry in omega arith) | inr used ↦ (let its = used.entry in omega arith) ]) in
             record { page = there.page; inside = there.inside; named = m.entries there.page there.inside ne ∙ there.named })
       ]
 
   -- a page that is no block's has no lock
-  pub locks_kept : ((other : ℕ) → other < BLOCK_REGION_PAGES → other ≢ page → lock_of is.locks other ≡ lock_of was.locks other) → lock_of is.locks page ≡ 0 →
+  pub locks_kept : ((other : ℕ) → other < BLOCK_REGION_PAGES → other ≢ page → lock_of is.locks other ≡ lock_of was.locks other) →
+      lock_of is.locks page ≡ 0 →
       KeepsLocks was.handles was.locks → KeepsLocks is.handles is.locks
   locks_kept same none h = record {
     outside = λ other small out. elim (cases_eq other page) [

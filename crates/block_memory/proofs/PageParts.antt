@@ -1,8 +1,10 @@
 -- A page given to a block and taken from it, as writes into the parts of the memory: the parts still keep what they must.
-use Rattle.std.proofs.Common.{◌≡◌, ◌≢◌, ℕ, zero, suc, ◌+◌, ◌-◌, ◌*◌, ◌<◌, ◌≤◌, ◌⊎◌, inl, inr, List, [], ◌∷◌, length, slice_index, slice_set, refl, ap, ◌∙◌, sym, arith, get_or-set_same, get_or-set_other, length-set}
+use Rattle.std.proofs.Common.{◌≡◌, ◌≢◌, ℕ, zero, suc, ◌+◌, ◌-◌, ◌*◌, ◌<◌, ◌≤◌, ◌⊎◌, inl, inr, List, [], ◌∷◌, length, slice_index, slice_set}
+use Rattle.std.proofs.Common.{refl, ap, ◌∙◌, sym, arith, get_or-set_same, get_or-set_other, length-set}
 use Rattle.std.specs.Prelude.{nat_eq, if◌then◌else◌}
 use Rattle.std.proofs.lemmas.Bool.{cases_eq, cases_lt, eq-eqb, ne_eqb}
-use Rattle.client_world.specs.declared.host_frames.TheConstants.{PAGE_SIZE, BLOCK_ROW_FRAMES, BLOCK_ROW_SIZE, LOCK_COUNT_SIZE, PAGE_ENTRY_SIZE, VECTOR_FRAMES, BUDGET_FRAMES}
+use Rattle.client_world.specs.declared.host_frames.TheConstants.{PAGE_SIZE, BLOCK_ROW_FRAMES, BLOCK_ROW_SIZE, LOCK_COUNT_SIZE}
+use Rattle.client_world.specs.declared.host_frames.TheConstants.{PAGE_ENTRY_SIZE, VECTOR_FRAMES, BUDGET_FRAMES}
 use Rattle.client_world.specs.declared.limits.TheConstants.{MAX_BLOCKS, MAX_PAGES}
 use Rattle.client_world.specs.declared.memory_map.TheConstants.{BLOCK_REGION_PAGES}
 use Rattle.guest_ram.specs.Bytes.{put, dword, dword_bytes}
@@ -16,7 +18,8 @@ use Rattle.host_memory.specs.Layout.{base_of, pages_of, entry_of, lock_of}
 use Rattle.host_memory.specs.Vectors.{head_start}
 use Rattle.host_memory.proofs.BlockRows.{IsRange, HasRanges}
 use Rattle.block_memory.proofs.PageCounts.{used_more, one_page_more}
-use Rattle.block_memory.proofs.PageMore.{BlockParts, HasRoom, HasPageMore, AgreesBeside, region_page, budget_entry, page_inside, page_outside, grows, shrinks, entries_kept, locks_kept}
+use Rattle.block_memory.proofs.PageMore.{BlockParts, HasRoom, HasPageMore, AgreesBeside, region_page, budget_entry, page_inside}
+use Rattle.block_memory.proofs.PageMore.{page_outside, grows, shrinks, entries_kept, locks_kept}
 use Rattle.host_memory.proofs.Parts.{MemoryParts, HoldsParts}
 use Rattle.host_memory.proofs.VectorParts.{keeps_head, put_head}
 use Rattle.block_memory.proofs.FreeSteps.{list_given, list_taken}
@@ -37,47 +40,42 @@ pub record HasSizes (p : MemoryParts) (budget : ℕ) : Type 0 where
 
 -- the rows of the blocks with another row
 abbrev pub with_row : List ℕ → ℕ → ℕ → ℕ → List ℕ
-with_row handles place base pages = put (put handles (BLOCK_ROW_SIZE * place) (dword_bytes base)) (BLOCK_ROW_SIZE * place + 4) (dword_bytes pages)
+with_row handles place base pages =
+    put (put handles (BLOCK_ROW_SIZE * place) (dword_bytes base)) (BLOCK_ROW_SIZE * place + 4) (dword_bytes pages)
 
 pub row_pages : (handles : List ℕ) (place base pages : ℕ) → length handles ≡ PAGE_SIZE * BLOCK_ROW_FRAMES → place < MAX_BLOCKS →
     pages_of (with_row handles place base pages) place ≡ pages
 row_pages handles place base pages long within =
-    dword_put (put handles (BLOCK_ROW_SIZE * place) (dword_bytes base)) (BLOCK_ROW_SIZE * place + 4) pages (omega (arith, length-put handles (BLOCK_ROW_SIZE * place) (dword_bytes base)))
+    dword_put (put handles (BLOCK_ROW_SIZE * place) (dword_bytes base)) (BLOCK_ROW_SIZE * place + 4) pages
+    (omega (arith, length-put handles (BLOCK_ROW_SIZE * place) (dword_bytes base)))
 
 pub row_base : (handles : List ℕ) (place base pages : ℕ) → length handles ≡ PAGE_SIZE * BLOCK_ROW_FRAMES → place < MAX_BLOCKS →
     base_of (with_row handles place base pages) place ≡ base
-row_base handles place base pages long within =
-    dword_put_other (put handles (BLOCK_ROW_SIZE * place) (dword_bytes base)) (BLOCK_ROW_SIZE * place + 4) (BLOCK_ROW_SIZE * place) pages (inr (omega arith))
-    ∙ dword_put handles (BLOCK_ROW_SIZE * place) base (omega arith)
+row_base handles place base pages long within = grind (arith, dword_put, dword_put_other)
 
 -- an address of another row
-beside_row : (place other at n : ℕ) → other ≢ place → at + n ≤ BLOCK_ROW_SIZE → (BLOCK_ROW_SIZE * place + 8 ≤ BLOCK_ROW_SIZE * other + at) ⊎ (BLOCK_ROW_SIZE * other + at + n ≤ BLOCK_ROW_SIZE * place)
-beside_row place other at n ne inside = elim (cases_lt place other) [
-  | inl below ↦ inl (omega arith)
-  | inr above ↦ inr (omega arith)
-]
+beside_row : (place other at n : ℕ) → other ≢ place → at + n ≤ BLOCK_ROW_SIZE → (BLOCK_ROW_SIZE * place + 8 ≤ BLOCK_ROW_SIZE * other + at)
+    ⊎ (BLOCK_ROW_SIZE * other + at + n ≤ BLOCK_ROW_SIZE * place)
+beside_row place other at n ne inside = grind arith
 
 other_row : (handles : List ℕ) (place base pages other at : ℕ) → other ≢ place → at + 4 ≤ BLOCK_ROW_SIZE →
     dword (with_row handles place base pages) (BLOCK_ROW_SIZE * other + at) ≡ dword handles (BLOCK_ROW_SIZE * other + at)
-other_row handles place base pages other at ne inside =
-    let away = beside_row place other at 4 ne inside in
-    dword_put_other (put handles (BLOCK_ROW_SIZE * place) (dword_bytes base)) (BLOCK_ROW_SIZE * place + 4) (BLOCK_ROW_SIZE * other + at) pages (elim away [ inl a ↦ inl (omega arith) | inr a ↦ inr (omega arith) ])
-    ∙ dword_put_other handles (BLOCK_ROW_SIZE * place) (BLOCK_ROW_SIZE * other + at) base (elim away [ inl a ↦ inl (omega arith) | inr a ↦ inr (omega arith) ])
+other_row handles place base pages other at ne inside = grind (arith, beside_row, dword_put_other)
 
-pub other_pages : (handles : List ℕ) (place base pages other : ℕ) → other ≢ place → pages_of (with_row handles place base pages) other ≡ pages_of handles other
+pub other_pages : (handles : List ℕ) (place base pages other : ℕ) → other ≢ place →
+    pages_of (with_row handles place base pages) other ≡ pages_of handles other
 other_pages handles place base pages other ne = other_row handles place base pages other 4 ne (omega arith)
 
-pub other_base : (handles : List ℕ) (place base pages other : ℕ) → other ≢ place → base_of (with_row handles place base pages) other ≡ base_of handles other
-other_base handles place base pages other ne =
-    let away = beside_row place other 0 4 ne (omega arith) in
-    dword_put_other (put handles (BLOCK_ROW_SIZE * place) (dword_bytes base)) (BLOCK_ROW_SIZE * place + 4) (BLOCK_ROW_SIZE * other) pages (elim away [ inl a ↦ inl (omega arith) | inr a ↦ inr (omega arith) ])
-    ∙ dword_put_other handles (BLOCK_ROW_SIZE * place) (BLOCK_ROW_SIZE * other) base (elim away [ inl a ↦ inl (omega arith) | inr a ↦ inr (omega arith) ])
+pub other_base : (handles : List ℕ) (place base pages other : ℕ) → other ≢ place →
+    base_of (with_row handles place base pages) other ≡ base_of handles other
+other_base handles place base pages other ne = grind (arith, beside_row, dword_put_other)
 
 -- a byte beside the two doublewords
 row_byte : (handles : List ℕ) (place base pages k : ℕ) → (BLOCK_ROW_SIZE * place + 8 ≤ k) ⊎ (k < BLOCK_ROW_SIZE * place) →
     slice_index (with_row handles place base pages) k ≡ slice_index handles k
 row_byte handles place base pages k away =
-    put_away (put handles (BLOCK_ROW_SIZE * place) (dword_bytes base)) (BLOCK_ROW_SIZE * place + 4) (dword_bytes pages) k (elim away [ inl a ↦ inl (omega arith) | inr a ↦ inr (omega arith) ])
+    put_away (put handles (BLOCK_ROW_SIZE * place) (dword_bytes base)) (BLOCK_ROW_SIZE * place + 4) (dword_bytes pages) k
+    (elim away [ inl a ↦ inl (omega arith) | inr a ↦ inr (omega arith) ])
     ∙ put_away handles (BLOCK_ROW_SIZE * place) (dword_bytes base) k (elim away [ inl a ↦ inl (omega arith) | inr a ↦ inr (omega arith) ])
 
 zero_dword : (at : ℕ) → at < 4 → slice_index (dword_bytes 0) at ≡ 0
@@ -88,26 +86,29 @@ zero_dword (suc (suc (suc zero))) l = refl
 zero_dword (suc (suc (suc (suc at)))) l = absurd (omega arith)
 
 -- the rows are exactly those of blocks; a row of no pages is 0
-pub keeps_handles : (handles : List ℕ) (place base pages : ℕ) → length handles ≡ PAGE_SIZE * BLOCK_ROW_FRAMES → place < MAX_BLOCKS → (pages ≡ 0 → base ≡ 0) →
+pub keeps_handles : (handles : List ℕ) (place base pages : ℕ) → length handles ≡ PAGE_SIZE * BLOCK_ROW_FRAMES → place < MAX_BLOCKS →
+    (pages ≡ 0 → base ≡ 0) →
     KeepsHandles handles → KeepsHandles (with_row handles place base pages)
 keeps_handles handles place base pages long within none keeps = record { rest = rest; free = free }
   where
-    rest : (other at : ℕ) → other < MAX_BLOCKS → 8 ≤ at → at < BLOCK_ROW_SIZE → slice_index (with_row handles place base pages) (BLOCK_ROW_SIZE * other + at) ≡ 0
-    rest other at inside from less = row_byte handles place base pages (BLOCK_ROW_SIZE * other + at) (elim (cases_lt other place) [
-      | inl below ↦ inr (omega arith)
-      | inr above ↦ inl (omega arith)
-    ]) ∙ keeps.rest other at inside from less
+    rest : (other at : ℕ) → other < MAX_BLOCKS → 8 ≤ at → at < BLOCK_ROW_SIZE →
+        slice_index (with_row handles place base pages) (BLOCK_ROW_SIZE * other + at) ≡ 0
+    rest other at inside from less = row_byte handles place base pages (BLOCK_ROW_SIZE * other + at) (grind arith)
+        ∙ keeps.rest other at inside from less
 
     here : pages ≡ 0 → (at : ℕ) → at < BLOCK_ROW_SIZE → slice_index (with_row handles place base pages) (BLOCK_ROW_SIZE * place + at) ≡ 0
     here zeroed at less = elim (cases_lt at 4) [
-      | inl low ↦ put_away (put handles (BLOCK_ROW_SIZE * place) (dword_bytes base)) (BLOCK_ROW_SIZE * place + 4) (dword_bytes pages) (BLOCK_ROW_SIZE * place + at) (inr (omega arith))
+      | inl low ↦ put_away (put handles (BLOCK_ROW_SIZE * place) (dword_bytes base)) (BLOCK_ROW_SIZE * place + 4) (dword_bytes pages)
+          (BLOCK_ROW_SIZE * place + at) (inr (omega arith))
           ∙ put_within handles (BLOCK_ROW_SIZE * place) (dword_bytes base) at (BLOCK_ROW_SIZE * place + at) (omega arith) low refl
           ∙ ap (λ (v : ℕ). slice_index (dword_bytes v) at) (none zeroed) ∙ zero_dword at low
       | inr high ↦ elim (cases_lt at 8) [
-        | inl second ↦ put_within (put handles (BLOCK_ROW_SIZE * place) (dword_bytes base)) (BLOCK_ROW_SIZE * place + 4) (dword_bytes pages) (at - 4) (BLOCK_ROW_SIZE * place + at)
+        | inl second ↦ put_within (put handles (BLOCK_ROW_SIZE * place) (dword_bytes base)) (BLOCK_ROW_SIZE * place + 4) (dword_bytes pages)
+            (at - 4) (BLOCK_ROW_SIZE * place + at)
             (omega (arith, length-put handles (BLOCK_ROW_SIZE * place) (dword_bytes base))) (omega arith) (omega arith)
             ∙ ap (λ (v : ℕ). slice_index (dword_bytes v) (at - 4)) zeroed ∙ zero_dword (at - 4) (omega arith)
-        | inr behind ↦ row_byte handles place base pages (BLOCK_ROW_SIZE * place + at) (inl (omega arith)) ∙ keeps.rest place at within behind less
+        | inr behind ↦ row_byte handles place base pages (BLOCK_ROW_SIZE * place + at) (inl (omega arith))
+            ∙ keeps.rest place at within behind less
       ]
     ]
 
@@ -115,7 +116,8 @@ keeps_handles handles place base pages long within none keeps = record { rest = 
         slice_index (with_row handles place base pages) (BLOCK_ROW_SIZE * other + at) ≡ 0
     free other at inside zeroed less = elim (cases_eq other place) [
       | inl same ↦ ap (λ (k : ℕ). slice_index (with_row handles place base pages) (BLOCK_ROW_SIZE * k + at)) same
-          ∙ here (sym (row_pages handles place base pages long within) ∙ ap (pages_of (with_row handles place base pages)) (sym same) ∙ zeroed) at less
+          ∙ here (sym (row_pages handles place base pages long within) ∙ ap (pages_of (with_row handles place base pages)) (sym same)
+          ∙ zeroed) at less
       | inr ne ↦ (
           let away = beside_row place other at 1 ne (omega arith) in
           row_byte handles place base pages (BLOCK_ROW_SIZE * other + at) (elim away [ inl a ↦ inl a | inr a ↦ inr (omega arith) ])
@@ -123,29 +125,33 @@ keeps_handles handles place base pages long within none keeps = record { rest = 
     ]
 
 -- the entries of the pages
-entry_put : (tables : List ℕ) (page v : ℕ) → length tables ≡ PAGE_ENTRY_SIZE * BLOCK_REGION_PAGES → page < BLOCK_REGION_PAGES → entry_of (put tables (PAGE_ENTRY_SIZE * page) (dword_bytes v)) page ≡ v
+entry_put : (tables : List ℕ) (page v : ℕ) → length tables ≡ PAGE_ENTRY_SIZE * BLOCK_REGION_PAGES → page < BLOCK_REGION_PAGES →
+    entry_of (put tables (PAGE_ENTRY_SIZE * page) (dword_bytes v)) page ≡ v
 entry_put tables page v long small = dword_put tables (PAGE_ENTRY_SIZE * page) v (omega arith)
 
-entry_other : (tables : List ℕ) (page v other : ℕ) → other ≢ page → entry_of (put tables (PAGE_ENTRY_SIZE * page) (dword_bytes v)) other ≡ entry_of tables other
-entry_other tables page v other ne = dword_put_other tables (PAGE_ENTRY_SIZE * page) (PAGE_ENTRY_SIZE * other) v (elim (cases_lt page other) [
-  | inl below ↦ inl (omega arith)
-  | inr above ↦ inr (omega arith)
-])
+entry_other : (tables : List ℕ) (page v other : ℕ) → other ≢ page →
+    entry_of (put tables (PAGE_ENTRY_SIZE * page) (dword_bytes v)) other ≡ entry_of tables other
+entry_other tables page v other ne = dword_put_other tables (PAGE_ENTRY_SIZE * page) (PAGE_ENTRY_SIZE * other) v (grind arith)
 
 -- the lock counts
 abbrev pub without_lock : List ℕ → ℕ → List ℕ
 without_lock locks page = put locks (LOCK_COUNT_SIZE * page) (0 ∷ 0 ∷ [])
 
-lock_here : (locks : List ℕ) (page : ℕ) → length locks ≡ LOCK_COUNT_SIZE * BLOCK_REGION_PAGES → page < BLOCK_REGION_PAGES → lock_of (without_lock locks page) page ≡ 0
+lock_here : (locks : List ℕ) (page : ℕ) → length locks ≡ LOCK_COUNT_SIZE * BLOCK_REGION_PAGES → page < BLOCK_REGION_PAGES →
+    lock_of (without_lock locks page) page ≡ 0
 lock_here locks page long small =
-    let low : slice_index (without_lock locks page) (LOCK_COUNT_SIZE * page) ≡ 0 = put_within locks (LOCK_COUNT_SIZE * page) (0 ∷ 0 ∷ []) 0 (LOCK_COUNT_SIZE * page) (omega arith) (omega arith) (omega arith) in
-    let high : slice_index (without_lock locks page) (LOCK_COUNT_SIZE * page + 1) ≡ 0 = put_within locks (LOCK_COUNT_SIZE * page) (0 ∷ 0 ∷ []) 1 (LOCK_COUNT_SIZE * page + 1) (omega arith) (omega arith) refl in
+    let low : slice_index (without_lock locks page) (LOCK_COUNT_SIZE * page) ≡ 0 =
+    put_within locks (LOCK_COUNT_SIZE * page) (0 ∷ 0 ∷ []) 0 (LOCK_COUNT_SIZE * page) (omega arith) (omega arith) (omega arith) in
+    let high : slice_index (without_lock locks page) (LOCK_COUNT_SIZE * page + 1) ≡ 0 =
+    put_within locks (LOCK_COUNT_SIZE * page) (0 ∷ 0 ∷ []) 1 (LOCK_COUNT_SIZE * page + 1) (omega arith) (omega arith) refl in
     rw (low, high) refl
 
 lock_other : (locks : List ℕ) (page other : ℕ) → other ≢ page → lock_of (without_lock locks page) other ≡ lock_of locks other
 lock_other locks page other ne =
-    let low : slice_index (without_lock locks page) (LOCK_COUNT_SIZE * other) ≡ slice_index locks (LOCK_COUNT_SIZE * other) = put_away locks (LOCK_COUNT_SIZE * page) (0 ∷ 0 ∷ []) (LOCK_COUNT_SIZE * other) (beside 0 (omega arith)) in
-    let high : slice_index (without_lock locks page) (LOCK_COUNT_SIZE * other + 1) ≡ slice_index locks (LOCK_COUNT_SIZE * other + 1) = put_away locks (LOCK_COUNT_SIZE * page) (0 ∷ 0 ∷ []) (LOCK_COUNT_SIZE * other + 1) (beside_one 1) in
+    let low : slice_index (without_lock locks page) (LOCK_COUNT_SIZE * other) ≡ slice_index locks (LOCK_COUNT_SIZE * other) =
+    put_away locks (LOCK_COUNT_SIZE * page) (0 ∷ 0 ∷ []) (LOCK_COUNT_SIZE * other) (beside 0 (omega arith)) in
+    let high : slice_index (without_lock locks page) (LOCK_COUNT_SIZE * other + 1) ≡ slice_index locks (LOCK_COUNT_SIZE * other + 1) =
+    put_away locks (LOCK_COUNT_SIZE * page) (0 ∷ 0 ∷ []) (LOCK_COUNT_SIZE * other + 1) (beside_one 1) in
     rw (low, high) refl
   where
     beside : (at : ℕ) → at < 1 → (LOCK_COUNT_SIZE * page + 2 ≤ LOCK_COUNT_SIZE * other) ⊎ (LOCK_COUNT_SIZE * other < LOCK_COUNT_SIZE * page)
@@ -176,33 +182,23 @@ pub record MayGrow (p : MemoryParts) (budget place base n frame : ℕ) : Type 0 
 pub grown_more : (p : MemoryParts) (budget place base n frame : ℕ) → HoldsParts p budget → MayGrow p budget place base n frame →
     HasPageMore (block_parts p) (block_parts (grown_parts p place base n frame)) budget place base n frame
 grown_more p budget place base n frame h may =
-    let within = may.room.within in
-    let small = page_inside base n may.room.range in
-    let few = may.few in let most = may.sizes.most in
-    record {
-      room = may.room;
-      new_pages = row_pages p.handles place base (n + 1) may.sizes.handles within;
-      new_base = row_base p.handles place base (n + 1) may.sizes.handles within;
-      other_pages = λ other inside ne. other_pages p.handles place base (n + 1) other ne;
-      other_bases = λ other inside ne. other_base p.handles place base (n + 1) other ne;
-      no_entry = h.blocks.absent (region_page base n) small (page_outside (block_parts p) place base n may.room);
-      entry = entry_put p.tables (region_page base n) (budget_entry frame) may.sizes.tables small;
-      other_entries = λ page less ne. entry_other p.tables (region_page base n) (budget_entry frame) page ne;
-      few = may.few;
-      free = may.free;
-      busy = get_or-set_same p.taken frame 1 0 (omega (arith, may.sizes.taken));
-      other_frames = λ other ne. get_or-set_other p.taken frame other 1 0 ne;
-    }
+    grind (
+      arith,
+      entry_other,
+      entry_put,
+      get_or-set_other,
+      get_or-set_same,
+      other_base,
+      other_pages,
+      page_inside,
+      page_outside,
+      row_base,
+      row_pages,
+    )
 
 pub grown_beside : (p : MemoryParts) (budget place base n frame : ℕ) →
     AgreesBeside (block_parts p) (block_parts (grown_parts p place base n frame)) budget (region_page base n) frame
-grown_beside p budget place base n frame = record {
-  locks = λ other less ne. refl;
-  frames = λ at inside away. put_away p.frames (PAGE_SIZE * frame) (copies PAGE_SIZE 0) at (elim away [
-    | inl below ↦ inr below
-    | inr above ↦ inl (omega (arith, length-copies PAGE_SIZE 0))
-  ]);
-}
+grown_beside p budget place base n frame = grind (arith, length-copies, put_away)
 
 pub grown_zero : (p : MemoryParts) (budget place base n frame : ℕ) → MayGrow p budget place base n frame → (at : ℕ) → at < PAGE_SIZE →
     slice_index (grown_parts p place base n frame).frames (PAGE_SIZE * frame + at) ≡ 0
@@ -218,14 +214,9 @@ grown_unlocked p budget place base n frame h may =
     h.locks.outside (region_page base n) (page_inside base n may.room.range) (page_outside (block_parts p) place base n may.room)
 
 grown_list : (p : MemoryParts) (budget place base n frame : ℕ) → HoldsParts p budget → MayGrow p budget place base n frame →
-    ListsFreeFrames (put_head p.vectors (dword p.frames (PAGE_SIZE * frame))) (slice_set p.taken frame 1) (put p.frames (PAGE_SIZE * frame) (copies PAGE_SIZE 0)) budget
-grown_list p budget place base n frame h may =
-    let few = may.few in let most = may.sizes.most in let long = may.sizes.vectors in
-    list_taken p.vectors p.taken p.frames (put p.frames (PAGE_SIZE * frame) (copies PAGE_SIZE 0)) budget frame (omega arith) (omega (arith, may.sizes.taken)) may.head
-    (λ other ne. dword_put_beside p.frames (PAGE_SIZE * frame) (PAGE_SIZE * other) (copies PAGE_SIZE 0) (elim (cases_lt frame other) [
-      | inl below ↦ inl (omega (arith, length-copies PAGE_SIZE 0))
-      | inr above ↦ inr (omega arith)
-    ])) h.free
+    ListsFreeFrames (put_head p.vectors (dword p.frames (PAGE_SIZE * frame))) (slice_set p.taken frame 1)
+    (put p.frames (PAGE_SIZE * frame) (copies PAGE_SIZE 0)) budget
+grown_list p budget place base n frame h may = grind (arith, dword_put_beside, length-copies, list_taken)
 
 pub grown_holds : (p : MemoryParts) (budget place base n frame : ℕ) → HoldsParts p budget → MayGrow p budget place base n frame →
     HoldsParts (grown_parts p place base n frame) budget
@@ -243,12 +234,9 @@ grown_holds p budget place base n frame h may =
       handles = keeps_handles p.handles place base (n + 1) may.sizes.handles may.room.within (λ none. absurd (omega arith)) h.handles;
       blocks = entries_kept old new budget (region_page base n) frame grown h.blocks;
       free = grown_list p budget place base n frame h may;
-      count = used_more p.taken (slice_set p.taken frame 1) frame (sym (length-set p.taken frame 1)) (omega (arith, may.sizes.taken)) may.free
-          (let busy = more.busy in omega arith) more.other_frames
-          ∙ ap (λ (k : ℕ). k + 1) h.count
-          ∙ sym (one_page_more p.handles (with_row p.handles place base (n + 1)) place may.room.within
-          (more.new_pages ∙ ap (λ (k : ℕ). k + 1) (sym pages)) more.other_pages);
-      locks = locks_kept old new budget (region_page base n) frame grown beside.locks (grown_unlocked p budget place base n frame h may) h.locks;
+      count = grind (arith, length-set, one_page_more, other_pages, used_more);
+      locks = locks_kept old new budget (region_page base n) frame grown beside.locks
+          (grown_unlocked p budget place base n frame h may) h.locks;
       arena = h.arena;
     }
 
@@ -285,26 +273,11 @@ base_gone : (base n : ℕ) → n ≡ 0 → base_in_row base n ≡ 0
 base_gone base n none = rw (eq-eqb n 0 none) refl
 
 own_range : (p : MemoryParts) (budget place base n frame : ℕ) → MayShrink p budget place base n frame → IsRange base (n + 1)
-own_range p budget place base n frame may =
-    let pages = may.pages in
-    rw (← may.based, ← may.pages) (may.ranges.each place may.within (omega arith))
+own_range p budget place base n frame may = grind arith
 
 pub shrunk_room : (p : MemoryParts) (budget place base n frame : ℕ) → MayShrink p budget place base n frame →
     HasRoom (block_parts (shrunk_parts p place base n frame)) place base n
-shrunk_room p budget place base n frame may = record {
-  within = may.within;
-  range = own_range p budget place base n frame may;
-  pages = row_pages p.handles place (base_in_row base n) n may.sizes.handles may.within;
-  based = λ some. row_base p.handles place (base_in_row base n) n may.sizes.handles may.within ∙ base_kept base n some;
-  ranges = λ other inside ne some. (
-      let pages = other_pages p.handles place (base_in_row base n) n other ne in
-      rw (pages, other_base p.handles place (base_in_row base n) n other ne) (may.ranges.each other inside (λ none. some (pages ∙ none))));
-  apart = λ other inside ne some. (
-      let pages = other_pages p.handles place (base_in_row base n) n other ne in
-      let own = may.pages in
-      rw (pages, other_base p.handles place (base_in_row base n) n other ne, ← may.based, ← may.pages)
-      (may.ranges.apart place other may.within inside (λ same. ne (sym same)) (omega arith) (λ none. some (pages ∙ none))));
-}
+shrunk_room p budget place base n frame may = grind (arith, base_kept, other_base, other_pages, own_range, row_base, row_pages)
 
 pub shrunk_less : (p : MemoryParts) (budget place base n frame : ℕ) → HoldsParts p budget → MayShrink p budget place base n frame →
     HasPageMore (block_parts (shrunk_parts p place base n frame)) (block_parts p) budget place base n frame
@@ -324,10 +297,7 @@ shrunk_less p budget place base n frame h may =
       other_entries = λ page less ne. sym (entry_other p.tables (region_page base n) 0 page ne);
       few = may.few;
       free = get_or-set_same p.taken frame 0 0 (omega (arith, may.sizes.taken));
-      busy = elim (cases_eq (slice_index p.taken frame) 0) [
-        | inl none ↦ absurd (h.blocks.idle frame (region_page base n) may.few small none may.named)
-        | inr some ↦ omega arith
-      ];
+      busy = grind arith;
       other_frames = λ other ne. sym (get_or-set_other p.taken frame other 0 0 ne);
     }
 
@@ -335,10 +305,7 @@ pub shrunk_beside : (p : MemoryParts) (budget place base n frame : ℕ) →
     AgreesBeside (block_parts (shrunk_parts p place base n frame)) (block_parts p) budget (region_page base n) frame
 shrunk_beside p budget place base n frame = record {
   locks = λ other less ne. sym (lock_other p.locks (region_page base n) other ne);
-  frames = λ at inside away. sym (put_away p.frames (PAGE_SIZE * frame) (dword_bytes (dword p.vectors head_start)) at (elim away [
-    | inl below ↦ inr below
-    | inr above ↦ inl (omega arith)
-  ]));
+  frames = λ at inside away. sym (put_away p.frames (PAGE_SIZE * frame) (dword_bytes (dword p.vectors head_start)) at (grind arith));
 }
 
 pub shrunk_holds : (p : MemoryParts) (budget place base n frame : ℕ) → HoldsParts p budget → MayShrink p budget place base n frame →
@@ -349,7 +316,8 @@ shrunk_holds p budget place base n frame h may =
     let more = shrunk_less p budget place base n frame h may in let shrunk = shrinks old new budget place base n frame more in
     let beside = shrunk_beside p budget place base n frame in
     let few = may.few in let most = may.sizes.most in let pages = more.room.pages in
-    let count : used p.taken ≡ used (slice_set p.taken frame 0) + 1 = used_more (slice_set p.taken frame 0) p.taken frame (length-set p.taken frame 0)
+    let count : used p.taken ≡ used (slice_set p.taken frame 0) + 1 =
+    used_more (slice_set p.taken frame 0) p.taken frame (length-set p.taken frame 0)
     (omega (arith, may.sizes.taken, length-set p.taken frame 0)) more.free (let busy = more.busy in omega arith) more.other_frames in
     let together : all_pages p.handles ≡ all_pages (with_row p.handles place (base_in_row base n) n) + 1 =
     one_page_more (with_row p.handles place (base_in_row base n) n) p.handles place may.within
@@ -361,9 +329,7 @@ shrunk_holds p budget place base n frame h may =
       records = h.records;
       handles = keeps_handles p.handles place (base_in_row base n) n may.sizes.handles may.within (base_gone base n) h.handles;
       blocks = entries_kept new old budget (region_page base n) frame shrunk h.blocks;
-      free = (
-          let busy = more.busy in let long = may.sizes.vectors in
-          list_given p.vectors p.taken p.frames budget frame (omega arith) may.few (omega (arith, may.sizes.taken)) (omega (arith, may.sizes.frames)) (omega arith) h.free);
+      free = (grind (arith, list_given));
       count = omega (arith, count, together, h.count);
       locks = locks_kept new old budget (region_page base n) frame shrunk (λ other small ne. sym (beside.locks other small ne))
           (lock_here p.locks (region_page base n) may.sizes.locks (page_inside base n (own_range p budget place base n frame may))) h.locks;

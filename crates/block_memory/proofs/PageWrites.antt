@@ -1,7 +1,8 @@
--- The writes that give a page to a block and take it away, as what they make of the parts of the memory. Between them the host's own entries
--- stay, so that each step may be made.
-use Rattle.std.proofs.Common.{◌≡◌, ℕ, ◌+◌, ◌-◌, ◌*◌, ◌<◌, ◌≤◌, true, List, [], ◌∷◌, length, slice_set, refl, ap, ◌∙◌, sym, subst, arith, length-set}
-use Rattle.client_world.specs.declared.host_frames.TheConstants.{PAGE_SIZE, BLOCK_TABLES, BLOCK_ROWS, LOCK_COUNTS, TAKEN_FRAMES, BUDGET_FRAMES, BLOCK_ROW_FRAMES, BLOCK_ROW_SIZE, BLOCK_TABLE_FRAMES, LOCK_COUNT_FRAMES, LOCK_COUNT_SIZE, PAGE_ENTRY_SIZE, TAKEN_BYTE_FRAMES, VECTORS, VECTOR_FRAMES}
+-- The writes that give a page to a block and take it away, as what they make of the parts of the memory. Between them the host's own
+-- entries stay, so that each step may be made.
+use Rattle.std.proofs.Common.{◌≡◌, ℕ, ◌+◌, ◌-◌, ◌*◌, ◌<◌, ◌≤◌, true, List, [], ◌∷◌, length, slice_set, refl, ap, ◌∙◌, arith, length-set}
+use Rattle.client_world.specs.declared.host_frames.TheConstants.{PAGE_SIZE, BLOCK_TABLES, BLOCK_ROWS, LOCK_COUNTS, BUDGET_FRAMES}
+use Rattle.client_world.specs.declared.host_frames.TheConstants.{BLOCK_ROW_SIZE, LOCK_COUNT_SIZE, PAGE_ENTRY_SIZE}
 use Rattle.client_world.specs.declared.limits.TheConstants.{MAX_BLOCKS}
 use Rattle.guest_ram.specs.Bytes.{put, dword, dword_bytes}
 use Rattle.guest_ram.specs.Listed.{copies}
@@ -14,7 +15,6 @@ use Rattle.page_tables.specs.Entry.{page_entry}
 use Rattle.page_tables.proofs.MapLaws.{with_entry}
 use Rattle.host_memory.specs.Holds.{Holds}
 use Rattle.host_memory.specs.Layout.{fixed_part, tables_part, vectors_part, handles_part, taken_part, budget_part}
-use Rattle.host_memory.specs.Tables.{HasFixedEntries}
 use Rattle.host_memory.specs.Vectors.{head_start}
 use Rattle.host_memory.proofs.BlockRows.{IsRange}
 use Rattle.host_memory.proofs.FreeParts.{head_is, next_is}
@@ -27,29 +27,16 @@ use Rattle.block_memory.proofs.RegionPages.{HasHost, InRegion, page_at, region_p
 
 -- the parts have their sizes
 pub sizes_of : (b : List ℕ) (budget : ℕ) → HasHost b budget → HasSizes (parts_of b budget) budget
-sizes_of b budget host =
-    let size = host.size in
-    record {
-      handles = length-region b (PAGE_SIZE * BLOCK_ROWS) (PAGE_SIZE * BLOCK_ROW_FRAMES) (omega arith);
-      tables = length-region b (PAGE_SIZE * BLOCK_TABLES) (PAGE_SIZE * BLOCK_TABLE_FRAMES) (omega arith);
-      taken = length-region b (PAGE_SIZE * TAKEN_FRAMES) (PAGE_SIZE * TAKEN_BYTE_FRAMES) (omega arith);
-      locks = length-region b (PAGE_SIZE * LOCK_COUNTS) (PAGE_SIZE * LOCK_COUNT_FRAMES) (omega arith);
-      frames = length-region b (PAGE_SIZE * BUDGET_FRAMES) (PAGE_SIZE * budget) (omega arith);
-      vectors = length-region b (PAGE_SIZE * VECTORS) (PAGE_SIZE * VECTOR_FRAMES) (omega arith);
-      most = host.most;
-    }
+sizes_of b budget host = grind (arith, length-region)
 
 pub host_of : (b : List ℕ) (budget : ℕ) → Holds b budget → HasHost b budget
 host_of b budget holds = record { size = holds.size; most = holds.most; fixed = holds.fixed }
 
 -- it stays where the host's own entries do
-pub host_by : (b c : List ℕ) (budget : ℕ) (p : MemoryParts) → HasHost b budget → HasSize c budget → parts_of c budget ≡ p → p.fixed ≡ fixed_part b →
+pub host_by : (b c : List ℕ) (budget : ℕ) (p : MemoryParts) → HasHost b budget → HasSize c budget → parts_of c budget ≡ p →
+    p.fixed ≡ fixed_part b →
     HasHost c budget
-host_by b c budget p host size e same = record {
-  size = size;
-  most = host.most;
-  fixed = subst HasFixedEntries (sym (ap (λ (q : MemoryParts). q.fixed) e ∙ same)) host.fixed;
-}
+host_by b c budget p host size e same = grind arith
 
 -- the frame is one of the budget
 pub record InBudget (budget frame : ℕ) : Type 0 where
@@ -59,7 +46,8 @@ pub record InBudget (budget frame : ℕ) : Type 0 where
 -- the taken byte of a frame
 
 pub taken_are : (b : List ℕ) (budget frame v : ℕ) → HasHost b budget → InBudget budget frame →
-    parts_of (slice_set b (taken_place frame) v) budget ≡ record (parts_of b budget) { taken = slice_set (taken_part b) (frame - BUDGET_FRAMES) v }
+    parts_of (slice_set b (taken_place frame) v) budget
+    ≡ record (parts_of b budget) { taken = slice_set (taken_part b) (frame - BUDGET_FRAMES) v }
 taken_are b budget frame v host inside =
     let from = inside.from in let to = inside.to in let most = host.most in
     put_taken b budget (taken_place frame) (frame - BUDGET_FRAMES) (v ∷ []) host.size refl (omega arith)
@@ -71,7 +59,8 @@ head_are b budget v host = put_vectors b budget FREE_LIST_HEAD head_start (dword
 
 head_host : (b : List ℕ) (budget v : ℕ) → HasHost b budget → HasHost (put b FREE_LIST_HEAD (dword_bytes v)) budget
 head_host b budget v host =
-    host_by b (put b FREE_LIST_HEAD (dword_bytes v)) budget _ host (length-put b FREE_LIST_HEAD (dword_bytes v) ∙ host.size) (head_are b budget v host) refl
+    host_by b (put b FREE_LIST_HEAD (dword_bytes v)) budget _ host (length-put b FREE_LIST_HEAD (dword_bytes v) ∙ host.size)
+    (head_are b budget v host) refl
 
 -- the frame at the head is taken
 taken_parts : (b : List ℕ) (budget frame : ℕ) → HasHost b budget → InBudget budget frame →
@@ -82,14 +71,17 @@ taken_parts : (b : List ℕ) (budget frame : ℕ) → HasHost b budget → InBud
     }
 taken_parts b budget frame host inside =
     taken_are (put b FREE_LIST_HEAD (dword_bytes (next_free b frame))) budget frame 1 (head_host b budget (next_free b frame) host) inside
-    ∙ ap (λ (p : MemoryParts). record p { taken = slice_set p.taken (frame - BUDGET_FRAMES) 1 }) (head_are b budget (next_free b frame) host)
-    ∙ ap (λ (v : ℕ). record (parts_of b budget) { vectors = put_head (vectors_part b) v; taken = slice_set (taken_part b) (frame - BUDGET_FRAMES) 1 })
+    ∙ ap (λ (p : MemoryParts). record p { taken = slice_set p.taken (frame - BUDGET_FRAMES) 1 })
+    (head_are b budget (next_free b frame) host)
+    ∙ ap (λ (v : ℕ).
+    record (parts_of b budget) { vectors = put_head (vectors_part b) v; taken = slice_set (taken_part b) (frame - BUDGET_FRAMES) 1 })
     (next_is b budget frame inside.from inside.to)
 
 taken_host : (b : List ℕ) (budget frame : ℕ) → HasHost b budget → InBudget budget frame → HasHost (without_head b frame) budget
 taken_host b budget frame host inside =
     host_by b (without_head b frame) budget _ host
-    (length-set (put b FREE_LIST_HEAD (dword_bytes (next_free b frame))) (taken_place frame) 1 ∙ length-put b FREE_LIST_HEAD (dword_bytes (next_free b frame)) ∙ host.size)
+    (length-set (put b FREE_LIST_HEAD (dword_bytes (next_free b frame))) (taken_place frame) 1
+    ∙ length-put b FREE_LIST_HEAD (dword_bytes (next_free b frame)) ∙ host.size)
     (taken_parts b budget frame host inside) refl
 
 -- a frame is given back
@@ -103,8 +95,10 @@ given_parts : (b : List ℕ) (budget frame : ℕ) → HasHost b budget → InBud
 given_parts b budget frame host inside =
     let from = inside.from in let to = inside.to in
     let b1 = put b (PAGE_SIZE * frame) (dword_bytes (first_free b)) in
-    let e1 = put_frames b budget (PAGE_SIZE * frame) (PAGE_SIZE * (frame - BUDGET_FRAMES)) (dword_bytes (first_free b)) host.size (omega arith) (omega arith) in
-    let host1 : HasHost b1 budget = host_by b b1 budget _ host (size_put b budget (PAGE_SIZE * frame) (dword_bytes (first_free b)) host.size) e1 refl in
+    let e1 = put_frames b budget (PAGE_SIZE * frame) (PAGE_SIZE * (frame - BUDGET_FRAMES)) (dword_bytes (first_free b)) host.size
+    (omega arith) (omega arith) in
+    let host1 : HasHost b1 budget =
+    host_by b b1 budget _ host (size_put b budget (PAGE_SIZE * frame) (dword_bytes (first_free b)) host.size) e1 refl in
     taken_are (put b1 FREE_LIST_HEAD (dword_bytes frame)) budget frame 0 (head_host b1 budget frame host1) inside
     ∙ ap (λ (p : MemoryParts). record p { taken = slice_set p.taken (frame - BUDGET_FRAMES) 0 })
     (head_are b1 budget frame host1 ∙ ap (λ (p : MemoryParts). record p { vectors = put_head p.vectors frame }) e1)
@@ -115,10 +109,7 @@ given_parts b budget frame host inside =
     }) (head_is b)
 
 given_size : (b : List ℕ) (frame : ℕ) → length (with_head b frame) ≡ length b
-given_size b frame =
-    let b1 = put b (PAGE_SIZE * frame) (dword_bytes (first_free b)) in
-    length-set (put b1 FREE_LIST_HEAD (dword_bytes frame)) (taken_place frame) 0 ∙ length-put b1 FREE_LIST_HEAD (dword_bytes frame)
-    ∙ length-put b (PAGE_SIZE * frame) (dword_bytes (first_free b))
+given_size b frame = grind (arith, length-put, length-set)
 
 given_host : (b : List ℕ) (budget frame : ℕ) → HasHost b budget → InBudget budget frame → HasHost (with_head b frame) budget
 given_host b budget frame host inside =
@@ -141,15 +132,14 @@ pub cleared_are : (b : List ℕ) (budget frame : ℕ) → HasHost b budget → I
 cleared_are b budget frame host inside =
     let from = inside.from in let to = inside.to in
     let host1 = taken_host b budget frame host inside in
-    put_frames (without_head b frame) budget (PAGE_SIZE * frame) (PAGE_SIZE * (frame - BUDGET_FRAMES)) (copies PAGE_SIZE 0) host1.size (omega arith)
+    put_frames (without_head b frame) budget (PAGE_SIZE * frame) (PAGE_SIZE * (frame - BUDGET_FRAMES)) (copies PAGE_SIZE 0) host1.size
+    (omega arith)
     (omega (arith, length-copies PAGE_SIZE 0))
     ∙ ap (λ (p : MemoryParts). record p { frames = put p.frames (PAGE_SIZE * (frame - BUDGET_FRAMES)) (copies PAGE_SIZE 0) })
     (taken_parts b budget frame host inside)
 
 cleared_size : (b : List ℕ) (frame : ℕ) → length (cleared b frame) ≡ length b
-cleared_size b frame =
-    length-put (without_head b frame) (PAGE_SIZE * frame) (copies PAGE_SIZE 0)
-    ∙ length-set (put b FREE_LIST_HEAD (dword_bytes (next_free b frame))) (taken_place frame) 1 ∙ length-put b FREE_LIST_HEAD (dword_bytes (next_free b frame))
+cleared_size b frame = grind (arith, length-put, length-set)
 
 pub cleared_host : (b : List ℕ) (budget frame : ℕ) → HasHost b budget → InBudget budget frame → HasHost (cleared b frame) budget
 cleared_host b budget frame host inside =
@@ -158,33 +148,42 @@ cleared_host b budget frame host inside =
 -- an entry of the block region
 
 pub entry_are : (b : List ℕ) (budget lin page v : ℕ) → HasHost b budget → InRegion lin → page_at lin ≡ page →
-    parts_of (with_entry b lin v) budget ≡ record (parts_of b budget) { tables = put (tables_part b) (PAGE_ENTRY_SIZE * page) (dword_bytes v) }
+    parts_of (with_entry b lin v) budget
+    ≡ record (parts_of b budget) { tables = put (tables_part b) (PAGE_ENTRY_SIZE * page) (dword_bytes v) }
 entry_are b budget lin page v host in_region same =
     let from = in_region.from in let to = in_region.to in
     put_tables b budget _ (PAGE_ENTRY_SIZE * page) (dword_bytes v) host.size (region_place b budget lin host in_region
-    ∙ (let e : PAGE_SIZE * BLOCK_TABLES + PAGE_ENTRY_SIZE * page_at lin ≡ PAGE_SIZE * BLOCK_TABLES + PAGE_ENTRY_SIZE * page = omega arith in e)) (omega arith)
+    ∙ (let e : PAGE_SIZE * BLOCK_TABLES + PAGE_ENTRY_SIZE * page_at lin ≡ PAGE_SIZE * BLOCK_TABLES + PAGE_ENTRY_SIZE * page = omega arith in
+    e)) (omega arith)
 
-pub entry_host : (b : List ℕ) (budget lin page v : ℕ) → HasHost b budget → InRegion lin → page_at lin ≡ page → HasHost (with_entry b lin v) budget
+pub entry_host : (b : List ℕ) (budget lin page v : ℕ) → HasHost b budget → InRegion lin → page_at lin ≡ page →
+    HasHost (with_entry b lin v) budget
 entry_host b budget lin page v host in_region same =
-    host_by b (with_entry b lin v) budget _ host (length-put b _ (dword_bytes v) ∙ host.size) (entry_are b budget lin page v host in_region same) refl
+    host_by b (with_entry b lin v) budget _ host (length-put b _ (dword_bytes v) ∙ host.size)
+    (entry_are b budget lin page v host in_region same) refl
 
 -- the row of a block
 
 abbrev pub with_block_row : List ℕ → ℕ → ℕ → ℕ → List ℕ
 with_block_row b place base pages =
-    put (put b (PAGE_SIZE * BLOCK_ROWS + BLOCK_ROW_SIZE * place) (dword_bytes base)) (PAGE_SIZE * BLOCK_ROWS + BLOCK_ROW_SIZE * place + 4) (dword_bytes pages)
+    put (put b (PAGE_SIZE * BLOCK_ROWS + BLOCK_ROW_SIZE * place) (dword_bytes base)) (PAGE_SIZE * BLOCK_ROWS + BLOCK_ROW_SIZE * place + 4)
+    (dword_bytes pages)
 
 pub row_are : (b : List ℕ) (budget place base pages : ℕ) → HasHost b budget → place < MAX_BLOCKS →
-    parts_of (with_block_row b place base pages) budget ≡ record (parts_of b budget) { handles = with_row (handles_part b) place base pages }
+    parts_of (with_block_row b place base pages) budget
+    ≡ record (parts_of b budget) { handles = with_row (handles_part b) place base pages }
 row_are b budget place base pages host within =
-    put_handles (put b (PAGE_SIZE * BLOCK_ROWS + BLOCK_ROW_SIZE * place) (dword_bytes base)) budget (PAGE_SIZE * BLOCK_ROWS + BLOCK_ROW_SIZE * place + 4) (BLOCK_ROW_SIZE * place + 4) (dword_bytes pages)
+    put_handles (put b (PAGE_SIZE * BLOCK_ROWS + BLOCK_ROW_SIZE * place) (dword_bytes base)) budget
+    (PAGE_SIZE * BLOCK_ROWS + BLOCK_ROW_SIZE * place + 4) (BLOCK_ROW_SIZE * place + 4) (dword_bytes pages)
     (size_put b budget (PAGE_SIZE * BLOCK_ROWS + BLOCK_ROW_SIZE * place) (dword_bytes base) host.size) (omega arith) (omega arith)
     ∙ ap (λ (p : MemoryParts). record p { handles = put p.handles (BLOCK_ROW_SIZE * place + 4) (dword_bytes pages) })
-    (put_handles b budget (PAGE_SIZE * BLOCK_ROWS + BLOCK_ROW_SIZE * place) (BLOCK_ROW_SIZE * place) (dword_bytes base) host.size refl (omega arith))
+    (put_handles b budget (PAGE_SIZE * BLOCK_ROWS + BLOCK_ROW_SIZE * place) (BLOCK_ROW_SIZE * place) (dword_bytes base) host.size refl
+    (omega arith))
 
 pub row_size : (b : List ℕ) (place base pages : ℕ) → length (with_block_row b place base pages) ≡ length b
 row_size b place base pages =
-    length-put (put b (PAGE_SIZE * BLOCK_ROWS + BLOCK_ROW_SIZE * place) (dword_bytes base)) (PAGE_SIZE * BLOCK_ROWS + BLOCK_ROW_SIZE * place + 4) (dword_bytes pages)
+    length-put (put b (PAGE_SIZE * BLOCK_ROWS + BLOCK_ROW_SIZE * place) (dword_bytes base))
+    (PAGE_SIZE * BLOCK_ROWS + BLOCK_ROW_SIZE * place + 4) (dword_bytes pages)
     ∙ length-put b (PAGE_SIZE * BLOCK_ROWS + BLOCK_ROW_SIZE * place) (dword_bytes base)
 
 -- page n of a block in the block region
@@ -199,7 +198,8 @@ page_is base n r = let from = r.from in let whole = r.whole in omega arith
 abbrev pub grown : List ℕ → ℕ → ℕ → ℕ → ℕ → List ℕ
 grown b place base n frame = with_block_row (with_entry (cleared b frame) (base + PAGE_SIZE * n) (page_entry frame true)) place base (n + 1)
 
-pub grown_are : (b : List ℕ) (budget place base n frame : ℕ) → HasHost b budget → InBudget budget frame → place < MAX_BLOCKS → IsRange base (n + 1) →
+pub grown_are : (b : List ℕ) (budget place base n frame : ℕ) → HasHost b budget → InBudget budget frame → place < MAX_BLOCKS →
+    IsRange base (n + 1) →
     parts_of (grown b place base n frame) budget ≡ grown_parts (parts_of b budget) place base n (frame - BUDGET_FRAMES)
 grown_are b budget place base n frame host inside within range =
     let from = inside.from in
@@ -213,9 +213,7 @@ grown_are b budget place base n frame host inside within range =
     let entry : page_entry frame true ≡ budget_entry (frame - BUDGET_FRAMES) = omega arith in
     row_are b3 budget place base (n + 1) host3 within
     ∙ ap (λ (p : MemoryParts). record p { handles = with_row p.handles place base (n + 1) })
-    (entry_are b2 budget lin (region_page base n) (page_entry frame true) host2 in_region page
-    ∙ ap (λ (p : MemoryParts). record p { tables = put p.tables (PAGE_ENTRY_SIZE * region_page base n) (dword_bytes (page_entry frame true)) })
-    (cleared_are b budget frame host inside))
+    (grind (arith, cleared_are, entry_are))
     ∙ ap (λ (e : ℕ). record (cleared_parts (parts_of b budget) (frame - BUDGET_FRAMES)) {
       tables = put (tables_part b) (PAGE_ENTRY_SIZE * region_page base n) (dword_bytes e);
       handles = with_row (handles_part b) place base (n + 1);
@@ -238,7 +236,8 @@ abbrev pub shrunk : List ℕ → ℕ → ℕ → ℕ → ℕ → List ℕ
 shrunk b place base n frame =
     with_block_row (unlocked (without_entry b (base + PAGE_SIZE * n) frame) (region_page base n)) place (base_in_row base n) n
 
-pub shrunk_are : (b : List ℕ) (budget place base n frame : ℕ) → HasHost b budget → InBudget budget frame → place < MAX_BLOCKS → IsRange base (n + 1) →
+pub shrunk_are : (b : List ℕ) (budget place base n frame : ℕ) → HasHost b budget → InBudget budget frame → place < MAX_BLOCKS →
+    IsRange base (n + 1) →
     parts_of (shrunk b place base n frame) budget ≡ shrunk_parts (parts_of b budget) place base n (frame - BUDGET_FRAMES)
 shrunk_are b budget place base n frame host inside within range =
     let range_from = range.from in let range_to = range.to in let range_whole = range.whole in let inside_from = inside.from in
@@ -250,7 +249,8 @@ shrunk_are b budget place base n frame host inside within range =
     let b2 = without_entry b lin frame in
     let host2 = given_host b1 budget frame host1 inside in
     let b3 = unlocked b2 (region_page base n) in
-    let e3 = put_locks b2 budget (PAGE_SIZE * LOCK_COUNTS + LOCK_COUNT_SIZE * region_page base n) (LOCK_COUNT_SIZE * region_page base n) (0 ∷ 0 ∷ []) host2.size refl (omega arith) in
+    let e3 = put_locks b2 budget (PAGE_SIZE * LOCK_COUNTS + LOCK_COUNT_SIZE * region_page base n) (LOCK_COUNT_SIZE * region_page base n)
+    (0 ∷ 0 ∷ []) host2.size refl (omega arith) in
     let host3 : HasHost b3 budget = host_by b2 b3 budget _ host2 (size_put b2 budget _ (0 ∷ 0 ∷ []) host2.size) e3 refl in
     row_are b3 budget place (base_in_row base n) n host3 within
     ∙ ap (λ (p : MemoryParts). record p { handles = with_row p.handles place (base_in_row base n) n })
@@ -262,7 +262,8 @@ shrunk_are b budget place base n frame host inside within range =
       taken = slice_set p.taken (frame - BUDGET_FRAMES) 0;
       frames = put p.frames (PAGE_SIZE * (frame - BUDGET_FRAMES)) (dword_bytes (dword p.vectors head_start));
     }) (entry_are b budget lin (region_page base n) 0 host in_region page)))
-    ∙ ap (λ (f : ℕ). record (shrunk_parts (parts_of b budget) place base n (frame - BUDGET_FRAMES)) { vectors = put_head (vectors_part b) f })
+    ∙ ap (λ (f : ℕ).
+    record (shrunk_parts (parts_of b budget) place base n (frame - BUDGET_FRAMES)) { vectors = put_head (vectors_part b) f })
     (let e : frame ≡ BUDGET_FRAMES + (frame - BUDGET_FRAMES) = omega arith in e)
 
 pub shrunk_size : (b : List ℕ) (budget place base n frame : ℕ) → HasSize b budget → HasSize (shrunk b place base n frame) budget

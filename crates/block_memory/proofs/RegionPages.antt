@@ -1,10 +1,12 @@
 -- What mapping asks of the pages of the block region, and where their entries are.
-use Rattle.std.proofs.Common.{◌≡◌, ◌≢◌, ℕ, ◌+◌, ◌-◌, ◌*◌, ◌/◌, ◌%◌, ◌<◌, ◌≤◌, ◌^◌, ◌⊎◌, inl, inr, true, List, slice_index, ap, ◌∙◌, sym, subst, arith}
+use Rattle.std.proofs.Common.{◌≡◌, ◌≢◌, ℕ, ◌+◌, ◌-◌, ◌*◌, ◌/◌, ◌%◌, ◌<◌, ◌≤◌, ◌^◌, ◌⊎◌, inl, inr, true, List, slice_index, ap, ◌∙◌, sym}
+use Rattle.std.proofs.Common.{subst, arith}
 use Rattle.std.proofs.lemmas.Bool.{cases_lt, lt-ltb, le-ltb, false≢true}
 use Rattle.client_world.specs.Registers.{has_bit}
-use Rattle.client_world.specs.declared.host_frames.TheConstants.{PAGE_SIZE, PAGE_DIRECTORY, LOW_TABLE, WINDOW_TABLE, BLOCK_TABLES, BUDGET_FRAMES, TAKEN_FRAMES, DOS_FRAMES, BLOCK_TABLE_FRAMES, FIXED_TABLE_FRAMES, PAGE_ENTRY_SIZE, TABLE_ENTRIES, TAKEN_BYTE_FRAMES}
+use Rattle.client_world.specs.declared.host_frames.TheConstants.{PAGE_SIZE, PAGE_DIRECTORY, BLOCK_TABLES, BUDGET_FRAMES, TAKEN_FRAMES}
+use Rattle.client_world.specs.declared.host_frames.TheConstants.{BLOCK_TABLE_FRAMES, PAGE_ENTRY_SIZE, TABLE_ENTRIES, TAKEN_BYTE_FRAMES}
 use Rattle.client_world.specs.declared.limits.TheConstants.{MAX_PAGES}
-use Rattle.client_world.specs.declared.memory_map.TheConstants.{BLOCK_REGION, BLOCK_REGION_END, BLOCK_REGION_PAGES, HOST_WINDOW, ROM_START, DOS_VIEW_PAGES}
+use Rattle.client_world.specs.declared.memory_map.TheConstants.{BLOCK_REGION, BLOCK_REGION_END, BLOCK_REGION_PAGES, HOST_WINDOW}
 use Rattle.guest_ram.specs.Bytes.{dword}
 use Rattle.guest_ram.proofs.PutLaws.{at_region, dword-region}
 use Rattle.page_tables.specs.Entry.{page_entry}
@@ -14,8 +16,8 @@ use Rattle.page_tables.specs.Walk.{directory_entry, table_place, table_entry, en
 use Rattle.page_tables.specs.declared.entry.TheConstants.{PRESENT, TABLE_SPAN}
 use Rattle.page_tables.proofs.EntryLaws.{page_entry_present}
 use Rattle.page_tables.proofs.HostDirectory.{HasTables-host_directory}
-use Rattle.host_memory.specs.Layout.{fixed_part, tables_part, taken_part, pages_of, first_page_of, entry_of}
-use Rattle.host_memory.specs.Tables.{HasFixedEntries, HasBlockEntries, NamesBudgetFrame, directory_entry_at, low_entry_at, window_entry_at, supervisor_entry, low_table_start, window_table_start}
+use Rattle.host_memory.specs.Layout.{fixed_part, tables_part, taken_part, first_page_of, entry_of}
+use Rattle.host_memory.specs.Tables.{HasFixedEntries, HasBlockEntries, NamesBudgetFrame, low_entry_at, window_entry_at}
 use Rattle.host_memory.proofs.BlockRows.{HasRanges, over_tells}
 use Rattle.host_memory.proofs.FixedWalks.{directory_is, directory_of_block, directory_of_none, block_table}
 use Rattle.host_memory.proofs.HostTables.{host_directory}
@@ -33,9 +35,7 @@ tables_of b budget host =
     HasTables-host_directory b (host_directory b host.fixed) (omega arith)
 
 pub budget_of : (b : List ℕ) (budget : ℕ) → HasHost b budget → HasBudget b
-budget_of b budget host =
-    let size = host.size in let most = host.most in
-    record { host = omega arith; most = omega arith }
+budget_of b budget host = grind arith
 
 -- the linear address is one of the block region
 pub record InRegion (lin : ℕ) : Type 0 where
@@ -48,9 +48,7 @@ page_at lin = (lin - BLOCK_REGION) / PAGE_SIZE
 
 pub region_directory : (b : List ℕ) (budget lin : ℕ) → HasHost b budget → InRegion lin →
     directory_entry b PAGE_DIRECTORY lin ≡ page_entry (block_table lin) true
-region_directory b budget lin host in_region =
-    let from = in_region.from in let to = in_region.to in
-    directory_is b (lin / TABLE_SPAN) host.fixed (omega arith) ∙ directory_of_block (lin / TABLE_SPAN) (omega arith) (omega arith)
+region_directory b budget lin host in_region = grind (arith, directory_is, directory_of_block)
 
 pub region_place : (b : List ℕ) (budget lin : ℕ) → HasHost b budget → InRegion lin →
     table_place b PAGE_DIRECTORY lin ≡ PAGE_SIZE * BLOCK_TABLES + PAGE_ENTRY_SIZE * page_at lin
@@ -71,66 +69,36 @@ pub region_covered : (b : List ℕ) (budget lin : ℕ) → HasHost b budget → 
 region_covered b budget lin host in_region =
     ap (λ (d : ℕ). has_bit d PRESENT) (region_directory b budget lin host in_region) ∙ page_entry_present (block_table lin) true
 
-pub region_unmapped : (b : List ℕ) (budget lin : ℕ) → HasHost b budget → InRegion lin → entry_of (tables_part b) (page_at lin) ≡ 0 → IsUnmapped b lin
+pub region_unmapped : (b : List ℕ) (budget lin : ℕ) → HasHost b budget → InRegion lin → entry_of (tables_part b) (page_at lin) ≡ 0 →
+    IsUnmapped b lin
 region_unmapped b budget lin host in_region none =
     ap (λ (e : ℕ). has_bit e PRESENT) (region_entry b budget lin host in_region ∙ none)
 
-pub region_mapped : (b : List ℕ) (budget lin frame : ℕ) → HasHost b budget → InRegion lin → entry_of (tables_part b) (page_at lin) ≡ page_entry frame true → IsMapped b lin
+pub region_mapped : (b : List ℕ) (budget lin frame : ℕ) → HasHost b budget → InRegion lin →
+    entry_of (tables_part b) (page_at lin) ≡ page_entry frame true → IsMapped b lin
 region_mapped b budget lin frame host in_region entry = record {
   covered = region_covered b budget lin host in_region;
   present = ap (λ (e : ℕ). has_bit e PRESENT) (region_entry b budget lin host in_region ∙ entry) ∙ page_entry_present frame true;
 }
 
 -- the entries of the other tables name no frame of the budget
-low_entry : (b : List ℕ) (budget lin : ℕ) → HasHost b budget → lin < BLOCK_REGION → table_entry b PAGE_DIRECTORY lin ≡ low_entry_at (lin / PAGE_SIZE)
-low_entry b budget lin host below =
-    let first : lin / TABLE_SPAN ≡ 0 = omega arith in
-    let directory : directory_entry b PAGE_DIRECTORY lin ≡ page_entry LOW_TABLE true = directory_is b (lin / TABLE_SPAN) host.fixed (omega arith)
-    ∙ ap (directory_entry_at) first in
-    let at : entry_place (frame_of (page_entry LOW_TABLE true)) (lin / PAGE_SIZE % TABLE_ENTRIES) ≡ PAGE_SIZE * PAGE_DIRECTORY + (low_table_start + PAGE_ENTRY_SIZE * (lin / PAGE_SIZE)) = omega arith in
-    ap (λ (d : ℕ). dword b (entry_place (frame_of d) (lin / PAGE_SIZE % TABLE_ENTRIES))) directory
-    ∙ ap (dword b) at
-    ∙ sym (dword-region b (PAGE_SIZE * PAGE_DIRECTORY) (PAGE_SIZE * FIXED_TABLE_FRAMES) (low_table_start + PAGE_ENTRY_SIZE * (lin / PAGE_SIZE)) (omega arith))
-    ∙ host.fixed.low (lin / PAGE_SIZE) (omega arith)
+low_entry : (b : List ℕ) (budget lin : ℕ) → HasHost b budget → lin < BLOCK_REGION →
+    table_entry b PAGE_DIRECTORY lin ≡ low_entry_at (lin / PAGE_SIZE)
+low_entry b budget lin host below = grind (arith, directory_is, dword-region)
 
 low_frame : (page : ℕ) → frame_of (low_entry_at page) < BUDGET_FRAMES
-low_frame page = elim (cases_lt page (ROM_START / PAGE_SIZE)) [
-  | inl plain ↦ rw (lt-ltb page (ROM_START / PAGE_SIZE) plain) (omega arith)
-  | inr above ↦ rw (le-ltb page (ROM_START / PAGE_SIZE) above) (elim (cases_lt page DOS_FRAMES) [
-    | inl rom ↦ rw (lt-ltb page DOS_FRAMES rom) (omega arith)
-    | inr more ↦ rw (le-ltb page DOS_FRAMES more) (elim (cases_lt page DOS_VIEW_PAGES) [
-      | inl mirror ↦ rw (lt-ltb page DOS_VIEW_PAGES mirror) (omega arith)
-      | inr none ↦ rw (le-ltb page DOS_VIEW_PAGES none) (omega arith)
-    ])
-  ])
-]
+low_frame page = grind (arith, le-ltb, lt-ltb)
 
 window_entry : (b : List ℕ) (budget lin : ℕ) → HasHost b budget → HOST_WINDOW ≤ lin → lin < HOST_WINDOW + TABLE_SPAN →
     table_entry b PAGE_DIRECTORY lin ≡ window_entry_at (lin / PAGE_SIZE % TABLE_ENTRIES)
-window_entry b budget lin host from to =
-    let index : lin / TABLE_SPAN ≡ HOST_WINDOW / TABLE_SPAN = omega arith in
-    let directory : directory_entry b PAGE_DIRECTORY lin ≡ supervisor_entry WINDOW_TABLE = directory_is b (lin / TABLE_SPAN) host.fixed (omega arith)
-    ∙ ap (directory_entry_at) index in
-    let at : entry_place (frame_of (supervisor_entry WINDOW_TABLE)) (lin / PAGE_SIZE % TABLE_ENTRIES)
-    ≡ PAGE_SIZE * PAGE_DIRECTORY + (window_table_start + PAGE_ENTRY_SIZE * (lin / PAGE_SIZE % TABLE_ENTRIES)) = omega arith in
-    ap (λ (d : ℕ). dword b (entry_place (frame_of d) (lin / PAGE_SIZE % TABLE_ENTRIES))) directory
-    ∙ ap (dword b) at
-    ∙ sym (dword-region b (PAGE_SIZE * PAGE_DIRECTORY) (PAGE_SIZE * FIXED_TABLE_FRAMES) (window_table_start + PAGE_ENTRY_SIZE * (lin / PAGE_SIZE % TABLE_ENTRIES)) (omega arith))
-    ∙ host.fixed.window (lin / PAGE_SIZE % TABLE_ENTRIES) (omega arith)
+window_entry b budget lin host from to = grind (arith, directory_is, dword-region)
 
 window_frame : (page : ℕ) → frame_of (window_entry_at page) < BUDGET_FRAMES
-window_frame page = elim (cases_lt page (BUDGET_FRAMES - PAGE_DIRECTORY)) [
-  | inl host ↦ rw (lt-ltb page (BUDGET_FRAMES - PAGE_DIRECTORY) host) (omega arith)
-  | inr none ↦ rw (le-ltb page (BUDGET_FRAMES - PAGE_DIRECTORY) none) (omega arith)
-]
+window_frame page = grind (arith, le-ltb, lt-ltb)
 
 nothing_covered : (b : List ℕ) (budget lin : ℕ) → HasHost b budget → lin < 2 ^ 32 → BLOCK_REGION_END ≤ lin →
     (lin < HOST_WINDOW) ⊎ (HOST_WINDOW + TABLE_SPAN ≤ lin) → IsMapped b lin → ⊥
-nothing_covered b budget lin host small from out mapped =
-    let other : lin / TABLE_SPAN ≢ HOST_WINDOW / TABLE_SPAN = elim out [ inl below ↦ omega arith | inr above ↦ omega arith ] in
-    let directory : directory_entry b PAGE_DIRECTORY lin ≡ 0 =
-    directory_is b (lin / TABLE_SPAN) host.fixed (omega arith) ∙ directory_of_none (lin / TABLE_SPAN) (omega arith) other in
-    false≢true (sym (ap (λ (d : ℕ). has_bit d PRESENT) directory) ∙ mapped.covered)
+nothing_covered b budget lin host small from out mapped = grind (arith, directory_is, directory_of_none, false≢true)
 
 -- a frame of the budget that no page of the block region names is named nowhere
 pub named_nowhere : (b : List ℕ) (budget frame : ℕ) → HasHost b budget → BUDGET_FRAMES ≤ frame →
@@ -143,7 +111,8 @@ named_nowhere b budget frame host from none = λ lin small mapped same.
           let named : frame_of (low_entry_at (lin / PAGE_SIZE)) ≡ frame = sym (ap frame_of entry) ∙ same in
           omega arith)
       | inr above ↦ elim (cases_lt lin BLOCK_REGION_END) [
-        | inl inside ↦ none (page_at lin) (omega arith) (sym (ap frame_of (region_entry b budget lin host (record { from = above; to = inside }))) ∙ same)
+        | inl inside ↦ none (page_at lin) (omega arith)
+            (sym (ap frame_of (region_entry b budget lin host (record { from = above; to = inside }))) ∙ same)
         | inr over ↦ elim (cases_lt lin HOST_WINDOW) [
           | inl gap ↦ nothing_covered b budget lin host small over (inl gap) mapped
           | inr window ↦ elim (cases_lt lin (HOST_WINDOW + TABLE_SPAN)) [
@@ -159,7 +128,8 @@ named_nowhere b budget frame host from none = λ lin small mapped same.
     ]
 
 -- an entry of the block region is absent, or names a frame of the budget
-pub entry_kinds : (handles tables locks frames taken : List ℕ) (budget page : ℕ) → HasRanges handles → HasBlockEntries handles tables taken budget →
+pub entry_kinds : (handles tables locks frames taken : List ℕ) (budget page : ℕ) → HasRanges handles →
+    HasBlockEntries handles tables taken budget →
     page < BLOCK_REGION_PAGES → (entry_of tables page ≡ 0) ⊎ NamesBudgetFrame budget (entry_of tables page)
 entry_kinds handles tables locks frames taken budget page ranges h small =
     elim (over_tells handles tables locks frames (BLOCK_REGION + PAGE_SIZE * page) (omega arith) (omega arith)) [
@@ -168,14 +138,12 @@ entry_kinds handles tables locks frames taken budget page ranges h small =
           let r = ranges.each found.place found.within some in
           let whole = r.whole in let from = r.from in let to = r.to in
           let same : first_page_of handles found.place + found.at / PAGE_SIZE ≡ page = omega arith in
-          inr (subst (λ (k : ℕ). NamesBudgetFrame budget (entry_of tables k)) same (h.named found.place (found.at / PAGE_SIZE) found.within (omega arith))))
-      | inr missed ↦ inl (h.absent page small (λ place offset within less same.
-          let some : pages_of handles place ≢ 0 = omega arith in
-          let r = ranges.each place within some in
-          let whole = r.whole in let from = r.from in let to = r.to in
-          missed.none place (record { within = within; from = omega arith; to = omega arith })))
+          inr (subst (λ (k : ℕ). NamesBudgetFrame budget (entry_of tables k)) same
+          (h.named found.place (found.at / PAGE_SIZE) found.within (omega arith))))
+      | inr missed ↦ inl (h.absent page small (grind arith))
     ]
 
 -- the taken byte of a frame
-pub taken_byte : (b : List ℕ) (frame : ℕ) → frame < MAX_PAGES → slice_index b (PAGE_SIZE * TAKEN_FRAMES + frame) ≡ slice_index (taken_part b) frame
+pub taken_byte : (b : List ℕ) (frame : ℕ) → frame < MAX_PAGES →
+    slice_index b (PAGE_SIZE * TAKEN_FRAMES + frame) ≡ slice_index (taken_part b) frame
 taken_byte b frame small = sym (at_region b (PAGE_SIZE * TAKEN_FRAMES) (PAGE_SIZE * TAKEN_BYTE_FRAMES) frame (omega arith))

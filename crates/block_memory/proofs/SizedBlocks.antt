@@ -1,24 +1,20 @@
 -- Blocks that grow and shrink page by page: what they are in the end, and which places the client holds on the way.
-use Rattle.std.proofs.Common.{◌≡◌, ◌≢◌, ℕ, suc, ◌+◌, ◌-◌, ◌*◌, ◌<◌, ◌≤◌, ◌⊎◌, inl, inr, List, [], ◌++◌, length, take, slice_index_or, slice_set, refl, ap, ◌∙◌, sym, arith, Option, None, Some, get_or-set_same, append_assoc}
-use Rattle.std.proofs.lemmas.Bool.{cases_eq, cases_lt, eq-eqb, ne_eqb}
+use Rattle.std.proofs.Common.{◌≡◌, ◌≢◌, ℕ, suc, ◌+◌, ◌-◌, ◌*◌, ◌<◌, ◌≤◌, ◌⊎◌, inl, inr, List, [], ◌++◌, length, take, slice_index_or}
+use Rattle.std.proofs.Common.{slice_set, refl, ap, ◌∙◌, sym, arith, Option, None, Some, get_or-set_same, append_assoc}
+use Rattle.std.proofs.lemmas.Bool.{cases_eq, eq-eqb, ne_eqb}
 use Rattle.std.proofs.lemmas.Grind.{same_number_lists}
-use Rattle.std.proofs.lemmas.List.{length-append, length-take, get_or-take, get_or_append_left, get_or-append_right, take_all, set-set, set-get_or, append-nil}
+use Rattle.std.proofs.lemmas.List.{length-append, length-take, get_or-take, get_or_append_left, get_or-append_right, take_all, set-set}
+use Rattle.std.proofs.lemmas.List.{set-get_or, append-nil}
 use Rattle.client_world.specs.declared.host_frames.TheConstants.{PAGE_SIZE}
-use Rattle.client_world.specs.Access.{HasByte, bytes_of_block}
+use Rattle.client_world.specs.Access.{HasByte}
 use Rattle.client_world.specs.Soundness.{SoundBlocks, pages_of_block}
 use Rattle.client_world.specs.World.{MemoryBlock}
 use Rattle.guest_ram.specs.Listed.{zeros}
 use Rattle.guest_ram.proofs.ListedLaws.{length-zeros, at_zeros}
-use Rattle.block_memory.specs.BlockSizes.{HasPages, longer, shorter, block_with_zero_pages, at_base, sized_block, fresh_block, locks_of_block}
+use Rattle.block_memory.specs.BlockSizes.{HasPages, longer, shorter, block_with_zero_pages, at_base, sized_block, fresh_block}
 
 zeros_more : (n m : ℕ) → zeros n ++ zeros m ≡ zeros (n + m)
-zeros_more n m = same_number_lists (zeros n ++ zeros m) (zeros (n + m))
-    (omega (arith, length-append (zeros n) (zeros m), length-zeros n, length-zeros m, length-zeros (n + m)))
-    (λ k l. let small : k < n + m = omega (arith, length-append (zeros n) (zeros m), length-zeros n, length-zeros m) in
-    elim (cases_lt k n) [
-      | inl front ↦ get_or_append_left (zeros n) (zeros m) 0 k (omega (arith, length-zeros n)) ∙ at_zeros n k front ∙ sym (at_zeros (n + m) k small)
-      | inr back ↦ get_or-append_right (zeros n) (zeros m) n k 0 (length-zeros n) back ∙ at_zeros m (k - n) (omega arith) ∙ sym (at_zeros (n + m) k small)
-    ])
+zeros_more n m = grind (arith, at_zeros, get_or-append_right, get_or_append_left, length-append, length-zeros, same_number_lists)
 
 zeros_none : zeros 0 ≡ []
 unfolding zeros
@@ -27,19 +23,16 @@ zeros_none = refl
 -- growing
 
 longer_next : (base : ℕ) (o : Option MemoryBlock) (k : ℕ) → longer base (Some (longer base o k)) 1 ≡ longer base o (k + 1)
-longer_next base o k =
-    ap (λ (xs : List ℕ). record { base = base; bytes = xs; locks = (locks_of_block o ++ zeros k) ++ zeros 1 })
-    (append_assoc (bytes_of_block o) (zeros (PAGE_SIZE * k)) (zeros (PAGE_SIZE * 1))
-    ∙ ap (λ (zs : List ℕ). bytes_of_block o ++ zs) (zeros_more (PAGE_SIZE * k) (PAGE_SIZE * 1) ∙ ap zeros (let e : PAGE_SIZE * k + PAGE_SIZE * 1 ≡ PAGE_SIZE * (k + 1) = omega arith in e)))
-    ∙ ap (λ (xs : List ℕ). record { base = base; bytes = bytes_of_block o ++ zeros (PAGE_SIZE * (k + 1)); locks = xs })
-    (append_assoc (locks_of_block o) (zeros k) (zeros 1) ∙ ap (λ (zs : List ℕ). locks_of_block o ++ zs) (zeros_more k 1))
+longer_next base o k = grind (arith, append_assoc, zeros_more)
 
-pub extended_next : (base : ℕ) (o : Option MemoryBlock) (k : ℕ) → Some (longer base (block_with_zero_pages base o k) 1) ≡ block_with_zero_pages base o (k + 1)
+pub extended_next : (base : ℕ) (o : Option MemoryBlock) (k : ℕ) →
+    Some (longer base (block_with_zero_pages base o k) 1) ≡ block_with_zero_pages base o (k + 1)
 unfolding block_with_zero_pages
 extended_next base o k =
     let next : k + 1 ≢ 0 = omega arith in
     elim (cases_eq k 0) [
-      | inl none ↦ rw (eq-eqb k 0 none, ne_eqb (k + 1) 0 next) (ap (λ (n : ℕ). Some (longer base o n)) (let e : 1 ≡ k + 1 = omega arith in e))
+      | inl none ↦
+          rw (eq-eqb k 0 none, ne_eqb (k + 1) 0 next) (ap (λ (n : ℕ). Some (longer base o n)) (let e : 1 ≡ k + 1 = omega arith in e))
       | inr some ↦ rw (ne_eqb k 0 some, ne_eqb (k + 1) 0 next) (ap (λ (b : MemoryBlock). Some b) (longer_next base o k))
     ]
 
@@ -54,24 +47,11 @@ extended_fresh base pages some = rw (ne_eqb pages 0 some) refl
 -- shrinking
 
 take_less : (n m : ℕ) (xs : List ℕ) → n ≤ m → take n (take m xs) ≡ take n xs
-take_less n m xs few = same_number_lists (take n (take m xs)) (take n xs)
-    (omega (arith, length-take n (take m xs), length-take m xs, length-take n xs))
-    (λ k l. let small : k < n = omega (arith, length-take n (take m xs)) in
-    get_or-take n (take m xs) k 0 small ∙ get_or-take m xs k 0 (omega arith) ∙ sym (get_or-take n xs k 0 small))
+take_less n m xs few = grind (arith, get_or-take, length-take, same_number_lists)
 
 pub shorter_next : (o : Option MemoryBlock) (n : ℕ) → shorter (shorter o (n + 1)) n ≡ shorter o n
 shorter_next None n = refl
-shorter_next (Some block) n =
-    let next : n + 1 ≢ 0 = omega arith in
-    elim (cases_eq n 0) [
-      | inl none ↦ rw (ne_eqb (n + 1) 0 next, eq-eqb n 0 none) refl
-      | inr some ↦ rw (
-        ne_eqb (n + 1) 0 next,
-        ne_eqb n 0 some,
-        take_less (PAGE_SIZE * n) (PAGE_SIZE * (n + 1)) block.bytes (omega arith),
-        take_less n (n + 1) block.locks (omega arith),
-      ) refl
-    ]
+shorter_next (Some block) n = grind (arith, eq-eqb, ne_eqb, take_less)
 
 pub shorter_none : (o : Option MemoryBlock) → shorter o 0 ≡ None
 shorter_none None = refl
@@ -86,47 +66,41 @@ shorter_whole blocks budget place base n sound (Some block) e count =
     let some : n ≢ 0 = omega arith in
     rw (ne_eqb n 0 some, take_all (PAGE_SIZE * n) block.bytes (omega arith), take_all n block.locks (omega arith)) refl
 
-pub shorter_all : (blocks : List (Option MemoryBlock)) (budget place base n : ℕ) → SoundBlocks blocks budget → HasPages blocks place base n →
+pub shorter_all : (blocks : List (Option MemoryBlock)) (budget place base n : ℕ) → SoundBlocks blocks budget →
+    HasPages blocks place base n →
     shorter (slice_index_or blocks place None) n ≡ slice_index_or blocks place None
-shorter_all blocks budget place base n sound has = shorter_whole blocks budget place base n sound (slice_index_or blocks place None) refl has.count
+shorter_all blocks budget place base n sound has =
+    shorter_whole blocks budget place base n sound (slice_index_or blocks place None) refl has.count
 
 -- a byte of the first pages is one of the block
 pub shorter_byte : (o : Option MemoryBlock) (n at : ℕ) → HasByte (shorter o n) at → HasByte o at
 shorter_byte None n at has = absurd has
-shorter_byte (Some block) n at has = elim (cases_eq n 0) [
-  | inl none ↦ absurd (rw (eq-eqb n 0 none) at has)
-  | inr some ↦ (let cut = rw (ne_eqb n 0 some) at has in omega (arith, length-take (PAGE_SIZE * n) block.bytes))
-]
+shorter_byte (Some block) n at has = grind (arith, eq-eqb, length-take, ne_eqb)
 
 -- the blocks of a run of steps
 
 pub start_longer : (blocks : List (Option MemoryBlock)) (place base n : ℕ) → n ≡ 0 →
     slice_set blocks place (block_with_zero_pages base (slice_index_or blocks place None) n) ≡ blocks
-start_longer blocks place base n none =
-    ap (λ (o : Option MemoryBlock). slice_set blocks place o)
-    (ap (block_with_zero_pages base (slice_index_or blocks place None)) none ∙ extended_none base (slice_index_or blocks place None))
-    ∙ set-get_or blocks place None
+start_longer blocks place base n none = grind (arith, extended_none, set-get_or)
 
 pub step_longer : (blocks : List (Option MemoryBlock)) (place base k : ℕ) (o : Option MemoryBlock) → place < length blocks →
-    (λ (bs : List (Option MemoryBlock)). slice_set bs place (Some (longer base (slice_index_or bs place None) 1))) (slice_set blocks place (block_with_zero_pages base o k))
+    (λ (bs : List (Option MemoryBlock)). slice_set bs place (Some (longer base (slice_index_or bs place None) 1)))
+    (slice_set blocks place (block_with_zero_pages base o k))
     ≡ slice_set blocks place (block_with_zero_pages base o (k + 1))
-step_longer blocks place base k o within =
-    set-set blocks place (block_with_zero_pages base o k) _
-    ∙ ap (λ (x : Option MemoryBlock). slice_set blocks place x)
-    (ap (λ (x : Option MemoryBlock). Some (longer base x 1)) (get_or-set_same blocks place (block_with_zero_pages base o k) None within) ∙ extended_next base o k)
+step_longer blocks place base k o within = grind (arith, extended_next, get_or-set_same, set-set)
 
-pub start_shorter : (blocks : List (Option MemoryBlock)) (budget place base n : ℕ) → SoundBlocks blocks budget → HasPages blocks place base n →
+pub start_shorter : (blocks : List (Option MemoryBlock)) (budget place base n : ℕ) → SoundBlocks blocks budget →
+    HasPages blocks place base n →
     slice_set blocks place (shorter (slice_index_or blocks place None) n) ≡ blocks
 start_shorter blocks budget place base n sound has =
-    ap (λ (o : Option MemoryBlock). slice_set blocks place o) (shorter_all blocks budget place base n sound has) ∙ set-get_or blocks place None
+    ap (λ (o : Option MemoryBlock). slice_set blocks place o) (shorter_all blocks budget place base n sound has)
+    ∙ set-get_or blocks place None
 
 pub step_shorter : (blocks : List (Option MemoryBlock)) (place n : ℕ) (o : Option MemoryBlock) → place < length blocks →
-    (λ (bs : List (Option MemoryBlock)). slice_set bs place (shorter (slice_index_or bs place None) n)) (slice_set blocks place (shorter o (n + 1)))
+    (λ (bs : List (Option MemoryBlock)). slice_set bs place (shorter (slice_index_or bs place None) n))
+    (slice_set blocks place (shorter o (n + 1)))
     ≡ slice_set blocks place (shorter o n)
-step_shorter blocks place n o within =
-    set-set blocks place (shorter o (n + 1)) _
-    ∙ ap (λ (x : Option MemoryBlock). slice_set blocks place x)
-    (ap (λ (x : Option MemoryBlock). shorter x n) (get_or-set_same blocks place (shorter o (n + 1)) None within) ∙ shorter_next o n)
+step_shorter blocks place n o within = grind (arith, get_or-set_same, set-set, shorter_next)
 
 -- cut, moved and extended a block is resized
 
@@ -140,27 +114,4 @@ pub resized_is : (base pages kept : ℕ) (block : MemoryBlock) → length block.
     ((kept ≡ pages) × (pages ≤ length block.locks)) ⊎ ((kept ≡ length block.locks) × (length block.locks ≤ pages)) →
     block_with_zero_pages base (at_base base (shorter (Some block) kept)) (pages - kept) ≡ sized_block base pages (Some block)
 unfolding block_with_zero_pages sized_block
-resized_is base pages kept block long some way = elim way [
-  | inl less ↦ (
-      let same = less.0 in let few = less.1 in
-      let no_more : pages - kept ≡ 0 = omega arith in
-      let none : pages - length block.locks ≡ 0 = omega arith in
-      rw (ne_eqb kept 0 some, eq-eqb (pages - kept) 0 no_more, none, same, zeros_none, append-nil (take (PAGE_SIZE * pages) block.bytes), append-nil (take pages block.locks)) refl)
-  | inr more ↦ elim (cases_eq (pages - kept) 0) [
-    | inl none ↦ (
-        let same = more.0 in let few = more.1 in
-        let equal : kept ≡ pages = omega arith in
-        let zero : pages - length block.locks ≡ 0 = omega arith in
-        rw (ne_eqb kept 0 some, eq-eqb (pages - kept) 0 none, zero, equal, zeros_none, append-nil (take (PAGE_SIZE * pages) block.bytes), append-nil (take pages block.locks)) refl)
-    | inr further ↦ (
-        let same = more.0 in let few = more.1 in
-        let left : pages - kept ≡ pages - length block.locks = omega arith in
-        rw (
-          ne_eqb kept 0 some,
-          ne_eqb (pages - kept) 0 further,
-          left,
-          whole_front block.bytes (PAGE_SIZE * pages) (PAGE_SIZE * kept) (omega arith) (omega arith),
-          whole_front block.locks pages kept (omega arith) (omega arith),
-        ) refl)
-  ]
-]
+resized_is base pages kept block long some way = grind (arith, append-nil, eq-eqb, ne_eqb, whole_front, zeros_none)

@@ -31,8 +31,8 @@ pub record HoldsSoundBlocks (b : List ℕ) (budget : ℕ) : Type 0 where
   pub sound : SoundBlocks (blocks_held b budget) budget
   pub fits : HoldBytes (blocks_held b budget)
 
--- the memory holds these blocks in place of its former ones, and they are sound; the rest of its world and the descriptor rows stay, and each
--- place that is held before and after keeps its address
+-- the memory holds these blocks in place of its former ones, and they are sound; the rest of its world and the descriptor rows stay, and
+-- each place that is held before and after keeps its address
 pub record ReplacesBlocks (b c : List ℕ) (budget : ℕ) (blocks : List (Option MemoryBlock)) : Type 0 where
   pub after : HoldsSoundBlocks c budget
   pub are : blocks_held c budget ≡ blocks

@@ -1,5 +1,6 @@
 -- Memory blocks made, and blocks with more pages or fewer. Source: DPMI 0.9, INT 31h functions 0501h to 0503h; own.
-use Rattle.std.specs.Prelude.{◌≡◌, ◌≢◌, ◌⊎◌, ℕ, ◌+◌, ◌-◌, ◌*◌, ◌/◌, ◌%◌, ⊤, ◌<◌, ◌≤◌, min, nat_eq, nat_lt, if◌then◌else◌, List, [], ◌∷◌, ◌++◌, None, Some, take, length, slice_index, slice_index_or, slice_set}
+use Rattle.std.specs.Prelude.{◌≡◌, ◌≢◌, ◌⊎◌, ℕ, ◌+◌, ◌-◌, ◌*◌, ◌/◌, ◌%◌, ⊤, ◌<◌, ◌≤◌, min, nat_eq, nat_lt, if◌then◌else◌, List, [], ◌∷◌}
+use Rattle.std.specs.Prelude.{◌++◌, None, Some, take, length, slice_index, slice_index_or, slice_set}
 use Rattle.std.specs.List.{range_with_len}
 use Rattle.std.specs.declared.option.Option.{Option}
 use Rattle.client_world.specs.declared.blocks.BlockRow.{BlockRow}
@@ -45,8 +46,8 @@ abbrev pub base_of_held : Option MemoryBlock → ℕ
 base_of_held None = 0
 base_of_held (Some block) = block.base
 
--- at index `place`, the handle less 1, there is a block of `from` pages at a linear address, or none and `from` is 0; with `to` pages there the
--- blocks would be sound
+-- at index `place`, the handle less 1, there is a block of `from` pages at a linear address, or none and `from` is 0; with `to` pages there
+-- the blocks would be sound
 pub record CanHold (blocks : List (Option MemoryBlock)) (budget place base from to : ℕ) : Type 0 where
   pub handles : length blocks ≡ MAX_BLOCKS
   pub within : place < MAX_BLOCKS
@@ -59,7 +60,8 @@ pub record CanHold (blocks : List (Option MemoryBlock)) (budget place base from 
       (base + PAGE_SIZE * to ≤ block.base) ⊎ (block.base + length block.bytes ≤ base)
   pub room : pages_of_blocks blocks + to ≤ budget + from
 
--- at index `place`, the handle less 1, there is a block of that many pages at a linear address of the block region, or none and the number is 0
+-- at index `place`, the handle less 1, there is a block of that many pages at a linear address of the block region, or none and the number
+-- is 0
 pub record HasPages (blocks : List (Option MemoryBlock)) (place base pages : ℕ) : Type 0 where
   pub handles : length blocks ≡ MAX_BLOCKS
   pub within : place < MAX_BLOCKS
@@ -160,7 +162,8 @@ with_lock blocks Nothing n = blocks
 -- a block with zeros in one of its pages
 abbrev pub with_zero_page : Option MemoryBlock → ℕ → Option MemoryBlock
 with_zero_page None page = None
-with_zero_page (Some block) page = Some (record { base = block.base; bytes = put block.bytes (PAGE_SIZE * page) (copies PAGE_SIZE 0); locks = block.locks })
+with_zero_page (Some block) page =
+    Some (record { base = block.base; bytes = put block.bytes (PAGE_SIZE * page) (copies PAGE_SIZE 0); locks = block.locks })
 
 -- the blocks with zeros in the page of a place
 abbrev pub blocks_with_zero_page : List (Option MemoryBlock) → Place → List (Option MemoryBlock)

@@ -115,8 +115,8 @@ pub fn drop_block(ram: &mut Ram, place: u32)
     cut_block(ram, place, base, pages, 0);
 }
 
-/// Gives a block, by its handle less 1, that linear address and that many pages. The pages that it keeps keep their contents and lock counts;
-/// further pages are 0 and not locked. Source: own.
+/// Gives a block, by its handle less 1, that linear address and that many pages. The pages that it keeps keep their contents and lock
+/// counts; further pages are 0 and not locked. Source: own.
 pub fn resize_block(ram: &mut Ram, place: u32, base: u32, pages: u32)
     requires { CanSizeIn ram.old place base pages }
     ensures { ReplacesBlock ram.old ram.new place (λ block. sized_block base pages block) }

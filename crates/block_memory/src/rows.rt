@@ -13,7 +13,8 @@ use guest_ram::Ram;
 pub fn set_block_row(ram: &mut Ram, place: u32, base: u32, pages: u32)
     requires size { PAGE_SIZE * BUDGET_FRAMES ≤ length ram.old }
     requires place { place < MAX_BLOCKS }
-    ensures { ram.new ≡ put (put ram.old (PAGE_SIZE * BLOCK_ROWS + BLOCK_ROW_SIZE * place) (dword_bytes base)) (PAGE_SIZE * BLOCK_ROWS + BLOCK_ROW_SIZE * place + 4) (dword_bytes pages) }
+    ensures { ram.new ≡ put (put ram.old (PAGE_SIZE * BLOCK_ROWS + BLOCK_ROW_SIZE * place) (dword_bytes base))
+        (PAGE_SIZE * BLOCK_ROWS + BLOCK_ROW_SIZE * place + 4) (dword_bytes pages) }
 {
     let row = PAGE_SIZE * BLOCK_ROWS + BLOCK_ROW_SIZE * place;
     ram.set32(row, base);

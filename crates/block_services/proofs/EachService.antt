@@ -1,9 +1,10 @@
 -- What is true of each service is true of the one that is asked for.
-use Rattle.std.proofs.Common.{ℕ}
+use Rattle.std.proofs.Common.{ℕ, arith}
 use Rattle.client_world.specs.World.{World}
 use Rattle.service_rows.specs.Reasons.{Service, unsupported}
 use Rattle.service_rows.proofs.AnswerLaws.{if_has}
-use Rattle.block_services.specs.Rows.{allocate_block, mark_pageable, block_function, discard_pages, relock_pages, free_block, free_memory_information, lock_pages, mark_paging_candidates, page_size, resize_block, unlock_pages}
+use Rattle.block_services.specs.Rows.{allocate_block, mark_pageable, block_function, discard_pages, relock_pages, free_block}
+use Rattle.block_services.specs.Rows.{free_memory_information, lock_pages, mark_paging_candidates, page_size, resize_block, unlock_pages}
 
 pub record Each (P : Service → Type 0) (w : World) : Type 0 where
   pub f500 : P (free_memory_information w)
@@ -21,6 +22,4 @@ pub record Each (P : Service → Type 0) (w : World) : Type 0 where
 
 pub of_each_service : (P : Service → Type 0) (w : World) → Each P w → (ax : ℕ) → P (block_function ax w)
 unfolding block_function
-of_each_service P w e ax =
-    if_has P _ _ _ e.f500 (if_has P _ _ _ e.f501 (if_has P _ _ _ e.f502 (if_has P _ _ _ e.f503 (if_has P _ _ _ e.f600 (if_has P _ _ _ e.f601
-    (if_has P _ _ _ e.f602 (if_has P _ _ _ e.f603 (if_has P _ _ _ e.f604 (if_has P _ _ _ e.f702 (if_has P _ _ _ e.f703 e.other))))))))))
+of_each_service P w e ax = grind (arith, if_has)

@@ -1,6 +1,5 @@
 -- The lowest handle that isn't held.
-use Rattle.std.proofs.Common.{◌≡◌, ◌≢◌, ◌≤◌, ◌∙◌, ℕ, zero, suc, Bool, true, List, length, refl, sym, arith, inl, inr, Option, None, Some}
-use Rattle.std.proofs.lemmas.Bool.{cases_lt}
+use Rattle.std.proofs.Common.{◌≡◌, ◌≤◌, ℕ, zero, suc, Bool, true, List, length, refl, arith, Option, None, Some}
 use Rattle.std.proofs.lemmas.List.{get_or_past}
 use Rattle.client_world.specs.declared.limits.TheConstants.{MAX_BLOCKS}
 use Rattle.std.specs.Option.{is_none}
@@ -18,12 +17,7 @@ pub record IsHandle (handle : ℕ) : Type 0 where
   pub some : 1 ≤ handle
   pub most : handle ≤ MAX_BLOCKS
 
-pub handle_within : (blocks : List (Option MemoryBlock)) (handle : ℕ) (block : MemoryBlock) → length blocks ≡ MAX_BLOCKS → block_at blocks handle ≡ Some block → IsHandle handle
+pub handle_within : (blocks : List (Option MemoryBlock)) (handle : ℕ) (block : MemoryBlock) → length blocks ≡ MAX_BLOCKS →
+    block_at blocks handle ≡ Some block → IsHandle handle
 handle_within blocks zero block long e = absurd cc
-handle_within blocks (suc place) block long e = elim (cases_lt place MAX_BLOCKS) [
-  | inl below ↦ record { some = omega arith; most = omega arith }
-  | inr beyond ↦ absurd (none_some block (sym (get_or_past blocks place None (omega arith)) ∙ e))
-]
-  where
-    none_some : (b : MemoryBlock) → None ≢ Some b
-    none_some b e = cc
+handle_within blocks (suc place) block long e = grind (arith, get_or_past)

@@ -1,5 +1,6 @@
 -- Which pages are blocks', and changes of one page after another.
-use Rattle.std.proofs.Common.{◌≡◌, ◌≤◌, ◌<◌, ◌+◌, ◌-◌, ◌*◌, ◌%◌, ◌⊎◌, inl, inr, ℕ, zero, suc, Bool, true, false, not, List, [], ◌∷◌, length, slice_index_or, slice_set, refl, sym, ◌∙◌, ap, arith, Option, None, Some, nat_eq, nat_lt}
+use Rattle.std.proofs.Common.{◌≡◌, ◌≤◌, ◌<◌, ◌+◌, ◌-◌, ◌*◌, ◌%◌, ◌⊎◌, inl, inr, ℕ, zero, suc, Bool, true, false, not, List, [], ◌∷◌, length}
+use Rattle.std.proofs.Common.{slice_index_or, slice_set, refl, sym, ◌∙◌, ap, arith, Option, None, Some, nat_eq, nat_lt}
 use Rattle.std.specs.Option.{is_some}
 use Rattle.std.proofs.lemmas.Bool.{and_from, and_left, and_parts, and_right, cases_Bool, le-leb, le-ltb, lt-leb, lt-ltb, ltb-true}
 use Rattle.std.proofs.lemmas.List.{get_or_past}
@@ -29,7 +30,8 @@ blocks_true Host e = absurd cc
 blocks_true Nothing e = absurd cc
 
 -- no page outside the block region is a block's
-pub no_page : (blocks : List (Option MemoryBlock)) (lin : ℕ) → (lin < BLOCK_REGION) ⊎ (BLOCK_REGION_END ≤ lin) → false ≡ is_blocks (place_in blocks lin)
+pub no_page : (blocks : List (Option MemoryBlock)) (lin : ℕ) → (lin < BLOCK_REGION) ⊎ (BLOCK_REGION_END ≤ lin) →
+    false ≡ is_blocks (place_in blocks lin)
 no_page blocks lin out = elim (cases_Bool (is_blocks (place_in blocks lin))) [
   | inl is ↦ (
       let r = in_region_of blocks lin (blocks_true (place_in blocks lin) is) in
@@ -38,14 +40,16 @@ no_page blocks lin out = elim (cases_Bool (is_blocks (place_in blocks lin))) [
   | inr none ↦ sym none
 ]
 
-pub no_page_lock : (blocks : List (Option MemoryBlock)) (page : ℕ) → BLOCK_REGION_END ≤ PAGE_SIZE * page → 0 ≡ lock_in blocks (page_place blocks page)
+pub no_page_lock : (blocks : List (Option MemoryBlock)) (page : ℕ) → BLOCK_REGION_END ≤ PAGE_SIZE * page →
+    0 ≡ lock_in blocks (page_place blocks page)
 no_page_lock blocks page out = sym (no_lock blocks (PAGE_SIZE * page) (inr out))
 
 pub not_pageable : (pages : List Bool) (page : ℕ) → length pages ≡ DOS_VIEW_PAGES → DOS_VIEW_PAGES ≤ page → false ≡ is_pageable pages page
 not_pageable pages page long past = sym (get_or_past pages page false (omega arith))
 
 -- a list of blocks covers an address where one of them does
-found_place : (blocks : List (Option MemoryBlock)) (handle lin place : ℕ) (block : MemoryBlock) → slice_index_or blocks place None ≡ Some block →
+found_place : (blocks : List (Option MemoryBlock)) (handle lin place : ℕ) (block : MemoryBlock) →
+    slice_index_or blocks place None ≡ Some block →
     covers block lin ≡ true → is_blocks (block_place blocks handle lin) ≡ true
 found_place [] handle lin place block e over = absurd cc
 found_place (None ∷ blocks) handle lin zero block e over = absurd cc
@@ -66,7 +70,8 @@ none_place (None ∷ blocks) handle lin none = none_place blocks (handle + 1) li
 none_place (Some own ∷ blocks) handle lin none =
     rw (none 0 own refl) (none_place blocks (handle + 1) lin (λ place block e. none (suc place) block e))
 
-over_page : (blocks : List (Option MemoryBlock)) (budget handle lin : ℕ) → SoundBlocks blocks budget → lin % PAGE_SIZE ≡ 0 → (b : Option MemoryBlock) →
+over_page : (blocks : List (Option MemoryBlock)) (budget handle lin : ℕ) → SoundBlocks blocks budget → lin % PAGE_SIZE ≡ 0 →
+    (b : Option MemoryBlock) →
     block_at blocks handle ≡ b → overlaps (row_seen b) lin 1 ≡ true → is_blocks (block_place blocks 1 lin) ≡ true
 over_page blocks budget zero lin sound whole None e here = absurd cc
 over_page blocks budget zero lin sound whole (Some block) e here = absurd cc
@@ -80,7 +85,8 @@ over_page blocks budget (suc place) lin sound whole (Some block) e here =
     found_place blocks 1 lin place block e
     (and_from _ _ (le-leb block.base lin (omega arith)) (lt-ltb lin (block.base + length block.bytes) (omega arith)))
 
-clear_of : (block : MemoryBlock) (lin : ℕ) → (lin + PAGE_SIZE * 1 ≤ block.base) ⊎ (block.base + length block.bytes ≤ lin) → covers block lin ≡ false
+clear_of : (block : MemoryBlock) (lin : ℕ) → (lin + PAGE_SIZE * 1 ≤ block.base) ⊎ (block.base + length block.bytes ≤ lin) →
+    covers block lin ≡ false
 clear_of block lin apart = elim apart [
   | inl before ↦ and_left _ _ (lt-leb block.base lin (omega arith))
   | inr behind ↦ and_right _ _ (le-ltb lin (block.base + length block.bytes) behind)
@@ -118,17 +124,20 @@ unfolding changed
 changed_none change blocks page = refl
 
 pub changed_next : (change : Change) (blocks : List (Option MemoryBlock)) (page end : ℕ) → page < end →
-    changed change blocks page (end - page) ≡ changed change (changed_page change blocks (page_place blocks page)) (page + 1) (end - (page + 1))
+    changed change blocks page (end - page) ≡ changed change (changed_page change blocks (page_place blocks page)) (page + 1)
+    (end - (page + 1))
 changed_next change blocks page end below =
     let k : end - page ≡ suc (end - (page + 1)) = omega arith in
     ap (changed change blocks page) k ∙ changed_more change blocks page (end - (page + 1))
 
-pub changed_done : (change : Change) (blocks : List (Option MemoryBlock)) (page end : ℕ) → end ≤ page → changed change blocks page (end - page) ≡ blocks
+pub changed_done : (change : Change) (blocks : List (Option MemoryBlock)) (page end : ℕ) → end ≤ page →
+    changed change blocks page (end - page) ≡ blocks
 changed_done change blocks page end beyond =
     let k : end - page ≡ 0 = omega arith in
     ap (changed change blocks page) k ∙ changed_none change blocks page
 
-set_more : (on : Bool) (pages : List Bool) (page n : ℕ) → with_pages on pages page (suc n) ≡ with_pages on (slice_set pages page on) (page + 1) n
+set_more : (on : Bool) (pages : List Bool) (page n : ℕ) →
+    with_pages on pages page (suc n) ≡ with_pages on (slice_set pages page on) (page + 1) n
 unfolding with_pages
 set_more on pages page n = refl
 
@@ -148,7 +157,8 @@ set_done on pages page end beyond =
     ap (with_pages on pages page) k ∙ set_none on pages page
 
 -- worlds of which the blocks, or the pageable pages, alone have changed
-pub only_blocks : (w a b : World) (blocks : List (Option MemoryBlock)) → a ≡ record w { blocks = a.blocks } → b ≡ record a { blocks = blocks } →
+pub only_blocks : (w a b : World) (blocks : List (Option MemoryBlock)) → a ≡ record w { blocks = a.blocks } →
+    b ≡ record a { blocks = blocks } →
     b ≡ record w { blocks = b.blocks }
 only_blocks w a b blocks first second =
     second ∙ ap (λ (v : World). record v { blocks = blocks }) first

@@ -1,7 +1,8 @@
 -- A service leads from a sound world to a sound one.
-use Rattle.std.proofs.Common.{◌≡◌, ◌≢◌, ◌∙◌, ◌≤◌, ◌<◌, ◌+◌, ◌-◌, ◌/◌, ◌%◌, ℕ, zero, suc, Bool, true, false, List, [], ◌∷◌, length, slice_index, slice_set, length-set, refl, sym, subst, arith, inl, inr, Option, None, Some, nat_eq, get_or-set_same, get_or-set_other}
+use Rattle.std.proofs.Common.{◌≡◌, ◌≢◌, ◌∙◌, ◌≤◌, ◌<◌, ◌+◌, ◌-◌, ◌%◌, ℕ, zero, suc, Bool, true, false, List, [], ◌∷◌, length, slice_set}
+use Rattle.std.proofs.Common.{length-set, refl, arith, Option, None, Some, nat_eq, get_or-set_same, get_or-set_other}
 use Rattle.std.specs.Option.{is_none}
-use Rattle.std.proofs.lemmas.Bool.{cases_eq, cases_lt, eqb-false, ltb-false}
+use Rattle.std.proofs.lemmas.Bool.{eqb-false, ltb-false}
 use Rattle.std.proofs.lemmas.List.{get_or_past, set_past}
 use Rattle.client_world.specs.declared.limits.TheConstants.{MAX_BLOCKS}
 use Rattle.client_world.specs.declared.registers.Mode.TheVariants.{Protected}
@@ -22,26 +23,23 @@ use Rattle.service_rows.proofs.WidthLaws.{protected_width}
 use Rattle.block_services.specs.Free.{free_numbers, free_table, largest_new_block, with_dwords}
 use Rattle.block_services.specs.Gaps.{first_gap, lowest_handle}
 use Rattle.block_services.specs.Pages.{with_pages}
-use Rattle.block_services.specs.Rows.{allocate_block, mark_pageable, block_function, asked_pages, bx_cx, discard_pages, first_page, relock_pages, free_block, free_memory_information, free_pages, lock_pages, with_new_block, mark_paging_candidates, new_base, page_count, page_size, resize_block, with_resized_block, block_service, si_di, unlock_pages, with_blocks}
+use Rattle.block_services.specs.Rows.{allocate_block, mark_pageable, block_function, asked_pages, bx_cx, discard_pages, first_page}
+use Rattle.block_services.specs.Rows.{relock_pages, free_block, free_memory_information, free_pages, lock_pages, with_new_block}
+use Rattle.block_services.specs.Rows.{mark_paging_candidates, new_base, page_count, page_size, resize_block, with_resized_block}
+use Rattle.block_services.specs.Rows.{block_service, si_di, unlock_pages, with_blocks}
 use Rattle.block_services.proofs.EachService.{of_each_service}
 use Rattle.block_services.proofs.GoodBlocks.{Good, changed_good, freed_good, made_good, resized_good}
-use Rattle.block_services.proofs.HandleLaws.{handle_within, is_free}
+use Rattle.block_services.proofs.HandleLaws.{handle_within}
 use Rattle.block_services.proofs.RoomLaws.{can_make, can_size, first_gap_is}
 
 sound_general : (w : World) (b c s d : ℕ) → IsSound w → IsSound (record w { regs = record w.regs { ebx = b; ecx = c; esi = s; edi = d } })
-sound_general w b c i d s = IsSound-regs w (record w.regs { ebx = b; ecx = c; esi = i; edi = d }) s (record {
-  es = s.segments.es;
-  cs = s.segments.cs;
-  ss = s.segments.ss;
-  ds = s.segments.ds;
-  fs = s.segments.fs;
-  gs = s.segments.gs;
-})
+sound_general w b c i d s = IsSound-regs w (record w.regs { ebx = b; ecx = c; esi = i; edi = d }) s (assumption)
 
 good_of : (w : World) → IsSound w → Good w.blocks w.budget
 good_of w s = record { sound = s.blocks; fits = s.block_bytes }
 
-sound_good : (w : World) (blocks : List (Option MemoryBlock)) → IsSound w → w.width ≢ None → Good blocks w.budget → IsSound (with_blocks blocks w)
+sound_good : (w : World) (blocks : List (Option MemoryBlock)) → IsSound w → w.width ≢ None → Good blocks w.budget →
+    IsSound (with_blocks blocks w)
 sound_good w blocks s width g = sound_blocks w blocks s width g.sound g.fits
 
 -- the table of what is free is bytes
@@ -54,29 +52,15 @@ more b bs small rest zero = small
 more b bs small rest (suc at) = rest at
 
 dword_small : (v : ℕ) → v < 0x100000000 → AreBytes (dword_bytes v)
-dword_small v small =
-    let a : v % 0x100 < 0x100 = omega arith in
-    let b : v / 0x100 % 0x100 < 0x100 = omega arith in
-    let c : v / 0x10000 % 0x100 < 0x100 = omega arith in
-    let d : v / 0x1000000 < 0x100 = omega arith in
-    let t3 : List ℕ = v / 0x1000000 ∷ [] in
-    let t2 : List ℕ = v / 0x10000 % 0x100 ∷ t3 in
-    let t1 : List ℕ = v / 0x100 % 0x100 ∷ t2 in
-    more (v % 0x100) t1 a (more (v / 0x100 % 0x100) t2 b (more (v / 0x10000 % 0x100) t3 c (more (v / 0x1000000) [] d no_bytes)))
+dword_small v small = grind (arith, more, no_bytes)
 
 set_small : (bytes : List ℕ) (at v : ℕ) → AreBytes bytes → v < 0x100 → AreBytes (slice_set bytes at v)
-set_small bytes at v small less k = elim (cases_eq k at) [
-  | inl same ↦ elim (cases_lt at (length bytes)) [
-    | inl inside ↦ subst (λ (x : ℕ). slice_index (slice_set bytes at v) x < 0x100) (sym same)
-        (subst (λ (x : ℕ). x < 0x100) (sym (get_or-set_same bytes at v 0 inside)) less)
-    | inr past ↦ subst (λ (xs : List ℕ). slice_index xs k < 0x100) (sym (set_past bytes at v past)) (small k)
-  ]
-  | inr ne ↦ subst (λ (x : ℕ). x < 0x100) (sym (get_or-set_other bytes at k v 0 ne)) (small k)
-]
+set_small bytes at v small less k = grind (arith, get_or-set_other, get_or-set_same, set_past)
 
 put_small : (bytes : List ℕ) (at : ℕ) (xs : List ℕ) → AreBytes bytes → AreBytes xs → AreBytes (put bytes at xs)
 put_small bytes at [] small rest = small
-put_small bytes at (x ∷ xs) small rest = put_small (slice_set bytes at x) (at + 1) xs (set_small bytes at x small (rest 0)) (λ k. rest (suc k))
+put_small bytes at (x ∷ xs) small rest =
+    put_small (slice_set bytes at x) (at + 1) xs (set_small bytes at x small (rest 0)) (λ k. rest (suc k))
 
 dwords_small : (bytes : List ℕ) (at : ℕ) (vs : List ℕ) → AreBytes bytes → AreBytes (with_dwords bytes at vs)
 dwords_small bytes at [] small = small
@@ -85,10 +69,7 @@ dwords_small bytes at (v ∷ vs) small =
     (put_small bytes at (dword_bytes (v % 0x100000000)) small (dword_small (v % 0x100000000) (omega arith)))
 
 copies_small : (n : ℕ) → AreBytes (copies n 0xFF)
-copies_small n k = elim (cases_lt k n) [
-  | inl inside ↦ subst (λ (x : ℕ). x < 0x100) (sym (at_copies n 0xFF k inside)) (omega arith)
-  | inr past ↦ subst (λ (x : ℕ). x < 0x100) (sym (get_or_past (copies n 0xFF) k 0 (omega (arith, length-copies n 0xFF)))) (omega arith)
-]
+copies_small n k = grind (arith, at_copies, get_or_past, length-copies)
 
 table_small : (w : World) (most : ℕ) → AreBytes (free_table w most)
 unfolding free_table
@@ -98,12 +79,10 @@ table_small w most = dwords_small (copies 0x30 0xFF) 0 (free_numbers w most) (co
 
 lowest_is : (blocks : List (Option MemoryBlock)) (handle : ℕ) → lowest_handle blocks ≡ Some handle → (0 < handle) × (handle ≤ MAX_BLOCKS)
 unfolding lowest_handle
-lowest_is blocks handle e =
-    let found = first_is (is_free blocks) 1 MAX_BLOCKS handle e in
-    let above = found.above in let below = found.below in
-    (omega arith, omega arith)
+lowest_is blocks handle e = grind (arith, first_is)
 
-sound_made : (w : World) (gap handle : Option ℕ) → IsSound w → w.width ≢ None → first_gap w.blocks (asked_pages w) ≡ gap → lowest_handle w.blocks ≡ handle →
+sound_made : (w : World) (gap handle : Option ℕ) → IsSound w → w.width ≢ None → first_gap w.blocks (asked_pages w) ≡ gap →
+    lowest_handle w.blocks ≡ handle →
     0 < asked_pages w → asked_pages w ≤ free_pages w → IsSound (with_new_block gap handle w)
 sound_made w None handle s width e f some few = s
 sound_made w (Some page) None s width e f some few = s
@@ -117,20 +96,20 @@ some_of None e = absurd cc
 some_of (Some b) e = (b, refl)
 
 handle_most : (w : World) (handle : ℕ) → IsSound w → is_none (block_at w.blocks handle) ≡ false → handle ≤ MAX_BLOCKS
-handle_most w handle s e =
-    let held = some_of (block_at w.blocks handle) e in
-    (handle_within w.blocks handle held.0 s.blocks.handles held.1).most
+handle_most w handle s e = grind (arith, handle_within, some_of)
 
 not_none : (o : Option MemoryBlock) → is_none o ≡ false → o ≢ None
 not_none None e same = absurd cc
 not_none (Some b) e same = absurd cc
 
 sound_resized : (w : World) (base : Option ℕ) → IsSound w → w.width ≢ None → new_base w.blocks (si_di w) (asked_pages w) ≡ base →
-    is_none (block_at w.blocks (si_di w)) ≡ false → 0 < asked_pages w → asked_pages w - pages_of_block (block_at w.blocks (si_di w)) ≤ free_pages w →
+    is_none (block_at w.blocks (si_di w)) ≡ false → 0 < asked_pages w →
+    asked_pages w - pages_of_block (block_at w.blocks (si_di w)) ≤ free_pages w →
     IsSound (with_resized_block base w)
 sound_resized w None s width e held some few = s
 sound_resized w (Some base) s width e held some few =
-    sound_general _ _ _ _ _ (sound_good w _ s width (resized_good w.blocks w.budget (si_di w) base (asked_pages w) (good_of w s) (handle_most w (si_di w) s held)
+    sound_general _ _ _ _ _ (sound_good w _ s width
+    (resized_good w.blocks w.budget (si_di w) base (asked_pages w) (good_of w s) (handle_most w (si_di w) s held)
     (can_size w.blocks w.budget (si_di w) base (asked_pages w) s.blocks (not_none (block_at w.blocks (si_di w)) held) e some few)))
 
 some_pages : (w : World) → nat_eq (bx_cx w) 0 ≡ false → 0 < asked_pages w
@@ -143,18 +122,22 @@ unfolding with_pages
 length-with_pages on pages page zero = refl
 length-with_pages on pages page (suc n) = length-with_pages on (slice_set pages page on) (page + 1) n ∙ length-set pages page on
 
-sound_pageable : (w : World) (on : Bool) → IsSound w → IsSound (record w { pageable = with_pages on w.pageable (first_page w) (page_count w) })
+sound_pageable : (w : World) (on : Bool) → IsSound w →
+    IsSound (record w { pageable = with_pages on w.pageable (first_page w) (page_count w) })
 sound_pageable w on s = IsSound-vectors w w.interrupt_vectors w.exception_vectors (with_pages on w.pageable (first_page w) (page_count w)) s
     s.interrupt_vectors s.exception_vectors (length-with_pages on w.pageable (first_page w) (page_count w) ∙ s.pageable)
 
-sound_after : (ax : ℕ) (w : World) → IsSound w → w.width ≢ None → first_reason (block_function ax w).reasons ≡ None → IsSound (block_function ax w).after
-unfolding allocate_block mark_pageable discard_pages relock_pages free_block free_memory_information lock_pages mark_paging_candidates page_size resize_block unlock_pages unsupported
+sound_after : (ax : ℕ) (w : World) → IsSound w → w.width ≢ None → first_reason (block_function ax w).reasons ≡ None →
+    IsSound (block_function ax w).after
+unfolding allocate_block mark_pageable discard_pages relock_pages free_block free_memory_information lock_pages mark_paging_candidates
+    page_size resize_block unlock_pages unsupported
 sound_after ax w s width = of_each_service (λ (a : Service). first_reason a.reasons ≡ None → IsSound a.after) w (record {
   f500 = λ e. sound_far_put w (es_di w) 0x30 _ s (table_small w (largest_new_block w.blocks (free_pages w)));
   f501 = λ e. (let none = no_reason (allocate_block w).reasons e in
       sound_made w (first_gap w.blocks (asked_pages w)) (lowest_handle w.blocks) s width refl refl (some_pages w none.0)
       (ltb-false (free_pages w) (asked_pages w) none.1.0));
-  f502 = λ e. sound_good w _ s width (freed_good w.blocks w.budget (si_di w) (good_of w s) (handle_most w (si_di w) s (no_reason (free_block w).reasons e).0));
+  f502 = λ e. sound_good w _ s width
+      (freed_good w.blocks w.budget (si_di w) (good_of w s) (handle_most w (si_di w) s (no_reason (free_block w).reasons e).0));
   f503 = λ e. (let none = no_reason (resize_block w).reasons e in
       sound_resized w (new_base w.blocks (si_di w) (asked_pages w)) s width refl none.0 (some_pages w none.1.0)
       (ltb-false (free_pages w) (asked_pages w - pages_of_block (block_at w.blocks (si_di w))) none.1.1.0));

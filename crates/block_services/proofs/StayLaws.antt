@@ -1,5 +1,6 @@
 -- A block that shrinks stays where it is, and the table of function 0500h has the largest run.
-use Rattle.std.proofs.Common.{◌≡◌, ◌≢◌, ◌≤◌, ◌+◌, ◌*◌, inl, inr, ℕ, zero, suc, true, false, List, length, refl, sym, ◌∙◌, ap, arith, Option, None, Some, nat_eq}
+use Rattle.std.proofs.Common.{◌≡◌, ◌≢◌, ◌≤◌, ◌+◌, ◌*◌, inl, inr, ℕ, zero, suc, true, false, List, length, refl, ap, arith, Option, None}
+use Rattle.std.proofs.Common.{Some, nat_eq}
 use Rattle.std.specs.Option.{is_none, is_some}
 use Rattle.std.proofs.lemmas.Bool.{and_from, and_left, and_right, cases_Bool, cases_eq, eq-eqb, le-leb, le-ltb, not_from_true}
 use Rattle.client_world.specs.declared.host_frames.TheConstants.{PAGE_SIZE}
@@ -10,37 +11,40 @@ use Rattle.client_world.specs.World.{World, MemoryBlock, block_at}
 use Rattle.block_memory.specs.BlockSizes.{base_of_held, row_seen}
 use Rattle.service_rows.proofs.IndexLaws.{is_missing}
 use Rattle.block_services.specs.Free.{IsLargest, largest_new_block}
-use Rattle.block_services.specs.Gaps.{block_in_way, first_gap, is_gap, is_in_way, overlaps}
+use Rattle.block_services.specs.Gaps.{block_in_way, is_gap, is_in_way, overlaps}
 use Rattle.block_services.specs.Rows.{new_base}
 
-beside : (blocks : List (Option MemoryBlock)) (budget handle pages other : ℕ) (own : MemoryBlock) → SoundBlocks blocks budget → block_at blocks handle ≡ Some own →
-    pages ≤ length own.locks → other ≢ handle → (b : Option MemoryBlock) → block_at blocks other ≡ b → overlaps (row_seen b) own.base pages ≡ false
+beside : (blocks : List (Option MemoryBlock)) (budget handle pages other : ℕ) (own : MemoryBlock) → SoundBlocks blocks budget →
+    block_at blocks handle ≡ Some own →
+    pages ≤ length own.locks → other ≢ handle → (b : Option MemoryBlock) → block_at blocks other ≡ b →
+    overlaps (row_seen b) own.base pages ≡ false
 beside blocks budget handle pages other own sound there few ne None e = refl
 beside blocks budget handle pages other own sound there few ne (Some block) e =
     let size = (sound.each handle own there).pages in
     let held = (sound.each other block e).pages in
-    elim (sound.apart handle other own block (λ z. ne (sym z)) there e) [
-      | inl before ↦ and_left _ _ (le-ltb block.base (own.base + PAGE_SIZE * pages) (omega arith))
-      | inr behind ↦ and_right _ _ (le-ltb own.base (block.base + PAGE_SIZE * length block.locks) (omega arith))
-    ]
+    grind (arith, and_left, and_right, le-ltb)
 
-not_in_way : (blocks : List (Option MemoryBlock)) (budget handle pages : ℕ) (own : MemoryBlock) → SoundBlocks blocks budget → block_at blocks handle ≡ Some own →
+not_in_way : (blocks : List (Option MemoryBlock)) (budget handle pages : ℕ) (own : MemoryBlock) → SoundBlocks blocks budget →
+    block_at blocks handle ≡ Some own →
     pages ≤ length own.locks → (other : ℕ) → is_in_way blocks handle own.base pages other ≡ false
 not_in_way blocks budget handle pages own sound there few other = elim (cases_eq other handle) [
   | inl same ↦ and_left _ _ (not_from_true (nat_eq other handle) (eq-eqb other handle same))
   | inr ne ↦ and_right _ _ (beside blocks budget handle pages other own sound there few ne (block_at blocks other) refl)
 ]
 
-own_gap : (blocks : List (Option MemoryBlock)) (budget handle pages : ℕ) (own : MemoryBlock) → SoundBlocks blocks budget → block_at blocks handle ≡ Some own →
+own_gap : (blocks : List (Option MemoryBlock)) (budget handle pages : ℕ) (own : MemoryBlock) → SoundBlocks blocks budget →
+    block_at blocks handle ≡ Some own →
     pages ≤ length own.locks → is_gap blocks handle own.base pages ≡ true
 unfolding is_gap block_in_way
 own_gap blocks budget handle pages own sound there few =
     let is = sound.each handle own there in
     let size = is.pages in let end = is.to in
     and_from _ _ (le-leb (own.base + PAGE_SIZE * pages) BLOCK_REGION_END (omega arith))
-    (ap is_none (is_missing (is_in_way blocks handle own.base pages) 1 MAX_BLOCKS (λ k l u. not_in_way blocks budget handle pages own sound there few k)))
+    (ap is_none (is_missing (is_in_way blocks handle own.base pages) 1 MAX_BLOCKS
+    (λ k l u. not_in_way blocks budget handle pages own sound there few k)))
 
-pub stays : (w : World) (handle pages : ℕ) (own : MemoryBlock) → IsSound w → block_at w.blocks handle ≡ Some own → pages ≤ length own.locks →
+pub stays : (w : World) (handle pages : ℕ) (own : MemoryBlock) → IsSound w → block_at w.blocks handle ≡ Some own →
+    pages ≤ length own.locks →
     new_base w.blocks handle pages ≡ Some own.base
 unfolding new_base
 stays w handle pages own s there few =
@@ -56,19 +60,10 @@ some_is : (o : Option ℕ) → is_some o ≡ true → o ≢ None
 some_is None e same = absurd cc
 some_is (Some x) e same = absurd cc
 
-largest_more : (blocks : List (Option MemoryBlock)) (n : ℕ) → IsLargest blocks n (largest_new_block blocks n) → IsLargest blocks (suc n) (largest_new_block blocks (suc n))
+largest_more : (blocks : List (Option MemoryBlock)) (n : ℕ) → IsLargest blocks n (largest_new_block blocks n) →
+    IsLargest blocks (suc n) (largest_new_block blocks (suc n))
 unfolding largest_new_block
-largest_more blocks n rest = elim (cases_Bool (is_some (first_gap blocks (suc n)))) [
-  | inl t ↦ rw t (record { within = omega arith; free = λ some. some_is (first_gap blocks (suc n)) t; others = λ k above below. absurd (omega arith) })
-  | inr t ↦ rw t (let within = rest.within in record {
-    within = omega arith;
-    free = rest.free;
-    others = λ k above below. elim (cases_eq k (suc n)) [
-      | inl same ↦ ap (first_gap blocks) same ∙ none_is (first_gap blocks (suc n)) t
-      | inr ne ↦ rest.others k above (omega arith)
-    ];
-  })
-]
+largest_more blocks n rest = grind (arith, cases_Bool, none_is, some_is)
 
 largest_none : (blocks : List (Option MemoryBlock)) → IsLargest blocks 0 (largest_new_block blocks 0)
 unfolding largest_new_block

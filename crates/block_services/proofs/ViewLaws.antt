@@ -15,12 +15,15 @@ none_of None e = refl
 none_of (Some x) e = absurd cc
 
 -- the answer is no for each page
-pub no_page_holds : (question : Question) (w : World) (first n : ℕ) → some_page question w first n ≡ false → (page : ℕ) → first ≤ page → page < first + n →
+pub no_page_holds : (question : Question) (w : World) (first n : ℕ) → some_page question w first n ≡ false → (page : ℕ) → first ≤ page →
+    page < first + n →
     page_answer question w page ≡ false
 unfolding some_page
 no_page_holds question w first n e page from to =
     first_none (page_answer question w) first n (none_of (first_index (page_answer question w) first n) e) page from to
 
-pub in_view : (w : World) (first n : ℕ) → some_page IsAboveView w first n ≡ false → (page : ℕ) → first ≤ page → page < first + n → page < DOS_VIEW_PAGES
+pub in_view : (w : World) (first n : ℕ) → some_page IsAboveView w first n ≡ false → (page : ℕ) → first ≤ page → page < first + n →
+    page < DOS_VIEW_PAGES
 in_view w first n e page from to =
-    leb-false DOS_VIEW_PAGES page (not-true (nat_le DOS_VIEW_PAGES page) (not-false (is_in_view page) (no_page_holds IsAboveView w first n e page from to)))
+    leb-false DOS_VIEW_PAGES page
+    (not-true (nat_le DOS_VIEW_PAGES page) (not-false (is_in_view page) (no_page_holds IsAboveView w first n e page from to)))

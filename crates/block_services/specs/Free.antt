@@ -26,8 +26,8 @@ abbrev pub with_dwords : List ℕ → ℕ → List ℕ → List ℕ
 with_dwords bytes at [] = bytes
 with_dwords bytes at (v ∷ vs) = with_dwords (put bytes at (dword_bytes (v % 0x100000000))) (at + 4) vs
 
--- the numbers of the table: the largest block in bytes, twice in pages, the pages of the block region, the budget's pages that aren't locked,
--- those that are free, the budget, the region's pages that are free, and no paging file
+-- the numbers of the table: the largest block in bytes, twice in pages, the pages of the block region, the budget's pages that aren't
+-- locked, those that are free, the budget, the region's pages that are free, and no paging file
 abbrev pub free_numbers : World → ℕ → List ℕ
 free_numbers w most =
     (PAGE_SIZE * most) ∷

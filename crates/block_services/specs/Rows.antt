@@ -1,6 +1,7 @@
 -- The services of INT 31h on memory blocks and their pages. Source: DPMI 0.9, INT 31h functions 0500h to 0503h, 0600h to 0604h, 0702h and
 -- 0703h; the handles, the addresses and the reasons of refusal are own.
-use Rattle.std.specs.Prelude.{ℕ, ◌+◌, ◌-◌, ◌/◌, ◌%◌, Bool, true, false, [], ◌∷◌, List, None, Some, is_none, nat_eq, nat_lt, not, if◌then◌else◌}
+use Rattle.std.specs.Prelude.{ℕ, ◌+◌, ◌-◌, ◌/◌, ◌%◌, Bool, true, false, [], ◌∷◌, List, None, Some, is_none, nat_eq, nat_lt, not}
+use Rattle.std.specs.Prelude.{if◌then◌else◌}
 use Rattle.std.specs.declared.option.Option.{Option}
 use Rattle.client_world.specs.declared.host_frames.TheConstants.{PAGE_SIZE}
 use Rattle.client_world.specs.Access.{is_reachable}
@@ -9,12 +10,14 @@ use Rattle.client_world.specs.Services.{Served, bx, cx, es_di, two_words}
 use Rattle.client_world.specs.Soundness.{pages_of_block, pages_of_blocks}
 use Rattle.client_world.specs.World.{World, MemoryBlock, block_at, with_block_at}
 use Rattle.block_memory.specs.BlockSizes.{base_of_held, fresh_block, sized_block}
-use Rattle.service_rows.specs.declared.refusal.Refusal.TheVariants.{InvalidAddress, InvalidValue, InvalidHandle, PhysicalMemoryUnavailable, LinearMemoryUnavailable, HandleUnavailable}
+use Rattle.service_rows.specs.declared.refusal.Refusal.TheVariants.{InvalidAddress, InvalidValue, InvalidHandle, PhysicalMemoryUnavailable}
+use Rattle.service_rows.specs.declared.refusal.Refusal.TheVariants.{LinearMemoryUnavailable, HandleUnavailable}
 use Rattle.guest_space.specs.Far.{world_after_far_write}
 use Rattle.service_rows.specs.Reasons.{Service, family_outcome, unsupported}
 use Rattle.block_services.specs.declared.regions.Change.TheVariants.{Lock, Unlock, Discard}
 use Rattle.block_services.specs.declared.regions.Question.{Question}
-use Rattle.block_services.specs.declared.regions.Question.TheVariants.{IsOutside, IsNoBlock, IsLockedMost, IsUnlocked, IsAboveView, IsPageable, IsRelocked}
+use Rattle.block_services.specs.declared.regions.Question.TheVariants.{IsOutside, IsNoBlock, IsLockedMost, IsUnlocked, IsAboveView}
+use Rattle.block_services.specs.declared.regions.Question.TheVariants.{IsPageable, IsRelocked}
 use Rattle.block_services.specs.Free.{free_table, largest_new_block}
 use Rattle.block_services.specs.Gaps.{first_gap, is_gap, lowest_handle, page_address}
 use Rattle.block_services.specs.Pages.{changed, first_whole_page, some_page, touched_pages, whole_pages, with_pages}
@@ -97,8 +100,8 @@ abbrev pub gap_address : Option ℕ → Option ℕ
 gap_address None = None
 gap_address (Some page) = Some (page_address page)
 
--- the address of the block of a handle once it has that many pages: its own where no other block is in the way, as none is where it shrinks,
--- else the address that a new block would get
+-- the address of the block of a handle once it has that many pages: its own where no other block is in the way, as none is where it
+-- shrinks, else the address that a new block would get
 unfoldable pub new_base : List (Option MemoryBlock) → ℕ → ℕ → Option ℕ
 new_base blocks handle pages =
     if is_gap blocks handle (base_of_held (block_at blocks handle)) pages then Some (base_of_held (block_at blocks handle))

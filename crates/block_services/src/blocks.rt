@@ -7,7 +7,8 @@ ghost use Rattle.client_world.specs.World.{block_at};
 ghost use Rattle.block_memory.specs.BlockSizes.{base_of_held, row_seen};
 ghost use Rattle.service_rows.specs.declared.refusal.Refusal.TheVariants.{LinearMemoryUnavailable as no_gap};
 ghost use Rattle.service_rows.specs.Reasons.{Does};
-ghost use Rattle.block_services.specs.Rows.{allocate_block, with_block_outputs, asked_pages, free_block, free_pages, si_di, new_base, pages_for, resize_block, bx_cx};
+ghost use Rattle.block_services.specs.Rows.{allocate_block, with_block_outputs, asked_pages, free_block, free_pages, si_di, new_base};
+ghost use Rattle.block_services.specs.Rows.{pages_for, resize_block, bx_cx};
 
 use crate::gaps::{first_gap, is_gap, lowest_handle, page_address, row_of};
 use client_world::host_frames::PAGE_SIZE;

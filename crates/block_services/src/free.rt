@@ -61,7 +61,8 @@ fn free_table(m: &Machine, most: u32) -> [u8; 48]
 }
 
 /// Function 0500h: writes the table of what is free at ES:(E)DI.
-#[tactic(auto, unfolding(crate::specs::Rows::free_memory_information, guest_space::specs::Far::world_after_far_write, guest_space::specs::Far::after_far_write, guest_space::specs::Transfer::with_places))]
+#[tactic(auto, unfolding(crate::specs::Rows::free_memory_information, guest_space::specs::Far::world_after_far_write, //
+guest_space::specs::Far::after_far_write, guest_space::specs::Transfer::with_places))]
 pub(crate) fn free_memory_information(m: &mut Machine) -> Result<(), Refusal>
     ensures { Does (free_memory_information m.old.world) result m.old m.new }
 {

@@ -6,7 +6,8 @@ ghost use Rattle.client_world.specs.declared.memory_map.TheConstants.{BLOCK_REGI
 ghost use Rattle.client_world.specs.Soundness.{pages_of_block};
 ghost use Rattle.client_world.specs.World.{block_at};
 ghost use Rattle.block_memory.specs.BlockSizes.{base_of_held, row_seen};
-ghost use Rattle.service_rows.specs.declared.refusal.Refusal.TheVariants.{LinearMemoryUnavailable as no_gap, HandleUnavailable as no_handle};
+ghost use Rattle.service_rows.specs.declared.refusal.Refusal.TheVariants.{LinearMemoryUnavailable as no_gap};
+ghost use Rattle.service_rows.specs.declared.refusal.Refusal.TheVariants.{HandleUnavailable as no_handle};
 ghost use Rattle.block_services.specs.Gaps.{block_in_way, first_gap, is_gap, is_in_way, lowest_handle, overlaps, page_address, page_after};
 
 use client_world::BlockRow;
@@ -116,7 +117,8 @@ pub(crate) fn first_gap(m: &Machine, pages: u32) -> Result<u32, Refusal>
 /// The lowest handle that isn't held.
 pub(crate) fn lowest_handle(m: &Machine) -> Result<u16, Refusal>
     ensures { MatchResult result
-        (λ handle. (lowest_handle m.now.world.blocks ≡ Some handle) × (0 < handle) × (handle ≤ MAX_BLOCKS) × (block_at m.now.world.blocks handle ≡ None))
+        (λ handle. (lowest_handle m.now.world.blocks ≡ Some handle) × (0 < handle) × (handle ≤ MAX_BLOCKS)
+        × (block_at m.now.world.blocks handle ≡ None))
         (λ refusal. (lowest_handle m.now.world.blocks ≡ None) × (refusal ≡ no_handle)) }
 {
     for handle in 1..MAX_BLOCKS as u16 + 1 {

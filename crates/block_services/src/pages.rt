@@ -1,7 +1,8 @@
 // Services on pages of memory blocks and of the DOS megabyte's view: locking, paging and discarding.
 ghost use Rattle.std.specs.Prelude.{◌≡◌, ◌<◌, ◌+◌, ◌^◌};
 ghost use Rattle.service_rows.specs.Reasons.{Does};
-ghost use Rattle.block_services.specs.Rows.{mark_pageable, discard_pages, first_page, relock_pages, lock_pages, mark_paging_candidates, of_some_page, page_count, page_size, unlock_pages};
+ghost use Rattle.block_services.specs.Rows.{mark_pageable, discard_pages, first_page, relock_pages, lock_pages, mark_paging_candidates};
+ghost use Rattle.block_services.specs.Rows.{of_some_page, page_count, page_size, unlock_pages};
 
 use crate::blocks::{bx_cx, si_di};
 use crate::regions::{

@@ -4,7 +4,8 @@ ghost use Rattle.std.specs.Bool.{OnTrue};
 ghost use Rattle.client_world.specs.declared.host_frames.TheConstants.{PAGE_SIZE};
 ghost use Rattle.client_world.specs.declared.memory_map.TheConstants.{BLOCK_REGION_END, DOS_VIEW_PAGES};
 ghost use Rattle.guest_space.specs.VectorLists.{is_pageable};
-ghost use Rattle.block_services.specs.Pages.{changed, changed_page, first_whole_page, page_answer, is_blocks, is_in_view, lock_of_page, page_place, some_page, touched_pages, whole_pages, with_pages};
+ghost use Rattle.block_services.specs.Pages.{changed, changed_page, first_whole_page, page_answer, is_blocks, is_in_view, lock_of_page};
+ghost use Rattle.block_services.specs.Pages.{page_place, some_page, touched_pages, whole_pages, with_pages};
 
 use crate::gaps::block_in_way;
 use client_world::host_frames::PAGE_SIZE;

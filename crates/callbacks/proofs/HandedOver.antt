@@ -21,7 +21,9 @@ use Rattle.translation.specs.Structure.{structure_bytes, structure_flags, struct
 use Rattle.translation.proofs.Ended.{but_last}
 use Rattle.translation.proofs.PutPart.{reachable_after}
 use Rattle.translation.proofs.ResultsBack.{same_far}
-use Rattle.callbacks.specs.Callbacks.{after_entering, after_leaving, caller_structure, enter_callback, callback_frame_start, callback_frame_size, leave_callback, procedure_regs, callback_frame, stack_index, stack_row, with_frame_and_structure, with_stack_row}
+use Rattle.callbacks.specs.Callbacks.{after_entering, after_leaving, caller_structure, enter_callback, callback_frame_start}
+use Rattle.callbacks.specs.Callbacks.{callback_frame_size, leave_callback, procedure_regs, callback_frame, stack_index, stack_row}
+use Rattle.callbacks.specs.Callbacks.{with_frame_and_structure, with_stack_row}
 use Rattle.callbacks.specs.HandOver.{HasEntered, HasLeft}
 use Rattle.callbacks.proofs.FrameBytes.{caller_size}
 use Rattle.callbacks.proofs.KeptWorld.{entering_calls, leaving_calls, memory_alone}
@@ -32,7 +34,8 @@ use Rattle.callbacks.proofs.Started.{is_back, is_start}
 -- ---- the structure is read as it was written
 
 -- what is written at a pointer is read there
-put_back : (w : World) (p : FarPtr) (n : ℕ) (bytes : List ℕ) → IsSound w → n < PAGE_SIZE → length bytes ≡ n → is_reachable w p n true ≡ true →
+put_back : (w : World) (p : FarPtr) (n : ℕ) (bytes : List ℕ) → IsSound w → n < PAGE_SIZE → length bytes ≡ n →
+    is_reachable w p n true ≡ true →
     far_bytes (world_after_far_write w p n bytes) p n ≡ bytes
 put_back w p n bytes s few size there =
     ap (λ (x : World). far_bytes x p n) (sym (world_far_written (record { world = w; bytes = [] }) p n bytes))
@@ -43,8 +46,10 @@ memory_back : (w : World) (slot : ℕ) (at : FarPtr) → IsSound w → is_reacha
     structure_bytes (with_frame_and_structure w slot at) at ≡ caller_structure w slot
 unfolding with_frame_and_structure
 memory_back w slot at s there =
-    put_back (world_after_far_write w (callback_frame_start w) (callback_frame_size w) (callback_frame w)) at STRUCTURE_SIZE (caller_structure w slot) (sound_frame w s) (omega arith)
-    (caller_size w slot) (reachable_after w (callback_frame_start w) (callback_frame_size w) (callback_frame w) at STRUCTURE_SIZE true ∙ there)
+    put_back (world_after_far_write w (callback_frame_start w) (callback_frame_size w) (callback_frame w)) at STRUCTURE_SIZE
+    (caller_structure w slot) (sound_frame w s) (omega arith)
+    (caller_size w slot)
+    (reachable_after w (callback_frame_start w) (callback_frame_size w) (callback_frame w) at STRUCTURE_SIZE true ∙ there)
 
 -- the mode, the registers and the records have no part in it
 read_on : (w : World) (slot : ℕ) (procedure at p : FarPtr) (n : ℕ) →

@@ -12,7 +12,9 @@ use Rattle.guest_space.proofs.FarPuts.{other_far_put}
 use Rattle.guest_space.proofs.MemoryAlone.{other_then}
 use Rattle.translation.specs.declared.structure.TheConstants.{STRUCTURE_SIZE}
 use Rattle.translation.proofs.Ended.{but_last}
-use Rattle.callbacks.specs.Callbacks.{after_entering, after_leaving, caller_structure, enter_callback, callback_frame_start, callback_frame_size, leave_callback, procedure_regs, callback_frame, with_frame_and_structure, with_stack_row}
+use Rattle.callbacks.specs.Callbacks.{after_entering, after_leaving, caller_structure, enter_callback, callback_frame_start}
+use Rattle.callbacks.specs.Callbacks.{callback_frame_size, leave_callback, procedure_regs, callback_frame, with_frame_and_structure}
+use Rattle.callbacks.specs.Callbacks.{with_stack_row}
 use Rattle.callbacks.specs.HandOver.{IsCallbackPopped, IsCallbackPushed, LeftForProcedure, LeftForReal}
 use Rattle.callbacks.proofs.Started.{is_back, is_start}
 
@@ -21,7 +23,8 @@ pub memory_alone : (w : World) (slot : ℕ) (at : FarPtr) → HasOtherMemory w (
 unfolding with_frame_and_structure
 memory_alone w slot at =
     let first = world_after_far_write w (callback_frame_start w) (callback_frame_size w) (callback_frame w) in
-    other_then w first (world_after_far_write first at STRUCTURE_SIZE (caller_structure w slot)) (other_far_put w (callback_frame_start w) (callback_frame_size w) (callback_frame w))
+    other_then w first (world_after_far_write first at STRUCTURE_SIZE (caller_structure w slot))
+    (other_far_put w (callback_frame_start w) (callback_frame_size w) (callback_frame w))
     (other_far_put first at STRUCTURE_SIZE (caller_structure w slot))
 
 entering_left : (w : World) (slot : ℕ) (procedure at : FarPtr) → LeftForProcedure w (after_entering (with_stack_row w) slot procedure at)
@@ -32,7 +35,8 @@ entering_left w slot procedure at =
     let regs = procedure_regs x procedure at in
     let calls = w.calls ++ Back slot at ∷ [] in
     ap (λ (u : World). record u { mode = Protected; regs = regs; vif = false; calls = calls }) (memory_alone x slot at)
-    ∙ ap (λ (rows : List Row). record w { mode = Protected; regs = regs; vif = false; dos = y.dos; blocks = y.blocks; descriptors = rows; calls = calls })
+    ∙ ap (λ (rows : List Row).
+    record w { mode = Protected; regs = regs; vif = false; dos = y.dos; blocks = y.blocks; descriptors = rows; calls = calls })
     (sym (ap (λ (u : World). u.descriptors) (memory_alone x slot at)))
 
 pub enter_left : (w u : World) (slot : ℕ) → enter_callback w slot ≡ Ok u → LeftForProcedure w u
@@ -49,7 +53,8 @@ leave_left w u e = subst (λ (x : World). LeftForReal w x) (sym (is_back w u e).
 
 -- the records
 
-pub entering_calls : (w : World) (slot : ℕ) (procedure at : FarPtr) → (after_entering (with_stack_row w) slot procedure at).calls ≡ w.calls ++ Back slot at ∷ []
+pub entering_calls : (w : World) (slot : ℕ) (procedure at : FarPtr) →
+    (after_entering (with_stack_row w) slot procedure at).calls ≡ w.calls ++ Back slot at ∷ []
 unfolding after_entering with_stack_row
 entering_calls w slot procedure at = refl
 

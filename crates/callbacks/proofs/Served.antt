@@ -13,7 +13,8 @@ use Rattle.service_rows.specs.Reasons.{HasOtherAx, Service, first_reason, unsupp
 use Rattle.service_rows.proofs.AnswerLaws.{if_has, of_answer, refused_by_family, sound_ax}
 use Rattle.service_rows.proofs.WidthLaws.{protected_width}
 use Rattle.callbacks.specs.HandOver.{LeftByService}
-use Rattle.callbacks.specs.Services.{addressed_slot, allocate_callback, callback_function, callback_service, ds_si, free_callback, free_slot, with_new_callback}
+use Rattle.callbacks.specs.Services.{addressed_slot, allocate_callback, callback_function, callback_service, ds_si, free_callback}
+use Rattle.callbacks.specs.Services.{free_slot, with_new_callback}
 
 other_parts : (r : Regs) (c d : ℕ) → HasSegments r → HasSegments (record r { ecx = c; edx = d })
 other_parts r c d h = record { es = h.es; cs = h.cs; ss = h.ss; ds = h.ds; fs = h.fs; gs = h.gs }
@@ -23,7 +24,8 @@ sound_new None w s some = s
 sound_new (Some slot) w s some =
     let callbacks = slice_set w.callbacks slot (Some (ds_si w, es_di w)) in
     IsSound-regs (record w { callbacks = callbacks }) _
-    (IsSound-callbacks w callbacks s some (length-set w.callbacks slot (Some (ds_si w, es_di w)) ∙ s.callbacks)) (other_parts w.regs _ _ s.segments)
+    (IsSound-callbacks w callbacks s some (length-set w.callbacks slot (Some (ds_si w, es_di w)) ∙ s.callbacks))
+    (other_parts w.regs _ _ s.segments)
 
 sound_allocate : (w : World) → IsSound w → w.width ≢ None → IsSound (allocate_callback w).after
 unfolding allocate_callback
@@ -32,7 +34,8 @@ sound_allocate w s some = sound_new (free_slot w) w s some
 sound_free : (w : World) → IsSound w → w.width ≢ None → IsSound (free_callback w).after
 unfolding free_callback
 sound_free w s some =
-    IsSound-callbacks w (slice_set w.callbacks (addressed_slot w) None) s some (length-set w.callbacks (addressed_slot w) None ∙ s.callbacks)
+    IsSound-callbacks w (slice_set w.callbacks (addressed_slot w) None) s some
+    (length-set w.callbacks (addressed_slot w) None ∙ s.callbacks)
 
 sound_unsupported : (w : World) → IsSound w → IsSound (unsupported w).after
 unfolding unsupported
@@ -42,7 +45,8 @@ sound_function : (w : World) (ax : ℕ) → IsSound w → w.width ≢ None → I
 unfolding callback_function
 sound_function w ax s some =
     if_has (λ (f : Service). IsSound f.after) (nat_eq ax 0x0303) (allocate_callback w) _ (sound_allocate w s some)
-    (if_has (λ (f : Service). IsSound f.after) (nat_eq ax 0x0304) (free_callback w) (unsupported w) (sound_free w s some) (sound_unsupported w s))
+    (if_has (λ (f : Service). IsSound f.after) (nat_eq ax 0x0304) (free_callback w) (unsupported w) (sound_free w s some)
+    (sound_unsupported w s))
 
 pub sound_serve : (w : World) (ax : ℕ) → IsSound w → w.mode ≡ Protected → IsSound (callback_service ax w).world
 unfolding callback_service
@@ -72,7 +76,8 @@ function_left : (w : World) (ax : ℕ) → LeftByService w (callback_function ax
 unfolding callback_function
 function_left w ax =
     if_has (λ (f : Service). LeftByService w f.after) (nat_eq ax 0x0303) (allocate_callback w) _ (allocate_left w)
-    (if_has (λ (f : Service). LeftByService w f.after) (nat_eq ax 0x0304) (free_callback w) (unsupported w) (free_left w) (unsupported_left w))
+    (if_has (λ (f : Service). LeftByService w f.after) (nat_eq ax 0x0304) (free_callback w) (unsupported w) (free_left w)
+    (unsupported_left w))
 
 pub serve_left : (w : World) (ax : ℕ) → LeftByService w (callback_service ax w).world
 unfolding callback_service

@@ -10,5 +10,6 @@ use Rattle.guest_space.specs.VectorLists.{callback_of_slot}
 abbrev pub is_free : List (Option Callback) → ℕ → Bool
 is_free callbacks slot = is_none (callback_of_slot callbacks slot)
 
-pub past_none : (callbacks : List (Option Callback)) (slot : ℕ) → length callbacks ≡ CALLBACKS → CALLBACKS ≤ slot → callback_of_slot callbacks slot ≡ None
+pub past_none : (callbacks : List (Option Callback)) (slot : ℕ) → length callbacks ≡ CALLBACKS → CALLBACKS ≤ slot →
+    callback_of_slot callbacks slot ≡ None
 past_none callbacks slot size beyond = get_or_past callbacks slot None (omega arith)

@@ -1,5 +1,6 @@
 -- A callback and its return lead from a sound world to a sound one.
-use Rattle.std.proofs.Common.{◌≡◌, ◌≢◌, ℕ, ◌-◌, ◌<◌, ◌≤◌, Bool, true, false, List, [], ◌∷◌, ◌++◌, length, take, inl, inr, refl, ap, ◌∙◌, sym, subst, arith, None, Some, Ok, Err}
+use Rattle.std.proofs.Common.{◌≡◌, ◌≢◌, ℕ, ◌-◌, ◌<◌, ◌≤◌, Bool, true, false, List, [], ◌∷◌, ◌++◌, length, take, inl, inr, refl, ap, ◌∙◌}
+use Rattle.std.proofs.Common.{sym, subst, arith, None, Some, Ok, Err}
 use Rattle.std.specs.Prelude.{if◌then◌else◌}
 use Rattle.std.proofs.lemmas.Bool.{cases_lt}
 use Rattle.std.proofs.lemmas.List.{get_or_past, length-append, length-take-le}
@@ -29,7 +30,9 @@ use Rattle.translation.proofs.NamedWords.{loadable_is_word}
 use Rattle.translation.proofs.ReadBytes.{far_are_bytes}
 use Rattle.translation.proofs.SoundCallee.{structure_segments}
 use Rattle.translation.proofs.SoundReturns.{some_width}
-use Rattle.callbacks.specs.Callbacks.{after_entering, after_leaving, caller_structure, enter_callback, callback_frame_start, callback_frame_size, leave_callback, procedure_regs, callback_frame, with_frame_and_structure, with_stack_row}
+use Rattle.callbacks.specs.Callbacks.{after_entering, after_leaving, caller_structure, enter_callback, callback_frame_start}
+use Rattle.callbacks.specs.Callbacks.{callback_frame_size, leave_callback, procedure_regs, callback_frame, with_frame_and_structure}
+use Rattle.callbacks.specs.Callbacks.{with_stack_row}
 use Rattle.callbacks.proofs.FrameBytes.{caller_bytes, frame_bytes}
 use Rattle.callbacks.proofs.KeptWorld.{memory_alone}
 use Rattle.callbacks.proofs.SoundStackRow.{held_width, sound_with_stack_row}
@@ -47,12 +50,14 @@ no_base_there false false row sel offset n base write none e = absurd cc
 past : (rows : List Row) (sel : ℕ) → length rows ≡ DESCRIPTORS → 0x10000 ≤ sel → row_at_index rows (index_of sel) ≡ None
 past rows sel size large = get_or_past rows (index_of sel) None (omega (arith, size))
 
-reachable_is_word : (w : World) (p : FarPtr) (n : ℕ) (write : Bool) → length w.descriptors ≡ DESCRIPTORS → is_reachable w p n write ≡ true → p.sel < 0x10000
+reachable_is_word : (w : World) (p : FarPtr) (n : ℕ) (write : Bool) → length w.descriptors ≡ DESCRIPTORS → is_reachable w p n write ≡ true →
+    p.sel < 0x10000
 reachable_is_word w p n write size e =
     let run = reached w p n write e in
     elim (cases_lt p.sel 0x10000) [
       | inl small ↦ small
-      | inr large ↦ absurd (no_base_there (is_null p.sel) (is_local p.sel) (row_at_index w.descriptors (index_of p.sel)) p.sel p.off n run.base write
+      | inr large ↦
+          absurd (no_base_there (is_null p.sel) (is_local p.sel) (row_at_index w.descriptors (index_of p.sel)) p.sel p.off n run.base write
           (past w.descriptors p.sel size large) run.is)
     ]
 
@@ -70,13 +75,15 @@ procedure_segments w procedure at room code structure = record {
   gs = omega arith;
 }
 
-pub sound_frame : (w : World) → IsSound w → IsSound (world_after_far_write w (callback_frame_start w) (callback_frame_size w) (callback_frame w))
+pub sound_frame : (w : World) → IsSound w →
+    IsSound (world_after_far_write w (callback_frame_start w) (callback_frame_size w) (callback_frame w))
 sound_frame w s = sound_far_put w (callback_frame_start w) (callback_frame_size w) (callback_frame w) s (frame_bytes w)
 
 sound_memory : (w : World) (slot : ℕ) (at : FarPtr) → IsSound w → IsSound (with_frame_and_structure w slot at)
 unfolding with_frame_and_structure
 sound_memory w slot at s =
-    sound_far_put (world_after_far_write w (callback_frame_start w) (callback_frame_size w) (callback_frame w)) at STRUCTURE_SIZE (caller_structure w slot) (sound_frame w s)
+    sound_far_put (world_after_far_write w (callback_frame_start w) (callback_frame_size w) (callback_frame w)) at STRUCTURE_SIZE
+    (caller_structure w slot) (sound_frame w s)
     (caller_bytes w slot)
 
 sound_entering : (w : World) (slot : ℕ) (procedure at : FarPtr) → IsSound w → w.width ≢ None → depth w < GREATEST_DEPTH →

@@ -22,7 +22,8 @@ none_before : (width : Option Width) (w : World) (slot : ℕ) (callback : Callba
 none_before None w slot callback s held = λ e. (let none = s.callbacks slot in cc)
 none_before (Some width) w slot callback s held = λ e. cc
 
-pub held_width : (w : World) (slot : ℕ) (callback : Callback) → IsSound w → callback_of_slot w.callbacks slot ≡ Some callback → w.width ≢ None
+pub held_width : (w : World) (slot : ℕ) (callback : Callback) → IsSound w → callback_of_slot w.callbacks slot ≡ Some callback →
+    w.width ≢ None
 held_width w slot callback s held = none_before w.width w slot callback s.width held
 
 stack_fits : (segment : ℕ) → segment < 0x10000 → FitsDescriptor (data_at (segment * PARAGRAPH_SIZE) 0xFFFF)
@@ -41,7 +42,8 @@ rows_not_dos : (width : Option Width) (w : World) (index : ℕ) → SoundWidth w
 rows_not_dos None w index s some at = absurd (some refl)
 rows_not_dos (Some width) w index s some at = host_is_not_dos (row_at_index w.descriptors index) (λ r e. s.callbacks index r at e)
 
-pub not_dos : (w : World) → IsSound w → w.width ≢ None → depth w < GREATEST_DEPTH → ¬ IsOfDosBlock (row_at_index w.descriptors (stack_index w))
+pub not_dos : (w : World) → IsSound w → w.width ≢ None → depth w < GREATEST_DEPTH →
+    ¬ IsOfDosBlock (row_at_index w.descriptors (stack_index w))
 not_dos w s some room = rows_not_dos w.width w (stack_index w) s.width some (is_callbacks w room)
 
 pub sound_row : (w : World) → IsSound w → w.width ≢ None → depth w < GREATEST_DEPTH →
@@ -49,7 +51,8 @@ pub sound_row : (w : World) → IsSound w → w.width ≢ None → depth w < GRE
 sound_row w s some room =
     let at = is_callbacks w room in
     row_keeps_sound w (stack_index w) (stack_row w) s some
-    (host_stands w.descriptors (stack_index w) (data_at (w.regs.ss * PARAGRAPH_SIZE) 0xFFFF) (omega (arith, at.1)) (stack_fits w.regs.ss s.segments.ss)
+    (host_stands w.descriptors (stack_index w) (data_at (w.regs.ss * PARAGRAPH_SIZE) 0xFFFF) (omega (arith, at.1))
+    (stack_fits w.regs.ss s.segments.ss)
     (not_dos w s some room))
     (record {
       code = λ e. omega (arith, at.0);

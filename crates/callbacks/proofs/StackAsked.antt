@@ -1,5 +1,6 @@
 -- What is asked in the world that has the descriptor of the real caller's stack, by what is asked in the world before it was set.
-use Rattle.std.proofs.Common.{◌≡◌, ◌≢◌, ℕ, ◌+◌, ◌*◌, ◌/◌, ◌%◌, ◌^◌, ◌<◌, Bool, true, false, ◌&&◌, not, List, slice_set, length, refl, ap, ◌∙◌, sym, arith, Option, None, Some, Result, Ok, Err, get_or-set_same, get_or-set_other}
+use Rattle.std.proofs.Common.{◌≡◌, ◌≢◌, ℕ, ◌+◌, ◌*◌, ◌/◌, ◌%◌, ◌^◌, ◌<◌, Bool, true, false, ◌&&◌, not, List, slice_set, length, refl, ap}
+use Rattle.std.proofs.Common.{◌∙◌, sym, arith, Option, None, Some, Result, Ok, Err, get_or-set_same, get_or-set_other}
 use Rattle.std.specs.Prelude.{is_none, is_ok, nat_eq, nat_le, if◌then◌else◌}
 use Rattle.std.proofs.lemmas.Bool.Decides.{nat_tests}
 use Rattle.client_world.specs.declared.faults.Fault.{Fault}
@@ -32,7 +33,8 @@ same_number a b e = grind (arith, nat_tests)
 other_number : (a b : ℕ) → nat_eq a b ≡ false → a ≢ b
 other_number a b e f = grind (arith, nat_tests)
 
-row_here : (rows : List Row) (index sel : ℕ) (row : Row) → index < length rows → names sel index ≡ true → row_of_selector (slice_set rows index row) sel ≡ row
+row_here : (rows : List Row) (index sel : ℕ) (row : Row) → index < length rows → names sel index ≡ true →
+    row_of_selector (slice_set rows index row) sel ≡ row
 row_here rows index sel row within e =
     let parts = both (is_local sel) (nat_eq (index_of sel) index) e in
     let same = same_number (index_of sel) index parts.1 in
@@ -62,11 +64,13 @@ indices w s =
 
 -- ---- code
 
-code_in_row : (w : World) (sel off : ℕ) (null : Bool) → is_none (if null then Some (fault_with GENERAL_PROTECTION 0) else code_row_fault (stack_row w) sel off false) ≡ false
+code_in_row : (w : World) (sel off : ℕ) (null : Bool) →
+    is_none (if null then Some (fault_with GENERAL_PROTECTION 0) else code_row_fault (stack_row w) sel off false) ≡ false
 code_in_row w sel off true = refl
 code_in_row w sel off false = refl
 
-pub code_here : (w : World) (sel off : ℕ) → IsSound w → names sel (stack_index w) ≡ true → is_loadable (with_stack_row w) Cs sel off false ≡ false
+pub code_here : (w : World) (sel off : ℕ) → IsSound w → names sel (stack_index w) ≡ true →
+    is_loadable (with_stack_row w) Cs sel off false ≡ false
 unfolding with_stack_row load_fault
 code_here w sel off s e =
     ap (λ (row : Row). is_none (if is_null sel then Some (fault_with GENERAL_PROTECTION 0) else code_row_fault row sel off false))
@@ -86,7 +90,8 @@ pub reach_elsewhere : (w : World) (p : FarPtr) (n : ℕ) → names p.sel (stack_
     is_reachable (with_stack_row w) p n true ≡ is_reachable w p n true
 unfolding with_stack_row far_access
 reach_elsewhere w p n e =
-    ap (λ (row : Row). is_ok (places_at w.blocks (if is_null p.sel then Err (fault_with GENERAL_PROTECTION 0) else base_in_row Es p.sel row p.off n true) p.off n true))
+    ap (λ (row : Row). is_ok (places_at w.blocks (if is_null p.sel then Err (fault_with GENERAL_PROTECTION 0)
+    else base_in_row Es p.sel row p.off n true) p.off n true))
     (row_elsewhere w.descriptors (stack_index w) p.sel (stack_row w) e)
 
 -- an access has bytes exactly where it has no fault
@@ -118,9 +123,11 @@ pub reach_here : (w : World) (p : FarPtr) (n : ℕ) → IsSound w → w.mode ≡
     is_reachable (with_stack_row w) p n true ≡ is_none (access_fault w Ss p.off n true)
 unfolding with_stack_row far_access access access_fault
 reach_here w p n s mode e =
-    ap (λ (row : Row). is_ok (places_at w.blocks (if is_null p.sel then Err (fault_with GENERAL_PROTECTION 0) else base_in_row Es p.sel row p.off n true) p.off n true))
+    ap (λ (row : Row). is_ok (places_at w.blocks (if is_null p.sel then Err (fault_with GENERAL_PROTECTION 0)
+    else base_in_row Es p.sel row p.off n true) p.off n true))
     (row_here w.descriptors (stack_index w) p.sel (stack_row w) (indices w s) e)
-    ∙ ap (λ (null : Bool). is_ok (places_at w.blocks (if null then Err (fault_with GENERAL_PROTECTION 0) else base_in_row Es p.sel (stack_row w) p.off n true) p.off n true))
+    ∙ ap (λ (null : Bool). is_ok (places_at w.blocks (if null then Err (fault_with GENERAL_PROTECTION 0)
+    else base_in_row Es p.sel (stack_row w) p.off n true) p.off n true))
     (local_is_not_null p.sel (both (is_local p.sel) (nat_eq (index_of p.sel) (stack_index w)) e).0)
     ∙ inside_both w.blocks (w.regs.ss * PARAGRAPH_SIZE) p.off n (fault_with GENERAL_PROTECTION 0) (fault_with STACK_EXCEPTION 0)
     (nat_le (p.off + n) 0x10000) (nat_le (p.off + n) (2 ^ 32)) (segment_is_small (p.off + n))

@@ -18,7 +18,8 @@ use Rattle.mode_stack.specs.Stack.{top}
 use Rattle.translation.specs.declared.structure.TheConstants.{STRUCTURE_SIZE}
 use Rattle.translation.specs.Structure.{structure_bytes}
 use Rattle.translation.proofs.Ended.{but_last, some_record, split_last}
-use Rattle.callbacks.specs.Callbacks.{after_entering, after_leaving, enter_callback, entered_slot, leave_callback, left_record, with_stack_row}
+use Rattle.callbacks.specs.Callbacks.{after_entering, after_leaving, enter_callback, entered_slot, leave_callback, left_record}
+use Rattle.callbacks.specs.Callbacks.{with_stack_row}
 
 -- a callback that starts
 pub record IsStart (w u : World) (slot : ℕ) : Type 0 where
@@ -38,7 +39,8 @@ not_there : (b : Bool) (e : Exit) (r : Result World Exit) (u : World) → (if b 
 not_there true e r u h = absurd cc
 not_there false e r u h = (refl, h)
 
-start_of : (w u : World) (slot : ℕ) (o : Option Callback) → callback_of_slot w.callbacks slot ≡ o → entered_slot w slot o ≡ Ok u → IsStart w u slot
+start_of : (w u : World) (slot : ℕ) (o : Option Callback) → callback_of_slot w.callbacks slot ≡ o → entered_slot w slot o ≡ Ok u →
+    IsStart w u slot
 start_of w u slot None held e = absurd cc
 start_of w u slot (Some (procedure, at)) held e =
     let room = not_there (nat_le GREATEST_DEPTH (depth w)) exits.Deep _ u e in

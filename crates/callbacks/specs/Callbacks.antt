@@ -1,7 +1,8 @@
--- A real-mode callback: a real-mode program that reaches its trap byte goes to a procedure of protected mode, which gets the program's registers
--- in a call structure, and leaves there those with which real mode goes on.
+-- A real-mode callback: a real-mode program that reaches its trap byte goes to a procedure of protected mode, which gets the program's
+-- registers in a call structure, and leaves there those with which real mode goes on.
 -- Source: DPMI 0.9, INT 31h function 0303h; the host's stacks, the depth, the descriptor of the real stack and the exits are own.
-use Rattle.std.specs.Prelude.{ℕ, ◌+◌, ◌-◌, ◌*◌, false, true, not, nat_le, List, [], ◌∷◌, ◌++◌, None, Some, Ok, Err, if◌then◌else◌, slice_set, take}
+use Rattle.std.specs.Prelude.{ℕ, ◌+◌, ◌-◌, ◌*◌, false, true, not, nat_le, List, [], ◌∷◌, ◌++◌, None, Some, Ok, Err, if◌then◌else◌}
+use Rattle.std.specs.Prelude.{slice_set, take}
 use Rattle.std.specs.declared.option.Option.{Option}
 use Rattle.std.specs.declared.result.Result.{Result}
 use Rattle.client_world.specs.declared.calls.Record.{Record}
@@ -88,7 +89,8 @@ procedure_regs w procedure at = record w.regs {
 -- the world with the frame, and then the structure
 unfoldable pub with_frame_and_structure : World → ℕ → FarPtr → World
 with_frame_and_structure w slot at =
-    world_after_far_write (world_after_far_write w (callback_frame_start w) (callback_frame_size w) (callback_frame w)) at STRUCTURE_SIZE (caller_structure w slot)
+    world_after_far_write (world_after_far_write w (callback_frame_start w) (callback_frame_size w) (callback_frame w)) at STRUCTURE_SIZE
+    (caller_structure w slot)
 
 -- the world in which the procedure starts, with virtual interrupts off; w has the descriptor of the real caller's stack
 unfoldable pub after_entering : World → ℕ → FarPtr → FarPtr → World
@@ -101,8 +103,8 @@ after_entering w slot procedure at = record (with_frame_and_structure w slot at)
 
 -- ---- the call of a callback
 
--- in the world that has the descriptor of the real caller's stack: first that the procedure can't be loaded, as by a far jump, then that the
--- structure can't be written
+-- in the world that has the descriptor of the real caller's stack: first that the procedure can't be loaded, as by a far jump, then that
+-- the structure can't be written
 abbrev pub entered_with_stack : World → ℕ → Callback → Result World Exit
 entered_with_stack w slot callback =
     if not (is_loadable w Cs callback.0.sel callback.0.off false) then Err exits.BadFrame else

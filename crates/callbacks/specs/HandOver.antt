@@ -27,8 +27,8 @@ pub record IsCallbackPopped (w v : World) : Type 0 where
   pub popped : w.calls ≡ v.calls ++ Back slot at ∷ []
   pub is : v ≡ after_leaving w (structure_bytes w (es_di w))
 
--- from w the callback of a slot led to v: one record is pushed; the procedure has the registers that it starts with; the real caller's stack
--- has its descriptor; and the structure holds the real caller's registers
+-- from w the callback of a slot led to v: one record is pushed; the procedure has the registers that it starts with; the real caller's
+-- stack has its descriptor; and the structure holds the real caller's registers
 pub record HasEntered (w v : World) (slot : ℕ) : Type 0 where
   -- the callback that is held there
   pub procedure : FarPtr
@@ -41,8 +41,8 @@ pub record HasEntered (w v : World) (slot : ℕ) : Type 0 where
   pub stack : row_at_index v.descriptors (stack_index w) ≡ stack_row w
   pub structure : structure_bytes v at ≡ caller_structure w slot
 
--- from w a callback returned, which led to v: one record is popped; real mode goes on with the registers and the virtual interrupt flag of the
--- structure at the present ES:(E)DI, whichever the callback's was
+-- from w a callback returned, which led to v: one record is popped; real mode goes on with the registers and the virtual interrupt flag of
+-- the structure at the present ES:(E)DI, whichever the callback's was
 pub record HasLeft (w v : World) : Type 0 where
   -- of the record
   pub slot : ℕ
@@ -52,8 +52,8 @@ pub record HasLeft (w v : World) : Type 0 where
   pub regs : v.regs ≡ structure_regs (structure_bytes w (es_di w))
   pub vif : v.vif ≡ has_bit (structure_flags (structure_bytes w (es_di w))) INTERRUPT_BIT
 
--- of the world nothing has changed but the mode, the registers, the virtual interrupt flag, the descriptors, the records, and the bytes of the
--- megabyte and of memory blocks
+-- of the world nothing has changed but the mode, the registers, the virtual interrupt flag, the descriptors, the records, and the bytes of
+-- the megabyte and of memory blocks
 abbrev pub LeftForProcedure : World → World → Type 0
 LeftForProcedure w v =
     v ≡ record w { mode = v.mode; regs = v.regs; vif = v.vif; dos = v.dos; blocks = v.blocks; descriptors = v.descriptors; calls = v.calls }

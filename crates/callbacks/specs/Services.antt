@@ -1,5 +1,5 @@
--- The services of INT 31h on real-mode callbacks. Source: DPMI 0.9, INT 31h functions 0303h and 0304h; where the callbacks' addresses are, and
--- the reasons of refusal, are own.
+-- The services of INT 31h on real-mode callbacks. Source: DPMI 0.9, INT 31h functions 0303h and 0304h; where the callbacks' addresses are,
+-- and the reasons of refusal, are own.
 use Rattle.std.specs.Prelude.{ℕ, ◌+◌, ◌-◌, Bool, ◌&&◌, [], ◌∷◌, None, Some, is_none, is_some, nat_eq, nat_le, not, if◌then◌else◌, slice_set}
 use Rattle.std.specs.declared.option.Option.{Option}
 use Rattle.client_world.specs.declared.limits.TheConstants.{CALLBACKS}

@@ -98,7 +98,8 @@ fn callback_frame_start(m: &Machine) -> FarPtr
 fn write_frame(m: &mut Machine)
     requires width { m.old.world.width ≢ None }
     requires depth { depth m.old.world < GREATEST_DEPTH }
-    ensures { m.new ≡ after_far_write m.old (callback_frame_start m.old.world) (callback_frame_size m.old.world) (callback_frame m.old.world) }
+    ensures { m.new ≡ after_far_write m.old (callback_frame_start m.old.world) (callback_frame_size m.old.world)
+        (callback_frame m.old.world) }
 {
     the_protected_stacks_are_reachable();
     m.soundness();
@@ -111,7 +112,8 @@ fn write_frame(m: &mut Machine)
 }
 
 // The structure's bytes.
-#[tactic(auto, unfolding(crate::specs::Callbacks::caller_structure, translation::specs::Structure::index_results, translation::specs::Structure::other_results))]
+#[tactic(auto, unfolding(crate::specs::Callbacks::caller_structure, translation::specs::Structure::index_results, //
+translation::specs::Structure::other_results))]
 fn caller_structure(m: &Machine, slot: u8) -> [u8; 0x32]
     ensures { result ≡ caller_structure m.now.world slot }
 {
@@ -149,7 +151,8 @@ fn procedure_regs(m: &Machine, procedure: FarPtr, at: FarPtr) -> Regs
 }
 
 // Writes the frame, and then the structure.
-#[tactic(auto, unfolding(crate::specs::Callbacks::with_frame_and_structure, guest_space::specs::Far::world_after_far_write, guest_space::specs::Far::after_far_write, guest_space::specs::Transfer::with_places))]
+#[tactic(auto, unfolding(crate::specs::Callbacks::with_frame_and_structure, guest_space::specs::Far::world_after_far_write, //
+guest_space::specs::Far::after_far_write, guest_space::specs::Transfer::with_places))]
 fn write_both(m: &mut Machine, slot: u8, at: FarPtr)
     requires width { m.old.world.width ≢ None }
     requires depth { depth m.old.world < GREATEST_DEPTH }
@@ -210,9 +213,10 @@ fn held_callback(m: &Machine, slot: u8) -> Option<(FarPtr, FarPtr)>
 }
 
 /// Calls the callback of a slot, at whose trap byte a real-mode program arrived: the program's registers are written to the callback's
-/// structure, and its procedure starts in protected mode with virtual interrupts off, on the host's stack of the depth, with DS:(E)SI as the
-/// program's SS:SP and ES:(E)DI as the structure. `Stray` where the slot is free, else `Deep` at the greatest depth, else `BadFrame` where the
-/// procedure can't be loaded as by a far jump, else `LostStructure` where the structure can't be written; an exit leaves the machine as it was.
+/// structure, and its procedure starts in protected mode with virtual interrupts off, on the host's stack of the depth, with DS:(E)SI as
+/// the program's SS:SP and ES:(E)DI as the structure. `Stray` where the slot is free, else `Deep` at the greatest depth, else `BadFrame`
+/// where the procedure can't be loaded as by a far jump, else `LostStructure` where the structure can't be written; an exit leaves the
+/// machine as it was.
 /// Source: DPMI 0.9, INT 31h function 0303h; the host's stacks, the depth and the exits are own.
 #[tactic(auto, using(crate::proofs::SoundStackRow::held_width), unfolding(crate::specs::Callbacks::enter_callback))]
 pub fn enter(m: &mut Machine, slot: u8) -> Result<(), Exit>

@@ -5,7 +5,8 @@ ghost use Rattle.client_world.specs.declared.services.Carry.TheVariants.{Set as 
 ghost use Rattle.client_world.specs.Soundness.{IsSound};
 ghost use Rattle.client_world.specs.World.{World};
 ghost use Rattle.callbacks.specs.Callbacks.{enter_callback, leave_callback};
-ghost use Rattle.callbacks.specs.HandOver.{HasEntered, HasLeft, IsCallbackPopped, IsCallbackPushed, LeftByService, LeftForProcedure, LeftForReal};
+ghost use Rattle.callbacks.specs.HandOver.{HasEntered, HasLeft, IsCallbackPopped, IsCallbackPushed, LeftByService, LeftForProcedure};
+ghost use Rattle.callbacks.specs.HandOver.{LeftForReal};
 ghost use Rattle.callbacks.specs.Services.{callback_service};
 ghost use Rattle.service_rows.specs.Reasons.{HasOtherAx};
 
@@ -16,9 +17,9 @@ pub fn every_callback_is_sound()
     ensures leave { (w u : World) → IsSound w → leave_callback w ≡ Ok u → IsSound u }
 {}
 
-/// The services change the registers and the callbacks alone, and where they are refused AX alone. A callback changes the mode, the registers,
-/// the virtual interrupt flag, the descriptors, the records and the client's memory alone, and its return the mode, the registers, the virtual
-/// interrupt flag and the records.
+/// The services change the registers and the callbacks alone, and where they are refused AX alone. A callback changes the mode, the
+/// registers, the virtual interrupt flag, the descriptors, the records and the client's memory alone, and its return the mode, the
+/// registers, the virtual interrupt flag and the records.
 pub fn every_callback_keeps_the_rest()
     ensures serve { (w : World) (ax : ℕ) → LeftByService w (callback_service ax w).world }
     ensures refused { (w : World) (ax : ℕ) → (callback_service ax w).carry ≡ set → HasOtherAx w (callback_service ax w).world }

@@ -35,7 +35,8 @@ fn stack_row(m: &Machine) -> Option<(Desc, Origin)>
 }
 
 /// Sets the descriptor.
-#[tactic(auto, using(crate::proofs::SoundStackRow::sound_row, crate::proofs::SoundStackRow::not_dos), unfolding(crate::specs::Callbacks::with_stack_row))]
+#[tactic(auto, using(crate::proofs::SoundStackRow::sound_row, crate::proofs::SoundStackRow::not_dos), //
+unfolding(crate::specs::Callbacks::with_stack_row))]
 pub(crate) fn set_stack_row(m: &mut Machine)
     requires width { m.old.world.width ≢ None }
     requires depth { depth m.old.world < GREATEST_DEPTH }

@@ -1,5 +1,6 @@
 -- The pieces of a made client, and the numbers that choose them.
--- Source: the numbers are those of Knuth's MMIX generator; the services are those of the DPMI 0.9 specification, INT 31h; the choice is own.
+-- Source: the numbers are those of Knuth's MMIX generator; the services are those of the DPMI 0.9 specification, INT 31h; the choice is
+-- own.
 use Rattle.std.specs.Prelude.{ℕ, zero, suc, ◌+◌, ◌*◌, ◌/◌, ◌%◌, ◌^◌, List, [], ◌∷◌, ◌++◌, nat_eq, if◌then◌else◌}
 
 -- the number after x

@@ -69,7 +69,8 @@ fn add_chosen(code: &mut Vec<u8>, x: u64) -> Result<(), AllocError>
 }
 
 // The code of the client: the entry into protected mode, the pieces, the end.
-#[tactic(auto, using(crate::proofs::InTurn::number_first, crate::proofs::InTurn::number_next, crate::proofs::InTurn::pieces_first, crate::proofs::InTurn::pieces_next))]
+#[tactic(auto, using(crate::proofs::InTurn::number_first, crate::proofs::InTurn::number_next, crate::proofs::InTurn::pieces_first, //
+crate::proofs::InTurn::pieces_next))]
 fn made_code(alloc: Global, seed: u64) -> Result<Vec<u8>, AllocError>
     ensures code { IfOk result (λ code. code.items ≡ made_code seed) }
     ensures short { IfOk result (λ code. length code.items ≤ 32_019) }

@@ -1,15 +1,21 @@
-// The marked cases of clients/suite: the command's status, and the SHA-256 of all that it writes. `tools/suite --only NAME` shows how the text of a
-// case differs; the client's source says what is expected, and why.
+// The marked cases of clients/suite: the command's status, and the SHA-256 of all that it writes. `tools/suite --only NAME` shows how the
+// text of a case differs; the client's source says what is expected, and why.
+use case::Case;
 use dpmi_cli::dpmi;
 use dpmi_io::{MemShelf, MemSink};
 use sha2::{Digest, Sha256};
 use std::alloc::{AllocError, Global};
 use std::process::Abort;
 use std::test::Fail;
-use table::{Case, TABLE_1, TABLE_2, TABLE_3, TABLE_4, TABLE_5, TABLE_6};
+use tables_1_to_3::{TABLE_1, TABLE_2, TABLE_3};
+use tables_4_to_6::{TABLE_4, TABLE_5, TABLE_6};
 
-mod bytes;
-mod table;
+mod case;
+mod clients_a_to_e;
+mod clients_f_to_g;
+mod clients_h_to_z;
+mod tables_1_to_3;
+mod tables_4_to_6;
 
 // What differs from a case's row.
 #[derive(Clone, Copy, Debug, PartialEq)]

@@ -1,5 +1,6 @@
 -- Where linear addresses lie, what a write leaves as it was, and which places the client holds.
-use Rattle.std.proofs.Common.{◌≡◌, ℕ, zero, suc, ◌+◌, ◌-◌, ◌<◌, ◌≤◌, Bool, true, false, ◌&&◌, List, [], ◌∷◌, length, get_or, set, None, Some, refl, ap, ◌∙◌, sym, subst, arith, zero-add, add-zero, add-one}
+use Rattle.std.proofs.Common.{◌≡◌, ℕ, zero, suc, ◌+◌, ◌-◌, ◌<◌, ◌≤◌, Bool, true, false, ◌&&◌, List, [], ◌∷◌, length, get_or, set, None}
+use Rattle.std.proofs.Common.{Some, refl, ap, ◌∙◌, sym, subst, arith, zero-add, add-zero, add-one}
 use Rattle.std.specs.Prelude.{nat_lt, nat_le, if◌then◌else◌, slice_index_or}
 use Rattle.std.specs.declared.option.Option.{Option}
 use Rattle.std.proofs.lemmas.List.{length-set}
@@ -7,7 +8,8 @@ use Rattle.std.proofs.lemmas.Bool.Decides.{nat_tests}
 use Rattle.client_world.specs.declared.place.Place.{Place}
 use Rattle.client_world.specs.declared.place.Place.TheVariants.{Dos, Block, Host, Nothing}
 use Rattle.client_world.specs.declared.memory_map.TheConstants.{DOS_VIEW_END, BLOCK_REGION, BLOCK_REGION_END, HOST_WINDOW, HOST_WINDOW_END}
-use Rattle.client_world.specs.Access.{dos_address, covers, block_place, place_in, HasByte, IsHeld, may_touch, with_block_byte, with_byte_of, linear, places_from, first_forbidden}
+use Rattle.client_world.specs.Access.{dos_address, covers, block_place, place_in, HasByte, IsHeld, may_touch, with_block_byte, with_byte_of}
+use Rattle.client_world.specs.Access.{linear, places_from, first_forbidden}
 use Rattle.client_world.specs.World.{World, MemoryBlock, block_at}
 
 -- what the tests of an address come to
@@ -33,12 +35,14 @@ unfolding place_in
 place-gap blocks l from to =
     rw (lt_no l DOS_VIEW_END from, le_no BLOCK_REGION l to, le_no HOST_WINDOW l (omega arith)) refl
 
-pub place-block : (blocks : List (Option MemoryBlock)) (l : ℕ) → BLOCK_REGION ≤ l → l < BLOCK_REGION_END → place_in blocks l ≡ block_place blocks 1 l
+pub place-block : (blocks : List (Option MemoryBlock)) (l : ℕ) → BLOCK_REGION ≤ l → l < BLOCK_REGION_END →
+    place_in blocks l ≡ block_place blocks 1 l
 unfolding place_in
 place-block blocks l from to =
     rw (lt_no l DOS_VIEW_END (omega arith), le_yes BLOCK_REGION l from, lt_yes l BLOCK_REGION_END to) refl
 
-pub place-gap_above_blocks : (blocks : List (Option MemoryBlock)) (l : ℕ) → BLOCK_REGION_END ≤ l → l < HOST_WINDOW → place_in blocks l ≡ Nothing
+pub place-gap_above_blocks : (blocks : List (Option MemoryBlock)) (l : ℕ) → BLOCK_REGION_END ≤ l → l < HOST_WINDOW →
+    place_in blocks l ≡ Nothing
 unfolding place_in
 place-gap_above_blocks blocks l from to =
     rw (lt_no l DOS_VIEW_END (omega arith), le_yes BLOCK_REGION l (omega arith), lt_no l BLOCK_REGION_END from, le_no HOST_WINDOW l to) refl
@@ -46,12 +50,24 @@ place-gap_above_blocks blocks l from to =
 pub place-host : (blocks : List (Option MemoryBlock)) (l : ℕ) → HOST_WINDOW ≤ l → l < HOST_WINDOW_END → place_in blocks l ≡ Host
 unfolding place_in
 place-host blocks l from to =
-    rw (lt_no l DOS_VIEW_END (omega arith), le_yes BLOCK_REGION l (omega arith), lt_no l BLOCK_REGION_END (omega arith), le_yes HOST_WINDOW l from, lt_yes l HOST_WINDOW_END to) refl
+    rw (
+      lt_no l DOS_VIEW_END (omega arith),
+      le_yes BLOCK_REGION l (omega arith),
+      lt_no l BLOCK_REGION_END (omega arith),
+      le_yes HOST_WINDOW l from,
+      lt_yes l HOST_WINDOW_END to,
+    ) refl
 
 pub place-above : (blocks : List (Option MemoryBlock)) (l : ℕ) → HOST_WINDOW_END ≤ l → place_in blocks l ≡ Nothing
 unfolding place_in
 place-above blocks l from =
-    rw (lt_no l DOS_VIEW_END (omega arith), le_yes BLOCK_REGION l (omega arith), lt_no l BLOCK_REGION_END (omega arith), le_yes HOST_WINDOW l (omega arith), lt_no l HOST_WINDOW_END from) refl
+    rw (
+      lt_no l DOS_VIEW_END (omega arith),
+      le_yes BLOCK_REGION l (omega arith),
+      lt_no l BLOCK_REGION_END (omega arith),
+      le_yes HOST_WINDOW l (omega arith),
+      lt_no l HOST_WINDOW_END from,
+    ) refl
 
 -- a run of n bytes has n places, each where its own linear address lies
 pub length-places_from : (blocks : List (Option MemoryBlock)) (at n : ℕ) → length (places_from blocks at n) ≡ n
@@ -59,7 +75,8 @@ unfolding places_from
 length-places_from blocks at zero = refl
 length-places_from blocks at (suc n) = ap suc (length-places_from blocks (at + 1) n)
 
-pub places_from-at : (blocks : List (Option MemoryBlock)) (at n i : ℕ) (p : Place) → i < n → slice_index_or (places_from blocks at n) i p ≡ place_in blocks (linear (at + i))
+pub places_from-at : (blocks : List (Option MemoryBlock)) (at n i : ℕ) (p : Place) → i < n →
+    slice_index_or (places_from blocks at n) i p ≡ place_in blocks (linear (at + i))
 unfolding places_from
 places_from-at blocks at zero i p h = absurd (omega arith)
 places_from-at blocks at (suc n) zero p h = rw (add-zero at) refl
@@ -72,13 +89,15 @@ pub place_in-same : (a b : List (Option MemoryBlock)) (l : ℕ) → block_place 
 unfolding place_in
 place_in-same a b l e = rw e refl
 
-pub places_from-same : (a b : List (Option MemoryBlock)) → ((l : ℕ) → place_in a l ≡ place_in b l) → (at n : ℕ) → places_from a at n ≡ places_from b at n
+pub places_from-same : (a b : List (Option MemoryBlock)) → ((l : ℕ) → place_in a l ≡ place_in b l) → (at n : ℕ) →
+    places_from a at n ≡ places_from b at n
 unfolding places_from
 places_from-same a b same at zero = refl
 places_from-same a b same at (suc n) = rw (same (linear at), places_from-same a b same (at + 1) n) refl
 
 -- a write keeps the length of its block, so it moves nothing
-block_place-with_byte : (blocks : List (Option MemoryBlock)) (place at v handle l : ℕ) → block_place (set blocks place (with_block_byte (get_or blocks place None) at v)) handle l ≡ block_place blocks handle l
+block_place-with_byte : (blocks : List (Option MemoryBlock)) (place at v handle l : ℕ) →
+    block_place (set blocks place (with_block_byte (get_or blocks place None) at v)) handle l ≡ block_place blocks handle l
 block_place-with_byte [] place at v handle l = refl
 block_place-with_byte (None ∷ blocks) zero at v handle l = refl
 block_place-with_byte (Some block ∷ blocks) zero at v handle l = rw (length-set block.bytes at v) refl
@@ -101,7 +120,9 @@ block_at-next : (blocks : List (Option MemoryBlock)) (place : ℕ) → block_at 
 block_at-next blocks place = rw (add-one place) refl
 
 -- of two places the one that is chosen
-held-choice : (w : World) (c : Bool) (one other : Place) (write : Bool) → (c ≡ true → may_touch one write ≡ true → IsHeld w one) → (may_touch other write ≡ true → IsHeld w other) → may_touch (if c then one else other) write ≡ true → IsHeld w (if c then one else other)
+held-choice : (w : World) (c : Bool) (one other : Place) (write : Bool) → (c ≡ true → may_touch one write ≡ true → IsHeld w one) →
+    (may_touch other write ≡ true → IsHeld w other) → may_touch (if c then one else other) write ≡ true →
+    IsHeld w (if c then one else other)
 held-choice w true one other write f g h = f refl h
 held-choice w false one other write f g h = g h
 
@@ -112,7 +133,8 @@ held-nothing : (w : World) (write : Bool) → may_touch Nothing write ≡ true �
 held-nothing w write h = absurd cc
 
 -- the blocks from a handle on, which are the rest of the world's
-held-block : (w : World) (blocks : List (Option MemoryBlock)) (start l : ℕ) (write : Bool) → ((i : ℕ) → get_or blocks i None ≡ get_or w.blocks (start + i) None) → may_touch (block_place blocks (start + 1) l) write ≡ true → IsHeld w (block_place blocks (start + 1) l)
+held-block : (w : World) (blocks : List (Option MemoryBlock)) (start l : ℕ) (write : Bool) → ((i : ℕ) → get_or blocks i None ≡ get_or
+    w.blocks (start + i) None) → may_touch (block_place blocks (start + 1) l) write ≡ true → IsHeld w (block_place blocks (start + 1) l)
 held-block w [] start l write rest h = held-nothing w write h
 held-block w (None ∷ blocks) start l write rest h = held-block w blocks (start + 1) l write (λ i.
     let same : start + suc i ≡ start + 1 + i = omega arith in
@@ -126,7 +148,8 @@ held-block w (Some block ∷ blocks) start l write rest h =
     found : Some block ≡ block_at w.blocks (start + 1)
     found = rest 0 ∙ ap (λ (j : ℕ). get_or w.blocks j None) (add-zero start) ∙ sym (block_at-next w.blocks start)
 
-    here : covers block l ≡ true → may_touch (Block (start + 1) (l - block.base)) write ≡ true → IsHeld w (Block (start + 1) (l - block.base))
+    here : covers block l ≡ true → may_touch (Block (start + 1) (l - block.base)) write ≡ true →
+        IsHeld w (Block (start + 1) (l - block.base))
     here within _ = subst (λ (o : Option MemoryBlock). HasByte o (l - block.base)) found (covers-below block l within)
 
 -- what the client may touch is its own
@@ -151,13 +174,15 @@ allowed-both : (c : Bool) (rest : Option Place) (p : Place) → (if c then rest 
 allowed-both true rest p h = (refl, h)
 allowed-both false rest p h = absurd cc
 
-pub first_forbidden-none : (ps : List Place) (write : Bool) → first_forbidden ps write ≡ None → (i : ℕ) → i < length ps → may_touch (slice_index_or ps i Nothing) write ≡ true
+pub first_forbidden-none : (ps : List Place) (write : Bool) → first_forbidden ps write ≡ None → (i : ℕ) → i < length ps →
+    may_touch (slice_index_or ps i Nothing) write ≡ true
 first_forbidden-none [] write h i within = absurd (omega arith)
 first_forbidden-none (p ∷ ps) write h zero within = (allowed-both (may_touch p write) (first_forbidden ps write) p h).0
 first_forbidden-none (p ∷ ps) write h (suc i) within =
     first_forbidden-none ps write (allowed-both (may_touch p write) (first_forbidden ps write) p h).1 i (omega arith)
 
-pub first_forbidden-none_where_allowed : (ps : List Place) (write : Bool) → ((i : ℕ) → i < length ps → may_touch (slice_index_or ps i Nothing) write ≡ true) → first_forbidden ps write ≡ None
+pub first_forbidden-none_where_allowed : (ps : List Place) (write : Bool) →
+    ((i : ℕ) → i < length ps → may_touch (slice_index_or ps i Nothing) write ≡ true) → first_forbidden ps write ≡ None
 first_forbidden-none_where_allowed [] write h = refl
 first_forbidden-none_where_allowed (p ∷ ps) write h =
     let first : may_touch p write ≡ true = h 0 (omega arith) in

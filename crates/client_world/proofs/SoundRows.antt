@@ -1,5 +1,6 @@
 -- A row put at an index of the descriptors leaves a sound world sound: a row of the client, or one of the host for a callback.
-use Rattle.std.proofs.Common.{◌≡◌, ◌≢◌, ◌≤◌, ℕ, ◌<◌, inl, inr, List, length, slice_set, refl, ◌∙◌, sym, subst, arith, Option, None, Some, get_or-set_same, get_or-set_other, length-set}
+use Rattle.std.proofs.Common.{◌≡◌, ◌≢◌, ◌≤◌, ℕ, ◌<◌, inl, inr, List, length, slice_set, refl, ◌∙◌, sym, subst, arith, Option, None, Some}
+use Rattle.std.proofs.Common.{get_or-set_same, get_or-set_other, length-set}
 use Rattle.std.proofs.lemmas.Bool.{cases_eq}
 use Rattle.client_world.specs.declared.descriptors.Desc.{Desc}
 use Rattle.client_world.specs.declared.descriptors.Origin.{Origin}
@@ -11,7 +12,8 @@ use Rattle.client_world.specs.declared.selectors.TheConstants.{HOST_CODE, HOST_S
 use Rattle.client_world.specs.Descriptor.{FitsDescriptor}
 use Rattle.client_world.specs.DosMemory.{block_segment}
 use Rattle.client_world.specs.Selector.{Row, FitsRow, row_at_index}
-use Rattle.client_world.specs.Soundness.{IsSound, SoundDescriptors, SoundRuns, SoundWidth, HasOrigin, HasRun, IsOfDosBlock, IsDosOrigin, IsPlainOrigin, IsPlainRow, IsClientsIndex, IsCallbackStack}
+use Rattle.client_world.specs.Soundness.{IsSound, SoundDescriptors, SoundRuns, SoundWidth, HasOrigin, HasRun, IsOfDosBlock, IsDosOrigin}
+use Rattle.client_world.specs.Soundness.{IsPlainOrigin, IsPlainRow, IsClientsIndex, IsCallbackStack}
 use Rattle.client_world.specs.World.{World}
 
 -- the row fits, neither it nor the one before it is a DOS block's, and it is the only one of its real segment
@@ -20,7 +22,8 @@ pub record CanStand (rows : List Row) (index : ℕ) (row : Row) : Type 0 where
   pub fits : FitsRow row
   pub old : ¬ IsOfDosBlock (row_at_index rows index)
   pub new : ¬ IsOfDosBlock row
-  pub alone : (segment other : ℕ) → HasOrigin row (Segment segment) → other ≢ index → ¬ HasOrigin (row_at_index rows other) (Segment segment)
+  pub alone : (segment other : ℕ) → HasOrigin row (Segment segment) → other ≢ index →
+      ¬ HasOrigin (row_at_index rows other) (Segment segment)
 
 -- it takes the place of neither of the host's two rows, and is itself the host's exactly at the indices of callbacks' stacks
 pub record SuitsHost (index : ℕ) (row : Row) : Type 0 where
@@ -31,7 +34,8 @@ pub record SuitsHost (index : ℕ) (row : Row) : Type 0 where
 
 -- what is true of the new row, and of each old one elsewhere, is true of every row after the change
 of_each : (rows : List Row) (index : ℕ) (row : Row) (P : ℕ → Row → Type 0) → index < length rows → P index row →
-    ((other : ℕ) → other ≢ index → P other (row_at_index rows other)) → (other : ℕ) → P other (row_at_index (slice_set rows index row) other)
+    ((other : ℕ) → other ≢ index → P other (row_at_index rows other)) → (other : ℕ) →
+    P other (row_at_index (slice_set rows index row) other)
 of_each rows index row P within here elsewhere other = elim (cases_eq other index) [
   | inl e ↦ subst (λ (k : ℕ). P k (row_at_index (slice_set rows index row) k)) (sym e)
       (subst (P index) (sym (get_or-set_same rows index row None within)) here)
@@ -43,7 +47,8 @@ of_dos None segment e = e
 of_dos (Some row) segment e = rw e tt
 
 abbrev IsAsBefore : ℕ → Row → Row → Type 0
-IsAsBefore segment old new = (HasOrigin old (Dos segment) → HasOrigin new (Dos segment)) × (HasOrigin new (Dos segment) → HasOrigin old (Dos segment))
+IsAsBefore segment old new = (HasOrigin old (Dos segment) → HasOrigin new (Dos segment))
+    × (HasOrigin new (Dos segment) → HasOrigin old (Dos segment))
 
 -- the descriptors of DOS blocks are where they were
 same_dos : (rows : List Row) (index : ℕ) (row : Row) (segment : ℕ) → index < length rows → CanStand rows index row → (other : ℕ) →
@@ -59,7 +64,8 @@ sound_descriptors rows index row s can = record {
   indices = length-set rows index row ∙ s.indices;
   fits = of_each rows index row (λ (k : ℕ) (r : Row). FitsRow r) within can.fits (λ other ne. s.fits other);
   segments = λ one other segment. of_each rows index row
-      (λ (k : ℕ) (r : Row). HasOrigin r (Segment segment) → HasOrigin (row_at_index (slice_set rows index row) other) (Segment segment) → k ≡ other) within
+      (λ (k : ℕ) (r : Row). HasOrigin r (Segment segment) → HasOrigin (row_at_index (slice_set rows index row) other) (Segment segment) →
+      k ≡ other) within
       (λ e. of_each rows index row (λ (j : ℕ) (r : Row). HasOrigin r (Segment segment) → index ≡ j) within
       (λ f. refl) (λ j ne f. absurd (can.alone segment j e ne f)) other)
       (λ k ne e. of_each rows index row (λ (j : ℕ) (r : Row). HasOrigin r (Segment segment) → k ≡ j) within
@@ -93,7 +99,8 @@ sound_runs rows index row arena s size can = record {
           };
         }
 
-sound_width : (width : Option Width) (w : World) (index : ℕ) (row : Row) → SoundWidth width w → width ≢ None → index < length w.descriptors →
+sound_width : (width : Option Width) (w : World) (index : ℕ) (row : Row) → SoundWidth width w → width ≢ None →
+    index < length w.descriptors →
     SuitsHost index row → SoundWidth width (record w { descriptors = slice_set w.descriptors index row })
 sound_width None w index row s some within suits = absurd (some refl)
 sound_width (Some width) w index row s some within suits = record {
@@ -129,7 +136,8 @@ sound_with_rows w width rows s descriptors runs own = record {
 }
 
 -- the world with another row
-pub row_keeps_sound : (w : World) (index : ℕ) (row : Row) → IsSound w → w.width ≢ None → CanStand w.descriptors index row → SuitsHost index row →
+pub row_keeps_sound : (w : World) (index : ℕ) (row : Row) → IsSound w → w.width ≢ None → CanStand w.descriptors index row →
+    SuitsHost index row →
     IsSound (record w { descriptors = slice_set w.descriptors index row })
 row_keeps_sound w index row s some can suits =
     sound_with_rows w w.width (slice_set w.descriptors index row) s (sound_descriptors w.descriptors index row s.descriptors can)
@@ -138,7 +146,8 @@ row_keeps_sound w index row s some can suits =
 
 -- ---- a row of the host
 
-pub host_stands : (rows : List Row) (index : ℕ) (d : Desc) → index < DESCRIPTORS → FitsDescriptor d → ¬ IsOfDosBlock (row_at_index rows index) →
+pub host_stands : (rows : List Row) (index : ℕ) (d : Desc) → index < DESCRIPTORS → FitsDescriptor d →
+    ¬ IsOfDosBlock (row_at_index rows index) →
     CanStand rows index (Some (d, Host))
 host_stands rows index d within fits old = record {
   within = within;
@@ -182,7 +191,8 @@ no_other_origin None origin plain other e = e
 no_other_origin (Some row) origin plain other e = other (subst IsPlainOrigin e plain)
 
 pub IsSound-row : (w : World) (index : ℕ) (row : Row) → IsSound w → w.width ≢ None → index < DESCRIPTORS → FitsRow row → IsPlainRow row →
-    ¬ IsOfDosBlock (row_at_index w.descriptors index) → IsClientsIndex index → IsSound (record w { descriptors = slice_set w.descriptors index row })
+    ¬ IsOfDosBlock (row_at_index w.descriptors index) → IsClientsIndex index →
+    IsSound (record w { descriptors = slice_set w.descriptors index row })
 IsSound-row w index row s some within fits plain old clients =
     row_keeps_sound w index row s some
     (record {

@@ -1,5 +1,7 @@
 -- A byte that the client may write, the registers, the virtual interrupt flag and the mode leave a sound world sound.
-use Rattle.std.proofs.Common.{◌≡◌, ℕ, ◌+◌, ◌<◌, ◌≤◌, ◌⊎◌, inl, inr, zero, suc, Bool, true, List, [], ◌∷◌, length, get_or, set, slice_index, slice_index_or, slice_set, refl, ap, ◌∙◌, sym, subst, arith, Option, Some, None, get_or-set_same, get_or-set_other, length-set}
+use Rattle.std.proofs.Common.{◌≡◌, ℕ, ◌+◌, ◌<◌, ◌≤◌, ◌⊎◌, inl, inr, zero, suc, Bool, true, List, [], ◌∷◌, length, get_or, set, slice_index}
+use Rattle.std.proofs.Common.{slice_index_or, slice_set, refl, ap, ◌∙◌, sym, subst, arith, Option, Some, None, get_or-set_same}
+use Rattle.std.proofs.Common.{get_or-set_other, length-set}
 use Rattle.std.proofs.lemmas.Bool.{cases_eq, ltb-true}
 use Rattle.std.proofs.lemmas.Option.{same_Some}
 use Rattle.client_world.specs.declared.registers.Mode.{Mode}
@@ -11,7 +13,8 @@ use Rattle.client_world.specs.declared.place.Place.TheVariants.{Dos, Block, Host
 use Rattle.client_world.specs.declared.memory_map.TheConstants.{ROM_START}
 use Rattle.client_world.specs.Access.{may_touch, with_byte_of, with_bytes_of, with_block_byte, byte_of, bytes_of}
 use Rattle.client_world.specs.World.{World, MemoryBlock, block_at, with_block_at}
-use Rattle.client_world.specs.Soundness.{IsSound, HasSegments, SoundMegabyte, SoundBlocks, SoundWidth, IsBlock, HoldBytes, pages_of_block, pages_of_blocks}
+use Rattle.client_world.specs.Soundness.{IsSound, HasSegments, SoundMegabyte, SoundBlocks, SoundWidth, IsBlock, HoldBytes, pages_of_block}
+use Rattle.client_world.specs.Soundness.{pages_of_blocks}
 
 -- the megabyte
 
@@ -105,7 +108,8 @@ pages_place [] place at v = refl
 pages_place (block ∷ blocks) zero at v = ap (λ (n : ℕ). n + pages_of_blocks blocks) (pages_byte block at v)
 pages_place (block ∷ blocks) (suc place) at v = ap (λ (n : ℕ). pages_of_block block + n) (pages_place blocks place at v)
 
-pub pages-written : (blocks : List (Option MemoryBlock)) (number at v : ℕ) → pages_of_blocks (written blocks number at v) ≡ pages_of_blocks blocks
+pub pages-written : (blocks : List (Option MemoryBlock)) (number at v : ℕ) →
+    pages_of_blocks (written blocks number at v) ≡ pages_of_blocks blocks
 pages-written blocks zero at v = refl
 pages-written blocks (suc place) at v = pages_place blocks place at v
 
@@ -134,7 +138,8 @@ SoundBlocks-written blocks budget number at v s = record {
 }
 
 -- a byte among bytes leaves bytes
-bytes-set : (xs : List ℕ) (at v : ℕ) → ((k : ℕ) → slice_index xs k < 0x100) → v < 0x100 → (k : ℕ) → slice_index (slice_set xs at v) k < 0x100
+bytes-set : (xs : List ℕ) (at v : ℕ) → ((k : ℕ) → slice_index xs k < 0x100) → v < 0x100 → (k : ℕ) →
+    slice_index (slice_set xs at v) k < 0x100
 bytes-set [] at v small fits k = omega arith
 bytes-set (x ∷ xs) zero v small fits zero = fits
 bytes-set (x ∷ xs) zero v small fits (suc k) = small (suc k)
@@ -149,7 +154,8 @@ bytes_with (Some was) at v block small fits e = λ k.
     let same : record was { bytes = slice_set was.bytes at v } ≡ block = same_Some _ _ e in
     subst (λ (b : MemoryBlock). slice_index b.bytes k < 0x100) same (bytes-set was.bytes at v (small was refl) fits k)
 
-pub HoldBytes-written : (blocks : List (Option MemoryBlock)) (number at v : ℕ) → HoldBytes blocks → v < 0x100 → HoldBytes (written blocks number at v)
+pub HoldBytes-written : (blocks : List (Option MemoryBlock)) (number at v : ℕ) → HoldBytes blocks → v < 0x100 →
+    HoldBytes (written blocks number at v)
 HoldBytes-written blocks number at v small fits handle block e = elim (written_at blocks number at v handle) [
   | inl same ↦ small handle block (sym same ∙ e)
   | inr byte ↦ bytes_with (block_at blocks handle) at v block (small handle) fits (sym byte ∙ e)
@@ -293,7 +299,8 @@ real_width : (width : Option Width) (w : World) → SoundWidth width w → Sound
 real_width None w s = record { mode = refl; descriptors = s.descriptors; blocks = s.blocks; callbacks = s.callbacks; calls = s.calls }
 real_width (Some width) w s = s
 
-some_width : (width : Option Width) (x : Width) (mode : Mode) (w : World) → width ≡ Some x → SoundWidth width w → SoundWidth width (record w { mode = mode })
+some_width : (width : Option Width) (x : Width) (mode : Mode) (w : World) → width ≡ Some x → SoundWidth width w →
+    SoundWidth width (record w { mode = mode })
 some_width None x mode w e s = cc
 some_width (Some width) x mode w e s = s
 

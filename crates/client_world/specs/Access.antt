@@ -1,6 +1,7 @@
 -- Where a linear address lies, which places a client may touch, and how an access is refused.
 -- Source: 80386 Programmer's Reference Manual, ch. 5, 6, 9 and 15; the memory map and the order of the refusals are own.
-use Rattle.std.specs.Prelude.{ℕ, ◌+◌, ◌-◌, ◌*◌, ◌%◌, ◌<◌, ◌^◌, ⊤, zero, suc, Bool, true, false, ◌&&◌, ◌||◌, not, nat_lt, nat_le, if◌then◌else◌, cond, List, [], ◌∷◌, length, None, Some, Ok, Err, is_ok, slice_index, slice_set}
+use Rattle.std.specs.Prelude.{ℕ, ◌+◌, ◌-◌, ◌*◌, ◌%◌, ◌<◌, ◌^◌, ⊤, zero, suc, Bool, true, false, ◌&&◌, ◌||◌, not, nat_lt, nat_le}
+use Rattle.std.specs.Prelude.{if◌then◌else◌, cond, List, [], ◌∷◌, length, None, Some, Ok, Err, is_ok, slice_index, slice_set}
 use Rattle.std.specs.declared.option.Option.{Option}
 use Rattle.std.specs.declared.result.Result.{Result}
 use Rattle.client_world.specs.declared.registers.Mode.{Mode}
@@ -11,10 +12,12 @@ use Rattle.client_world.specs.declared.segments.SegReg.TheVariants.{Es, Cs, Ss, 
 use Rattle.client_world.specs.declared.segments.FarPtr.{FarPtr}
 use Rattle.client_world.specs.declared.descriptors.Kind.{Kind}
 use Rattle.client_world.specs.declared.faults.Fault.{Fault}
-use Rattle.client_world.specs.declared.faults.TheConstants.{SEGMENT_NOT_PRESENT, STACK_EXCEPTION, GENERAL_PROTECTION, PAGE_FAULT, PROTECTION_CODE, WRITE_CODE, USER_CODE}
+use Rattle.client_world.specs.declared.faults.TheConstants.{SEGMENT_NOT_PRESENT, STACK_EXCEPTION, GENERAL_PROTECTION, PAGE_FAULT}
+use Rattle.client_world.specs.declared.faults.TheConstants.{PROTECTION_CODE, WRITE_CODE, USER_CODE}
 use Rattle.client_world.specs.declared.place.Place.{Place}
 use Rattle.client_world.specs.declared.place.Place.TheVariants.{Dos, Block, Host, Nothing}
-use Rattle.client_world.specs.declared.memory_map.TheConstants.{PARAGRAPH_SIZE, SEGMENT_SIZE, DOS_SIZE, ROM_START, DOS_VIEW_END, BLOCK_REGION, BLOCK_REGION_END, HOST_WINDOW, HOST_WINDOW_END}
+use Rattle.client_world.specs.declared.memory_map.TheConstants.{PARAGRAPH_SIZE, SEGMENT_SIZE, DOS_SIZE, ROM_START, DOS_VIEW_END}
+use Rattle.client_world.specs.declared.memory_map.TheConstants.{BLOCK_REGION, BLOCK_REGION_END, HOST_WINDOW, HOST_WINDOW_END}
 use Rattle.client_world.specs.Descriptor.{is_code, is_writable, is_inside}
 use Rattle.client_world.specs.Segments.{selector}
 use Rattle.client_world.specs.Selector.{Row, is_null, row_of_selector, selector_code}

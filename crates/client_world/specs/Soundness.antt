@@ -1,5 +1,6 @@
 -- What is true of every world that is reached. Each part of the world has its own conditions. Source: own.
-use Rattle.std.specs.Prelude.{◌≡◌, ◌≢◌, ⊤, ℕ, ◌+◌, ◌-◌, ◌*◌, ◌/◌, ◌%◌, ◌<◌, ◌≤◌, ◌⊎◌, Bool, true, false, List, [], ◌∷◌, length, None, Some, slice_index, slice_index_or, slice_get}
+use Rattle.std.specs.Prelude.{◌≡◌, ◌≢◌, ⊤, ℕ, ◌+◌, ◌-◌, ◌*◌, ◌/◌, ◌%◌, ◌<◌, ◌≤◌, ◌⊎◌, Bool, true, false, List, [], ◌∷◌, length, None, Some}
+use Rattle.std.specs.Prelude.{slice_index, slice_index_or, slice_get}
 use Rattle.std.specs.declared.option.Option.{Option}
 use Rattle.client_world.specs.declared.registers.Mode.TheVariants.{Real}
 use Rattle.client_world.specs.declared.registers.Regs.{Regs}
@@ -11,8 +12,10 @@ use Rattle.client_world.specs.declared.descriptors.Origin.{Origin}
 use Rattle.client_world.specs.declared.descriptors.Origin.TheVariants.{Own, Low, Entry, Psp, Segment, Dos, Host}
 use Rattle.client_world.specs.declared.dos_memory.DosEntry.{DosEntry}
 use Rattle.client_world.specs.declared.host_frames.TheConstants.{PAGE_SIZE, DESCRIPTORS, FIRST_FREE_DESCRIPTOR}
-use Rattle.client_world.specs.declared.limits.TheConstants.{MAX_BLOCKS, GREATEST_LOCK_COUNT, GREATEST_DEPTH, CALLBACKS, INTERRUPT_VECTORS, EXCEPTION_VECTORS}
-use Rattle.client_world.specs.declared.memory_map.TheConstants.{DOS_SIZE, DOS_VIEW_PAGES, ROM_START, ROM_BYTE, BLOCK_REGION, BLOCK_REGION_END, PROTECTED_STACKS, PROTECTED_STACK_SIZE}
+use Rattle.client_world.specs.declared.limits.TheConstants.{MAX_BLOCKS, GREATEST_LOCK_COUNT, GREATEST_DEPTH, CALLBACKS, INTERRUPT_VECTORS}
+use Rattle.client_world.specs.declared.limits.TheConstants.{EXCEPTION_VECTORS}
+use Rattle.client_world.specs.declared.memory_map.TheConstants.{DOS_SIZE, DOS_VIEW_PAGES, ROM_START, ROM_BYTE, BLOCK_REGION}
+use Rattle.client_world.specs.declared.memory_map.TheConstants.{BLOCK_REGION_END, PROTECTED_STACKS, PROTECTED_STACK_SIZE}
 use Rattle.client_world.specs.declared.selectors.TheConstants.{HOST_CODE, HOST_STACKS, CALLBACK_STACKS}
 use Rattle.client_world.specs.Descriptor.{plain}
 use Rattle.client_world.specs.DosMemory.{IsArena, is_dpmi, block_segment}
@@ -61,7 +64,8 @@ pages_of_blocks (block ∷ blocks) = pages_of_block block + pages_of_blocks bloc
 pub record SoundBlocks (blocks : List (Option MemoryBlock)) (budget : ℕ) : Type 0 where
   pub handles : length blocks ≡ MAX_BLOCKS
   pub each : (handle : ℕ) (block : MemoryBlock) → block_at blocks handle ≡ Some block → IsBlock block
-  pub apart : (one other : ℕ) (first second : MemoryBlock) → one ≢ other → block_at blocks one ≡ Some first → block_at blocks other ≡ Some second → AreApart first second
+  pub apart : (one other : ℕ) (first second : MemoryBlock) → one ≢ other → block_at blocks one ≡ Some first →
+      block_at blocks other ≡ Some second → AreApart first second
   pub within : pages_of_blocks blocks ≤ budget
 
 -- what the blocks hold are bytes

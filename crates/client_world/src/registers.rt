@@ -1,7 +1,8 @@
 // The mode, the flags and the registers of the processor.
 ghost use Rattle.std.specs.Prelude.{◌≡◌, ◌≤◌, ◌<◌, ◌/◌, Bool, cond};
 ghost use Rattle.client_world.specs.General.{general, with_general};
-ghost use Rattle.client_world.specs.Registers.{flags_image, flags_of_image, has_bit, high_byte, low_byte, low_half, with_low_byte, with_low_half};
+ghost use Rattle.client_world.specs.Registers.{flags_image, flags_of_image, has_bit, high_byte, low_byte, low_half, with_low_byte};
+ghost use Rattle.client_world.specs.Registers.{with_low_half};
 ghost use Rattle.client_world.specs.Segments.{selector, with_selector};
 
 use crate::general::{EAX, EBP, EBX, ECX, EDX, ESI, ESP};

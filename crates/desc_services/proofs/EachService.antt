@@ -3,7 +3,9 @@ use Rattle.std.proofs.Common.{ℕ}
 use Rattle.client_world.specs.World.{World}
 use Rattle.service_rows.specs.Reasons.{Service, unsupported}
 use Rattle.service_rows.proofs.AnswerLaws.{if_has}
-use Rattle.desc_services.specs.Rows.{allocate_descriptors, free_descriptor, segment_to_descriptor, selector_increment, get_segment_base, set_segment_base, set_segment_limit, set_access_rights, create_alias, get_descriptor, set_descriptor, allocate_specific, descriptor_function}
+use Rattle.desc_services.specs.Rows.{allocate_descriptors, free_descriptor, segment_to_descriptor, selector_increment, get_segment_base}
+use Rattle.desc_services.specs.Rows.{set_segment_base, set_segment_limit, set_access_rights, create_alias, get_descriptor, set_descriptor}
+use Rattle.desc_services.specs.Rows.{allocate_specific, descriptor_function}
 
 pub record Each (P : Service → Type 0) (w : World) : Type 0 where
   pub f0 : P (allocate_descriptors w)
@@ -24,4 +26,5 @@ pub of_each_service : (P : Service → Type 0) (w : World) → Each P w → (ax 
 unfolding descriptor_function
 of_each_service P w e ax =
     if_has P _ _ _ e.f0 (if_has P _ _ _ e.f1 (if_has P _ _ _ e.f2 (if_has P _ _ _ e.f3 (if_has P _ _ _ e.f6 (if_has P _ _ _ e.f7
-    (if_has P _ _ _ e.f8 (if_has P _ _ _ e.f9 (if_has P _ _ _ e.fA (if_has P _ _ _ e.fB (if_has P _ _ _ e.fC (if_has P _ _ _ e.fD e.other)))))))))))
+    (if_has P _ _ _ e.f8
+    (if_has P _ _ _ e.f9 (if_has P _ _ _ e.fA (if_has P _ _ _ e.fB (if_has P _ _ _ e.fC (if_has P _ _ _ e.fD e.other)))))))))))

@@ -1,5 +1,6 @@
 -- Bytes at far pointers are bytes, and so are those of a packed descriptor.
-use Rattle.std.proofs.Common.{◌≡◌, ◌≤◌, ◌<◌, ◌%◌, ◌/◌, ◌^◌, ℕ, zero, suc, Bool, true, false, cond, inl, inr, List, [], ◌∷◌, slice_index, refl, subst, arith, Option, None, Some}
+use Rattle.std.proofs.Common.{◌≡◌, ◌≤◌, ◌<◌, ◌%◌, ◌/◌, ◌^◌, ℕ, zero, suc, Bool, true, false, cond, inl, inr, List, [], ◌∷◌, slice_index}
+use Rattle.std.proofs.Common.{refl, subst, arith, Option, None, Some}
 use Rattle.std.proofs.lemmas.Bool.{cases_Bool, cond-true, cond-false}
 use Rattle.client_world.specs.declared.descriptors.Desc.{Desc}
 use Rattle.client_world.specs.declared.descriptors.Kind.{Kind}

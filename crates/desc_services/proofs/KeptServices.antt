@@ -7,7 +7,10 @@ use Rattle.guest_space.specs.Transfer.{HasOtherMemory}
 use Rattle.guest_space.proofs.FarPuts.{other_far_put}
 use Rattle.service_rows.specs.FreeRun.{first_free_run}
 use Rattle.service_rows.specs.Reasons.{Service, first_reason, unsupported}
-use Rattle.desc_services.specs.Rows.{with_new_alias, descriptor_function, free_descriptor, get_segment_base, get_descriptor, with_new_run, allocate_descriptors, create_alias, allocate_specific, segment_to_descriptor, with_segment, segment_index, with_new_segment, descriptor_service, set_segment_base, set_segment_limit, set_descriptor, set_access_rights, selector_increment}
+use Rattle.desc_services.specs.Rows.{with_new_alias, descriptor_function, free_descriptor, get_segment_base, get_descriptor, with_new_run}
+use Rattle.desc_services.specs.Rows.{allocate_descriptors, create_alias, allocate_specific, segment_to_descriptor, with_segment}
+use Rattle.desc_services.specs.Rows.{segment_index, with_new_segment, descriptor_service, set_segment_base, set_segment_limit}
+use Rattle.desc_services.specs.Rows.{set_descriptor, set_access_rights, selector_increment}
 use Rattle.service_rows.proofs.AnswerLaws.{of_answer}
 use Rattle.desc_services.proofs.EachService.{of_each_service}
 
@@ -39,7 +42,8 @@ kept_segment w None = kept_segment_made w (first_free_run w.descriptors 1)
 kept_segment w (Some index) = refl
 
 kept_after : (ax : ℕ) (w : World) → Kept w (descriptor_function ax w).after
-unfolding allocate_descriptors free_descriptor segment_to_descriptor selector_increment get_segment_base set_segment_base set_segment_limit set_access_rights create_alias get_descriptor set_descriptor allocate_specific unsupported
+unfolding allocate_descriptors free_descriptor segment_to_descriptor selector_increment get_segment_base set_segment_base set_segment_limit
+    set_access_rights create_alias get_descriptor set_descriptor allocate_specific unsupported
 kept_after ax w = of_each_service (λ (s : Service). Kept w s.after) w (record {
   f0 = kept_made w (first_free_run w.descriptors (cx w));
   f1 = refl;
@@ -58,4 +62,5 @@ kept_after ax w = of_each_service (λ (s : Service). Kept w s.after) w (record {
 
 pub kept_service : (ax : ℕ) (w : World) → Kept w (descriptor_service ax w).world
 unfolding descriptor_service
-kept_service ax w = of_answer (Kept w) (first_reason (descriptor_function ax w).reasons) w (descriptor_function ax w).after refl (λ n. refl) (λ none. kept_after ax w)
+kept_service ax w = of_answer (Kept w) (first_reason (descriptor_function ax w).reasons) w (descriptor_function ax w).after refl (λ n. refl)
+    (λ none. kept_after ax w)

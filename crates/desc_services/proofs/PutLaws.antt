@@ -1,5 +1,6 @@
 -- Where a row may be put.
-use Rattle.std.proofs.Common.{◌≡◌, ◌≢◌, ◌≤◌, ℕ, ◌<◌, Bool, true, false, inl, inr, List, refl, ◌∙◌, sym, subst, ap, arith, Option, None, Some}
+use Rattle.std.proofs.Common.{◌≡◌, ◌≢◌, ◌≤◌, ℕ, ◌<◌, Bool, true, false, inl, inr, List, refl, ◌∙◌, sym, subst, ap, arith, Option, None}
+use Rattle.std.proofs.Common.{Some}
 use Rattle.std.specs.Option.{is_some}
 use Rattle.std.proofs.lemmas.Bool.{cases_lt, true≢false}
 use Rattle.std.proofs.lemmas.List.{get_or_past}
@@ -22,14 +23,16 @@ none_some : (r : Desc × Origin) → None ≢ Some r
 none_some r e = cc
 
 -- the index of a descriptor is below 8192
-pub row_within : (w : World) (index : ℕ) (row : Desc × Origin) → IsSound w → row_at_index w.descriptors index ≡ Some row → index < DESCRIPTORS
+pub row_within : (w : World) (index : ℕ) (row : Desc × Origin) → IsSound w → row_at_index w.descriptors index ≡ Some row →
+    index < DESCRIPTORS
 row_within w index row s e = elim (cases_lt index DESCRIPTORS) [
   | inl below ↦ below
   | inr beyond ↦ (let size = s.descriptors.indices in
       absurd (none_some row (sym (get_or_past w.descriptors index None (omega arith)) ∙ e)))
 ]
 
-some_width : (width : Option Width) (w : World) (index : ℕ) (row : Desc × Origin) → SoundWidth width w → row_at_index w.descriptors index ≡ Some row → width ≢ None
+some_width : (width : Option Width) (w : World) (index : ℕ) (row : Desc × Origin) → SoundWidth width w →
+    row_at_index w.descriptors index ≡ Some row → width ≢ None
 some_width None w index row s e none = none_some row (sym (s.descriptors index) ∙ e)
 some_width (Some width) w index row s e none = cc
 
@@ -40,7 +43,8 @@ row_has_width w index row s e = some_width w.width w index row s.width e
 not_host : (o : Origin) → IsPlainOrigin o → o ≢ Host
 not_host o plain e = subst IsPlainOrigin e plain
 
-clients : (width : Option Width) (w : World) (index : ℕ) (row : Desc × Origin) → SoundWidth width w → row_at_index w.descriptors index ≡ Some row →
+clients : (width : Option Width) (w : World) (index : ℕ) (row : Desc × Origin) → SoundWidth width w →
+    row_at_index w.descriptors index ≡ Some row →
     IsPlainOrigin row.1 → IsClientsIndex index
 clients None w index row s e plain = absurd (none_some row (sym (s.descriptors index) ∙ e))
 clients (Some width) w index row s e plain = record {
@@ -61,7 +65,8 @@ plain_row_is_clients w index row s e plain = clients w.width w index row s.width
 pub may_change : (w : World) (index : ℕ) (row : Desc × Origin) (new : Row) → IsSound w → row_at_index w.descriptors index ≡ Some row →
     IsPlainOrigin row.1 → FitsRow new → IsPlainRow new → MayPut w index new
 may_change w index row new s e plain fits new_plain =
-    let old : ¬ IsOfDosBlock (row_at_index w.descriptors index) = subst (λ (r : Row). ¬ IsOfDosBlock r) (sym e) (plain_not_dos (Some row) plain) in
+    let old : ¬ IsOfDosBlock (row_at_index w.descriptors index) =
+    subst (λ (r : Row). ¬ IsOfDosBlock r) (sym e) (plain_not_dos (Some row) plain) in
     record {
       within = row_within w index row s e;
       width = row_has_width w index row s e;
@@ -107,7 +112,8 @@ held_at : (rows : List Row) (sel : ℕ) (row : Desc × Origin) (local : Bool) �
 held_at rows sel row true local e = rw local at e
 held_at rows sel row false local e = absurd (none_some row (rw local at e))
 
-pub row_of_held : (rows : List Row) (sel : ℕ) (row : Desc × Origin) → row_of_selector rows sel ≡ Some row → row_at_index rows (index_of sel) ≡ Some row
+pub row_of_held : (rows : List Row) (sel : ℕ) (row : Desc × Origin) → row_of_selector rows sel ≡ Some row →
+    row_at_index rows (index_of sel) ≡ Some row
 row_of_held rows sel row e = held_at rows sel row (is_local sel) refl e
 
 pub may_redescribe : (w : World) (sel : ℕ) (row : Desc × Origin) (d : Desc) → IsSound w → row_of_selector w.descriptors sel ≡ Some row →

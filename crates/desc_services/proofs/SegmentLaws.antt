@@ -25,7 +25,8 @@ some_of : (row : Row) (origin : Origin) → HasOrigin row origin → (r : Desc �
 some_of None origin has = absurd has
 some_of (Some r) origin has = (r, refl)
 
-has_within : (w : World) (index segment : ℕ) → IsSound w → HasOrigin (row_at_index w.descriptors index) (Segment segment) → index < DESCRIPTORS
+has_within : (w : World) (index segment : ℕ) → IsSound w → HasOrigin (row_at_index w.descriptors index) (Segment segment) →
+    index < DESCRIPTORS
 has_within w index segment s has =
     let there = some_of (row_at_index w.descriptors index) (Segment segment) has in
     row_within w index there.0 s there.1
@@ -38,7 +39,8 @@ no_segment w segment s e other has =
     ∙ first_none (λ (index : ℕ). is_segment_row (row_at_index w.descriptors index) segment) 0 DESCRIPTORS e other (omega arith)
     (has_within w other segment s has))
 
-pub may_make_segment_at : (w : World) (first : ℕ) (d : Desc) (segment : ℕ) → IsSound w → w.width ≢ None → segment_index w.descriptors segment ≡ None →
+pub may_make_segment_at : (w : World) (first : ℕ) (d : Desc) (segment : ℕ) → IsSound w → w.width ≢ None →
+    segment_index w.descriptors segment ≡ None →
     FIRST_FREE_DESCRIPTOR ≤ first → IsFreeRunOf w.descriptors first 1 → FitsDescriptor d → MayPut w first (Some (d, Segment segment))
 may_make_segment_at w first d segment s width none from run fits =
     let in_table = run.within in
@@ -54,10 +56,12 @@ may_make_segment_at w first d segment s width none from run fits =
           (clients_suits first (Some (d, Segment segment)) (high_is_clients first from) (λ e. cc));
     }
   where
-    alone : (named other : ℕ) → Segment segment ≡ Segment named → other ≢ first → ¬ HasOrigin (row_at_index w.descriptors other) (Segment named)
+    alone : (named other : ℕ) → Segment segment ≡ Segment named → other ≢ first →
+        ¬ HasOrigin (row_at_index w.descriptors other) (Segment named)
     alone named other e ne has = no_segment w segment s none other (subst (HasOrigin (row_at_index w.descriptors other)) (sym e) has)
 
-pub may_make_segment : (w : World) (first : ℕ) (d : Desc) (segment : ℕ) → IsSound w → w.width ≢ None → segment_index w.descriptors segment ≡ None →
+pub may_make_segment : (w : World) (first : ℕ) (d : Desc) (segment : ℕ) → IsSound w → w.width ≢ None →
+    segment_index w.descriptors segment ≡ None →
     IsFirstFreeRunOf w.descriptors first 1 → FitsDescriptor d → MayPut w first (Some (d, Segment segment))
 may_make_segment w first d segment s width none run fits = may_make_segment_at w first d segment s width none run.from run.run fits
 
@@ -79,8 +83,10 @@ pub segment_found : (w : World) (index segment : ℕ) → IsSound w → HasOrigi
     segment_index w.descriptors segment ≡ Some index
 unfolding segment_index
 segment_found w index segment s has =
-    is_first (λ (k : ℕ). is_segment_row (row_at_index w.descriptors k) segment) 0 DESCRIPTORS index (omega arith) (has_within w index segment s has)
+    is_first (λ (k : ℕ). is_segment_row (row_at_index w.descriptors k) segment) 0 DESCRIPTORS index (omega arith)
+    (has_within w index segment s has)
     (segment_test (row_at_index w.descriptors index) segment has)
     (λ below from less. false_from_ne_true (is_segment_row (row_at_index w.descriptors below) segment)
-    (λ t. (let same : below ≡ index = s.descriptors.segments below index segment (of_test (row_at_index w.descriptors below) segment t) has in
+    (λ t.
+    (let same : below ≡ index = s.descriptors.segments below index segment (of_test (row_at_index w.descriptors below) segment t) has in
     omega arith)))

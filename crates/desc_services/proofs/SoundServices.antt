@@ -1,5 +1,6 @@
 -- A service leads from a sound world to a sound one.
-use Rattle.std.proofs.Common.{◌≡◌, ◌≢◌, ◌≤◌, ◌<◌, ◌+◌, ◌*◌, ◌^◌, ℕ, zero, suc, Bool, true, false, not, List, refl, sym, subst, arith, slice_index, slice_set, Option, None, Some, nat_lt}
+use Rattle.std.proofs.Common.{◌≡◌, ◌≢◌, ◌≤◌, ◌<◌, ◌+◌, ◌*◌, ◌^◌, ℕ, zero, suc, Bool, true, false, not, List, refl, sym, subst, arith}
+use Rattle.std.proofs.Common.{slice_index, slice_set, Option, None, Some, nat_lt}
 use Rattle.std.specs.Option.{is_some}
 use Rattle.std.proofs.lemmas.Bool.{ltb-false, not-false, or_parts, true≢false}
 use Rattle.client_world.specs.declared.descriptors.Desc.{Desc}
@@ -19,7 +20,12 @@ use Rattle.desc_table.specs.Unpacked.{kind_of}
 use Rattle.guest_space.specs.Far.{far_bytes}
 use Rattle.service_rows.specs.FreeRun.{first_free_run}
 use Rattle.service_rows.specs.Reasons.{Service, first_reason, unsupported}
-use Rattle.desc_services.specs.Rows.{with_new_alias, alias_of, descriptor_function, free_descriptor, fresh, get_segment_base, get_descriptor, is_freeable_origin, is_freeable_row, desc_with_limit, with_new_run, allocate_descriptors, create_alias, allocate_specific, segment_to_descriptor, packed_of, row_with_desc, with_segment, segment_index, with_new_segment, descriptor_service, set_segment_base, set_segment_limit, set_descriptor, set_access_rights, selector_increment, with_base, with_desc, with_limit, with_rights, with_row, with_run}
+use Rattle.desc_services.specs.Rows.{with_new_alias, alias_of, descriptor_function, free_descriptor, fresh, get_segment_base}
+use Rattle.desc_services.specs.Rows.{get_descriptor, is_freeable_origin, is_freeable_row, desc_with_limit, with_new_run}
+use Rattle.desc_services.specs.Rows.{allocate_descriptors, create_alias, allocate_specific, segment_to_descriptor, packed_of, row_with_desc}
+use Rattle.desc_services.specs.Rows.{with_segment, segment_index, with_new_segment, descriptor_service, set_segment_base, set_segment_limit}
+use Rattle.desc_services.specs.Rows.{set_descriptor, set_access_rights, selector_increment, with_base, with_desc, with_limit, with_rights}
+use Rattle.desc_services.specs.Rows.{with_row, with_run}
 use Rattle.service_rows.specs.Rows.{data_at}
 use Rattle.service_rows.proofs.AnswerLaws.{no_reason, of_answer, sound_ax}
 use Rattle.guest_space.proofs.FarPuts.{sound_far_put}
@@ -50,7 +56,8 @@ changeable_row : (row : Row) → (elim row [ None ↦ false | Some d ↦ is_chan
 changeable_row None e = absurd cc
 changeable_row (Some r) e = (r, refl, e)
 
-redescribed_sound : (w : World) (sel : ℕ) (row : Desc × Origin) (o : Option Desc) → IsSound w → row_of_selector w.descriptors sel ≡ Some row →
+redescribed_sound : (w : World) (sel : ℕ) (row : Desc × Origin) (o : Option Desc) → IsSound w →
+    row_of_selector w.descriptors sel ≡ Some row →
     is_changeable_origin row.1 ≡ true → ((d : Desc) → o ≡ Some d → FitsDescriptor d) →
     IsSound (record w { descriptors = slice_set w.descriptors (index_of sel) (row_with_desc (Some row) o) })
 redescribed_sound w sel row None s e c fits =
@@ -111,7 +118,8 @@ rights_fit (Some row) access flags d fits e =
 fresh_fits : FitsDescriptor fresh
 fresh_fits = record { base = omega arith; limit = omega arith }
 
-sound_run : (w : World) (first n : ℕ) (d : Desc) → IsSound w → w.width ≢ None → FIRST_FREE_DESCRIPTOR ≤ first → IsFreeRunOf w.descriptors first n →
+sound_run : (w : World) (first n : ℕ) (d : Desc) → IsSound w → w.width ≢ None → FIRST_FREE_DESCRIPTOR ≤ first →
+    IsFreeRunOf w.descriptors first n →
     FitsDescriptor d → IsSound (record w { descriptors = with_run w.descriptors first n (Some (d, Own)) })
 sound_run w first zero d s width from run fits =
     subst (λ (rows : List Row). IsSound (record w { descriptors = rows })) (sym (with_none w.descriptors first (Some (d, Own)))) s
@@ -139,7 +147,8 @@ sound_alias : (w : World) (o : Option ℕ) (row : Row) → IsSound w → w.width
 sound_alias w None row s width e fits = s
 sound_alias w (Some first) None s width e fits = s
 sound_alias w (Some first) (Some row) s width e fits =
-    sound_ax (with_row first (Some (alias_of row.0, Own)) w) _ (one_run w first (alias_of row.0) s width e (record { base = fits.base; limit = fits.limit }))
+    sound_ax (with_row first (Some (alias_of row.0, Own)) w) _
+    (one_run w first (alias_of row.0) s width e (record { base = fits.base; limit = fits.limit }))
 
 sound_segment_made : (w : World) (o : Option ℕ) → IsSound w → w.width ≢ None → first_free_run w.descriptors 1 ≡ o →
     segment_index w.descriptors (bx w) ≡ None → IsSound (with_new_segment o w)
@@ -150,7 +159,8 @@ sound_segment_made w (Some first) s width e none =
     (may_make_segment_at w first (data_at (bx w * 16) 0xFFFF) (bx w) s width none run.0 run.1
     (record { base = omega arith; limit = omega arith })).sound
 
-sound_segment : (w : World) (o : Option ℕ) → IsSound w → w.width ≢ None → segment_index w.descriptors (bx w) ≡ o → IsSound (with_segment o w)
+sound_segment : (w : World) (o : Option ℕ) → IsSound w → w.width ≢ None → segment_index w.descriptors (bx w) ≡ o →
+    IsSound (with_segment o w)
 sound_segment w None s width e = sound_segment_made w (first_free_run w.descriptors 1) s width refl e
 sound_segment w (Some index) s width e = sound_ax w _ s
 
@@ -173,17 +183,22 @@ packed_of_bytes : (row : Row) → FitsRow row → (at : ℕ) → slice_index (pa
 packed_of_bytes None fits at = omega arith
 packed_of_bytes (Some row) fits at = packed_bytes row.0 fits at
 
-sound_after : (ax : ℕ) (w : World) → IsSound w → w.width ≢ None → first_reason (descriptor_function ax w).reasons ≡ None → IsSound (descriptor_function ax w).after
-unfolding allocate_descriptors free_descriptor segment_to_descriptor selector_increment get_segment_base set_segment_base set_segment_limit set_access_rights create_alias get_descriptor set_descriptor allocate_specific unsupported
+sound_after : (ax : ℕ) (w : World) → IsSound w → w.width ≢ None → first_reason (descriptor_function ax w).reasons ≡ None →
+    IsSound (descriptor_function ax w).after
+unfolding allocate_descriptors free_descriptor segment_to_descriptor selector_increment get_segment_base set_segment_base set_segment_limit
+    set_access_rights create_alias get_descriptor set_descriptor allocate_specific unsupported
 sound_after ax w s width = of_each_service (λ (a : Service). first_reason a.reasons ≡ None → IsSound a.after) w (record {
   f0 = λ e. sound_made w (first_free_run w.descriptors (cx w)) s width refl;
   f1 = λ e. sound_free w (bx w) s (no_reason (free_descriptor w).reasons e).0;
   f2 = λ e. sound_segment w (segment_index w.descriptors (bx w)) s width refl;
   f3 = λ e. sound_ax w 8 s;
   f6 = λ e. sound_general w w.regs.eax _ _ s;
-  f7 = λ e. described_sound w (bx w) _ s (no_reason (set_segment_base w).reasons e).0 (λ d same. base_fits (desc_of w (bx w)) (two_words (cx w) (dx w)) d (fits_of w (bx w) s) (omega arith) same);
-  f8 = λ e. described_sound w (bx w) _ s (no_reason (set_segment_limit w).reasons e).0 (λ d same. limit_fits (desc_of w (bx w)) (two_words (cx w) (dx w)) d (fits_of w (bx w) s) (omega arith) same);
-  f9 = λ e. described_sound w (bx w) _ s (no_reason (set_access_rights w).reasons e).0 (λ d same. rights_fit (desc_of w (bx w)) _ _ d (fits_of w (bx w) s) same);
+  f7 = λ e. described_sound w (bx w) _ s (no_reason (set_segment_base w).reasons e).0
+      (λ d same. base_fits (desc_of w (bx w)) (two_words (cx w) (dx w)) d (fits_of w (bx w) s) (omega arith) same);
+  f8 = λ e. described_sound w (bx w) _ s (no_reason (set_segment_limit w).reasons e).0
+      (λ d same. limit_fits (desc_of w (bx w)) (two_words (cx w) (dx w)) d (fits_of w (bx w) s) (omega arith) same);
+  f9 = λ e. described_sound w (bx w) _ s (no_reason (set_access_rights w).reasons e).0
+      (λ d same. rights_fit (desc_of w (bx w)) _ _ d (fits_of w (bx w) s) same);
   fA = λ e. sound_alias w (first_free_run w.descriptors 1) (desc_of w (bx w)) s width refl (fits_of w (bx w) s);
   fB = λ e. sound_far_put w (es_di w) 8 _ s (packed_of_bytes (desc_of w (bx w)) (fits_of w (bx w) s));
   fC = λ e. described_sound w (bx w) _ s (no_reason (set_descriptor w).reasons e).0

@@ -10,7 +10,8 @@ use guest_space::Machine;
 use service_rows::{Refusal, es_di};
 
 /// Function 000Bh: the packed descriptor of BX goes to ES:(E)DI.
-#[tactic(auto, unfolding(crate::specs::Rows::get_descriptor, guest_space::specs::Far::world_after_far_write, guest_space::specs::Far::after_far_write, guest_space::specs::Transfer::with_places))]
+#[tactic(auto, unfolding(crate::specs::Rows::get_descriptor, guest_space::specs::Far::world_after_far_write, //
+guest_space::specs::Far::after_far_write, guest_space::specs::Transfer::with_places))]
 pub(crate) fn get_descriptor(m: &mut Machine) -> Result<(), Refusal>
     ensures { Does (get_descriptor m.old.world) result m.old m.new }
 {

@@ -1,5 +1,6 @@
 -- The descriptor that eight bytes are. Source: 80386 Programmer's Reference Manual, ch. 5, "Descriptors", figure 5-3.
-use Rattle.std.specs.Prelude.{ℕ, ◌+◌, ◌*◌, ◌/◌, ◌%◌, Bool, ◌&&◌, ◌||◌, not, nat_eq, if◌then◌else◌, Option, Some, None, List, slice_index, slice_set}
+use Rattle.std.specs.Prelude.{ℕ, ◌+◌, ◌*◌, ◌/◌, ◌%◌, Bool, ◌&&◌, ◌||◌, not, nat_eq, if◌then◌else◌, Option, Some, None, List, slice_index}
+use Rattle.std.specs.Prelude.{slice_set}
 use Rattle.client_world.specs.declared.descriptors.Kind.{Kind}
 use Rattle.client_world.specs.declared.descriptors.Kind.TheVariants.{Data, Code}
 use Rattle.client_world.specs.declared.descriptors.Desc.{Desc}

@@ -1,5 +1,6 @@
 -- The run of descriptors of the block at a segment, and what the calls put for a block of either kind.
-use Rattle.std.proofs.Common.{◌≡◌, ◌≢◌, ℕ, ◌+◌, ◌-◌, ◌<◌, ◌≤◌, Bool, true, false, List, [], ◌∷◌, length, refl, ap, ◌∙◌, sym, subst, arith, Option, Some, None}
+use Rattle.std.proofs.Common.{◌≡◌, ◌≢◌, ℕ, ◌+◌, ◌-◌, ◌<◌, ◌≤◌, Bool, true, false, List, [], ◌∷◌, length, refl, ap, ◌∙◌, sym, subst, arith}
+use Rattle.std.proofs.Common.{Option, Some, None}
 use Rattle.std.proofs.lemmas.Bool.{eqb-true, eq-eqb, false_from_ne_true}
 use Rattle.std.proofs.lemmas.Option.{none-some, slice_get-get_or}
 use Rattle.client_world.specs.declared.descriptors.Origin.TheVariants.{Dos}
@@ -15,7 +16,10 @@ use Rattle.guest_space.specs.DosRuns.{CanPutRun, with_entries_and_run}
 use Rattle.service_rows.specs.FreeRun.{first_free_run}
 use Rattle.service_rows.proofs.IndexLaws.{is_first}
 use Rattle.service_rows.proofs.RunLaws.{free_run_of, run_of_test}
-use Rattle.dos_blocks.specs.Blocks.{CanAllocate, CanResize, missing_entry, block_state, descriptor_of_block, entry_of_place, first_descriptor, first_fit, free_before, free_entries_after, has_room_to_grow, index_or_zero, is_of_segment, joined_entry, new_descriptor, place_of_block, greatest_size, run_of_block, segment_of_row, split, with_block}
+use Rattle.dos_blocks.specs.Blocks.{CanAllocate, CanResize, missing_entry, block_state, descriptor_of_block, entry_of_place}
+use Rattle.dos_blocks.specs.Blocks.{first_descriptor, first_fit, free_before, free_entries_after, has_room_to_grow, index_or_zero}
+use Rattle.dos_blocks.specs.Blocks.{is_of_segment, joined_entry, new_descriptor, place_of_block, greatest_size, run_of_block}
+use Rattle.dos_blocks.specs.Blocks.{segment_of_row, split, with_block}
 use Rattle.dos_blocks.specs.Puts.{CanPut, CanPutBlock}
 use Rattle.dos_blocks.specs.Services.{segment_of_selector}
 use Rattle.dos_blocks.proofs.CallLaws.{can_free, can_give, can_resize}
@@ -40,9 +44,7 @@ first_of_run rows segment first n run some size =
     let inside = has_within rows first (Dos segment) here in
     is_first (is_of_block rows segment) 0 DESCRIPTORS first (omega arith) (omega arith)
     (ap (λ (o : Option ℕ). is_of_segment o segment) (row_is (row_at_index rows first) segment here) ∙ eq-eqb segment segment refl)
-    (λ below low high. false_from_ne_true (is_of_block rows segment below) (λ is.
-    (let from = run.from below (row_tells (row_at_index rows below) segment (segment_is (segment_of_row (row_at_index rows below)) segment is)) in
-    absurd (omega arith))))
+    (λ below low high. false_from_ne_true (is_of_block rows segment below) (grind (arith, row_tells, segment_is)))
 
 -- the block at a segment has its run from there on
 pub block_run : (w : World) (segment place : ℕ) → IsSound w → HasBlock true w.arena segment place →
@@ -61,13 +63,7 @@ block_run w segment place s block =
 -- and a selector that names the block has the index of the first
 pub first_is_named : (w : World) (sel segment place : ℕ) → IsSound w → segment_of_selector w.descriptors sel ≡ Some segment →
     HasBlock true w.arena segment place → first_descriptor true w.descriptors segment ≡ index_of sel
-first_is_named w sel segment place s found block =
-    let named = block_of_segment w sel place segment s found block in
-    let paras = named.some in
-    let size = s.descriptors.indices in
-    ap index_or_zero (first_of_run w.descriptors segment (index_of sel) (descriptors_for (entry_of_place w.arena place).paras)
-    (subst (λ (n : ℕ). IsRunOf w.descriptors (Dos n) (index_of sel) (descriptors_for (entry_of_place w.arena place).paras)) block.starts named.run)
-    (omega arith) (omega arith))
+first_is_named w sel segment place s found block = grind (arith, block_of_segment, first_of_run)
 
 -- ---- what is put
 
@@ -82,7 +78,8 @@ given_run w n place (Some first) s can fit e some =
 found_none : (o : Option ℕ) (place : ℕ) → o ≡ Some place → o ≢ None
 found_none o place e none = none-some place (sym none ∙ e)
 
-pub can_give_block : (w : World) (for_dpmi : Bool) (n place : ℕ) → IsSound w → (for_dpmi ≡ true → CanAllocate w n) → Some place ≡ first_fit w.arena n 0 →
+pub can_give_block : (w : World) (for_dpmi : Bool) (n place : ℕ) → IsSound w → (for_dpmi ≡ true → CanAllocate w n) →
+    Some place ≡ first_fit w.arena n 0 →
     CanPutBlock for_dpmi w place 1 (split (block_state for_dpmi) (entry_of_place w.arena place).at n (entry_of_place w.arena place).paras)
     (run_of_block (entry_of_place w.arena place) (new_descriptor for_dpmi w.descriptors n) 0 n)
 can_give_block w false n place s can e = can_give w.arena false n place refl s.arena (found_fit w.arena n place e)
@@ -93,56 +90,60 @@ can_give_block w true n place s can e =
 
 pub can_free_block : (w : World) (for_dpmi : Bool) (segment place : ℕ) → IsSound w → (for_dpmi ≡ true → w.width ≢ None) →
     Some place ≡ place_of_block for_dpmi w.arena segment 0 →
-    CanPutBlock for_dpmi w (place - free_before w.arena place) (free_before w.arena place + (1 + free_entries_after w.arena place)) (joined_entry w.arena place ∷ [])
+    CanPutBlock for_dpmi w (place - free_before w.arena place) (free_before w.arena place + (1 + free_entries_after w.arena place))
+    (joined_entry w.arena place ∷ [])
     (run_of_block (entry_of_place w.arena place) (first_descriptor for_dpmi w.descriptors segment) (entry_of_place w.arena place).paras 0)
 can_free_block w false segment place s can e = can_free w.arena false segment place refl s.arena (found_block false w.arena segment place e)
 can_free_block w true segment place s can e =
-    can_free_run w (first_descriptor true w.descriptors segment) place s (can refl) (block_run w segment place s (found_block true w.arena segment place e))
+    can_free_run w (first_descriptor true w.descriptors segment) place s (can refl)
+    (block_run w segment place s (found_block true w.arena segment place e))
 
 pub can_resize_block : (w : World) (for_dpmi : Bool) (n segment place : ℕ) → IsSound w → (for_dpmi ≡ true → CanResize w segment n) →
     Some place ≡ place_of_block for_dpmi w.arena segment 0 → n ≤ greatest_size w.arena place →
-    CanPutBlock for_dpmi w place (1 + free_entries_after w.arena place) (split (block_state for_dpmi) (entry_of_place w.arena place).at n (greatest_size w.arena place))
+    CanPutBlock for_dpmi w place (1 + free_entries_after w.arena place)
+    (split (block_state for_dpmi) (entry_of_place w.arena place).at n (greatest_size w.arena place))
     (run_of_block (entry_of_place w.arena place) (first_descriptor for_dpmi w.descriptors segment) (entry_of_place w.arena place).paras n)
 can_resize_block w false n segment place s can e room =
     can_resize w.arena false n segment place refl s.arena (found_block false w.arena segment place e) room
 can_resize_block w true n segment place s can e room =
     let asked = can refl in
-    can_resize_run w n (first_descriptor true w.descriptors segment) place s asked.width (block_run w segment place s (found_block true w.arena segment place e))
+    can_resize_run w n (first_descriptor true w.descriptors segment) place s asked.width
+    (block_run w segment place s (found_block true w.arena segment place e))
     asked.some room (run_of_test w.descriptors _ _ (asked.free place (sym e) room))
 
 -- what the service that resizes has asked
-pub can_resize_named : (w : World) (n sel segment place : ℕ) → IsSound w → w.width ≢ None → n ≢ 0 → segment_of_selector w.descriptors sel ≡ Some segment →
+pub can_resize_named : (w : World) (n sel segment place : ℕ) → IsSound w → w.width ≢ None → n ≢ 0 →
+    segment_of_selector w.descriptors sel ≡ Some segment →
     place_of_block true w.arena segment 0 ≡ Some place →
-    has_room_to_grow w.descriptors (run_of_block (entry_of_place w.arena place) (index_of sel) (entry_of_place w.arena place).paras n) ≡ true →
+    has_room_to_grow w.descriptors
+    (run_of_block (entry_of_place w.arena place) (index_of sel) (entry_of_place w.arena place).paras n) ≡ true →
     CanResize w segment n
 can_resize_named w n sel segment place s width some found at grows =
     let first = first_is_named w sel segment place s found (found_block true w.arena segment place (sym at)) in
     let here : has_room_to_grow w.descriptors
-    (run_of_block (entry_of_place w.arena place) (first_descriptor true w.descriptors segment) (entry_of_place w.arena place).paras n) ≡ true =
-    subst (λ (k : ℕ). has_room_to_grow w.descriptors (run_of_block (entry_of_place w.arena place) k (entry_of_place w.arena place).paras n) ≡ true)
+    (run_of_block (entry_of_place w.arena place) (first_descriptor true w.descriptors segment) (entry_of_place w.arena place).paras n)
+    ≡ true =
+    subst (λ (k : ℕ).
+    has_room_to_grow w.descriptors (run_of_block (entry_of_place w.arena place) k (entry_of_place w.arena place).paras n) ≡ true)
     (sym first) grows in
-    record {
-      width = width;
-      some = some;
-      free = λ other there room.
-          subst (λ (k : ℕ). has_room_to_grow w.descriptors
-          (run_of_block (entry_of_place w.arena k) (first_descriptor true w.descriptors segment) (entry_of_place w.arena k).paras n) ≡ true)
-          (ap number (sym at ∙ there)) here;
-    }
+    grind (arith, number)
 
 -- the same of what a call has read
-pub can_put : (for_dpmi : Bool) (w : World) (place at old n : ℕ) (new put : List DosEntry) (run given : DosRun) → CanPutBlock for_dpmi w place old new run →
+pub can_put : (for_dpmi : Bool) (w : World) (place at old n : ℕ) (new put : List DosEntry) (run given : DosRun) →
+    CanPutBlock for_dpmi w place old new run →
     at ≡ place → n ≡ old → put ≡ new → given ≡ run → CanPutBlock for_dpmi w at n put given
 can_put for_dpmi w place at old n new put run given can at_is n_is put_is run_is = rw (at_is, n_is, put_is, run_is) can
 
 -- ---- by the kind of the block
 
-pub put_made : (for_dpmi : Bool) (w : World) (place old : ℕ) (new : List DosEntry) (run : DosRun) → CanPutBlock for_dpmi w place old new run →
+pub put_made : (for_dpmi : Bool) (w : World) (place old : ℕ) (new : List DosEntry) (run : DosRun) →
+    CanPutBlock for_dpmi w place old new run →
     for_dpmi ≡ true → CanPutRun w place old new run
 put_made true w place old new run can e = can
 put_made false w place old new run can e = absurd cc
 
-pub put_plain : (for_dpmi : Bool) (w : World) (place old : ℕ) (new : List DosEntry) (run : DosRun) → CanPutBlock for_dpmi w place old new run →
+pub put_plain : (for_dpmi : Bool) (w : World) (place old : ℕ) (new : List DosEntry) (run : DosRun) →
+    CanPutBlock for_dpmi w place old new run →
     for_dpmi ≡ false → CanPut w.arena place old new
 put_plain true w place old new run can e = absurd cc
 put_plain false w place old new run can e = can

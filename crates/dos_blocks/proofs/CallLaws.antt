@@ -1,14 +1,16 @@
 -- What each call puts into the arena leaves one, and neither takes out nor puts in a block of INT 31h function 0100h.
-use Rattle.std.proofs.Common.{◌≡◌, ℕ, ◌+◌, ◌-◌, ◌<◌, ◌≤◌, Bool, true, false, List, [], ◌∷◌, length, refl, ap, ◌∙◌, sym, arith}
+use Rattle.std.proofs.Common.{◌≡◌, ℕ, ◌+◌, ◌-◌, ◌<◌, ◌≤◌, Bool, true, false, List, [], ◌∷◌, length, refl, arith}
 use Rattle.std.proofs.lemmas.Bool.{false≢true}
 use Rattle.client_world.specs.declared.dos_memory.DosEntry.{DosEntry}
 use Rattle.client_world.specs.declared.memory_map.TheConstants.{ARENA_END}
 use Rattle.client_world.specs.DosMemory.{is_free, is_dpmi, Fills, IsArena}
 use Rattle.guest_space.specs.Arena.{with_replaced_entries}
-use Rattle.dos_blocks.specs.Blocks.{missing_entry, entry_of_place, block_state, split, is_of_kind, free_entries_after, greatest_size, free_before, room_before, joined_entry}
+use Rattle.dos_blocks.specs.Blocks.{missing_entry, entry_of_place, block_state, split, is_of_kind, free_entries_after, greatest_size}
+use Rattle.dos_blocks.specs.Blocks.{free_before, room_before, joined_entry}
 use Rattle.dos_blocks.specs.Puts.{CanPut}
 use Rattle.dos_blocks.proofs.Founds.{HasFit, HasBlock}
-use Rattle.dos_blocks.proofs.NeighbourLaws.{free_plain, used_plain, take_one, behind_within, behind_fills, behind_plain, behind_right, possible_ends, is_before}
+use Rattle.dos_blocks.proofs.NeighbourLaws.{free_plain, used_plain, take_one, behind_within, behind_fills, behind_plain, behind_right}
+use Rattle.dos_blocks.proofs.NeighbourLaws.{possible_ends, is_before}
 use Rattle.dos_blocks.proofs.Splicing.{joined_next, arena-spliced}
 use Rattle.dos_blocks.proofs.Splits.{fills-split, joined-split, some-split, starts-split, plain-split}
 
@@ -45,55 +47,41 @@ splice_give es for_dpmi n place arena fit =
           (λ from to f. (let one : Fills from (entry_of_place es place ∷ []) to = rw (take_one es place small) at f in
           fills-split state at n paras from to fit.room one.0 one.1))
           (joined-split state at n paras (held_state for_dpmi))
-          (record {
-            some = some-split state at n paras;
-            left = λ j next free. starts-split state at n paras (held_state for_dpmi);
-            right = λ inside. joined_next es place missing_entry arena.joined inside fit.free;
-          });
+          (grind (arith, held_state, joined_next, some-split, starts-split));
     }
 
 pub can_give : (es : List DosEntry) (for_dpmi : Bool) (n place : ℕ) → for_dpmi ≡ false → IsArena es → HasFit es n place →
     CanPut es place 1 (split (block_state for_dpmi) (entry_of_place es place).at n (entry_of_place es place).paras)
 can_give es for_dpmi n place dos arena fit =
     let can = splice_give es for_dpmi n place arena fit in
-    record {
-      within = can.within;
-      old_plain = rw (take_one es place fit.small) (free_plain (entry_of_place es place).state fit.free, tt);
-      new_plain = plain-split (block_state for_dpmi) (entry_of_place es place).at n (entry_of_place es place).paras (plain_state for_dpmi dos);
-      sound = can.sound;
-    }
+    grind (arith, free_plain, plain-split, plain_state, take_one)
 
 -- a block is resized
 
 pub splice_resize : (es : List DosEntry) (for_dpmi : Bool) (n place : ℕ) → IsArena es → place < length es → n ≤ greatest_size es place →
-    CanSplice es place (1 + free_entries_after es place) (split (block_state for_dpmi) (entry_of_place es place).at n (greatest_size es place))
+    CanSplice es place (1 + free_entries_after es place)
+    (split (block_state for_dpmi) (entry_of_place es place).at n (greatest_size es place))
 splice_resize es for_dpmi n place arena small room =
     let state = block_state for_dpmi in
     let at = (entry_of_place es place).at in
     let paras = greatest_size es place in
     record {
       within = behind_within es place small;
-      sound = arena-spliced es place (1 + free_entries_after es place) (split state at n paras) missing_entry arena (behind_within es place small)
+      sound = arena-spliced es place (1 + free_entries_after es place) (split state at n paras) missing_entry arena
+          (behind_within es place small)
           (λ from to f. (let filled = behind_fills es place from to small f in
           fills-split state at n paras from to room filled.starts filled.ends))
           (joined-split state at n paras (held_state for_dpmi))
-          (record {
-            some = some-split state at n paras;
-            left = λ j next free. starts-split state at n paras (held_state for_dpmi);
-            right = behind_right es place arena;
-          });
+          (grind (arith, behind_right, held_state, some-split, starts-split));
     }
 
-pub can_resize : (es : List DosEntry) (for_dpmi : Bool) (n segment place : ℕ) → for_dpmi ≡ false → IsArena es → HasBlock for_dpmi es segment place →
-    n ≤ greatest_size es place → CanPut es place (1 + free_entries_after es place) (split (block_state for_dpmi) (entry_of_place es place).at n (greatest_size es place))
+pub can_resize : (es : List DosEntry) (for_dpmi : Bool) (n segment place : ℕ) → for_dpmi ≡ false → IsArena es →
+    HasBlock for_dpmi es segment place →
+    n ≤ greatest_size es place →
+    CanPut es place (1 + free_entries_after es place) (split (block_state for_dpmi) (entry_of_place es place).at n (greatest_size es place))
 can_resize es for_dpmi n segment place dos arena block room =
     let can = splice_resize es for_dpmi n place arena block.small room in
-    record {
-      within = can.within;
-      old_plain = behind_plain es place block.small (plain_kind for_dpmi (entry_of_place es place) dos block.kind);
-      new_plain = plain-split (block_state for_dpmi) (entry_of_place es place).at n (greatest_size es place) (plain_state for_dpmi dos);
-      sound = can.sound;
-    }
+    grind (arith, behind_plain, plain-split, plain_kind, plain_state)
 
 -- a block is freed
 
@@ -103,34 +91,22 @@ splice_free es place arena small =
     let front = is_before es place arena small in
     let behind = behind_within es place small in
     let in_front = front.within in
-    let end : place - free_before es place + (free_before es place + (1 + free_entries_after es place)) ≡ place + (1 + free_entries_after es place) = omega arith in
+    let end : place - free_before es place + (free_before es place + (1 + free_entries_after es place))
+    ≡ place + (1 + free_entries_after es place) = omega arith in
     record {
       within = omega arith;
-      sound = arena-spliced es (place - free_before es place) (free_before es place + (1 + free_entries_after es place)) (joined_entry es place ∷ []) missing_entry arena
+      sound = arena-spliced es (place - free_before es place) (free_before es place + (1 + free_entries_after es place))
+          (joined_entry es place ∷ []) missing_entry arena
           (omega arith)
-          (λ from to f. (let filled = behind_fills es place (from + room_before es place) to small (front.fills (1 + free_entries_after es place) from to f) in
-          let starts = filled.starts in
-          let ends = filled.ends in
-          (omega arith, omega arith)))
+          (λ from to f. (grind (arith, behind_fills)))
           ((λ free. refl), tt)
-          (record {
-            some = omega arith;
-            left = λ j next free. absurd (false≢true (sym (front.left j next) ∙ free));
-            right = λ inside. ap (λ (n : ℕ). is_free (entry_of_place es n).state) end ∙ behind_right es place arena (omega arith);
-          });
+          (grind (arith, behind_right, false≢true));
     }
 
-pub can_free : (es : List DosEntry) (for_dpmi : Bool) (segment place : ℕ) → for_dpmi ≡ false → IsArena es → HasBlock for_dpmi es segment place →
+pub can_free : (es : List DosEntry) (for_dpmi : Bool) (segment place : ℕ) → for_dpmi ≡ false → IsArena es →
+    HasBlock for_dpmi es segment place →
     CanPut es (place - free_before es place) (free_before es place + (1 + free_entries_after es place)) (joined_entry es place ∷ [])
-can_free es for_dpmi segment place dos arena block =
-    let can = splice_free es place arena block.small in
-    record {
-      within = can.within;
-      old_plain = (is_before es place arena block.small).plain (1 + free_entries_after es place)
-          (behind_plain es place block.small (plain_kind for_dpmi (entry_of_place es place) dos block.kind));
-      new_plain = (refl, tt);
-      sound = can.sound;
-    }
+can_free es for_dpmi segment place dos arena block = grind (arith, behind_plain, is_before, plain_kind, splice_free)
 
 -- the numbers of what is free around a block
 pub record HasRoom (es : List DosEntry) (place : ℕ) : Type 0 where

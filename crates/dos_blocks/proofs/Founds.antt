@@ -1,5 +1,6 @@
 -- What the place that a search finds says of the entry there.
-use Rattle.std.proofs.Common.{◌≡◌, ℕ, zero, suc, ◌+◌, ◌-◌, ◌<◌, ◌≤◌, ◌⊎◌, inl, inr, Bool, true, false, ◌&&◌, nat_eq, nat_le, if◌then◌else◌, List, [], ◌∷◌, length, refl, ap, sym, subst, arith, Option, Some, None}
+use Rattle.std.proofs.Common.{◌≡◌, ℕ, zero, suc, ◌+◌, ◌-◌, ◌<◌, ◌≤◌, ◌⊎◌, inl, inr, Bool, true, false, ◌&&◌, if◌then◌else◌, List, [], ◌∷◌}
+use Rattle.std.proofs.Common.{length, refl, ap, sym, subst, arith, Option, Some, None}
 use Rattle.std.proofs.lemmas.Bool.{leb-true, eqb-true}
 use Rattle.std.proofs.lemmas.Option.{none-some}
 use Rattle.client_world.specs.declared.dos_memory.DosEntry.{DosEntry}
@@ -18,7 +19,8 @@ abbrev pub number : Option ℕ → ℕ
 number None = 0
 number (Some x) = x
 
-chosen : (test : Bool) (here place : ℕ) (rest : Option ℕ) → (if test then Some here else rest) ≡ Some place → ((test ≡ true) × (here ≡ place)) ⊎ (rest ≡ Some place)
+chosen : (test : Bool) (here place : ℕ) (rest : Option ℕ) → (if test then Some here else rest) ≡ Some place →
+    ((test ≡ true) × (here ≡ place)) ⊎ (rest ≡ Some place)
 chosen true here place rest h = inl (refl, ap number h)
 chosen false here place rest h = inr h
 
@@ -38,11 +40,7 @@ fit_tells (e ∷ es) n start place h = elim (chosen (fits e n) start place (firs
 ]
   where
     here : (j : ℕ) → j ≡ 0 → fits e n ≡ true → HasFit (e ∷ es) n j
-    here zero z test = record {
-      small = omega arith;
-      free = and_left (is_free e.state) (nat_le n e.paras) test;
-      room = leb-true n e.paras (and_right (is_free e.state) (nat_le n e.paras) test);
-    }
+    here zero z test = grind (arith, and_left, and_right, leb-true)
     here (suc j) z test = absurd (omega arith)
 
     there : (j i : ℕ) → j ≡ i + 1 → HasFit es n i → HasFit (e ∷ es) n j
@@ -53,7 +51,8 @@ fit_tells (e ∷ es) n start place h = elim (chosen (fits e n) start place (firs
         subst (λ (x : ℕ). HasFit (e ∷ es) n (suc x)) same (record { small = omega arith; free = f.free; room = f.room })
 
 pub found_fit : (es : List DosEntry) (n place : ℕ) → Some place ≡ first_fit es n 0 → HasFit es n place
-found_fit es n place h = subst (λ (x : ℕ). HasFit es n x) (let same : place - 0 ≡ place = omega arith in same) (fit_tells es n 0 place (sym h)).1
+found_fit es n place h =
+    subst (λ (x : ℕ). HasFit es n x) (let same : place - 0 ≡ place = omega arith in same) (fit_tells es n 0 place (sym h)).1
 
 -- a block of the kind
 pub record HasBlock (for_dpmi : Bool) (es : List DosEntry) (segment place : ℕ) : Type 0 where
@@ -73,11 +72,7 @@ block_tells for_dpmi (e ∷ es) segment start place h =
     ]
   where
     here : (j : ℕ) → j ≡ 0 → starts_at for_dpmi e segment ≡ true → HasBlock for_dpmi (e ∷ es) segment j
-    here zero z test = record {
-      small = omega arith;
-      kind = and_left (is_of_kind for_dpmi e.state) (nat_eq (block_segment e) segment) test;
-      starts = eqb-true (block_segment e) segment (and_right (is_of_kind for_dpmi e.state) (nat_eq (block_segment e) segment) test);
-    }
+    here zero z test = grind (arith, and_left, and_right, eqb-true)
     here (suc j) z test = absurd (omega arith)
 
     there : (j i : ℕ) → j ≡ i + 1 → HasBlock for_dpmi es segment i → HasBlock for_dpmi (e ∷ es) segment j
@@ -85,8 +80,11 @@ block_tells for_dpmi (e ∷ es) segment start place h =
     there (suc j) i next f =
         let same : i ≡ j = omega arith in
         let small = f.small in
-        subst (λ (x : ℕ). HasBlock for_dpmi (e ∷ es) segment (suc x)) same (record { small = omega arith; kind = f.kind; starts = f.starts })
+        subst (λ (x : ℕ). HasBlock for_dpmi (e ∷ es) segment (suc x)) same
+        (record { small = omega arith; kind = f.kind; starts = f.starts })
 
-pub found_block : (for_dpmi : Bool) (es : List DosEntry) (segment place : ℕ) → Some place ≡ place_of_block for_dpmi es segment 0 → HasBlock for_dpmi es segment place
+pub found_block : (for_dpmi : Bool) (es : List DosEntry) (segment place : ℕ) → Some place ≡ place_of_block for_dpmi es segment 0 →
+    HasBlock for_dpmi es segment place
 found_block for_dpmi es segment place h =
-    subst (λ (x : ℕ). HasBlock for_dpmi es segment x) (let same : place - 0 ≡ place = omega arith in same) (block_tells for_dpmi es segment 0 place (sym h)).1
+    subst (λ (x : ℕ). HasBlock for_dpmi es segment x) (let same : place - 0 ≡ place = omega arith in same)
+    (block_tells for_dpmi es segment 0 place (sym h)).1

@@ -1,5 +1,6 @@
 -- The services in one step: what they put at the place of the block that they find.
-use Rattle.std.proofs.Common.{◌≡◌, ℕ, ◌+◌, ◌-◌, Bool, true, false, [], ◌∷◌, refl, ap, ◌∙◌, sym, Option, Some, None, Ok, Err, if◌then◌else◌, nat_le, nat_lt}
+use Rattle.std.proofs.Common.{◌≡◌, ℕ, ◌+◌, ◌-◌, Bool, true, false, [], ◌∷◌, refl, ap, ◌∙◌, sym, Option, Some, None, Ok, Err, if◌then◌else◌}
+use Rattle.std.proofs.Common.{nat_le, nat_lt, arith}
 use Rattle.std.proofs.lemmas.Bool.{and_parts, cond-true}
 use Rattle.client_world.specs.declared.dos_memory.DosRefusal.TheVariants.{NoMemory, WrongBlock}
 use Rattle.client_world.specs.declared.dos_memory.DosState.TheVariants.{Dpmi}
@@ -10,8 +11,11 @@ use Rattle.client_world.specs.World.{World}
 use Rattle.guest_space.specs.DosRuns.{with_entries_and_run}
 use Rattle.service_rows.specs.FreeRun.{first_free_run}
 use Rattle.service_rows.specs.Rows.{with_ax}
-use Rattle.dos_blocks.specs.Blocks.{Done, allocation_result, allocation_result_at, entry_of_place, first_fit, free_before, free_entries_after, free_result, free_result_at, index_or_zero, joined_entry, largest, place_of_block, greatest_size, resize_result, resize_result_at, run_of_block, split}
-use Rattle.dos_blocks.specs.Services.{can_have, free_result_of_segment, allocation_result_from, place_of_segment, place_of_selector, resize_result_of_segment, resize_result_of_place, segment_of_selector, with_dx, with_first_selector}
+use Rattle.dos_blocks.specs.Blocks.{Done, allocation_result, allocation_result_at, entry_of_place, first_fit, free_before}
+use Rattle.dos_blocks.specs.Blocks.{free_entries_after, free_result, free_result_at, joined_entry, largest, place_of_block, greatest_size}
+use Rattle.dos_blocks.specs.Blocks.{resize_result, resize_result_at, run_of_block, split}
+use Rattle.dos_blocks.specs.Services.{can_have, free_result_of_segment, allocation_result_from, place_of_segment, place_of_selector}
+use Rattle.dos_blocks.specs.Services.{resize_result_of_segment, resize_result_of_place, segment_of_selector, with_dx, with_first_selector}
 use Rattle.dos_blocks.proofs.BlockRuns.{first_is_named}
 use Rattle.dos_blocks.proofs.Founds.{found_block}
 
@@ -27,19 +31,14 @@ given_at n (Some place) (Some first) w = record {
       (run_of_block (entry_of_place w.arena place) first 0 n)));
 }
 
-pub given_is : (w : World) (n : ℕ) (fit first : Option ℕ) → first_fit w.arena n 0 ≡ fit → first_free_run w.descriptors (descriptors_for n) ≡ first →
+pub given_is : (w : World) (n : ℕ) (fit first : Option ℕ) → first_fit w.arena n 0 ≡ fit →
+    first_free_run w.descriptors (descriptors_for n) ≡ first →
     allocation_result_from n first w ≡ given_at n fit first w
 unfolding allocation_result
 given_is w n None None e f = refl
 given_is w n (Some place) None e f = refl
 given_is w n None (Some first) e f = ap (λ (o : Option ℕ). with_first_selector first (allocation_result_at w true n o)) e
-given_is w n (Some place) (Some first) e f =
-    ap (λ (o : Option ℕ). with_first_selector first (allocation_result_at w true n o)) e
-    ∙ ap (λ (o : Option ℕ). with_first_selector first (record {
-      answer = Ok (block_segment (entry_of_place w.arena place));
-      world = with_entries_and_run w place 1 (split Dpmi (entry_of_place w.arena place).at n (entry_of_place w.arena place).paras)
-          (run_of_block (entry_of_place w.arena place) (index_or_zero o) 0 n);
-    })) f
+given_is w n (Some place) (Some first) e f = grind arith
 
 -- ---- 0101h
 
@@ -56,7 +55,8 @@ freed_in : (w : World) (sel segment : ℕ) (o : Option ℕ) → IsSound w → se
     place_of_block true w.arena segment 0 ≡ o → free_result_at w true segment o ≡ freed_with_run (index_of sel) o w
 freed_in w sel segment None s found e = refl
 freed_in w sel segment (Some place) s found e =
-    ap (λ (first : ℕ). freed_with_run first (Some place) w) (first_is_named w sel segment place s found (found_block true w.arena segment place (sym e)))
+    ap (λ (first : ℕ). freed_with_run first (Some place) w)
+    (first_is_named w sel segment place s found (found_block true w.arena segment place (sym e)))
 
 freed_by : (w : World) (sel : ℕ) (o : Option ℕ) → IsSound w → segment_of_selector w.descriptors sel ≡ o →
     free_result_of_segment o w ≡ freed_with_run (index_of sel) (place_of_segment w.arena o) w
@@ -113,6 +113,7 @@ resized_by w n sel None s found = refl
 resized_by w n sel (Some segment) s found = resized_in w n sel segment (place_of_block true w.arena segment 0) s found refl
 
 pub resized_is : (w : World) (n sel : ℕ) → IsSound w →
-    resize_result_of_segment n (index_of sel) (segment_of_selector w.descriptors sel) w ≡ resized_with_run n (index_of sel) (place_of_selector w sel) w
+    resize_result_of_segment n (index_of sel) (segment_of_selector w.descriptors sel) w
+    ≡ resized_with_run n (index_of sel) (place_of_selector w sel) w
 unfolding place_of_selector
 resized_is w n sel s = resized_by w n sel (segment_of_selector w.descriptors sel) s refl

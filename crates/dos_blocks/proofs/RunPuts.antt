@@ -1,6 +1,7 @@
 -- What each service puts into the arena and among the descriptors may be put.
-use Rattle.std.proofs.Common.{◌≡◌, ◌≢◌, ℕ, zero, suc, ◌+◌, ◌-◌, ◌<◌, ◌≤◌, inl, inr, true, List, [], ◌∷◌, length, get_or, refl, ap, ◌∙◌, sym, subst, arith, Some, None}
-use Rattle.std.proofs.lemmas.Bool.{cases_eq, cases_lt, cases_order, eq-eqb, ne_eqb, false≢true}
+use Rattle.std.proofs.Common.{◌≡◌, ◌≢◌, ℕ, zero, suc, ◌+◌, ◌-◌, ◌<◌, ◌≤◌, inl, inr, true, List, [], ◌∷◌, length, get_or, refl, arith, Some}
+use Rattle.std.proofs.Common.{None}
+use Rattle.std.proofs.lemmas.Bool.{cases_order, eq-eqb, ne_eqb, false≢true}
 use Rattle.std.specs.List.{slice_get}
 use Rattle.std.proofs.lemmas.List.{get_or_past}
 use Rattle.std.proofs.lemmas.Option.{get_or_from_slice_get}
@@ -9,7 +10,6 @@ use Rattle.client_world.specs.declared.descriptors.Origin.TheVariants.{Dos}
 use Rattle.client_world.specs.declared.host_frames.TheConstants.{DESCRIPTORS, FIRST_FREE_DESCRIPTOR}
 use Rattle.client_world.specs.declared.dos_memory.DosEntry.{DosEntry}
 use Rattle.client_world.specs.declared.dos_memory.DosState.TheVariants.{Dpmi}
-use Rattle.client_world.specs.declared.memory_map.TheConstants.{ARENA_START, ARENA_END}
 use Rattle.client_world.specs.DosMemory.{Fills, is_dpmi, is_free, block_segment}
 use Rattle.client_world.specs.FreeRuns.{IsFreeRunOf}
 use Rattle.client_world.specs.Selector.{Row, row_at_index}
@@ -17,7 +17,7 @@ use Rattle.client_world.specs.Soundness.{IsSound, HasOrigin, descriptors_for}
 use Rattle.client_world.specs.World.{World}
 use Rattle.guest_space.specs.DosRuns.{CanPutRun, block_alone, made_blocks}
 use Rattle.guest_space.proofs.Fills.{fills_at}
-use Rattle.dos_blocks.specs.Blocks.{missing_entry, entry_of_place, free_before, free_entries_after, joined_entry, greatest_size, run_of_block, split}
+use Rattle.dos_blocks.specs.Blocks.{entry_of_place, free_before, free_entries_after, joined_entry, greatest_size, run_of_block, split}
 use Rattle.dos_blocks.proofs.CallLaws.{splice_give, splice_resize, splice_free}
 use Rattle.dos_blocks.proofs.Founds.{HasFit}
 use Rattle.dos_blocks.proofs.NeighbourLaws.{behind_made, free_plain, is_before, take_one}
@@ -25,17 +25,15 @@ use Rattle.dos_blocks.proofs.SelectorLaws.{HasBlockRun}
 
 -- ---- where entries are
 
-pub later_after : (es : List DosEntry) (from to i j : ℕ) (d : DosEntry) → Fills from es to → i < j → j < length es → (get_or es i d).at < (get_or es j d).at
+pub later_after : (es : List DosEntry) (from to i j : ℕ) (d : DosEntry) → Fills from es to → i < j → j < length es →
+    (get_or es i d).at < (get_or es j d).at
 later_after [] from to i j d f less small = absurd (omega arith)
 later_after (e ∷ es) from to i zero d f less small = absurd (omega arith)
-later_after (e ∷ es) from to zero (suc j) d f less small =
-    let rest = fills_at es (from + 1 + e.paras) to j d f.1 (omega arith) in
-    let starts = rest.starts in
-    let first = f.0 in
-    omega arith
+later_after (e ∷ es) from to zero (suc j) d f less small = grind (arith, fills_at)
 later_after (e ∷ es) from to (suc i) (suc j) d f less small = later_after es (from + 1 + e.paras) to i j d f.1 (omega arith) (omega arith)
 
-one_place : (es : List DosEntry) (from to i j : ℕ) (d : DosEntry) → Fills from es to → i < length es → j < length es → (get_or es i d).at ≡ (get_or es j d).at → i ≡ j
+one_place : (es : List DosEntry) (from to i j : ℕ) (d : DosEntry) → Fills from es to → i < length es → j < length es →
+    (get_or es i d).at ≡ (get_or es j d).at → i ≡ j
 one_place es from to i j d f one other same = elim (cases_order i j) [
   | inl equal ↦ equal
   | inr o ↦ elim o [
@@ -45,17 +43,10 @@ one_place es from to i j d f one other same = elim (cases_order i j) [
 ]
 
 -- no descriptor belongs to a block that would begin where a free entry's does
-pub no_descriptor : (w : World) (place index : ℕ) → IsSound w → place < length w.arena → is_free (entry_of_place w.arena place).state ≡ true →
+pub no_descriptor : (w : World) (place index : ℕ) → IsSound w → place < length w.arena →
+    is_free (entry_of_place w.arena place).state ≡ true →
     ¬ HasOrigin (row_at_index w.descriptors index) (Dos (block_segment (entry_of_place w.arena place)))
-no_descriptor w place index s small free has =
-    let other = s.runs.entries index (block_segment (entry_of_place w.arena place)) has in
-    let starts = other.starts in
-    let inside = inside_of w.arena other.place other.entry other.there in
-    let there : entry_of_place w.arena other.place ≡ other.entry = get_or_from_slice_get w.arena other.place other.entry missing_entry other.there in
-    let at = ap (λ (e : DosEntry). e.at) there in
-    let same = one_place w.arena ARENA_START ARENA_END other.place place missing_entry s.arena.fills inside small (omega arith) in
-    false≢true (sym (free_plain (entry_of_place w.arena place).state free)
-    ∙ ap (λ (n : ℕ). is_dpmi (entry_of_place w.arena n).state) (sym same) ∙ ap (λ (e : DosEntry). is_dpmi e.state) there ∙ other.made)
+no_descriptor w place index s small free has = grind (arith, false≢true, free_plain, get_or_from_slice_get, inside_of, one_place)
   where
     inside_of : (es : List DosEntry) (place : ℕ) (entry : DosEntry) → slice_get es place ≡ Some entry → place < length es
     inside_of [] place entry e = cc
@@ -64,91 +55,51 @@ no_descriptor w place index s small free has =
 
 -- a row that has an origin is in the table
 pub has_within : (rows : List Row) (index : ℕ) (origin : Origin) → HasOrigin (row_at_index rows index) origin → index < length rows
-has_within rows index origin has = elim (cases_lt index (length rows)) [
-  | inl inside ↦ inside
-  | inr past ↦ absurd (subst (λ (r : Row). HasOrigin r origin) (get_or_past rows index None past) has)
-]
+has_within rows index origin has = grind (arith, get_or_past)
 
 -- ---- the blocks that are put
 
 made_split : (at n paras : ℕ) → n ≢ 0 → made_blocks (split Dpmi at n paras) ≡ block_alone (at + 1) n
-made_split at n paras some = elim (cases_eq n paras) [
-  | inl all ↦ rw (eq-eqb n paras all, ne_eqb n 0 some) refl
-  | inr less ↦ rw (ne_eqb n paras less, ne_eqb n 0 some) refl
-]
+made_split at n paras some = grind (arith, eq-eqb, ne_eqb)
 
-made_one : (entry : DosEntry) → is_dpmi entry.state ≡ true → 0 < entry.paras → made_blocks (entry ∷ []) ≡ block_alone (block_segment entry) entry.paras
+made_one : (entry : DosEntry) → is_dpmi entry.state ≡ true → 0 < entry.paras →
+    made_blocks (entry ∷ []) ≡ block_alone (block_segment entry) entry.paras
 made_one entry made some = rw (made, ne_eqb entry.paras 0 (λ e. omega arith)) refl
 
 -- ---- 0100h
 
-pub can_give_run : (w : World) (n place first : ℕ) → IsSound w → w.width ≢ None → n ≢ 0 → HasFit w.arena n place → FIRST_FREE_DESCRIPTOR ≤ first →
+pub can_give_run : (w : World) (n place first : ℕ) → IsSound w → w.width ≢ None → n ≢ 0 → HasFit w.arena n place →
+    FIRST_FREE_DESCRIPTOR ≤ first →
     IsFreeRunOf w.descriptors first (descriptors_for n) →
-    CanPutRun w place 1 (split Dpmi (entry_of_place w.arena place).at n (entry_of_place w.arena place).paras) (run_of_block (entry_of_place w.arena place) first 0 n)
+    CanPutRun w place 1 (split Dpmi (entry_of_place w.arena place).at n (entry_of_place w.arena place).paras)
+    (run_of_block (entry_of_place w.arena place) first 0 n)
 can_give_run w n place first s width some fit from run =
     let can = splice_give w.arena true n place s.arena fit in
     let within = run.within in
-    record {
-      width = width;
-      within = can.within;
-      arena = can.sound;
-      old_block = rw (take_one w.arena place fit.small) (rw (free_plain (entry_of_place w.arena place).state fit.free) refl);
-      new_block = made_split (entry_of_place w.arena place).at n (entry_of_place w.arena place).paras some;
-      from = from;
-      old_run = record {
-        have = λ index from to. absurd (omega arith);
-        from = λ index has. absurd (no_descriptor w place index s fit.small fit.free has);
-        to = λ index has. absurd (no_descriptor w place index s fit.small fit.free has);
-      };
-      added = record { within = omega arith; free = λ index from to. run.free index (omega arith) (omega arith) };
-    }
+    grind (arith, free_plain, made_split, no_descriptor, take_one)
 
 -- ---- 0101h
 
 -- a block's descriptors are in the table
 run_within : (w : World) (first place : ℕ) → IsSound w → HasBlockRun w first place →
-    first + descriptors_for (entry_of_place w.arena place).paras + (descriptors_for 0 - descriptors_for (entry_of_place w.arena place).paras) ≤ DESCRIPTORS
-run_within w first place s block =
-    let some = block.some in
-    let count = descriptors_for (entry_of_place w.arena place).paras in
-    let last = first + count - 1 in
-    let size = s.descriptors.indices in
-    let inside = has_within w.descriptors last (Dos (block_segment (entry_of_place w.arena place))) (block.run.have last (omega arith) (omega arith)) in
-    omega arith
+    first + descriptors_for (entry_of_place w.arena place).paras
+    + (descriptors_for 0 - descriptors_for (entry_of_place w.arena place).paras) ≤ DESCRIPTORS
+run_within w first place s block = grind (arith, has_within)
 
 pub can_free_run : (w : World) (first place : ℕ) → IsSound w → w.width ≢ None → HasBlockRun w first place →
-    CanPutRun w (place - free_before w.arena place) (free_before w.arena place + (1 + free_entries_after w.arena place)) (joined_entry w.arena place ∷ [])
+    CanPutRun w (place - free_before w.arena place) (free_before w.arena place + (1 + free_entries_after w.arena place))
+    (joined_entry w.arena place ∷ [])
     (run_of_block (entry_of_place w.arena place) first (entry_of_place w.arena place).paras 0)
-can_free_run w first place s width block =
-    let can = splice_free w.arena place s.arena block.small in
-    record {
-      width = width;
-      within = can.within;
-      arena = can.sound;
-      old_block = (is_before w.arena place s.arena block.small).made (1 + free_entries_after w.arena place) ∙ behind_made w.arena place block.small
-          ∙ made_one (entry_of_place w.arena place) block.made block.some;
-      new_block = refl;
-      from = block.from;
-      old_run = block.run;
-      added = record { within = run_within w first place s block; free = λ index from to. absurd (omega arith) };
-    }
+can_free_run w first place s width block = grind (arith, behind_made, is_before, made_one, run_within, splice_free)
 
 -- ---- 0102h
 
-pub can_resize_run : (w : World) (n first place : ℕ) → IsSound w → w.width ≢ None → HasBlockRun w first place → n ≢ 0 → n ≤ greatest_size w.arena place →
+pub can_resize_run : (w : World) (n first place : ℕ) → IsSound w → w.width ≢ None → HasBlockRun w first place → n ≢ 0 →
+    n ≤ greatest_size w.arena place →
     IsFreeRunOf w.descriptors (first + descriptors_for (entry_of_place w.arena place).paras)
     (descriptors_for n - descriptors_for (entry_of_place w.arena place).paras) →
     CanPutRun w place (1 + free_entries_after w.arena place) (split Dpmi (entry_of_place w.arena place).at n (greatest_size w.arena place))
     (run_of_block (entry_of_place w.arena place) first (entry_of_place w.arena place).paras n)
 can_resize_run w n first place s width block some room added =
     let can = splice_resize w.arena true n place s.arena block.small room in
-    record {
-      width = width;
-      within = can.within;
-      arena = can.sound;
-      old_block = behind_made w.arena place block.small ∙ made_one (entry_of_place w.arena place) block.made block.some;
-      new_block = made_split (entry_of_place w.arena place).at n (greatest_size w.arena place) some;
-      from = block.from;
-      old_run = block.run;
-      added = added;
-    }
+    grind (arith, behind_made, made_one, made_split)

@@ -1,7 +1,8 @@
 -- What a selector that names the first descriptor of a block says of the block, and free runs of descriptors.
-use Rattle.std.proofs.Common.{◌≡◌, ℕ, suc, ◌+◌, ◌-◌, ◌<◌, ◌≤◌, inl, inr, Bool, true, false, ◌&&◌, nat_le, if◌then◌else◌, List, length, refl, ap, ◌∙◌, sym, subst, arith, Option, Some, None}
+use Rattle.std.proofs.Common.{◌≡◌, ℕ, suc, ◌+◌, ◌-◌, ◌<◌, ◌≤◌, Bool, true, false, ◌&&◌, List, length, refl, ap, ◌∙◌, sym, subst, arith}
+use Rattle.std.proofs.Common.{Option, Some, None}
 use Rattle.std.specs.Option.{is_none, is_some}
-use Rattle.std.proofs.lemmas.Bool.{cases_lt, eq-eqb, false≢true, le-leb}
+use Rattle.std.proofs.lemmas.Bool.{eq-eqb, false≢true, le-leb}
 use Rattle.std.proofs.lemmas.Option.{none-some, slice_get-get_or}
 use Rattle.client_world.specs.declared.descriptors.Origin.{Origin}
 use Rattle.client_world.specs.declared.descriptors.Origin.TheVariants.{Own, Low, Entry, Psp, Segment, Dos, Host}
@@ -36,40 +37,23 @@ row_is (Some row) segment has = ap segment_of_origin has
 
 -- ---- the first of a run
 
-first_tells : (own before : Option ℕ) (segment : ℕ) → first_of_segment own before ≡ Some segment → (own ≡ Some segment) × (is_of_segment before segment ≡ false)
+first_tells : (own before : Option ℕ) (segment : ℕ) → first_of_segment own before ≡ Some segment →
+    (own ≡ Some segment) × (is_of_segment before segment ≡ false)
 first_tells None before segment e = absurd (none-some segment e)
-first_tells (Some own) before segment e = by_case (is_of_segment before own) refl e
-  where
-    by_case : (other : Bool) → is_of_segment before own ≡ other → (if other then None else Some own) ≡ Some segment →
-        (Some own ≡ Some segment) × (is_of_segment before segment ≡ false)
-    by_case true is found = absurd (none-some segment found)
-    by_case false is found = (found, subst (λ (s : ℕ). is_of_segment before s ≡ false) (ap number found) is)
+first_tells (Some own) before segment e = grind (arith, none-some, number)
 
 record IsFirst (rows : List Row) (index segment : ℕ) : Type 0 where
   pub here : HasOrigin (row_at_index rows index) (Dos segment)
   pub before : ¬ HasOrigin (row_at_index rows (index - 1)) (Dos segment)
 
-is_first : (rows : List Row) (sel segment : ℕ) (local : Bool) → is_local sel ≡ local → segment_of_selector rows sel ≡ Some segment → IsFirst rows (index_of sel) segment
+is_first : (rows : List Row) (sel segment : ℕ) (local : Bool) → is_local sel ≡ local → segment_of_selector rows sel ≡ Some segment →
+    IsFirst rows (index_of sel) segment
 unfolding segment_of_selector
-is_first rows sel segment true local e =
-    let found : first_of_segment (segment_of_row (row_at_index rows (index_of sel))) (segment_of_row (row_at_index rows (index_of sel - 1))) ≡ Some segment =
-    rw local at e in
-    let tells = first_tells _ _ segment found in
-    record {
-      here = row_tells (row_at_index rows (index_of sel)) segment tells.0;
-      before = λ has. false≢true (sym tells.1
-          ∙ ap (λ (o : Option ℕ). is_of_segment o segment) (row_is (row_at_index rows (index_of sel - 1)) segment has) ∙ eq-eqb segment segment refl);
-    }
+is_first rows sel segment true local e = grind (arith, eq-eqb, false≢true, first_tells, row_is, row_tells)
 is_first rows sel segment false local e = absurd (none-some segment (let none : None ≡ Some segment = rw local at e in none))
 
 run_begins : (rows : List Row) (segment index first n : ℕ) → IsFirst rows index segment → IsRunOf rows (Dos segment) first n → first ≡ index
-run_begins rows segment index first n is run =
-    let from = run.from index is.here in
-    let to = run.to index is.here in
-    elim (cases_lt first index) [
-      | inl below ↦ absurd (is.before (run.have (index - 1) (omega arith) (omega arith)))
-      | inr same ↦ omega arith
-    ]
+run_begins rows segment index first n is run = grind arith
 
 -- ---- the block of a selector
 
@@ -78,29 +62,28 @@ pub record HasBlockRun (w : World) (first place : ℕ) : Type 0 where
   pub small : place < length w.arena
   pub made : is_dpmi (entry_of_place w.arena place).state ≡ true
   pub from : FIRST_FREE_DESCRIPTOR ≤ first
-  pub run : IsRunOf w.descriptors (Dos (block_segment (entry_of_place w.arena place))) first (descriptors_for (entry_of_place w.arena place).paras)
+  pub run : IsRunOf w.descriptors (Dos (block_segment (entry_of_place w.arena place))) first
+      (descriptors_for (entry_of_place w.arena place).paras)
   pub some : 0 < (entry_of_place w.arena place).paras
 
-pub block_of_segment : (w : World) (sel place segment : ℕ) → IsSound w → segment_of_selector w.descriptors sel ≡ Some segment → HasBlock true w.arena segment place →
+pub block_of_segment : (w : World) (sel place segment : ℕ) → IsSound w → segment_of_selector w.descriptors sel ≡ Some segment →
+    HasBlock true w.arena segment place →
     HasBlockRun w (index_of sel) place
 block_of_segment w sel place segment s found block =
     let entry = entry_of_place w.arena place in
     let h : HasRun w.descriptors entry = s.runs.runs place entry (slice_get-get_or w.arena place missing_entry block.small) block.kind in
     let is : IsFirst w.descriptors (index_of sel) (block_segment entry) =
-    subst (λ (n : ℕ). IsFirst w.descriptors (index_of sel) n) (sym block.starts) (is_first w.descriptors sel segment (is_local sel) refl found) in
+    subst (λ (n : ℕ). IsFirst w.descriptors (index_of sel) n) (sym block.starts)
+    (is_first w.descriptors sel segment (is_local sel) refl found) in
     let same = run_begins w.descriptors (block_segment entry) (index_of sel) h.first (descriptors_for entry.paras) is h.run in
-    record {
-      small = block.small;
-      made = block.kind;
-      from = subst (λ (n : ℕ). FIRST_FREE_DESCRIPTOR ≤ n) same h.free;
-      run = subst (λ (n : ℕ). IsRunOf w.descriptors (Dos (block_segment entry)) n (descriptors_for entry.paras)) same h.run;
-      some = h.some;
-    }
+    grind arith
 
-selector_block_of : (w : World) (sel place : ℕ) (o : Option ℕ) → IsSound w → segment_of_selector w.descriptors sel ≡ o → place_of_segment w.arena o ≡ Some place →
+selector_block_of : (w : World) (sel place : ℕ) (o : Option ℕ) → IsSound w → segment_of_selector w.descriptors sel ≡ o →
+    place_of_segment w.arena o ≡ Some place →
     HasBlockRun w (index_of sel) place
 selector_block_of w sel place None s found e = absurd (none-some place e)
-selector_block_of w sel place (Some segment) s found e = block_of_segment w sel place segment s found (found_block true w.arena segment place (sym e))
+selector_block_of w sel place (Some segment) s found e =
+    block_of_segment w sel place segment s found (found_block true w.arena segment place (sym e))
 
 pub selector_block : (w : World) (sel place : ℕ) → IsSound w → Some place ≡ place_of_selector w sel → HasBlockRun w (index_of sel) place
 unfolding place_of_selector
@@ -108,7 +91,8 @@ selector_block w sel place s e = selector_block_of w sel place (segment_of_selec
 
 -- ---- free runs
 
-are_free_suc : (rows : List Row) (first n : ℕ) → are_free rows first (suc n) ≡ (is_none (row_at_index rows first) && are_free rows (first + 1) n)
+are_free_suc : (rows : List Row) (first n : ℕ) →
+    are_free rows first (suc n) ≡ (is_none (row_at_index rows first) && are_free rows (first + 1) n)
 unfolding are_free
 are_free_suc rows first n = refl
 
@@ -120,7 +104,8 @@ free_step : (rows : List Row) (first i n : ℕ) → i < n →
     are_free rows (first + i) (n - i) ≡ (is_none (row_at_index rows (first + i)) && are_free rows (first + (i + 1)) (n - (i + 1)))
 free_step rows first i n below =
     ap (are_free rows (first + i)) (let k : n - i ≡ suc (n - (i + 1)) = omega arith in k) ∙ are_free_suc rows (first + i) (n - (i + 1))
-    ∙ ap (λ (j : ℕ). is_none (row_at_index rows (first + i)) && are_free rows j (n - (i + 1))) (let next : first + i + 1 ≡ first + (i + 1) = omega arith in next)
+    ∙ ap (λ (j : ℕ). is_none (row_at_index rows (first + i)) && are_free rows j (n - (i + 1)))
+    (let next : first + i + 1 ≡ first + (i + 1) = omega arith in next)
 
 not_both : (a : Bool) → (a && false) ≡ false
 not_both true = refl
@@ -137,19 +122,19 @@ free_row (Some row) e = cc
 pub free_next : (rows : List Row) (first i n : ℕ) (row : Row) → i < n → row ≡ row_at_index rows (first + i) → is_some row ≡ false →
     are_free rows (first + i) (n - i) ≡ are_free rows first n → are_free rows (first + (i + 1)) (n - (i + 1)) ≡ are_free rows first n
 free_next rows first i n row below is free before =
-    sym (free_step rows first i n below ∙ ap (λ (b : Bool). b && are_free rows (first + (i + 1)) (n - (i + 1))) (ap is_none (sym is) ∙ free_row row free)) ∙ before
+    sym (free_step rows first i n below
+    ∙ ap (λ (b : Bool). b && are_free rows (first + (i + 1)) (n - (i + 1))) (ap is_none (sym is) ∙ free_row row free)) ∙ before
 
 pub taken_run : (rows : List Row) (first i n : ℕ) (row : Row) → i < n → row ≡ row_at_index rows (first + i) → is_some row ≡ true →
     are_free rows (first + i) (n - i) ≡ are_free rows first n → false ≡ is_free_run rows first n
-taken_run rows first i n row below is taken before =
-    let none : are_free rows first n ≡ false = sym before ∙ free_step rows first i n below
-    ∙ ap (λ (b : Bool). b && are_free rows (first + (i + 1)) (n - (i + 1))) (ap is_none (sym is) ∙ taken_row row taken) in
-    rw none (sym (not_both (nat_le (first + n) DESCRIPTORS)))
+taken_run rows first i n row below is taken before = grind (arith, free_step, not_both, taken_row)
 
-free_end : (rows : List Row) (first i n : ℕ) → n ≤ i → are_free rows (first + i) (n - i) ≡ are_free rows first n → are_free rows first n ≡ true
+free_end : (rows : List Row) (first i n : ℕ) → n ≤ i → are_free rows (first + i) (n - i) ≡ are_free rows first n →
+    are_free rows first n ≡ true
 free_end rows first i n past before =
     sym before ∙ ap (are_free rows (first + i)) (let none : n - i ≡ 0 = omega arith in none) ∙ are_free_none rows (first + i)
 
-pub whole_run : (rows : List Row) (first i n : ℕ) → n ≤ i → first + n ≤ DESCRIPTORS → are_free rows (first + i) (n - i) ≡ are_free rows first n →
+pub whole_run : (rows : List Row) (first i n : ℕ) → n ≤ i → first + n ≤ DESCRIPTORS →
+    are_free rows (first + i) (n - i) ≡ are_free rows first n →
     true ≡ is_free_run rows first n
 whole_run rows first i n past within before = rw (le-leb (first + n) DESCRIPTORS within, free_end rows first i n past before) refl

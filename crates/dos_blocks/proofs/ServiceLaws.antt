@@ -1,5 +1,7 @@
--- Every service on DOS memory leads from a sound world to a sound one, and changes registers, the megabyte, the arena and descriptors alone.
-use Rattle.std.proofs.Common.{◌≡◌, ◌≢◌, ℕ, ◌<◌, Bool, true, false, nat_eq, nat_le, nat_lt, if◌then◌else◌, inl, inr, List, length, refl, ap, sym, subst, arith, Option, Some, None, Result, Ok, Err}
+-- Every service on DOS memory leads from a sound world to a sound one, and changes registers, the megabyte, the arena and descriptors
+-- alone.
+use Rattle.std.proofs.Common.{◌≡◌, ◌≢◌, ℕ, ◌<◌, Bool, true, false, nat_eq, nat_le, nat_lt, if◌then◌else◌, inl, inr, List, length, refl, ap}
+use Rattle.std.proofs.Common.{sym, subst, arith, Option, Some, None, Result, Ok, Err}
 use Rattle.std.proofs.lemmas.Bool.{cases_eq, and_parts, eq-eqb, ne_eqb, leb-true, ltb-true}
 use Rattle.client_world.specs.declared.dos_memory.DosEntry.{DosEntry}
 use Rattle.client_world.specs.declared.dos_memory.DosRefusal.{DosRefusal}
@@ -7,7 +9,7 @@ use Rattle.client_world.specs.declared.dos_memory.DosRefusal.TheVariants.{NoMemo
 use Rattle.client_world.specs.declared.dos_memory.DosRun.{DosRun}
 use Rattle.client_world.specs.declared.registers.Mode.TheVariants.{Protected}
 use Rattle.client_world.specs.Selector.{index_of}
-use Rattle.client_world.specs.Services.{Served, bx, dx}
+use Rattle.client_world.specs.Services.{bx, dx}
 use Rattle.client_world.specs.Soundness.{IsSound, descriptors_for}
 use Rattle.client_world.specs.World.{World}
 use Rattle.client_world.proofs.SoundWrites.{IsSound-regs}
@@ -17,8 +19,11 @@ use Rattle.guest_space.proofs.DosRunsSound.{IsSound-run}
 use Rattle.service_rows.specs.FreeRun.{first_free_run}
 use Rattle.service_rows.proofs.RunLaws.{free_run_of, run_of_test}
 use Rattle.service_rows.proofs.WidthLaws.{protected_width}
-use Rattle.dos_blocks.specs.Blocks.{Done, entry_of_place, first_fit, free_result, free_result_at, place_of_block, greatest_size, resize_result, resize_result_at, run_of_block}
-use Rattle.dos_blocks.specs.Services.{allocate_dos_block, served_result, can_have, dos_service, free_dos_block, free_result_of_segment, place_of_selector, resize_dos_block, resize_result_of_segment, resize_result_of_place, segment_of_selector, with_refusal}
+use Rattle.dos_blocks.specs.Blocks.{Done, entry_of_place, first_fit, free_result, free_result_at, place_of_block, greatest_size}
+use Rattle.dos_blocks.specs.Blocks.{resize_result, resize_result_at, run_of_block}
+use Rattle.dos_blocks.specs.Services.{allocate_dos_block, served_result, can_have, dos_service, free_dos_block, free_result_of_segment}
+use Rattle.dos_blocks.specs.Services.{place_of_selector, resize_dos_block, resize_result_of_segment, resize_result_of_place}
+use Rattle.dos_blocks.specs.Services.{segment_of_selector, with_refusal}
 use Rattle.dos_blocks.proofs.Founds.{found_fit}
 use Rattle.dos_blocks.proofs.NeighbourLaws.{entry_within}
 use Rattle.dos_blocks.proofs.RunPuts.{can_free_run, can_give_run, can_resize_run}
@@ -27,36 +32,28 @@ use Rattle.dos_blocks.proofs.SelectorLaws.{selector_block}
 
 -- ---- choices
 
-of_choice : {A : Type 0} (P : A → Type 0) (c : Bool) (one other : A) → (c ≡ true → P one) → (c ≡ false → P other) → P (if c then one else other)
+of_choice : {A : Type 0} (P : A → Type 0) (c : Bool) (one other : A) → (c ≡ true → P one) → (c ≡ false → P other) →
+    P (if c then one else other)
 of_choice P true one other chosen left = chosen refl
 of_choice P false one other chosen left = left refl
 
-of_reported : (P : World → Type 0) (answer : Result (Unit {0}) DosRefusal) (w : World) → P w → ((refusal : DosRefusal) → P (with_refusal refusal w)) →
+of_reported : (P : World → Type 0) (answer : Result (Unit {0}) DosRefusal) (w : World) → P w →
+    ((refusal : DosRefusal) → P (with_refusal refusal w)) →
     P (served_result (record { answer = answer; world = w })).world
 unfolding served_result
 of_reported P (Ok v) w here refused = here
 of_reported P (Err refusal) w here refused = refused refusal
 
-of_each_service : (P : World → Type 0) (ax : ℕ) (w : World) → P w → P (served_result (allocate_dos_block w)).world → P (served_result (free_dos_block w)).world →
+of_each_service : (P : World → Type 0) (ax : ℕ) (w : World) → P w → P (served_result (allocate_dos_block w)).world →
+    P (served_result (free_dos_block w)).world →
     P (served_result (resize_dos_block w)).world → P (dos_service ax w).world
 unfolding dos_service
-of_each_service P ax w same given freed resized =
-    let Q : Served → Type 0 = λ (s : Served). P s.world in
-    of_choice Q (nat_eq ax 0x0100) _ _ (λ e. given) (λ e.
-    of_choice Q (nat_eq ax 0x0101) _ _ (λ e. freed) (λ e.
-    of_choice Q (nat_eq ax 0x0102) _ _ (λ e. resized) (λ e. same)))
+of_each_service P ax w same given freed resized = grind (arith, of_choice)
 
 -- ---- sound
 
 sound_registers : (w : World) (a b d : ℕ) → IsSound w → IsSound (record w { regs = record w.regs { eax = a; ebx = b; edx = d } })
-sound_registers w a b d s = IsSound-regs w (record w.regs { eax = a; ebx = b; edx = d }) s (record {
-  es = s.segments.es;
-  cs = s.segments.cs;
-  ss = s.segments.ss;
-  ds = s.segments.ds;
-  fs = s.segments.fs;
-  gs = s.segments.gs;
-})
+sound_registers w a b d s = IsSound-regs w (record w.regs { eax = a; ebx = b; edx = d }) s (assumption)
 
 sound_refusal : (w : World) (refusal : DosRefusal) → IsSound w → IsSound (with_refusal refusal w)
 sound_refusal w (NoMemory most) s = sound_registers w _ _ w.regs.edx s
@@ -91,7 +88,8 @@ sound_allocate w s width = elim (cases_eq (bx w) 0) [
   | inr some ↦ rw (ne_eqb (bx w) 0 some)
       (subst (λ (d : Done (Unit {0})). IsSound d.world)
       (sym (given_is w (bx w) (first_fit w.arena (bx w) 0) (first_free_run w.descriptors (descriptors_for (bx w))) refl refl))
-      (sound_given w (bx w) (first_fit w.arena (bx w) 0) (first_free_run w.descriptors (descriptors_for (bx w))) s width some (omega arith) refl refl))
+      (sound_given w (bx w) (first_fit w.arena (bx w) 0) (first_free_run w.descriptors (descriptors_for (bx w))) s width some (omega arith)
+      refl refl))
 ]
 
 sound_freed : (w : World) (sel : ℕ) (o : Option ℕ) → IsSound w → w.width ≢ None → place_of_selector w sel ≡ o →
@@ -103,7 +101,8 @@ sound_freed w sel (Some place) s width e =
 
 sound_free : (w : World) → IsSound w → w.width ≢ None → IsSound (free_dos_block w).world
 unfolding free_dos_block
-sound_free w s width = subst (λ (d : Done (Unit {0})). IsSound d.world) (sym (freed_is w (dx w) s)) (sound_freed w (dx w) (place_of_selector w (dx w)) s width refl)
+sound_free w s width = subst (λ (d : Done (Unit {0})). IsSound d.world) (sym (freed_is w (dx w) s))
+    (sound_freed w (dx w) (place_of_selector w (dx w)) s width refl)
 
 sound_resized : (w : World) (n sel : ℕ) (o : Option ℕ) → IsSound w → w.width ≢ None → n < 0x10000 → place_of_selector w sel ≡ o →
     IsSound (resized_with_run n (index_of sel) o w).world
@@ -121,14 +120,13 @@ sound_resized w n sel (Some place) s width small e =
 
 sound_resize : (w : World) → IsSound w → w.width ≢ None → IsSound (resize_dos_block w).world
 unfolding resize_dos_block
-sound_resize w s width =
-    subst (λ (d : Done (Unit {0})). IsSound d.world) (sym (resized_is w (bx w) (dx w) s))
-    (sound_resized w (bx w) (dx w) (place_of_selector w (dx w)) s width (omega arith) refl)
+sound_resize w s width = grind (arith, resized_is, sound_resized)
 
 pub sound_service : (ax : ℕ) (w : World) → IsSound w → w.mode ≡ Protected → IsSound (dos_service ax w).world
 sound_service ax w s protected =
     let width = protected_width w s protected in
-    of_each_service IsSound ax w s (sound_reported (allocate_dos_block w) (sound_allocate w s width)) (sound_reported (free_dos_block w) (sound_free w s width))
+    of_each_service IsSound ax w s (sound_reported (allocate_dos_block w) (sound_allocate w s width))
+    (sound_reported (free_dos_block w) (sound_free w s width))
     (sound_reported (resize_dos_block w) (sound_resize w s width))
 
 -- ---- the rest is kept
@@ -176,14 +174,13 @@ kept_free w = kept_freed_named w (segment_of_selector w.descriptors (dx w))
 kept_resized_at : (w : World) (segment n : ℕ) (o : Option ℕ) → Kept w (resize_result_at w true segment n o).world
 kept_resized_at w segment n None = refl
 kept_resized_at w segment n (Some place) =
-    of_choice (λ (d : Done (Unit {0})). Kept w d.world) (nat_le n (greatest_size w.arena place)) _ _ (λ can. kept_put w _ _ _ _) (λ left. refl)
+    of_choice (λ (d : Done (Unit {0})). Kept w d.world) (nat_le n (greatest_size w.arena place)) _ _ (λ can. kept_put w _ _ _ _)
+    (λ left. refl)
 
 kept_resized : (w : World) (n first segment : ℕ) (o : Option ℕ) → Kept w (resize_result_of_place n first segment o w).world
 unfolding resize_result
 kept_resized w n first segment None = refl
-kept_resized w n first segment (Some place) =
-    of_choice (λ (d : Done (Unit {0})). Kept w d.world) (can_have w n first place) _ _
-    (λ can. kept_resized_at w segment n (place_of_block true w.arena segment 0)) (λ left. refl)
+kept_resized w n first segment (Some place) = grind (arith, kept_resized_at, of_choice)
 
 kept_resized_from : (w : World) (n first : ℕ) (o : Option ℕ) → Kept w (resize_result_of_segment n first o w).world
 kept_resized_from w n first None = refl
@@ -194,5 +191,6 @@ unfolding resize_dos_block
 kept_resize w = kept_resized_from w (bx w) (index_of (dx w)) (segment_of_selector w.descriptors (dx w))
 
 pub kept_service : (ax : ℕ) (w : World) → Kept w (dos_service ax w).world
-kept_service ax w = of_each_service (Kept w) ax w refl (kept_reported w (allocate_dos_block w) (kept_allocate w)) (kept_reported w (free_dos_block w) (kept_free w))
+kept_service ax w = of_each_service (Kept w) ax w refl (kept_reported w (allocate_dos_block w) (kept_allocate w))
+    (kept_reported w (free_dos_block w) (kept_free w))
     (kept_reported w (resize_dos_block w) (kept_resize w))

@@ -1,7 +1,7 @@
 -- Entries in place of others that fill the same paragraphs leave an arena, where none of them is free beside a free one.
-use Rattle.std.proofs.Common.{◌≡◌, ℕ, zero, suc, ◌+◌, ◌<◌, ◌≤◌, inl, inr, Bool, true, false, List, [], ◌∷◌, ◌++◌, length, get_or, take, drop, refl, ap, ◌∙◌, sym, subst, arith, zero-add}
+use Rattle.std.proofs.Common.{◌≡◌, ℕ, zero, suc, ◌+◌, ◌<◌, ◌≤◌, Bool, true, false, List, [], ◌∷◌, ◌++◌, length, get_or, take, drop, refl}
+use Rattle.std.proofs.Common.{ap, ◌∙◌, sym, subst, arith, zero-add}
 use Rattle.std.proofs.lemmas.List.{take-append-drop}
-use Rattle.std.proofs.lemmas.Bool.{cases_lt}
 use Rattle.client_world.specs.declared.dos_memory.DosEntry.{DosEntry}
 use Rattle.client_world.specs.declared.memory_map.TheConstants.{ARENA_START, ARENA_END}
 use Rattle.client_world.specs.DosMemory.{is_free, Fills, IsJoined, starts_free, IsArena}
@@ -32,12 +32,14 @@ FillsAlike xs ys = (from to : ℕ) → Fills from xs to → Fills from ys to
 fills-spliced : (es : List DosEntry) (from to place old : ℕ) (new : List DosEntry) → Fills from es to → place + old ≤ length es →
     FillsAlike (take old (drop place es)) new → Fills from (with_replaced_entries es place old new) to
 fills-spliced es from to zero old new f within alike =
-    let both = fills_both (take old es) (drop old es) from to (subst (λ (xs : List DosEntry). Fills from xs to) (sym (take-append-drop old es)) f) in
+    let both = fills_both (take old es) (drop old es) from to
+    (subst (λ (xs : List DosEntry). Fills from xs to) (sym (take-append-drop old es)) f) in
     subst (λ (n : ℕ). Fills from (new ++ drop n es) to) (sym (zero-add old))
     (fills-append new (drop old es) from both.mid to (alike from both.mid both.left) both.right)
 fills-spliced [] from to (suc place) old new f within alike = absurd (omega arith)
 fills-spliced (e ∷ es) from to (suc place) old new f within alike =
-    subst (λ (n : ℕ). Fills from (e ∷ (take place es ++ (new ++ drop n (e ∷ es)))) to) (let same : suc (place + old) ≡ suc place + old = omega arith in same)
+    subst (λ (n : ℕ). Fills from (e ∷ (take place es ++ (new ++ drop n (e ∷ es)))) to)
+    (let same : suc (place + old) ≡ suc place + old = omega arith in same)
     (f.0, fills-spliced es (from + 1 + e.paras) to place old new f.1 (omega arith) alike)
 
 -- no two free neighbours
@@ -63,7 +65,8 @@ joined-append (e ∷ []) ys x y seam = (seam, y)
 joined-append (e ∷ f ∷ xs) ys x y seam = (x.0, joined-append (f ∷ xs) ys x.1 y seam)
 
 -- after a free entry there is none
-pub joined_next : (es : List DosEntry) (place : ℕ) (d : DosEntry) → IsJoined es → place + 1 < length es → is_free (get_or es place d).state ≡ true →
+pub joined_next : (es : List DosEntry) (place : ℕ) (d : DosEntry) → IsJoined es → place + 1 < length es →
+    is_free (get_or es place d).state ≡ true →
     is_free (get_or es (place + 1) d).state ≡ false
 joined_next [] place d j small free = absurd (omega arith)
 joined_next (e ∷ []) zero d j small free = absurd (omega arith)
@@ -78,18 +81,17 @@ pub record FitsBetween (es : List DosEntry) (place old : ℕ) (new : List DosEnt
   pub left : (j : ℕ) → j + 1 ≡ place → is_free (get_or es j d).state ≡ true → starts_free new ≡ false
   pub right : place + old < length es → is_free (get_or es (place + old) d).state ≡ false
 
-starts_drop : (es : List DosEntry) (place : ℕ) (d : DosEntry) → (place < length es → is_free (get_or es place d).state ≡ false) → starts_free (drop place es) ≡ false
-starts_drop es place d h = elim (cases_lt place (length es)) [
-  | inl small ↦ ap starts_free (dropped es place d small) ∙ h small
-  | inr past ↦ ap starts_free (none_left es place past)
-]
+starts_drop : (es : List DosEntry) (place : ℕ) (d : DosEntry) → (place < length es → is_free (get_or es place d).state ≡ false) →
+    starts_free (drop place es) ≡ false
+starts_drop es place d h = grind (arith, dropped, none_left)
 
 starts-spliced : (es : List DosEntry) (place old : ℕ) (new : List DosEntry) → suc place + old ≤ length es →
     starts_free (with_replaced_entries es (suc place) old new) ≡ starts_free es
 starts-spliced [] place old new within = absurd (omega arith)
 starts-spliced (e ∷ es) place old new within = refl
 
-joined-spliced : (es : List DosEntry) (place old : ℕ) (new : List DosEntry) (d : DosEntry) → IsJoined es → place + old ≤ length es → IsJoined new →
+joined-spliced : (es : List DosEntry) (place old : ℕ) (new : List DosEntry) (d : DosEntry) → IsJoined es → place + old ≤ length es →
+    IsJoined new →
     FitsBetween es place old new d → IsJoined (with_replaced_entries es place old new)
 joined-spliced es zero old new d j within joined seams =
     let right : old < length es → is_free (get_or es old d).state ≡ false =
@@ -98,12 +100,14 @@ joined-spliced es zero old new d j within joined seams =
     (joined-append new (drop old es) joined (joined-drop es old j) (λ free. starts_drop es old d right))
 joined-spliced [] (suc place) old new d j within joined seams = absurd (omega arith)
 joined-spliced (e ∷ es) (suc place) old new d j within joined seams =
-    subst (λ (n : ℕ). IsJoined (e ∷ (take place es ++ (new ++ drop n (e ∷ es))))) (let same : suc (place + old) ≡ suc place + old = omega arith in same) (
+    subst (λ (n : ℕ). IsJoined (e ∷ (take place es ++ (new ++ drop n (e ∷ es)))))
+    (let same : suc (place + old) ≡ suc place + old = omega arith in same) (
       front place (omega arith) seams,
       joined-spliced es place old new d j.1 (omega arith) joined (record {
         some = seams.some;
         left = λ i h free. seams.left (suc i) (omega arith) free;
-        right = λ small. ap (λ (n : ℕ). is_free (get_or (e ∷ es) n d).state) (let same : suc (place + old) ≡ suc place + old = omega arith in same)
+        right = λ small.
+            ap (λ (n : ℕ). is_free (get_or (e ∷ es) n d).state) (let same : suc (place + old) ≡ suc place + old = omega arith in same)
             ∙ seams.right (omega arith);
       }),
     )
@@ -114,7 +118,8 @@ joined-spliced (e ∷ es) (suc place) old new d j within joined seams =
     front (suc place) within seams free = starts-spliced es place old new within ∙ j.0 free
 
 pub arena-spliced : (es : List DosEntry) (place old : ℕ) (new : List DosEntry) (d : DosEntry) → IsArena es → place + old ≤ length es →
-    FillsAlike (take old (drop place es)) new → IsJoined new → FitsBetween es place old new d → IsArena (with_replaced_entries es place old new)
+    FillsAlike (take old (drop place es)) new → IsJoined new → FitsBetween es place old new d →
+    IsArena (with_replaced_entries es place old new)
 arena-spliced es place old new d arena within alike joined seams = record {
   fills = fills-spliced es ARENA_START ARENA_END place old new arena.fills within alike;
   joined = joined-spliced es place old new d arena.joined within joined seams;

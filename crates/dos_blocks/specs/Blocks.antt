@@ -1,7 +1,9 @@
--- Blocks of DOS memory: which is given, resized or freed, and what becomes of the arena. A block of INT 31h function 0100h has descriptors, which
--- are made, changed and freed with it.
--- Source: MS-DOS functions 48h, 49h and 4Ah, and DPMI 0.9, INT 31h functions 0100h to 0102h; the first fit, that neighbouring free entries are always joined, and that a refusal changes nothing are own.
-use Rattle.std.specs.Prelude.{ℕ, ◌≡◌, ◌≢◌, ◌≤◌, ◌+◌, ◌-◌, Bool, true, false, ◌&&◌, nat_eq, nat_le, max, if◌then◌else◌, List, [], ◌∷◌, Some, None, Ok, Err, slice_index_or}
+-- Blocks of DOS memory: which is given, resized or freed, and what becomes of the arena. A block of INT 31h function 0100h has descriptors,
+-- which are made, changed and freed with it.
+-- Source: MS-DOS functions 48h, 49h and 4Ah, and DPMI 0.9, INT 31h functions 0100h to 0102h; the first fit, that neighbouring free entries
+-- are always joined, and that a refusal changes nothing are own.
+use Rattle.std.specs.Prelude.{ℕ, ◌≡◌, ◌≢◌, ◌≤◌, ◌+◌, ◌-◌, Bool, true, false, ◌&&◌, nat_eq, nat_le, max, if◌then◌else◌, List, [], ◌∷◌, Some}
+use Rattle.std.specs.Prelude.{None, Ok, Err, slice_index_or}
 use Rattle.std.specs.declared.option.Option.{Option}
 use Rattle.std.specs.declared.result.Result.{Result}
 use Rattle.client_world.specs.declared.descriptors.Origin.{Origin}
@@ -172,7 +174,8 @@ resize_result_at w for_dpmi segment n (Some place) =
       answer = Ok tt;
       world = with_block for_dpmi w place (1 + free_entries_after w.arena place)
           (split (block_state for_dpmi) (entry_of_place w.arena place).at n (greatest_size w.arena place))
-          (run_of_block (entry_of_place w.arena place) (first_descriptor for_dpmi w.descriptors segment) (entry_of_place w.arena place).paras n);
+          (run_of_block (entry_of_place w.arena place) (first_descriptor for_dpmi w.descriptors segment)
+          (entry_of_place w.arena place).paras n);
     }
     else record { answer = Err (NoMemory (greatest_size w.arena place)); world = w }
 
@@ -204,7 +207,8 @@ free_result_at w for_dpmi segment (Some place) = record {
   answer = Ok tt;
   world = with_block for_dpmi w (place - free_before w.arena place)
       (free_before w.arena place + (1 + free_entries_after w.arena place)) (joined_entry w.arena place ∷ [])
-      (run_of_block (entry_of_place w.arena place) (first_descriptor for_dpmi w.descriptors segment) (entry_of_place w.arena place).paras 0);
+      (run_of_block (entry_of_place w.arena place) (first_descriptor for_dpmi w.descriptors segment)
+      (entry_of_place w.arena place).paras 0);
 }
 
 -- the block becomes free
@@ -224,5 +228,6 @@ pub record CanResize (w : World) (segment n : ℕ) : Type 0 where
   pub width : w.width ≢ None
   pub some : n ≢ 0
   pub free : (place : ℕ) → place_of_block true w.arena segment 0 ≡ Some place → n ≤ greatest_size w.arena place →
-      has_room_to_grow w.descriptors (run_of_block (entry_of_place w.arena place) (first_descriptor true w.descriptors segment) (entry_of_place w.arena place).paras n)
+      has_room_to_grow w.descriptors
+      (run_of_block (entry_of_place w.arena place) (first_descriptor true w.descriptors segment) (entry_of_place w.arena place).paras n)
       ≡ true

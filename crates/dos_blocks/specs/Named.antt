@@ -1,4 +1,5 @@
--- The block of DOS memory that a selector names. Source: DPMI 0.9, INT 31h functions 0100h to 0102h; that it is the first of the block's selectors is own.
+-- The block of DOS memory that a selector names. Source: DPMI 0.9, INT 31h functions 0100h to 0102h; that it is the first of the block's
+-- selectors is own.
 use Rattle.std.specs.Prelude.{◌≡◌, ◌<◌, ℕ, true, None, length}
 use Rattle.client_world.specs.declared.descriptors.Origin.TheVariants.{Dos}
 use Rattle.client_world.specs.DosMemory.{block_segment, is_dpmi}
@@ -13,7 +14,8 @@ pub record NamesBlock (w : World) (sel place : ℕ) : Type 0 where
   pub local : is_local sel ≡ true
   pub within : place < length w.arena
   pub made : is_dpmi (entry_of_place w.arena place).state ≡ true
-  pub run : IsRunOf w.descriptors (Dos (block_segment (entry_of_place w.arena place))) (index_of sel) (descriptors_for (entry_of_place w.arena place).paras)
+  pub run : IsRunOf w.descriptors (Dos (block_segment (entry_of_place w.arena place))) (index_of sel)
+      (descriptors_for (entry_of_place w.arena place).paras)
 
 -- a block of that many paragraphs is at the segment in AX, and the selector in DX names it
 pub record HasNewBlock (w : World) (paras : ℕ) : Type 0 where

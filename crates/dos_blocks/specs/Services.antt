@@ -1,6 +1,6 @@
 -- The services of INT 31h on DOS memory: a block with descriptors for each 64 KB of it, one after another.
--- Source: DPMI 0.9, INT 31h functions 0100h to 0102h, and for the errors in AX MS-DOS functions 48h to 4Ah; that DX must name the first descriptor of a
--- block, and what BX reports where descriptors are missing, is own.
+-- Source: DPMI 0.9, INT 31h functions 0100h to 0102h, and for the errors in AX MS-DOS functions 48h to 4Ah; that DX must name the first
+-- descriptor of a block, and what BX reports where descriptors are missing, is own.
 use Rattle.std.specs.Prelude.{ℕ, ◌-◌, Bool, true, ◌&&◌, None, Some, Ok, Err, nat_eq, nat_le, nat_lt, if◌then◌else◌, List}
 use Rattle.std.specs.declared.option.Option.{Option}
 use Rattle.client_world.specs.declared.dos_memory.DosEntry.{DosEntry}
@@ -14,7 +14,8 @@ use Rattle.client_world.specs.Soundness.{descriptors_for}
 use Rattle.client_world.specs.World.{World}
 use Rattle.service_rows.specs.Rows.{with_ax}
 use Rattle.service_rows.specs.FreeRun.{first_free_run}
-use Rattle.dos_blocks.specs.Blocks.{Done, allocation_result, entry_of_place, free_result, has_room_to_grow, is_of_segment, largest, place_of_block, greatest_size, resize_result, run_of_block, segment_of_row}
+use Rattle.dos_blocks.specs.Blocks.{Done, allocation_result, entry_of_place, free_result, has_room_to_grow, is_of_segment, largest}
+use Rattle.dos_blocks.specs.Blocks.{place_of_block, greatest_size, resize_result, run_of_block, segment_of_row}
 
 abbrev pub with_bx : ℕ → World → World
 with_bx v w = record w { regs = record w.regs { ebx = with_low_half w.regs.ebx v } }
@@ -51,7 +52,8 @@ first_of_segment (Some segment) before = if is_of_segment before segment then No
 -- the segment of the block whose first descriptor a selector names
 unfoldable pub segment_of_selector : List Row → ℕ → Option ℕ
 segment_of_selector rows sel =
-    if is_local sel then first_of_segment (segment_of_row (row_at_index rows (index_of sel))) (segment_of_row (row_at_index rows (index_of sel - 1)))
+    if is_local sel
+    then first_of_segment (segment_of_row (row_at_index rows (index_of sel))) (segment_of_row (row_at_index rows (index_of sel - 1)))
     else None
 
 -- and its place in the arena

@@ -12,8 +12,8 @@ ghost use Rattle.dos_blocks.specs.Blocks.{entry_of_place};
 ghost use Rattle.dos_blocks.specs.Named.{HasNewBlock, LosesDescriptors, NamesBlock};
 ghost use Rattle.dos_blocks.specs.Services.{allocate_dos_block, dos_service, free_dos_block, place_of_selector};
 
-/// A service leads from a sound world of protected mode to a sound one: of the descriptors of DOS blocks, each belongs to a block, and a block
-/// has one for each 64 KB, in a row.
+/// A service leads from a sound world of protected mode to a sound one: of the descriptors of DOS blocks, each belongs to a block, and a
+/// block has one for each 64 KB, in a row.
 #[tactic(auto, using(crate::proofs::ServiceLaws::sound_service))]
 pub fn every_dos_service_is_sound()
     ensures { (ax : ℕ) (w : World) → IsSound w → w.mode ≡ protected → IsSound (dos_service ax w).world }
@@ -39,7 +39,8 @@ pub fn the_descriptors_of_a_block_lie_in_a_row()
         row_at_index (with_dos_rows rows run n) index ≡ row_at_index rows index }
 {}
 
-/// Functions 0101h and 0102h find the block that a selector names, and no other: each block has one such selector, that of its first descriptor.
+/// Functions 0101h and 0102h find the block that a selector names, and no other: each block has one such selector, that of its first
+/// descriptor.
 #[tactic(auto, using(crate::proofs::NamedLaws::each_named))]
 pub fn a_selector_finds_the_block_that_it_names()
     ensures found { (w : World) (sel place : ℕ) → IsSound w → ((place_of_selector w sel ≡ Some place) ↔ NamesBlock w sel place) }

@@ -9,8 +9,8 @@ use crate::putting::{first_descriptor, put_block};
 use client_world::{DosRefusal, DosRun};
 use guest_space::Machine;
 
-/// Resizes the block at a segment to `paras` paragraphs in place, and with `for_dpmi` gives it the descriptors of that size. `WrongBlock` where
-/// no block of that kind starts there, `NoMemory` with the largest size where it can't have that many; then nothing changes.
+/// Resizes the block at a segment to `paras` paragraphs in place, and with `for_dpmi` gives it the descriptors of that size. `WrongBlock`
+/// where no block of that kind starts there, `NoMemory` with the largest size where it can't have that many; then nothing changes.
 /// Source: MS-DOS function 4Ah, INT 31h function 0102h.
 #[tactic(auto, unfolding(crate::specs::Blocks::resize_result))]
 pub fn dos_resize(m: &mut Machine, seg: u16, paras: u16, for_dpmi: bool) -> Result<(), DosRefusal>

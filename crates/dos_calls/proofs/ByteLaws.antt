@@ -1,5 +1,6 @@
 -- Bytes at a segment and an offset, one after the other.
-use Rattle.std.proofs.Common.{◌≡◌, ◌≢◌, ℕ, zero, suc, ◌+◌, ◌-◌, ◌<◌, ◌≤◌, false, List, [], ◌∷◌, ◌++◌, length, get_or, drop, refl, ap, ◌∙◌, sym, arith}
+use Rattle.std.proofs.Common.{◌≡◌, ◌≢◌, ℕ, zero, suc, ◌+◌, ◌-◌, ◌<◌, ◌≤◌, false, List, [], ◌∷◌, ◌++◌, length, get_or, drop, refl, ap, ◌∙◌}
+use Rattle.std.proofs.Common.{sym, arith}
 use Rattle.std.specs.Prelude.{nat_eq}
 use Rattle.std.proofs.lemmas.Bool.Decides.{nat_tests}
 use Rattle.std.proofs.lemmas.List.{drop_all}
@@ -17,11 +18,14 @@ unfolding with_dos_bytes_at
 put_next dos segment at bytes n small = ap (λ (xs : List ℕ). with_dos_bytes_at dos segment at xs) (rest_is bytes n small)
 
 -- the world while they are written: its other parts stay
-pub only_bytes : (old now new : World) (dos : List ℕ) → now ≡ record old { dos = now.dos } → new ≡ record now { dos = dos } → new ≡ record old { dos = new.dos }
+pub only_bytes : (old now new : World) (dos : List ℕ) → now ≡ record old { dos = now.dos } → new ≡ record now { dos = dos } →
+    new ≡ record old { dos = new.dos }
 only_bytes old now new dos kept written =
-    written ∙ ap (λ (w : World). record w { dos = dos }) kept ∙ ap (λ (d : List ℕ). record old { dos = d }) (sym (ap (λ (w : World). w.dos) written))
+    written ∙ ap (λ (w : World). record w { dos = dos }) kept
+    ∙ ap (λ (d : List ℕ). record old { dos = d }) (sym (ap (λ (w : World). w.dos) written))
 
-pub put_none : (dos : List ℕ) (segment at : ℕ) (bytes : List ℕ) (n : ℕ) → length bytes ≤ n → with_dos_bytes_at dos segment at (drop n bytes) ≡ dos
+pub put_none : (dos : List ℕ) (segment at : ℕ) (bytes : List ℕ) (n : ℕ) → length bytes ≤ n →
+    with_dos_bytes_at dos segment at (drop n bytes) ≡ dos
 unfolding with_dos_bytes_at
 put_none dos segment at bytes n past = ap (λ (xs : List ℕ). with_dos_bytes_at dos segment at xs) (drop_all n bytes past)
 
@@ -37,25 +41,29 @@ put_append dos segment at (x ∷ xs) ys =
 
 -- a line, its return, and its length
 pub put_line : (dos : List ℕ) (segment at : ℕ) (line : List ℕ) →
-    with_dos_bytes_at (with_dos_bytes_at (with_dos_bytes_at dos segment (at + 2) line) segment (at + 2 + length line) (0x0D ∷ [])) segment (at + 1) (length line ∷ [])
+    with_dos_bytes_at (with_dos_bytes_at (with_dos_bytes_at dos segment (at + 2) line) segment (at + 2 + length line) (0x0D ∷ [])) segment
+    (at + 1) (length line ∷ [])
     ≡ with_dos_bytes_at (with_dos_bytes_at dos segment (at + 2) (line ++ 0x0D ∷ [])) segment (at + 1) (length line ∷ [])
 put_line dos segment at line =
     ap (λ (d : List ℕ). with_dos_bytes_at d segment (at + 1) (length line ∷ [])) (sym (put_append dos segment (at + 2) line (0x0D ∷ [])))
 
 -- ---- bytes read
 
-pub bytes_all : (dos : List ℕ) (segment offset count : ℕ) → bytes_from dos segment (offset + 0) (count - 0) ≡ bytes_from dos segment offset count
+pub bytes_all : (dos : List ℕ) (segment offset count : ℕ) →
+    bytes_from dos segment (offset + 0) (count - 0) ≡ bytes_from dos segment offset count
 bytes_all dos segment offset count =
     let at : offset + 0 ≡ offset = omega arith in
     let all : count - 0 ≡ count = omega arith in
     cc
 
 pub bytes_next : (dos : List ℕ) (segment offset count n : ℕ) → n < count →
-    bytes_from dos segment (offset + n) (count - n) ≡ byte_at dos segment (offset + n) ∷ bytes_from dos segment (offset + (n + 1)) (count - (n + 1))
+    bytes_from dos segment (offset + n) (count - n) ≡ byte_at dos segment (offset + n) ∷
+    bytes_from dos segment (offset + (n + 1)) (count - (n + 1))
 unfolding bytes_from
 bytes_next dos segment offset count n small =
     ap (λ (k : ℕ). bytes_from dos segment (offset + n) k) (let one : count - n ≡ suc (count - (n + 1)) = omega arith in one)
-    ∙ ap (λ (k : ℕ). byte_at dos segment (offset + n) ∷ bytes_from dos segment k (count - (n + 1))) (let same : offset + n + 1 ≡ offset + (n + 1) = omega arith in same)
+    ∙ ap (λ (k : ℕ). byte_at dos segment (offset + n) ∷ bytes_from dos segment k (count - (n + 1)))
+    (let same : offset + n + 1 ≡ offset + (n + 1) = omega arith in same)
 
 pub bytes_none : (dos : List ℕ) (segment offset count n : ℕ) → count ≤ n → bytes_from dos segment (offset + n) (count - n) ≡ []
 unfolding bytes_from

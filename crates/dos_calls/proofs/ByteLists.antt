@@ -1,5 +1,6 @@
 -- Lists of bytes: their parts, and those that are read from the megabyte.
-use Rattle.std.proofs.Common.{ℕ, zero, suc, ◌+◌, ◌/◌, ◌%◌, ◌<◌, ◌≤◌, List, [], ◌∷◌, ◌++◌, length, take, drop, arith, nat_eq, if◌then◌else◌, Bool, true, false, Option, None, Some}
+use Rattle.std.proofs.Common.{ℕ, zero, suc, ◌+◌, ◌/◌, ◌%◌, ◌<◌, ◌≤◌, List, [], ◌∷◌, ◌++◌, length, take, drop, arith, nat_eq, if◌then◌else◌}
+use Rattle.std.proofs.Common.{Bool, true, false, Option, None, Some}
 use Rattle.client_world.specs.Soundness.{SoundMegabyte}
 use Rattle.host_memory.specs.Vectors.{word_bytes}
 use Rattle.dos_calls.specs.Calls.{line_of}

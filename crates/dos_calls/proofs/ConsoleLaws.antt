@@ -1,5 +1,6 @@
 -- Bytes added to a console, one after the other.
-use Rattle.std.proofs.Common.{◌≡◌, ℕ, zero, suc, ◌+◌, ◌-◌, ◌<◌, ◌≤◌, Bool, true, false, List, [], ◌∷◌, ◌++◌, length, take, length-append, append_assoc, append-nil, refl, ap, subst, ◌∙◌, sym, arith}
+use Rattle.std.proofs.Common.{◌≡◌, ℕ, zero, suc, ◌+◌, ◌-◌, ◌<◌, ◌≤◌, Bool, true, false, List, [], ◌∷◌, ◌++◌, length, take, length-append}
+use Rattle.std.proofs.Common.{append_assoc, append-nil, refl, ap, subst, ◌∙◌, sym, arith}
 use Rattle.std.specs.Prelude.{nat_le, nat_lt, if◌then◌else◌}
 use Rattle.std.proofs.lemmas.Bool.{le-leb, lt-leb, leb-true}
 use borrow.Author.Tests.{ltb-true, ltb-false}
@@ -39,7 +40,8 @@ next_front console rest byte room small =
 
 room_next : (console rest : List ℕ) (byte : ℕ) → has_room console (byte ∷ rest) ≡ has_room (console ++ byte ∷ []) rest
 room_next console rest byte =
-    ap (λ (n : ℕ). nat_le n CONSOLE_ROOM) (let same : length console + length (byte ∷ rest) ≡ length (console ++ byte ∷ []) + length rest = omega (arith, length-append console (byte ∷ [])) in same)
+    ap (λ (n : ℕ). nat_le n CONSOLE_ROOM) (let same : length console + length (byte ∷ rest) ≡ length (console ++ byte ∷ []) + length rest =
+    omega (arith, length-append console (byte ∷ [])) in same)
 
 -- a byte for which there is room
 adds_next : (console bytes now rest : List ℕ) (byte : ℕ) → Adds console bytes now (byte ∷ rest) → length now < CONSOLE_ROOM →

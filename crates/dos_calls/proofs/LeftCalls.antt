@@ -1,6 +1,7 @@
--- What a call keeps: all of the machine but registers and DOS memory; what the client wrote before; and, where it ends the client, the machine,
--- and but for a full console the keys and the console.
-use Rattle.std.proofs.Common.{◌≡◌, ◌≢◌, ◌∙◌, ℕ, ◌+◌, ◌||◌, List, [], ◌∷◌, length, take, append-nil, refl, sym, ap, nat_eq, nat_le, if◌then◌else◌, Bool, true, false, Option, None, Some, Result, Ok, Err}
+-- What a call keeps: all of the machine but registers and DOS memory; what the client wrote before; and, where it ends the client, the
+-- machine, and but for a full console the keys and the console.
+use Rattle.std.proofs.Common.{◌≡◌, ◌≢◌, ◌∙◌, ℕ, ◌+◌, ◌||◌, List, [], ◌∷◌, length, take, append-nil, refl, sym, ap, nat_eq, nat_le}
+use Rattle.std.proofs.Common.{if◌then◌else◌, Bool, true, false, Option, None, Some, Result, Ok, Err}
 use Rattle.client_world.specs.declared.dos_memory.DosEntry.{DosEntry}
 use Rattle.client_world.specs.declared.dos_memory.DosRefusal.{DosRefusal}
 use Rattle.client_world.specs.declared.dos_memory.DosRefusal.TheVariants.{NoMemory, WrongBlock}
@@ -12,9 +13,11 @@ use Rattle.client_world.specs.declared.services.DosDone.TheVariants.{Ended}
 use Rattle.client_world.specs.Registers.{low_byte, high_byte, low_half}
 use Rattle.client_world.specs.World.{World}
 use Rattle.guest_space.specs.Arena.{with_entries}
-use Rattle.dos_blocks.specs.Blocks.{Done, first_fit, place_of_block, greatest_size, allocation_result_at, allocation_result, resize_result_at, resize_result, free_result_at, free_result}
+use Rattle.dos_blocks.specs.Blocks.{Done, first_fit, place_of_block, greatest_size, allocation_result_at, allocation_result}
+use Rattle.dos_blocks.specs.Blocks.{resize_result_at, resize_result, free_result_at, free_result}
 use Rattle.dos_calls.specs.Calls as calls
-use Rattle.dos_calls.specs.Calls.{CallResult, CallState, served_call, ended_call, print_result, poll_key, line_result, line_of, keys_result, with_memory_error, after_allocate_call, after_block_call, dos_call}
+use Rattle.dos_calls.specs.Calls.{CallResult, CallState, served_call, ended_call, print_result, poll_key, line_result, line_of, keys_result}
+use Rattle.dos_calls.specs.Calls.{with_memory_error, after_allocate_call, after_block_call, dos_call}
 use Rattle.dos_calls.specs.DosBytes.{byte_at}
 use Rattle.dos_calls.specs.Multiplex.{multiplex_call, with_entry}
 use Rattle.dos_calls.specs.Kept.{HasOtherDosMemory, HasSameStack}
@@ -67,7 +70,8 @@ leaves_ended s exit = record {
   outside = λ same e full. (refl, refl);
 }
 
-leaves_printed : (s : CallState) (xs : List ℕ) (w : World) (keys : List ℕ) → rest_of w ≡ rest_of s.world → Leaves s (print_result s xs w keys)
+leaves_printed : (s : CallState) (xs : List ℕ) (w : World) (keys : List ℕ) → rest_of w ≡ rest_of s.world →
+    Leaves s (print_result s xs w keys)
 unfolding print_result
 leaves_printed s xs w keys e =
     leaves_if s (nat_le (length s.console + length xs) CONSOLE_ROOM) _ _
@@ -186,7 +190,8 @@ rest_given : (answer : Result ℕ DosRefusal) (w : World) → rest_of (after_all
 rest_given (Ok segment) w = refl
 rest_given (Err refusal) w = rest_refused refusal w
 
-rest_changed : (answer : Result (Unit {0}) DosRefusal) (w : World) → rest_of (after_block_call (record { answer = answer; world = w })) ≡ rest_of w
+rest_changed : (answer : Result (Unit {0}) DosRefusal) (w : World) →
+    rest_of (after_block_call (record { answer = answer; world = w })) ≡ rest_of w
 rest_changed (Ok done) w = refl
 rest_changed (Err refusal) w = rest_refused refusal w
 

@@ -1,5 +1,6 @@
 -- The first line of the keys, one key after the other.
-use Rattle.std.proofs.Common.{◌≡◌, ◌≢◌, ℕ, suc, ◌+◌, ◌<◌, ◌≤◌, false, List, [], ◌∷◌, ◌++◌, length, get_or, take, drop, append_assoc, append-nil, refl, ap, ◌∙◌, sym, arith, Some, None}
+use Rattle.std.proofs.Common.{◌≡◌, ◌≢◌, ℕ, suc, ◌+◌, ◌<◌, ◌≤◌, false, List, [], ◌∷◌, ◌++◌, length, get_or, take, drop, append_assoc}
+use Rattle.std.proofs.Common.{append-nil, refl, ap, ◌∙◌, sym, arith, Some, None}
 use Rattle.std.specs.Prelude.{nat_eq}
 use Rattle.std.proofs.lemmas.Bool.Decides.{nat_tests}
 use Rattle.std.specs.declared.option.Option.{Option}
@@ -30,7 +31,8 @@ other key keys test = rw test (cases (line_of keys))
     cases (Some line) = refl
 
 -- a return
-pub line_here : (keys : List ℕ) (n : ℕ) → n < length keys → get_or keys n 0 ≡ 0x0D → line_of keys ≡ behind (take n keys) (line_of (drop n keys)) →
+pub line_here : (keys : List ℕ) (n : ℕ) → n < length keys → get_or keys n 0 ≡ 0x0D →
+    line_of keys ≡ behind (take n keys) (line_of (drop n keys)) →
     line_of keys ≡ Some (take n keys, drop (n + 1) keys)
 unfolding line_of
 line_here keys n small return line =
@@ -41,15 +43,18 @@ other_key : (key : ℕ) → key ≢ 0x0D → nat_eq key 0x0D ≡ false
 other_key key ne = grind (arith, nat_tests)
 
 -- another key
-pub line_next : (keys : List ℕ) (n : ℕ) → n < length keys → get_or keys n 0 ≢ 0x0D → line_of keys ≡ behind (take n keys) (line_of (drop n keys)) →
+pub line_next : (keys : List ℕ) (n : ℕ) → n < length keys → get_or keys n 0 ≢ 0x0D →
+    line_of keys ≡ behind (take n keys) (line_of (drop n keys)) →
     line_of keys ≡ behind (take (n + 1) keys) (line_of (drop (n + 1) keys))
 line_next keys n small ne line =
     line ∙ ap (λ (xs : List ℕ). behind (take n keys) (line_of xs)) (rest_is keys n small)
-    ∙ ap (λ (o : Option (List ℕ × List ℕ)). behind (take n keys) o) (other (get_or keys n 0) (drop (n + 1) keys) (other_key (get_or keys n 0) ne))
+    ∙ ap (λ (o : Option (List ℕ × List ℕ)). behind (take n keys) o)
+    (other (get_or keys n 0) (drop (n + 1) keys) (other_key (get_or keys n 0) ne))
     ∙ behind_twice (take n keys) (get_or keys n 0 ∷ []) (line_of (drop (n + 1) keys))
     ∙ ap (λ (xs : List ℕ). behind xs (line_of (drop (n + 1) keys))) (sym (take_more keys n 0 small))
 
 -- none is left
-pub line_none : (keys : List ℕ) (n : ℕ) → length keys ≤ n → line_of keys ≡ behind (take n keys) (line_of (drop n keys)) → line_of keys ≡ None
+pub line_none : (keys : List ℕ) (n : ℕ) → length keys ≤ n → line_of keys ≡ behind (take n keys) (line_of (drop n keys)) →
+    line_of keys ≡ None
 unfolding line_of
 line_none keys n past line = line ∙ ap (λ (xs : List ℕ). behind (take n keys) (line_of xs)) (drop_all n keys past)

@@ -15,7 +15,8 @@ printing s bytes world keys all = record {
   console = console_with s.console bytes;
 }
 
-printed_is : (s : CallState) (bytes : List ℕ) (world : World) (keys : List ℕ) → print_result s bytes world keys ≡ printing s bytes world keys (has_room s.console bytes)
+printed_is : (s : CallState) (bytes : List ℕ) (world : World) (keys : List ℕ) →
+    print_result s bytes world keys ≡ printing s bytes world keys (has_room s.console bytes)
 unfolding print_result
 printed_is s bytes world keys = grind (arith, Rattle.std.proofs.lemmas.Bool.Decides.nat_tests)
 

@@ -1,5 +1,6 @@
 -- A call leads from a sound world to a sound one. Where the keys are bytes, those that are left are bytes, and so is what it writes.
-use Rattle.std.proofs.Common.{ℕ, ◌+◌, ◌-◌, ◌*◌, ◌<◌, ◌||◌, List, [], ◌∷◌, ◌++◌, length, take, drop, arith, nat_eq, nat_le, if◌then◌else◌, Bool, true, false, Option, None, Some, Result, Ok, Err}
+use Rattle.std.proofs.Common.{ℕ, ◌+◌, ◌-◌, ◌*◌, ◌<◌, ◌||◌, List, [], ◌∷◌, ◌++◌, length, take, drop, arith, nat_eq, nat_le, if◌then◌else◌}
+use Rattle.std.proofs.Common.{Bool, true, false, Option, None, Some, Result, Ok, Err}
 use Rattle.client_world.specs.declared.dos_memory.DosRefusal.{DosRefusal}
 use Rattle.client_world.specs.declared.dos_memory.DosRefusal.TheVariants.{NoMemory, WrongBlock}
 use Rattle.client_world.specs.declared.limits.TheConstants.{CONSOLE_ROOM}
@@ -17,11 +18,15 @@ use Rattle.dos_blocks.proofs.SoundBlocks.{sound_allocated, sound_freed, sound_re
 use Rattle.guest_ram.specs.Bytes.{AreBytes, word_of}
 use Rattle.host_memory.specs.Vectors.{word_bytes}
 use Rattle.dos_calls.specs.Calls as calls
-use Rattle.dos_calls.specs.Calls.{CallResult, CallState, served_call, ended_call, print_result, with_al, with_error, without_carry, poll_key, with_line, line_result, line_of, keys_result, bad_handle, with_memory_error, after_allocate_call, after_block_call, no_memory, wrong_block, bad_function, dos_call}
+use Rattle.dos_calls.specs.Calls.{CallResult, CallState, served_call, ended_call, print_result, with_al, with_error, without_carry}
+use Rattle.dos_calls.specs.Calls.{poll_key, with_line, line_result, line_of, keys_result, bad_handle, with_memory_error}
+use Rattle.dos_calls.specs.Calls.{after_allocate_call, after_block_call, no_memory, wrong_block, bad_function, dos_call}
 use Rattle.dos_calls.specs.DosBytes.{byte_at, address_at, with_dos_bytes_at}
 use Rattle.dos_calls.specs.Multiplex.{with_entry, multiplex_call}
-use Rattle.dos_calls.proofs.ByteLists.{no_bytes, more_bytes, bytes_behind, bytes_append, bytes_take, bytes_drop, length-taken, bytes_word, bytes_read, bytes_text, LineOfBytes, bytes_line}
-use Rattle.dos_calls.proofs.SoundWorlds.{sound_bytes, sound_carry, sound_zero, sound_general, sound_es, sound_al, sound_ax, sound_bx, sound_error}
+use Rattle.dos_calls.proofs.ByteLists.{no_bytes, more_bytes, bytes_behind, bytes_append, bytes_take, bytes_drop, length-taken, bytes_word}
+use Rattle.dos_calls.proofs.ByteLists.{bytes_read, bytes_text, LineOfBytes, bytes_line}
+use Rattle.dos_calls.proofs.SoundWorlds.{sound_bytes, sound_carry, sound_zero, sound_general, sound_es, sound_al, sound_ax, sound_bx}
+use Rattle.dos_calls.proofs.SoundWorlds.{sound_error}
 
 -- what a call sees, and what it comes to, where the console was this
 
@@ -47,7 +52,8 @@ keeps_served s w keys sound bytes = record { world = sound; keys = bytes; consol
 keeps_ended : (s : CallState) (exit : Exit) → Seen s → Keeps s (ended_call s exit)
 keeps_ended s exit seen = record { world = seen.world; keys = seen.keys; console = λ console. console }
 
-keeps_printed : (s : CallState) (xs : List ℕ) (w : World) (keys : List ℕ) → Seen s → AreBytes xs → IsSound w → AreBytes keys → Keeps s (print_result s xs w keys)
+keeps_printed : (s : CallState) (xs : List ℕ) (w : World) (keys : List ℕ) → Seen s → AreBytes xs → IsSound w → AreBytes keys →
+    Keeps s (print_result s xs w keys)
 unfolding print_result
 keeps_printed s xs w keys seen bytes sound left =
     keeps_if s (nat_le (length s.console + length xs) CONSOLE_ROOM) _ _
@@ -73,11 +79,13 @@ one_byte v small = more_bytes v [] small no_bytes
 keeps_read_echo : (s : CallState) → Seen s → Keeps s (calls.read_echo s)
 unfolding calls.read_echo
 keeps_read_echo s seen = by_key s _ s.keys seen seen.keys
-    (λ key keys small left. keeps_printed s (key ∷ []) (with_al key s.world) keys seen (one_byte key small) (sound_al s.world key seen.world) left)
+    (λ key keys small left.
+    keeps_printed s (key ∷ []) (with_al key s.world) keys seen (one_byte key small) (sound_al s.world key seen.world) left)
 
 keeps_write_character : (s : CallState) → Seen s → Keeps s (calls.write_character s)
 unfolding calls.write_character
-keeps_write_character s seen = keeps_printed s _ s.world s.keys seen (one_byte (low_byte s.world.regs.edx) (omega arith)) seen.world seen.keys
+keeps_write_character s seen =
+    keeps_printed s _ s.world s.keys seen (one_byte (low_byte s.world.regs.edx) (omega arith)) seen.world seen.keys
 
 keeps_poll : (w : World) (keys console : List ℕ) → IsSound w → AreBytes keys →
     IsGood console (poll_key (record { world = w; keys = keys; console = console }))
@@ -143,7 +151,8 @@ keeps_set_vector s seen =
     keeps_served s _ s.keys
     (IsSound-dos w _ seen.world
     (sound_bytes w.dos 0 (4 * low_byte w.regs.eax) (word_bytes offset ++ word_bytes w.regs.ds) seen.world.megabyte
-    (bytes_append (word_bytes offset) (word_bytes w.regs.ds) (bytes_word offset (omega arith)) (bytes_word w.regs.ds seen.world.segments.ds))))
+    (bytes_append (word_bytes offset) (word_bytes w.regs.ds) (bytes_word offset (omega arith))
+    (bytes_word w.regs.ds seen.world.segments.ds))))
     seen.keys
 
 keeps_version : (s : CallState) → Seen s → Keeps s (calls.dos_version s)
@@ -208,7 +217,8 @@ sound_given : (answer : Result ℕ DosRefusal) (w : World) → IsSound w → IsS
 sound_given (Ok segment) w s = sound_carry (with_ax segment w) false (sound_ax w segment s)
 sound_given (Err refusal) w s = sound_refused refusal w s
 
-sound_changed : (answer : Result (Unit {0}) DosRefusal) (w : World) → IsSound w → IsSound (after_block_call (record { answer = answer; world = w }))
+sound_changed : (answer : Result (Unit {0}) DosRefusal) (w : World) → IsSound w →
+    IsSound (after_block_call (record { answer = answer; world = w }))
 sound_changed (Ok done) w s = sound_carry w false s
 sound_changed (Err refusal) w s = sound_refused refusal w s
 
@@ -276,4 +286,5 @@ sound_if false one other s t = t
 pub multiplex_keeps : (w : World) → IsSound w → IsSound (multiplex_call w)
 unfolding multiplex_call
 multiplex_keeps w s = sound_if (nat_eq (low_half w.regs.eax) 0x1687) _ w
-    (sound_general (record w { regs = record w.regs { es = (with_entry w.regs).es } }) _ _ _ _ _ _ (sound_es w (with_entry w.regs).es s (omega arith))) s
+    (sound_general (record w { regs = record w.regs { es = (with_entry w.regs).es } }) _ _ _ _ _ _
+    (sound_es w (with_entry w.regs).es s (omega arith))) s

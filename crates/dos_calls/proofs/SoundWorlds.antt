@@ -1,5 +1,6 @@
 -- What the calls put into a world leaves it sound: bytes of the megabyte, a flag, and registers.
-use Rattle.std.proofs.Common.{◌≡◌, ℕ, ◌+◌, ◌<◌, List, [], ◌∷◌, refl, arith, nat_lt, if◌then◌else◌, Bool, true, false, slice_set, slice_index}
+use Rattle.std.proofs.Common.{◌≡◌, ℕ, ◌+◌, ◌<◌, List, [], ◌∷◌, refl, arith, nat_lt, if◌then◌else◌, Bool, true, false, slice_set}
+use Rattle.std.proofs.Common.{slice_index}
 use Rattle.std.proofs.lemmas.Bool.{ltb-true}
 use Rattle.client_world.specs.declared.memory_map.TheConstants.{ROM_START}
 use Rattle.client_world.specs.declared.registers.TheConstants.{CARRY_BIT, ZERO_BIT}
@@ -24,7 +25,8 @@ below_rom false dos at v e s small = s
 pub sound_byte : (dos : List ℕ) (at v : ℕ) → SoundMegabyte dos → v < 0x100 → SoundMegabyte (with_dos_byte dos at v)
 sound_byte dos at v s small = below_rom (nat_lt at ROM_START) dos at v refl s small
 
-pub sound_bytes : (dos : List ℕ) (segment offset : ℕ) (xs : List ℕ) → SoundMegabyte dos → AreBytes xs → SoundMegabyte (with_dos_bytes_at dos segment offset xs)
+pub sound_bytes : (dos : List ℕ) (segment offset : ℕ) (xs : List ℕ) → SoundMegabyte dos → AreBytes xs →
+    SoundMegabyte (with_dos_bytes_at dos segment offset xs)
 unfolding with_dos_bytes_at
 sound_bytes dos segment offset [] s bytes = s
 sound_bytes dos segment offset (x ∷ xs) s bytes =
@@ -41,7 +43,8 @@ zero_fits : (on : Bool) (byte : ℕ) → byte < 0x100 → with_bit byte ZERO_BIT
 zero_fits true byte small = omega arith
 zero_fits false byte small = omega arith
 
-sound_stacked : (w : World) (bit : ℕ) (on : Bool) → ((byte : ℕ) → byte < 0x100 → with_bit byte bit on < 0x100) → IsSound w → IsSound (with_stacked bit on w)
+sound_stacked : (w : World) (bit : ℕ) (on : Bool) → ((byte : ℕ) → byte < 0x100 → with_bit byte bit on < 0x100) → IsSound w →
+    IsSound (with_stacked bit on w)
 sound_stacked w bit on fits s =
     let at = address_at w.regs.ss (w.regs.esp + 4) in
     IsSound-dos w (with_dos_byte w.dos at (with_bit (slice_index w.dos at) bit on)) s

@@ -1,4 +1,5 @@
--- What a call keeps: all of the machine but registers and DOS memory; for the return from its interrupt the mode and the place of the stack.
+-- What a call keeps: all of the machine but registers and DOS memory; for the return from its interrupt the mode and the place of the
+-- stack.
 -- Source: own.
 use Rattle.std.specs.Prelude.{◌≡◌}
 use Rattle.client_world.specs.World.{World}

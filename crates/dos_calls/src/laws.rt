@@ -11,7 +11,8 @@ ghost use Rattle.dos_calls.specs.Multiplex.{multiplex_call};
 ghost use Rattle.client_world.specs.Console.{Extends};
 ghost use Rattle.dos_calls.specs.Kept.{HasOtherDosMemory, HasSameStack};
 
-/// A call leads from a sound world to a sound one, where the keys are bytes. Those that are left are bytes, and a console of bytes stays one.
+/// A call leads from a sound world to a sound one, where the keys are bytes. Those that are left are bytes, and a console of bytes stays
+/// one.
 pub fn every_dos_call_is_sound()
     ensures world { (s : CallState) → IsSound s.world → AreBytes s.keys → IsSound (dos_call s).world }
     ensures keys { (s : CallState) → IsSound s.world → AreBytes s.keys → AreBytes (dos_call s).keys }
@@ -19,8 +20,8 @@ pub fn every_dos_call_is_sound()
     ensures multiplex { (w : World) → IsSound w → IsSound (multiplex_call w) }
 {}
 
-/// A call changes registers and DOS memory alone, and INT 2Fh registers alone. Both leave the mode and the place of the stack, so that the frame
-/// of their interrupt is where it was.
+/// A call changes registers and DOS memory alone, and INT 2Fh registers alone. Both leave the mode and the place of the stack, so that the
+/// frame of their interrupt is where it was.
 pub fn every_dos_call_keeps_the_rest()
     ensures calls { (s : CallState) → HasOtherDosMemory s.world (dos_call s).world }
     ensures stack { (s : CallState) → HasSameStack s.world (dos_call s).world }

@@ -1,5 +1,6 @@
 -- What several puts, one after another, add to a sink.
-use Rattle.std.proofs.Common.{arith, ◌≡◌, ◌+◌, ◌-◌, ℕ, List, ◌++◌, length, take, drop, min, max, [], sym, ◌∙◌, ap, append_assoc, append-nil, subst, length-append, refl}
+use Rattle.std.proofs.Common.{arith, ◌≡◌, ◌+◌, ◌-◌, ℕ, List, ◌++◌, length, take, drop, min, max, [], sym, ◌∙◌, ap, append_assoc, append-nil}
+use Rattle.std.proofs.Common.{subst, length-append, refl}
 use Rattle.std.proofs.lemmas.Grind.{common_steps}
 use Rattle.std.proofs.lemmas.List.{take-append-le, take-append-drop}
 use Rattle.std.proofs.Math.Seq.{take-append-add, take-add}

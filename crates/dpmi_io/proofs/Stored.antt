@@ -46,8 +46,10 @@ pub files_of-insert : {Y Z : Type 0} (m n : BTreeMap (String Y) (Vec ℕ Z)) (na
     UpdatesBy string_cmp (λ k. slice_cmp nat_cmp name (string_bytes k)) m n (Some v) →
     files_of n.entries ≡ insert (files_of m.entries) name v.items
 files_of-insert m n name v updates =
-    same_map nat_list_cmp_total (slice_cmp-IsAntisymmetric nat_cmp-IsAntisymmetric) (files_of n.entries) (insert (files_of m.entries) name v.items)
+    same_map nat_list_cmp_total (slice_cmp-IsAntisymmetric nat_cmp-IsAntisymmetric) (files_of n.entries)
+    (insert (files_of m.entries) name v.items)
     (λ q. get-files_of n q
     ∙ ap bytes_of (btree_map_updates_text name m n (Some v) updates q)
-    ∙ update_step (bytes_eq name q) (eq_by_cmp (slice_cmp nat_cmp) q name) v (get_by_text m q) (get (files_of m.entries) q) (same_text name q) (get-files_of m q)
+    ∙ update_step (bytes_eq name q) (eq_by_cmp (slice_cmp nat_cmp) q name) v (get_by_text m q) (get (files_of m.entries) q)
+    (same_text name q) (get-files_of m q)
     ∙ sym (get-insert nat_list_cmp_total (files_of m.entries) name v.items q))

@@ -22,7 +22,8 @@ pub fn add(line: &mut Line, bytes: &[u8])
 }
 
 /// Adds a number in decimal digits.
-#[tactic(auto, using(crate::proofs::Decimal::decimal_more, crate::proofs::Decimal::decimal_more_length, crate::proofs::Decimal::decimal_one))]
+#[tactic(auto, using(crate::proofs::Decimal::decimal_more, crate::proofs::Decimal::decimal_more_length, //
+crate::proofs::Decimal::decimal_one))]
 pub fn add_decimal(line: &mut Line, n: u64)
     requires { length line.old.items + length (decimal n) ≤ 256 }
     ensures added { line.new.items ≡ line.old.items ++ decimal n }

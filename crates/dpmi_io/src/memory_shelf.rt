@@ -1,5 +1,6 @@
 // A shelf in memory, whose calls fail by a list.
-ghost use Rattle.std.specs.Prelude.{◌≡◌, ◌≤◌, ◌<◌, ◌+◌, ◌-◌, ◌↔◌, ◌++◌, ◌∷◌, [], length, take, drop, string_bytes, min, IfOk, OnOk, OnErr, IsErr, IsErrOf, IsOk, IsSome, IsTrue};
+ghost use Rattle.std.specs.Prelude.{◌≡◌, ◌≤◌, ◌<◌, ◌+◌, ◌-◌, ◌↔◌, ◌++◌, ◌∷◌, [], length, take, drop, string_bytes, min, IfOk, OnOk, OnErr};
+ghost use Rattle.std.specs.Prelude.{IsErr, IsErrOf, IsOk, IsSome, IsTrue};
 ghost use Rattle.std.specs.FinMap as map;
 ghost use Rattle.std.specs.Option.{option_copied};
 ghost use Rattle.dpmi_io.specs.StoredFiles.{files_of};
@@ -48,7 +49,8 @@ impl Shelf for MemShelf {
     ghost use Rattle.dpmi_io.specs.Causes.{Rose};
     ghost use Rattle.dpmi_io.specs.Content.{Starts, Lacks, Gives};
     ghost use Rattle.dpmi_io.specs.FaultPlan.{is_listed};
-    ghost use Rattle.dpmi_io.specs.MemShelf.{shelf_open, shelf_left, open_result, read_count, after_open, after_missing, after_failure, after_read};
+    ghost use Rattle.dpmi_io.specs.MemShelf.{shelf_open, shelf_left, open_result, read_count, after_open, after_missing, after_failure};
+    ghost use Rattle.dpmi_io.specs.MemShelf.{after_read};
 
     ghost open_name = { shelf_open };
 

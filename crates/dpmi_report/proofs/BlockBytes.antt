@@ -1,5 +1,6 @@
 -- The bytes and the locks of a memory block.
-use Rattle.std.proofs.Common.{arith, ◌≡◌, ◌≤◌, ◌<◌, ◌+◌, ◌-◌, ◌*◌, ◌⊎◌, inl, inr, ℕ, zero, suc, true, false, List, [], ◌∷◌, length, slice_index_or, refl, ◌∙◌, ap, add-one, Option, None, Some}
+use Rattle.std.proofs.Common.{arith, ◌≡◌, ◌≤◌, ◌<◌, ◌+◌, ◌-◌, ◌*◌, ◌⊎◌, inl, inr, ℕ, zero, suc, true, false, List, [], ◌∷◌, length}
+use Rattle.std.proofs.Common.{slice_index_or, refl, ◌∙◌, ap, add-one, Option, None, Some}
 use Rattle.std.specs.Prelude.{is_some, slice_index}
 use Rattle.std.proofs.lemmas.Bool.{and_from, and_left, and_right, le-leb, le-ltb, lt-leb, lt-ltb}
 use Rattle.client_world.specs.declared.blocks.BlockRow.{BlockRow}
@@ -24,7 +25,8 @@ pub record Seen (blocks : List (Option MemoryBlock)) (handle at n : ℕ) : Type 
   pub pages : length block.locks ≡ n
   pub is : IsBlock block
 
-seen_by : (blocks : List (Option MemoryBlock)) (budget handle base pages : ℕ) → SoundBlocks blocks budget → (b : Option MemoryBlock) → block_at blocks handle ≡ b →
+seen_by : (blocks : List (Option MemoryBlock)) (budget handle base pages : ℕ) → SoundBlocks blocks budget → (b : Option MemoryBlock) →
+    block_at blocks handle ≡ b →
     row_seen b ≡ Some (record { base = base; pages = pages }) → Seen blocks handle base pages
 seen_by blocks budget handle base pages sound None e s = absurd cc
 seen_by blocks budget handle base pages sound (Some block) e s = record {
@@ -40,7 +42,8 @@ pub seen : (blocks : List (Option MemoryBlock)) (budget handle base pages : ℕ)
 seen blocks budget handle base pages sound s = seen_by blocks budget handle base pages sound (block_at blocks handle) refl s
 
 -- the first block that covers an address has its place
-first_place : (blocks : List (Option MemoryBlock)) (handle lin place : ℕ) (block : MemoryBlock) → slice_index_or blocks place None ≡ Some block → covers block lin ≡ true →
+first_place : (blocks : List (Option MemoryBlock)) (handle lin place : ℕ) (block : MemoryBlock) →
+    slice_index_or blocks place None ≡ Some block → covers block lin ≡ true →
     ((p : ℕ) (other : MemoryBlock) → p < place → slice_index_or blocks p None ≡ Some other → covers other lin ≡ false) →
     block_place blocks handle lin ≡ Block (handle + place) (lin - block.base)
 first_place [] handle lin place block e over before = absurd cc
@@ -50,7 +53,8 @@ first_place (None ∷ blocks) handle lin (suc place) block e over before =
     ∙ ap (λ n. Block n (lin - block.base)) (omega arith)
 first_place (Some own ∷ blocks) handle lin zero block e over before =
     let same : own ≡ block = cc in
-    rw (ap (λ (b : MemoryBlock). covers b lin) same ∙ over) (ap (λ (b : MemoryBlock). Block handle (lin - b.base)) same ∙ ap (λ n. Block n (lin - block.base)) (omega arith))
+    rw (ap (λ (b : MemoryBlock). covers b lin) same ∙ over) (ap (λ (b : MemoryBlock). Block handle (lin - b.base)) same
+    ∙ ap (λ n. Block n (lin - block.base)) (omega arith))
 first_place (Some own ∷ blocks) handle lin (suc place) block e over before =
     rw (before zero own (omega arith) refl)
     (first_place blocks (handle + 1) lin place block e over (λ p other lt there. before (suc p) other (omega arith) there)
@@ -62,17 +66,20 @@ clear_of own other lin from to (inl before) = and_left _ _ (lt-leb other.base li
 clear_of own other lin from to (inr behind) = and_right _ _ (le-ltb lin (other.base + length other.bytes) (omega arith))
 
 -- an address within a block has its place
-pub block_has : (blocks : List (Option MemoryBlock)) (budget place lin : ℕ) (block : MemoryBlock) → SoundBlocks blocks budget → block_at blocks (suc place) ≡ Some block →
+pub block_has : (blocks : List (Option MemoryBlock)) (budget place lin : ℕ) (block : MemoryBlock) → SoundBlocks blocks budget →
+    block_at blocks (suc place) ≡ Some block →
     block.base ≤ lin → lin < block.base + length block.bytes → place_in blocks lin ≡ Block (suc place) (lin - block.base)
 block_has blocks budget place lin block sound there from to =
     let is = sound.each (suc place) block there in
     let low = is.from in let high = is.to in
     place-block blocks lin (omega arith) (omega arith)
-    ∙ first_place blocks 1 lin place block there (and_from _ _ (le-leb block.base lin from) (lt-ltb lin (block.base + length block.bytes) to))
+    ∙ first_place blocks 1 lin place block there
+    (and_from _ _ (le-leb block.base lin from) (lt-ltb lin (block.base + length block.bytes) to))
     (λ p other lt e. clear_of block other lin from to (sound.apart (suc place) (suc p) block other (λ same. omega arith) there e))
     ∙ ap (λ n. Block n (lin - block.base)) (omega arith)
 
-lock_by : (blocks : List (Option MemoryBlock)) (budget handle base pages page : ℕ) → SoundBlocks blocks budget → Seen blocks handle base pages → page < pages →
+lock_by : (blocks : List (Option MemoryBlock)) (budget handle base pages page : ℕ) → SoundBlocks blocks budget →
+    Seen blocks handle base pages → page < pages →
     lock_in blocks (place_in blocks (base + page * PAGE_SIZE)) ≡ slice_index (locks_of_block (block_at blocks handle)) page
 lock_by blocks budget zero base pages page sound s lt = let there = s.there in absurd cc
 lock_by blocks budget (suc place) base pages page sound s lt =
@@ -84,7 +91,8 @@ lock_by blocks budget (suc place) base pages page sound s lt =
 pub lock_is : (blocks : List (Option MemoryBlock)) (budget handle base pages page : ℕ) → SoundBlocks blocks budget →
     row_seen (block_at blocks handle) ≡ Some (record { base = base; pages = pages }) → page < pages →
     lock_in blocks (place_in blocks (base + page * PAGE_SIZE)) ≡ slice_index (locks_of_block (block_at blocks handle)) page
-lock_is blocks budget handle base pages page sound s lt = lock_by blocks budget handle base pages page sound (seen blocks budget handle base pages sound s) lt
+lock_is blocks budget handle base pages page sound s lt =
+    lock_by blocks budget handle base pages page sound (seen blocks budget handle base pages sound s) lt
 
 -- a block ends in the block region
 pub page_below : (blocks : List (Option MemoryBlock)) (budget handle base pages : ℕ) → SoundBlocks blocks budget →
@@ -93,23 +101,9 @@ page_below blocks budget handle base pages sound s =
     let own = seen blocks budget handle base pages sound s in
     let is = own.is in let size = is.pages in let to = is.to in let at = own.base in let many = own.pages in omega arith
 
-pub locks_length : (blocks : List (Option MemoryBlock)) (handle base pages : ℕ) →
-    row_seen (block_at blocks handle) ≡ Some (record { base = base; pages = pages }) → length (locks_of_block (block_at blocks handle)) ≡ pages
-locks_length blocks handle base pages s = go (block_at blocks handle) s
-  where
-    go : (b : Option MemoryBlock) → row_seen b ≡ Some (record { base = base; pages = pages }) → length (locks_of_block b) ≡ pages
-    go None e = absurd cc
-    go (Some block) e = ap (λ (o : Option BlockRow). elim o [ None ↦ 0 | Some p ↦ p.pages ]) e
-
-pub bytes_length : (blocks : List (Option MemoryBlock)) (budget handle base pages : ℕ) → SoundBlocks blocks budget →
-    row_seen (block_at blocks handle) ≡ Some (record { base = base; pages = pages }) → length (bytes_of_block (block_at blocks handle)) ≡ pages * PAGE_SIZE
-bytes_length blocks budget handle base pages sound s =
-    let own = seen blocks budget handle base pages sound s in
-    let is = own.is in let size = is.pages in let many = own.pages in
-    ap (λ b. length (bytes_of_block b)) own.there ∙ omega arith
-
 -- a place has a block where one is seen
-pub has_block : (blocks : List (Option MemoryBlock)) (place : ℕ) → is_some (row_seen (block_at blocks (place + 1))) ≡ is_some (slice_index_or blocks place None)
+pub has_block : (blocks : List (Option MemoryBlock)) (place : ℕ) →
+    is_some (row_seen (block_at blocks (place + 1))) ≡ is_some (slice_index_or blocks place None)
 has_block blocks place = rw add-one (go (slice_index_or blocks place None))
   where
     go : (b : Option MemoryBlock) → is_some (row_seen b) ≡ is_some b

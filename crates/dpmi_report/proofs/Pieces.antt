@@ -6,11 +6,13 @@ use Rattle.std.proofs.lemmas.Grind.{get_or-set_at}
 use Rattle.std.proofs.Math.Seq.{take-add}
 
 -- one byte more
-pub byte_more : (xs ys : List ℕ) (at i b : ℕ) → i < length xs → ((k : ℕ) → k < i → get_or xs k 0 ≡ get_or ys (at + k) 0) → b ≡ get_or ys (at + i) 0 →
+pub byte_more : (xs ys : List ℕ) (at i b : ℕ) → i < length xs → ((k : ℕ) → k < i → get_or xs k 0 ≡ get_or ys (at + k) 0) →
+    b ≡ get_or ys (at + i) 0 →
     (k : ℕ) → k < i + 1 → get_or (slice_set xs i b) k 0 ≡ get_or ys (at + k) 0
 byte_more xs ys at i b within each is k lt = grind (arith, get_or-set_at, get_or-set_other, each, is)
 
-pub piece_is : (xs ys : List ℕ) (at : ℕ) → length xs ≡ 64 → at + 64 ≤ length ys → ((k : ℕ) → k < 64 → get_or xs k 0 ≡ get_or ys (at + k) 0) → xs ≡ take 64 (drop at ys)
+pub piece_is : (xs ys : List ℕ) (at : ℕ) → length xs ≡ 64 → at + 64 ≤ length ys →
+    ((k : ℕ) → k < 64 → get_or xs k 0 ≡ get_or ys (at + k) 0) → xs ≡ take 64 (drop at ys)
 piece_is xs ys at len fits each =
     let whole : length (take 64 (drop at ys)) ≡ 64 = length-take-le 64 (drop at ys) (omega (arith, length-drop at ys)) in
     ext_get_or 0 xs (take 64 (drop at ys)) (len ∙ sym whole) (λ k lt.

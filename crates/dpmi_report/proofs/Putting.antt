@@ -33,7 +33,8 @@ puts_then {faults = faults} {c = c} {xs = xs} {ys = ys} (Err e) first next = rec
 }
 
 -- the first of two texts failed
-pub puts_cut : {O A B E F : Type 0} {e : E} {taken : O → Shown} {faults : O → ℕ} {a b : O} {xs : List ℕ} (ys : List ℕ) (r : Result B F) → IsErr r →
+pub puts_cut : {O A B E F : Type 0} {e : E} {taken : O → Shown} {faults : O → ℕ} {a b : O} {xs : List ℕ} (ys : List ℕ)
+    (r : Result B F) → IsErr r →
     Puts {O = O} {A = A} {E = E} (Err e) taken faults a b xs → Puts r taken faults a b (xs ++ ys)
 puts_cut ys (Ok y) is first = cc
 puts_cut {xs = xs} ys (Err f) is first = record {
@@ -44,13 +45,15 @@ puts_cut {xs = xs} ys (Err f) is first = record {
 }
 
 -- the first of three texts failed
-pub puts_cut_early : {O A B E F : Type 0} {e : E} {taken : O → Shown} {faults : O → ℕ} {a b : O} {xs : List ℕ} (ys zs : List ℕ) (r : Result B F) → IsErr r →
+pub puts_cut_early : {O A B E F : Type 0} {e : E} {taken : O → Shown} {faults : O → ℕ} {a b : O} {xs : List ℕ} (ys zs : List ℕ)
+    (r : Result B F) → IsErr r →
     Puts {O = O} {A = A} {E = E} (Err e) taken faults a b xs → Puts r taken faults a b ((xs ++ ys) ++ zs)
 puts_cut_early ys zs (Ok y) is first = cc
 puts_cut_early {B = B} ys zs (Err f) is first = puts_cut {A = B} zs (Err f) is (puts_cut ys (Err f) is first)
 
 -- a row failed, after others
-pub row_cut : {O A B E F : Type 0} {e : E} {taken : O → Shown} {faults : O → ℕ} {a b c : O} (f : ℕ → List ℕ) (n total : ℕ) (r : Result B F) → IsErr r → n < total →
+pub row_cut : {O A B E F : Type 0} {e : E} {taken : O → Shown} {faults : O → ℕ} {a b c : O} (f : ℕ → List ℕ) (n total : ℕ)
+    (r : Result B F) → IsErr r → n < total →
     Gains (taken a) (taken b) (up_to f n) → faults b ≡ faults a → Puts {O = O} {A = A} {E = E} (Err e) taken faults b c (f n) →
     Puts r taken faults a c (up_to f total)
 row_cut f n total (Ok y) is lt so_far same row = cc

@@ -25,7 +25,9 @@ longer f n (suc m) a b p =
     subst (λ k. GainsPart a b (up_to f k)) (omega arith) one
 
 -- a line that failed
-pub row_failed : (f : ℕ → List ℕ) (n total : ℕ) (a b c : Shown) → n < total → Gains a b (up_to f n) → GainsPart b c (f n) → GainsPart a c (up_to f total)
+pub row_failed : (f : ℕ → List ℕ) (n total : ℕ) (a b c : Shown) → n < total → Gains a b (up_to f n) → GainsPart b c (f n) →
+    GainsPart a c (up_to f total)
 row_failed f n total a b c lt g h =
-    let one : GainsPart a c (up_to f (n + 1)) = subst (λ l. GainsPart a c l) (sym (up_to_next f n)) (part_then a b c (up_to f n) (f n) g h) in
+    let one : GainsPart a c (up_to f (n + 1)) =
+    subst (λ l. GainsPart a c l) (sym (up_to_next f n)) (part_then a b c (up_to f n) (f n) g h) in
     subst (λ k. GainsPart a c (up_to f k)) (omega arith) (longer f (n + 1) (total - (n + 1)) a c one)

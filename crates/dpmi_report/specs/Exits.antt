@@ -2,7 +2,8 @@
 use Rattle.std.specs.Prelude.{ℕ, ◌++◌, List, [], codes}
 use Rattle.std.specs.Fmt.{decimal}
 use Rattle.client_world.specs.declared.outcome.Exit.{Exit}
-use Rattle.client_world.specs.declared.outcome.Exit.TheVariants.{Exited, Fault, Bound, NoKeys, ConsoleFull, Deep, Stray, LostStructure, BadFrame, BadSwitch}
+use Rattle.client_world.specs.declared.outcome.Exit.TheVariants.{Exited, Fault, Bound, NoKeys, ConsoleFull, Deep, Stray, LostStructure}
+use Rattle.client_world.specs.declared.outcome.Exit.TheVariants.{BadFrame, BadSwitch}
 use Rattle.dpmi_report.specs.declared.exits.TheConstants.{EXITED, ENDED_OTHERWISE}
 use Rattle.dpmi_report.specs.Digits.{hex_byte, hex_doubleword}
 

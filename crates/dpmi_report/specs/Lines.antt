@@ -43,7 +43,8 @@ wide_text r =
 abbrev pub narrow_text : Regs → Bool → List ℕ
 narrow_text r vif =
     (codes " fl=" ++ hex_word (flags_image r.flags vif)) ++ (codes " cs=" ++ hex_word r.cs) ++ (codes " ss=" ++ hex_word r.ss)
-    ++ (codes " ds=" ++ hex_word r.ds) ++ (codes " es=" ++ hex_word r.es) ++ (codes " fs=" ++ hex_word r.fs) ++ (codes " gs=" ++ hex_word r.gs)
+    ++ (codes " ds=" ++ hex_word r.ds) ++ (codes " es=" ++ hex_word r.es) ++ (codes " fs=" ++ hex_word r.fs)
+    ++ (codes " gs=" ++ hex_word r.gs)
 
 -- all registers
 abbrev pub regs_text : Regs → Bool → List ℕ

@@ -6,7 +6,8 @@ use Rattle.sha2.specs.Sha256.{sha256}
 use Rattle.client_world.specs.declared.outcome.Exit.{Exit}
 use Rattle.client_world.specs.Services.{is_set}
 use Rattle.client_world.specs.declared.trace.TraceLine.{TraceLine}
-use Rattle.client_world.specs.declared.trace.TraceLine.TheVariants.{Int31, Int21, Int2f, Int20, Entry, EntryRefused, ToProtected, ToReal, Enter, Leave}
+use Rattle.client_world.specs.declared.trace.TraceLine.TheVariants.{Int31, Int21, Int2f, Int20, Entry, EntryRefused, ToProtected, ToReal}
+use Rattle.client_world.specs.declared.trace.TraceLine.TheVariants.{Enter, Leave}
 use Rattle.client_world.specs.World.{HostWorld}
 use Rattle.dpmi_report.specs.Lines.{line_end, exit_part, dos_line}
 

@@ -12,7 +12,8 @@ use Rattle.client_world.specs.declared.registers.Width.TheVariants.{Sixteen, Thi
 use Rattle.client_world.specs.declared.services.Carry.{Carry}
 use Rattle.client_world.specs.declared.services.Carry.TheVariants.{Clear, Set}
 use Rattle.client_world.specs.declared.trace.TraceLine.{TraceLine}
-use Rattle.client_world.specs.declared.trace.TraceLine.TheVariants.{Int31, Int21, Int2f, Int20, Entry, EntryRefused, ToProtected, ToReal, Enter, Leave}
+use Rattle.client_world.specs.declared.trace.TraceLine.TheVariants.{Int31, Int21, Int2f, Int20, Entry, EntryRefused, ToProtected, ToReal}
+use Rattle.client_world.specs.declared.trace.TraceLine.TheVariants.{Enter, Leave}
 use Rattle.dpmi_report.specs.Digits.{hex_byte, hex_word}
 use Rattle.dpmi_report.specs.Lines.{line_end, regs_text}
 

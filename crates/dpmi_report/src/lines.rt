@@ -2,7 +2,8 @@
 ghost use Rattle.std.specs.Prelude.{◌≡◌, ◌≤◌, ◌<◌, ◌+◌, ◌/◌, ◌++◌, ◌^◌, length};
 ghost use Rattle.client_world.specs.Descriptor.{access_byte, flags_byte};
 ghost use Rattle.dpmi_report.specs.Digits.{hex_word, hex_doubleword};
-ghost use Rattle.dpmi_report.specs.Lines.{exit_part, mode_text, wide_text, narrow_text, regs_text, origin_text, desc_line, digest_line, block_line_with};
+ghost use Rattle.dpmi_report.specs.Lines.{exit_part, mode_text, wide_text, narrow_text, regs_text, origin_text, desc_line, digest_line};
+ghost use Rattle.dpmi_report.specs.Lines.{block_line_with};
 ghost use Rattle.dpmi_report.specs.Text.{console_head, trace_head, end_part, processor_text, descs_head, blocks_head};
 ghost use Rattle.dpmi_report.specs.Summary.{soak_head, services_text, console_digest_text};
 

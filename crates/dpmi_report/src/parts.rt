@@ -4,7 +4,8 @@ ghost use Rattle.client_world.specs.declared.host_frames.TheConstants.{DESCRIPTO
 ghost use Rattle.dpmi_report.specs.Lines.{line_end, exit_part, desc_row, dos_line};
 ghost use Rattle.dpmi_report.specs.Puts.{Puts};
 ghost use Rattle.dpmi_report.specs.Rows.{up_to};
-ghost use Rattle.dpmi_report.specs.Text.{console_head, console_part, trace_head, trace_part, end_part, processor_text, processor_part, descs_head, descs_part};
+ghost use Rattle.dpmi_report.specs.Text.{console_head, console_part, trace_head, trace_part, end_part, processor_text, processor_part};
+ghost use Rattle.dpmi_report.specs.Text.{descs_head, descs_part};
 ghost use Rattle.dpmi_report.specs.Trace.{trace_row};
 
 use crate::digest::dos_digest;

@@ -115,7 +115,8 @@ fn put_console_digest<O: Sink>(host: &Host, out: &mut O) -> Result<(), SinkFail>
 
 // Puts the first three parts.
 fn put_counts<O: Sink>(number: u64, host: &Host, exit: Exit, out: &mut O) -> Result<(), SinkFail>
-    ensures { Puts result O.taken O.faults out.old out.new ((soak_head number ++ exit_part exit host.now.world.steps) ++ services_line host.now.world.kept) }
+    ensures { Puts result O.taken O.faults out.old out.new
+        ((soak_head number ++ exit_part exit host.now.world.steps) ++ services_line host.now.world.kept) }
 {
     put_soak(number, out)?;
     put_exit(host, exit, out)?;

@@ -35,7 +35,8 @@ const EVENTS: [(TraceLine, &str); 11] = [
             regs: Regs::ZERO,
             vif: true,
         },
-        "enter 15 reflect 21 eax=00000000 ebx=00000000 ecx=00000000 edx=00000000 esi=00000000 edi=00000000 ebp=00000000 esp=00000000 eip=00000000 fl=0202 cs=0000 ss=0000 ds=0000 es=0000 fs=0000 gs=0000\n",
+        "enter 15 reflect 21 eax=00000000 ebx=00000000 ecx=00000000 edx=00000000 esi=00000000 edi=00000000 ebp=00000000 esp=00000000 \
+        eip=00000000 fl=0202 cs=0000 ss=0000 ds=0000 es=0000 fs=0000 gs=0000\n",
     ),
 ];
 
@@ -69,7 +70,9 @@ fn each_descriptor_has_its_line(rt: HostRuntime) -> Result<(), Fail> {
     let block = block_line(1, 0x40_0000, 64, 0, &[0xA5; 32]);
     assert!(rt;
         block.as_slice()
-            == b"block 1 base=00400000 pages=64 locked=0 sha256=a5a5a5a5a5a5a5a5a5a5a5a5a5a5a5a5a5a5a5a5a5a5a5a5a5a5a5a5a5a5a5a5\n".as_slice()
+            == b"block 1 base=00400000 pages=64 locked=0 sha256=a5a5a5a5a5a5a5a5a5a5a5a5a5a5a5a5a5a5a5a5a5a5a5a5a5a5a5a5a5a5a5a5\
+                \n"
+                .as_slice()
     );
     Ok(())
 }

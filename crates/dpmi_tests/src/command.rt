@@ -160,8 +160,9 @@ fn each_header_word_has_its_answer(rt: HostRuntime) -> Result<(), Fail> {
 }
 
 // Clients that mean harm: one fills all memory from 00000h on, itself too; one jumps into read-only memory; stacks at 1, at 0 and in
-// read-only memory; a byte written there; vectors that lead to trap bytes, of the return from a call, of the entry and of DOS calls. After the
-// entry the rest of the code segment is run, two bytes at a time, the exception comes at its limit, and its default handler ends the client.
+// read-only memory; a byte written there; vectors that lead to trap bytes, of the return from a call, of the entry and of DOS calls. After
+// the entry the rest of the code segment is run, two bytes at a time, the exception comes at its limit, and its default handler ends the
+// client.
 const HOSTILE: [(&[u8], u8, &str); 9] = [
     (
         b"\x31\xC0\x8E\xC0\x31\xFF\xB9\xFF\xFF\xF3\xAA",
@@ -246,8 +247,8 @@ fn each_last_page_has_its_answer(rt: HostRuntime) -> Result<(), Fail> {
     Ok(())
 }
 
-// Relocations 0000h:01xxh, by the low byte of the offset. With a maximum of 0010h the image's block ends at 0000h:0110h: the last word before it may
-// be a relocation's.
+// Relocations 0000h:01xxh, by the low byte of the offset. With a maximum of 0010h the image's block ends at 0000h:0110h: the last word
+// before it may be a relocation's.
 const RELOCATIONS: [(u8, u8, &str); 2] = [(0x0E, 0, LETTER), (0x0F, 2, "refused RelocTarget\n")];
 
 #[test]
@@ -268,9 +269,9 @@ fn each_relocation_has_its_answer(rt: HostRuntime) -> Result<(), Fail> {
     Ok(())
 }
 
-// Whether the client of the letter with one relocation, cut to that length, is answered as it must be. Shorter than the header, 28 bytes, or than the
-// relocation, which ends at 32, it is refused. A longer one is loaded, and its image is filled up with zeros: its run ends with some exit, since its
-// turns have a bound, and the whole file prints its letter.
+// Whether the client of the letter with one relocation, cut to that length, is answered as it must be. Shorter than the header, 28 bytes,
+// or than the relocation, which ends at 32, it is refused. A longer one is loaded, and its image is filled up with zeros: its run ends with
+// some exit, since its turns have a bound, and the whole file prints its letter.
 fn is_cut_answered(alloc: Global, file: &[u8], length: usize) -> Result<bool, AllocError> {
     let mut shelf = MemShelf::new(alloc);
     shelf.add("A.EXE", file.get(..length).unwrap_or(&[]))?;
@@ -391,7 +392,8 @@ fn words_that_mean_nothing_are_refused(rt: HostRuntime) -> Result<(), Fail> {
     Ok(())
 }
 
-// The client that reads a key and prints it: MOV AH,01h; INT 21h; MOV AX,4C00h; INT 21h. The file of keystrokes is the letter `Y` and 65,535 more.
+// The client that reads a key and prints it: MOV AH,01h; INT 21h; MOV AX,4C00h; INT 21h. The file of keystrokes is the letter `Y` and
+// 65,535 more.
 const ONE_KEY: [u8; 9] = [0xB4, 0x01, 0xCD, 0x21, 0xB8, 0x00, 0x4C, 0xCD, 0x21];
 
 // The client that enters protected mode, allocates a block of 65,536 bytes and one of a byte, and ends.
@@ -406,8 +408,10 @@ const OPTIONS: [(&[&str], u8, &str, &str); 16] = [
     (
         &["run", "P.EXE", "--pages", "16"],
         0,
-        "console 0\n\ntrace 5 of 5\nint2f 1687\nentry 16\nint31 0501 ok\nint31 0501 carry\nint21 4c\nreport\nexit exited 0\nsteps 22\nmode protected\ndepth 0\n",
-        "\nblocks 1\nblock 1 base=00400000 pages=16 locked=0 sha256=de2f256064a0af797747c2b97505dc0b9f3df0de4f489eac731c23ae9ca9cc31\ndos sha256=",
+        "console 0\n\ntrace 5 of 5\nint2f 1687\nentry 16\nint31 0501 ok\nint31 0501 carry\nint21 4c\nreport\nexit exited 0\nsteps 22\n\
+        mode protected\ndepth 0\n",
+        "\nblocks 1\nblock 1 base=00400000 pages=16 locked=0 sha256=de2f256064a0af797747c2b97505dc0b9f3df0de4f489eac731c23ae9ca9cc31\n\
+        dos sha256=",
     ),
     (
         &["run", "P.EXE", "--pages=00017"],
@@ -448,7 +452,9 @@ const OPTIONS: [(&[&str], u8, &str, &str); 16] = [
     (
         &["run", "L.EXE", "--bound", "1"],
         1,
-        "console 0\n\ntrace 0 of 0\nreport\nexit bound\nsteps 1\nmode real\ndepth 0\nregs eax=00000200 ebx=00000000 ecx=00000000 edx=00000000 esi=00000000 edi=00000000 ebp=00000000 esp=00000100 eip=00000002 fl=0202 cs=0074 ss=0075 ds=0064 es=0064 ",
+        "console 0\n\ntrace 0 of 0\nreport\nexit bound\nsteps 1\nmode real\ndepth 0\n\
+        regs eax=00000200 ebx=00000000 ecx=00000000 edx=00000000 esi=00000000 edi=00000000 ebp=00000000 esp=00000100 eip=00000002 fl=0202 \
+        cs=0074 ss=0075 ds=0064 es=0064 ",
         "",
     ),
     (
@@ -475,7 +481,9 @@ const OPTIONS: [(&[&str], u8, &str, &str); 16] = [
     (
         &["run", "L.EXE", "--timer", "3"],
         0,
-        "console 1\nA\ntrace 2 of 2\nint21 02\nint21 4c\nreport\nexit exited 0\nsteps 15\nmode real\ndepth 0\nregs eax=00004c00 ebx=00000000 ecx=00000000 edx=00000041 esi=00000000 edi=00000000 ebp=00000000 esp=000000fa eip=00000021 fl=0002 cs=f000 ss=0075 ds=0064 es=0064 fs=0000 gs=0000\ndescs 0\nblocks 0\n",
+        "console 1\nA\ntrace 2 of 2\nint21 02\nint21 4c\nreport\nexit exited 0\nsteps 15\nmode real\ndepth 0\n\
+        regs eax=00004c00 ebx=00000000 ecx=00000000 edx=00000041 esi=00000000 edi=00000000 ebp=00000000 esp=000000fa eip=00000021 fl=0002 \
+        cs=f000 ss=0075 ds=0064 es=0064 fs=0000 gs=0000\ndescs 0\nblocks 0\n",
         "\ndos sha256=220e234fe35f69a2ba2e07da76cf70cd8b99b83b215fd0727bd9dc65ea7956ae\n",
     ),
     (

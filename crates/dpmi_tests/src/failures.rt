@@ -46,9 +46,10 @@ fn each_call_of_the_files_fails_in_turn(rt: HostRuntime) -> Result<(), Fail> {
     Ok(())
 }
 
-// Words that name a file LONG, how many bytes it has, how many calls of the files succeed before one fails, the status and the text. The calls are: a
-// file is opened, read, and, unless it fills the buffer, which has one byte more than the file may have, read once more to find its end. So of a
-// file that is too long the second read isn't made: the call that would fail is that one. A file that is just as long as it may be is read to its end.
+// Words that name a file LONG, how many bytes it has, how many calls of the files succeed before one fails, the status and the text. The
+// calls are: a file is opened, read, and, unless it fills the buffer, which has one byte more than the file may have, read once more to
+// find its end. So of a file that is too long the second read isn't made: the call that would fail is that one. A file that is just as long
+// as it may be is read to its end.
 const LONG_FILES: [(&[&str], usize, u64, u8, &str); 8] = [
     (&["run", "LONG"], 4_194_304, 2, 3, ""),
     (&["run", "LONG"], 4_194_305, 2, 2, "refused FileTooLong\n"),

@@ -12,10 +12,13 @@ pub(crate) const ONE_LETTER: [u8; 43] = [
     0xB4, 0x02, 0xB2, 0x41, 0xCD, 0x21, 0xB8, 0x00, 0x4C, 0xCD, 0x21,
 ];
 
-// What is written of the run of the client that prints the letter `A`. The megabyte of the digest holds the vectors, the blocks of DOS memory,
-// the environment, the prefix and the code, by their definitions, and the frame of the last interrupt on the stack.
+// What is written of the run of the client that prints the letter `A`. The megabyte of the digest holds the vectors, the blocks of DOS
+// memory, the environment, the prefix and the code, by their definitions, and the frame of the last interrupt on the stack.
 pub(crate) const LETTER_TEXT: &str =
-    "console 1\nA\ntrace 2 of 2\nint21 02\nint21 4c\nreport\nexit exited 0\nsteps 7\nmode real\ndepth 0\nregs eax=00004c00 ebx=00000000 ecx=00000000 edx=00000041 esi=00000000 edi=00000000 ebp=00000000 esp=000000fa eip=00000021 fl=0002 cs=f000 ss=0075 ds=0064 es=0064 fs=0000 gs=0000\ndescs 0\nblocks 0\ndos sha256=220e234fe35f69a2ba2e07da76cf70cd8b99b83b215fd0727bd9dc65ea7956ae\n";
+    "console 1\nA\ntrace 2 of 2\nint21 02\nint21 4c\nreport\nexit exited 0\nsteps 7\nmode real\ndepth 0\n\
+    regs eax=00004c00 ebx=00000000 ecx=00000000 edx=00000041 esi=00000000 edi=00000000 ebp=00000000 esp=000000fa eip=00000021 fl=0002 \
+    cs=f000 ss=0075 ds=0064 es=0064 fs=0000 gs=0000\ndescs 0\nblocks 0\ndos \
+    sha256=220e234fe35f69a2ba2e07da76cf70cd8b99b83b215fd0727bd9dc65ea7956ae\n";
 
 // Those words, in owned texts.
 pub(crate) fn owned_words(alloc: Global, texts: &[&str]) -> Result<Vec<String>, AllocError> {
@@ -26,7 +29,8 @@ pub(crate) fn owned_words(alloc: Global, texts: &[&str]) -> Result<Vec<String>, 
     Ok(words)
 }
 
-// The command's status for these words, over files and an output in memory. It hides what `dpmi` promises, which each proof above would read.
+// The command's status for these words, over files and an output in memory. It hides what `dpmi` promises, which each proof above would
+// read.
 pub(crate) fn answer(
     alloc: Global,
     texts: &[&str],

@@ -9,14 +9,16 @@ use Rattle.std.proofs.Math.Path.{fun_ext}
 use Rattle.clap.specs.Matches.{first_value}
 use Rattle.clap.specs.Simple.{App, built, is_simple, matches_of}
 use Rattle.clap.specs.Takes.{takes, level_passes, walk_passes}
-use Rattle.clap.specs.Walk.{Rule, Row, Walk, Held, arg_by_id, arg_by_long, nothing_held, walk, walk_from, with_default, first_of, idle, has_row, rows_of}
+use Rattle.clap.specs.Walk.{Rule, Row, Walk, Held, arg_by_id, arg_by_long, nothing_held, walk, walk_from, with_default, first_of, idle}
+use Rattle.clap.specs.Walk.{has_row, rows_of}
 use Rattle.clap.specs.Walk.{finished as rows_finished}
 use Rattle.clap.proofs.OnLiterals.{clap_on_literals}
 use Rattle.clap.proofs.TakesLemmas.{leaf_takes}
 use Rattle.clap.specs.declared.parser.matches.Found.{Found}
 use Rattle.clap.proofs.WalkLemmas.{first_value-rows}
 use Rattle.dpmi_words.specs.Options.{pair_options, run_options, soak_options}
-use Rattle.dpmi_words.specs.Reading.{Text, Reading, nothing_read, is_option_name, one_operand, pair_operands, reads, finished, finished_by, given_by, value_given}
+use Rattle.dpmi_words.specs.Reading.{Text, Reading, nothing_read, is_option_name, one_operand, pair_operands, reads, finished, finished_by}
+use Rattle.dpmi_words.specs.Reading.{given_by, value_given}
 use Rattle.dpmi_words.specs.Command.{pair_app, run_app, soak_app, Assigns}
 use Rattle.dpmi_words.proofs.Walks.{Rules, built_option, Operands, Tied, Idle, row, walk_at, all_steps}
 
@@ -117,7 +119,8 @@ record Ends (app : App) (words : List Text) (given : List (Text × Text)) : Type
   is : walk (built app).top.rules [] nothing_held words ≡ walk_at at idle held
 
 walk_ends : (names operands : List Text) (app : App) → Rules names (built app).top.rules → Operands (built app).top.rules 1 operands →
-    (built app).top.args_override_self ≡ false → (words : List Text) (given : List (Text × Text)) → given_by names operands words ≡ Some given → Ends app words given
+    (built app).top.args_override_self ≡ false → (words : List Text) (given : List (Text × Text)) →
+    given_by names operands words ≡ Some given → Ends app words given
 walk_ends names operands app rules places again words given e =
     let r = finished_is (reads names words (nothing_read operands)) given e in
     let started : Tied names (built app).top.rules None operands [] (walk_from nothing_held) = record {
@@ -128,44 +131,54 @@ walk_ends names operands app rules places again words given e =
       is = refl;
     } in
     let both = all_steps names (built app).top rules again words (nothing_read operands) r.0 (walk_from nothing_held) started r.1 in
-    let tied : Tied names (built app).top.rules None r.0.left given (walk (built app).top.rules [] nothing_held words) = rw (r.2, r.3) at both.1 in
+    let tied : Tied names (built app).top.rules None r.0.left given (walk (built app).top.rules [] nothing_held words) =
+    rw (r.2, r.3) at both.1 in
     record { passes = both.0; held = tied.held; at = tied.at; idle_now = tied.idle_now; is = tied.is }
 
 -- ---- what the commands take and assign
 
-pub run_takes : (words : List Text) (given : List (Text × Text)) → given_by run_options one_operand words ≡ Some given → takes run_app words ≡ true
+pub run_takes : (words : List Text) (given : List (Text × Text)) → given_by run_options one_operand words ≡ Some given →
+    takes run_app words ≡ true
 run_takes words given e =
     let ends = walk_ends run_options one_operand run_app run_rules run_operands refl words given e in
-    let level : level_passes (built run_app).top [] nothing_held words false ≡ true = rw (ends.passes, ends.is, ends.idle_now.passes) refl in
+    let level : level_passes (built run_app).top [] nothing_held words false ≡ true =
+    rw (ends.passes, ends.is, ends.idle_now.passes) refl in
     rw run_simple (leaf_takes (built run_app) nothing_held words refl level)
 
-pub run_matches : (words : List Text) (given : List (Text × Text)) → given_by run_options one_operand words ≡ Some given → matches_of run_app words ≡ map row given
+pub run_matches : (words : List Text) (given : List (Text × Text)) → given_by run_options one_operand words ≡ Some given →
+    matches_of run_app words ≡ map row given
 run_matches words given e =
     let ends = walk_ends run_options one_operand run_app run_rules run_operands refl words given e in
     ap (λ (w : Walk). rows_finished (built run_app).top.rules w.held) ends.is
     ∙ no_defaults (built run_app).top.rules _ refl
     ∙ ends.idle_now.rows
 
-pub soak_takes : (words : List Text) (given : List (Text × Text)) → given_by soak_options one_operand words ≡ Some given → takes soak_app words ≡ true
+pub soak_takes : (words : List Text) (given : List (Text × Text)) → given_by soak_options one_operand words ≡ Some given →
+    takes soak_app words ≡ true
 soak_takes words given e =
     let ends = walk_ends soak_options one_operand soak_app soak_rules soak_operands refl words given e in
-    let level : level_passes (built soak_app).top [] nothing_held words false ≡ true = rw (ends.passes, ends.is, ends.idle_now.passes) refl in
+    let level : level_passes (built soak_app).top [] nothing_held words false ≡ true =
+    rw (ends.passes, ends.is, ends.idle_now.passes) refl in
     rw soak_simple (leaf_takes (built soak_app) nothing_held words refl level)
 
-pub soak_matches : (words : List Text) (given : List (Text × Text)) → given_by soak_options one_operand words ≡ Some given → matches_of soak_app words ≡ map row given
+pub soak_matches : (words : List Text) (given : List (Text × Text)) → given_by soak_options one_operand words ≡ Some given →
+    matches_of soak_app words ≡ map row given
 soak_matches words given e =
     let ends = walk_ends soak_options one_operand soak_app soak_rules soak_operands refl words given e in
     ap (λ (w : Walk). rows_finished (built soak_app).top.rules w.held) ends.is
     ∙ no_defaults (built soak_app).top.rules _ refl
     ∙ ends.idle_now.rows
 
-pub pair_takes : (words : List Text) (given : List (Text × Text)) → given_by pair_options pair_operands words ≡ Some given → takes pair_app words ≡ true
+pub pair_takes : (words : List Text) (given : List (Text × Text)) → given_by pair_options pair_operands words ≡ Some given →
+    takes pair_app words ≡ true
 pair_takes words given e =
     let ends = walk_ends pair_options pair_operands pair_app pair_rules pair_both refl words given e in
-    let level : level_passes (built pair_app).top [] nothing_held words false ≡ true = rw (ends.passes, ends.is, ends.idle_now.passes) refl in
+    let level : level_passes (built pair_app).top [] nothing_held words false ≡ true =
+    rw (ends.passes, ends.is, ends.idle_now.passes) refl in
     rw pair_simple (leaf_takes (built pair_app) nothing_held words refl level)
 
-pub pair_matches : (words : List Text) (given : List (Text × Text)) → given_by pair_options pair_operands words ≡ Some given → matches_of pair_app words ≡ map row given
+pub pair_matches : (words : List Text) (given : List (Text × Text)) → given_by pair_options pair_operands words ≡ Some given →
+    matches_of pair_app words ≡ map row given
 pair_matches words given e =
     let ends = walk_ends pair_options pair_operands pair_app pair_rules pair_both refl words given e in
     ap (λ (w : Walk). rows_finished (built pair_app).top.rules w.held) ends.is
@@ -191,7 +204,8 @@ of_assigned of_values None found some h = absurd (true≢false (sym some))
 of_assigned of_values (Some given) found some h = ap of_values (fun_ext h)
 
 -- each value that is given
-pub if_given : (o : Option (List (Text × Text))) (P : List (Text × Text) → Type 0) → ((given : List (Text × Text)) → o ≡ Some given → P given) → IfSome o P
+pub if_given : (o : Option (List (Text × Text))) (P : List (Text × Text) → Type 0) →
+    ((given : List (Text × Text)) → o ≡ Some given → P given) → IfSome o P
 if_given None P h = tt
 if_given (Some given) P h = h given refl
 

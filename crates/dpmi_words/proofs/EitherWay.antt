@@ -3,7 +3,8 @@ use Rattle.std.proofs.Common.{◌≡◌, ◌∙◌, ◌&&◌, not, Bool, cond, t
 use Rattle.std.specs.Prelude.{option_and_then, Some, None}
 use Rattle.std.specs.declared.option.Option.{Option}
 use Rattle.clap.proofs.LexerLemmas.{name_and_value-at, name_and_value-without}
-use Rattle.dpmi_words.specs.Reading.{Text, Reading, reads, step, step_by, option_of, gives, has_given, is_option_name, is_hyphened, finished, given_by, nothing_read}
+use Rattle.dpmi_words.specs.Reading.{Text, Reading, reads, step, step_by, option_of, gives, has_given, is_option_name, is_hyphened}
+use Rattle.dpmi_words.specs.Reading.{finished, given_by, nothing_read}
 use Rattle.dpmi_words.specs.OptionWords.{option_word_of, option_with_value, IsName}
 
 one_word : (name value : Text) → IsName name → option_of (option_with_value name value) ≡ Some (name, Some value)
@@ -24,11 +25,13 @@ two_steps names name value r is plain = go r.waiting
     listed true = rw plain refl
     listed false = refl
 
-    go : (w : Option Text) → step_by names w (option_with_value name value) r ≡ option_and_then (step names value) (step_by names w (option_word_of name) r)
+    go : (w : Option Text) → step_by names w (option_with_value name value) r
+        ≡ option_and_then (step names value) (step_by names w (option_word_of name) r)
     go (Some n) = refl
     go None = rw (one_word name value is, alone name is) (listed (is_option_name names name && not (has_given name r.given)))
 
-then_twice : (f g : Reading → Option Reading) (o : Option Reading) → option_and_then g (option_and_then f o) ≡ option_and_then (λ r. option_and_then g (f r)) o
+then_twice : (f g : Reading → Option Reading) (o : Option Reading) →
+    option_and_then g (option_and_then f o) ≡ option_and_then (λ r. option_and_then g (f r)) o
 then_twice f g None = refl
 then_twice f g (Some r) = refl
 
@@ -38,15 +41,18 @@ unfolding reads
 same_reading names [] after name value r is plain =
     ap (option_and_then (reads names after)) (two_steps names name value r is plain)
     ∙ then_twice (step names value) (reads names after) (step names (option_word_of name) r)
-same_reading names (word ∷ before) after name value r is plain = go (λ r1. same_reading names before after name value r1 is plain) (step names word r)
+same_reading names (word ∷ before) after name value r is plain =
+    go (λ r1. same_reading names before after name value r1 is plain) (step names word r)
   where
-    go : ((r1 : Reading) → reads names (before ++ option_with_value name value ∷ after) r1 ≡ reads names (before ++ option_word_of name ∷ value ∷ after) r1) →
+    go : ((r1 : Reading) → reads names (before ++ option_with_value name value ∷ after) r1
+        ≡ reads names (before ++ option_word_of name ∷ value ∷ after) r1) →
         (o : Option Reading) → option_and_then (reads names (before ++ option_with_value name value ∷ after)) o
         ≡ option_and_then (reads names (before ++ option_word_of name ∷ value ∷ after)) o
     go same None = refl
     go same (Some r1) = same r1
 
 pub either_way : (names operands before after : List Text) (name value : Text) → IsName name → is_hyphened value ≡ false →
-    given_by names operands (before ++ option_with_value name value ∷ after) ≡ given_by names operands (before ++ option_word_of name ∷ value ∷ after)
+    given_by names operands (before ++ option_with_value name value ∷ after)
+    ≡ given_by names operands (before ++ option_word_of name ∷ value ∷ after)
 either_way names operands before after name value is plain =
     ap (option_and_then finished) (same_reading names before after name value (nothing_read operands) is plain)

@@ -1,5 +1,6 @@
 -- Digits that `parse` refuses are no number of the range.
-use Rattle.std.proofs.Common.{arith, ◌≡◌, ◌≢◌, ◌<◌, ◌&&◌, ℕ, Bool, true, false, cond, List, [], ◌∷◌, length, get_or, refl, sym, true≢false, tests, nat_lt, nat_le}
+use Rattle.std.proofs.Common.{arith, ◌≡◌, ◌≢◌, ◌<◌, ◌&&◌, ℕ, Bool, true, false, cond, List, [], ◌∷◌, length, get_or, refl, sym, true≢false}
+use Rattle.std.proofs.Common.{tests, nat_lt, nat_le}
 use Rattle.std.specs.Prelude.{None, Some}
 use Rattle.std.specs.List.{list_all}
 use Rattle.std.specs.Char.{digit_value}
@@ -27,10 +28,12 @@ no_plus (b ∷ rest) h e =
 
 -- `parse` reads numbers below `limit`
 pub number_refused : (digits least most limit : ℕ) (text : List ℕ) → most < limit →
-    ((IsNumeral 10 (without_leading_plus text) × (digits_value 10 (without_leading_plus text) < limit)) → ⊥) → None ≡ number_in_text digits least most text
+    ((IsNumeral 10 (without_leading_plus text) × (digits_value 10 (without_leading_plus text) < limit)) → ⊥) →
+    None ≡ number_in_text digits least most text
 number_refused digits least most limit text fits fails = go _ refl
   where
-    go : (b : Bool) → (is_decimal digits text && is_between least most (digits_value 10 text)) ≡ b → None ≡ cond b (Some (digits_value 10 text)) None
+    go : (b : Bool) → (is_decimal digits text && is_between least most (digits_value 10 text)) ≡ b →
+        None ≡ cond b (Some (digits_value 10 text)) None
     go false e = refl
     go true e =
         let parts = and_true (is_decimal digits text) _ e in

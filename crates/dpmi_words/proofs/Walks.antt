@@ -1,5 +1,6 @@
 -- A command of clap with these options and operands takes each word as `step` does.
-use Rattle.std.proofs.Common.{◌≡◌, ◌∙◌, ◌+◌, ◌&&◌, ◌||◌, not, ℕ, Bool, cond, true, false, refl, sym, ap, List, [], ◌∷◌, ◌++◌, map, true≢false, subst}
+use Rattle.std.proofs.Common.{◌≡◌, ◌∙◌, ◌+◌, ◌&&◌, ◌||◌, not, ℕ, Bool, cond, true, false, refl, sym, ap, List, [], ◌∷◌, ◌++◌, map}
+use Rattle.std.proofs.Common.{true≢false, subst}
 use Rattle.std.specs.Prelude.{option_and_then, Some, None, min, ⊤}
 use Rattle.std.specs.declared.option.Option.{Option}
 use Rattle.std.specs.List.{list_any, fold}
@@ -11,11 +12,13 @@ use Rattle.clap.specs.Values.{reading_of}
 use Rattle.clap.specs.declared.builder.value_parser.ValueParser.TheVariants as vp
 use Rattle.clap.specs.declared.parser.matches.ValueSource.TheVariants.{CommandLine}
 use Rattle.clap.specs.Simple.{new_rule, filled, with_index}
-use Rattle.clap.specs.Walk.{Rule, Row, Held, Walk, Text, idle, option, arg_by_long, arg_by_id, arg_by_index, settled, settled_rows, reacted, used, at_row, more_values, walked, is_pending}
+use Rattle.clap.specs.Walk.{Rule, Row, Held, Walk, Text, idle, option, arg_by_long, arg_by_id, arg_by_index, settled, settled_rows, reacted}
+use Rattle.clap.specs.Walk.{used, at_row, more_values, walked, is_pending}
 use Rattle.clap.specs.Takes.{settle_passes, turn_passes, walk_passes}
 use Rattle.clap.specs.Simple.{Shape}
 use Rattle.clap.specs.Walk.{Waiting}
-use Rattle.dpmi_words.specs.Reading.{Reading, option_of, operand_word, option_word, with_value, step_by, has_given, is_hyphened, is_option_name, is_blank, gives, step, reads}
+use Rattle.dpmi_words.specs.Reading.{Reading, option_of, operand_word, option_word, with_value, step_by, has_given, is_hyphened}
+use Rattle.dpmi_words.specs.Reading.{is_option_name, is_blank, gives, step, reads}
 
 -- ---- the rules
 
@@ -82,7 +85,8 @@ dashes word p e = not_true _ (λ h.
     let bad : long_of (45 ∷ 45 ∷ []) ≡ Some p = rw two at e in
     cc)
 
-attached : (c : List Rule) (h : Held) (k : ℕ) (word n v : Text) → long_of word ≡ Some (n, Some v) → arg_by_long c n ≡ Some (built_option n) →
+attached : (c : List Rule) (h : Held) (k : ℕ) (word n v : Text) → long_of word ≡ Some (n, Some v) →
+    arg_by_long c n ≡ Some (built_option n) →
     walked c [] (record { held = h; waiting = idle; position = k; is_trailing = false; stopped = None }) word
     ≡ record { held = reacted c (built_option n) (v ∷ []) h; waiting = idle; position = k; is_trailing = false; stopped = None }
 unfolding walked
@@ -90,7 +94,8 @@ attached c h k word n v e rule = rw (dashes word (n, Some v) e, e, rule) refl
 
 separate : (c : List Rule) (h : Held) (k : ℕ) (word n : Text) → long_of word ≡ Some (n, None) → arg_by_long c n ≡ Some (built_option n) →
     walked c [] (record { held = h; waiting = idle; position = k; is_trailing = false; stopped = None }) word
-    ≡ record { held = record (settled c h) { pending = Some (n, []) }; waiting = option n; position = k; is_trailing = false; stopped = None }
+    ≡ record
+    { held = record (settled c h) { pending = Some (n, []) }; waiting = option n; position = k; is_trailing = false; stopped = None }
 unfolding walked
 separate c h k word n e rule = rw (dashes word (n, None) e, e, rule) refl
 
@@ -112,7 +117,8 @@ pub idle_used : (c : List Rule) (given : List (Text × Text)) (n v : Text) → h
 idle_used c given n v new = record { rows = refl; skip = refl; passes = refl }
 
 -- while a value is pending
-pub idle_pending : (c : List Rule) (given : List (Text × Text)) (n v : Text) → arg_by_id c n ≡ Some (built_option n) → has_given n given ≡ false →
+pub idle_pending : (c : List Rule) (given : List (Text × Text)) (n v : Text) → arg_by_id c n ≡ Some (built_option n) →
+    has_given n given ≡ false →
     Idle c (given ++ (n, v) ∷ []) (record { rows = map row given; pending = Some (n, v ∷ []); skip = 0 })
 idle_pending c given n v rule new = record {
   rows = rw rule (used_new n v given new);
@@ -120,7 +126,8 @@ idle_pending c given n v rule new = record {
   passes = rw (rule, has_row_given n given, new) refl;
 }
 
-pub idle_operand : (c : List Rule) (given : List (Text × Text)) (k : ℕ) (n v : Text) → arg_by_id c n ≡ Some (built_operand k n) → has_given n given ≡ false →
+pub idle_operand : (c : List Rule) (given : List (Text × Text)) (k : ℕ) (n v : Text) → arg_by_id c n ≡ Some (built_operand k n) →
+    has_given n given ≡ false →
     Idle c (given ++ (n, v) ∷ []) (record { rows = map row given; pending = Some (n, v ∷ []); skip = 0 })
 idle_operand c given k n v rule new = record {
   rows = rw rule (used_new n v given new);
@@ -145,40 +152,83 @@ same_bytes : (n : Text) → bytes_eq n n ≡ true
 same_bytes n = (bytes_eq-Decides n n).1 refl
 
 value_read : (c : List Rule) (rows : List Row) (k : ℕ) (word n : Text) → is_hyphened word ≡ false → arg_by_id c n ≡ Some (built_option n) →
-    walked c [] (record { held = record { rows = rows; pending = Some (n, []); skip = 0 }; waiting = option n; position = k; is_trailing = false; stopped = None }) word
-    ≡ record { held = record { rows = rows; pending = Some (n, word ∷ []); skip = 0 }; waiting = idle; position = k; is_trailing = false; stopped = None }
+    walked c [] (record {
+      held = record { rows = rows; pending = Some (n, []); skip = 0 };
+      waiting = option n;
+      position = k;
+      is_trailing = false;
+      stopped = None;
+    }) word
+    ≡ record {
+      held = record { rows = rows; pending = Some (n, word ∷ []); skip = 0 };
+      waiting = idle;
+      position = k;
+      is_trailing = false;
+      stopped = None;
+    }
 unfolding walked
 value_read c rows k word n e rule = rw (plain_dashes word e, plain_long word e, plain_short word e, rule, same_bytes n) refl
 
 operand_read : (c : List Rule) (given : List (Text × Text)) (h : Held) (k : ℕ) (n word : Text) → is_hyphened word ≡ false →
     arg_by_index c k ≡ Some (built_operand k n) → Idle c given h →
     walked c [] (record { held = h; waiting = idle; position = k; is_trailing = false; stopped = None }) word
-    ≡ record { held = record { rows = map row given; pending = Some (n, word ∷ []); skip = 0 }; waiting = idle; position = next_place k; is_trailing = false; stopped = None }
+    ≡ record {
+      held = record { rows = map row given; pending = Some (n, word ∷ []); skip = 0 };
+      waiting = idle;
+      position = next_place k;
+      is_trailing = false;
+      stopped = None;
+    }
 unfolding walked
 operand_read c given h k n word e rule is =
-    rw (plain_dashes word e, plain_long word e, plain_short word e, rule, and_false (is_pending (built_operand k n) h.pending), is.rows, is.skip) refl
+    rw (
+      plain_dashes word e,
+      plain_long word e,
+      plain_short word e,
+      rule,
+      and_false (is_pending (built_operand k n) h.pending),
+      is.rows,
+      is.skip,
+    ) refl
 
 -- ---- each word passes
 
-attached_passes : (s : Shape) (given : List (Text × Text)) (h : Held) (k : ℕ) (word n v : Text) → long_of word ≡ Some (n, Some v) → arg_by_long s.rules n ≡ Some (built_option n) →
+attached_passes : (s : Shape) (given : List (Text × Text)) (h : Held) (k : ℕ) (word n v : Text) → long_of word ≡ Some (n, Some v) →
+    arg_by_long s.rules n ≡ Some (built_option n) →
     s.args_override_self ≡ false → Idle s.rules given h → has_given n given ≡ false →
     turn_passes s [] (record { held = h; waiting = idle; position = k; is_trailing = false; stopped = None }) word ≡ true
-attached_passes s given h k word n v e rule again is new = rw (dashes word (n, Some v) e, e, rule, again, is.passes, is.rows, has_row_given n given, new) refl
+attached_passes s given h k word n v e rule again is new =
+    rw (dashes word (n, Some v) e, e, rule, again, is.passes, is.rows, has_row_given n given, new) refl
 
-separate_passes : (s : Shape) (given : List (Text × Text)) (h : Held) (k : ℕ) (word n : Text) → long_of word ≡ Some (n, None) → arg_by_long s.rules n ≡ Some (built_option n) →
+separate_passes : (s : Shape) (given : List (Text × Text)) (h : Held) (k : ℕ) (word n : Text) → long_of word ≡ Some (n, None) →
+    arg_by_long s.rules n ≡ Some (built_option n) →
     s.args_override_self ≡ false → Idle s.rules given h →
     turn_passes s [] (record { held = h; waiting = idle; position = k; is_trailing = false; stopped = None }) word ≡ true
 separate_passes s given h k word n e rule again is = rw (dashes word (n, None) e, e, rule, again, is.passes) refl
 
 value_passes : (s : Shape) (rows : List Row) (k : ℕ) (word n : Text) → is_hyphened word ≡ false →
-    turn_passes s [] (record { held = record { rows = rows; pending = Some (n, []); skip = 0 }; waiting = option n; position = k; is_trailing = false; stopped = None }) word ≡ true
+    turn_passes s [] (record {
+      held = record { rows = rows; pending = Some (n, []); skip = 0 };
+      waiting = option n;
+      position = k;
+      is_trailing = false;
+      stopped = None;
+    }) word ≡ true
 value_passes s rows k word n e = rw (plain_dashes word e, plain_long word e, plain_short word e) refl
 
 operand_passes : (s : Shape) (given : List (Text × Text)) (h : Held) (k : ℕ) (n word : Text) → is_hyphened word ≡ false →
     arg_by_index s.rules k ≡ Some (built_operand k n) → s.args_override_self ≡ false → Idle s.rules given h →
     turn_passes s [] (record { held = h; waiting = idle; position = k; is_trailing = false; stopped = None }) word ≡ true
 operand_passes s given h k n word e rule again is =
-    rw (plain_dashes word e, plain_long word e, plain_short word e, rule, again, and_false (is_pending (built_operand k n) h.pending), is.passes) refl
+    rw (
+      plain_dashes word e,
+      plain_long word e,
+      plain_short word e,
+      rule,
+      again,
+      and_false (is_pending (built_operand k n) h.pending),
+      is.passes,
+    ) refl
 
 -- ---- one step of both
 
@@ -227,8 +277,10 @@ gives_is n v r r2 e =
 abbrev pub StepsWith : List Text → Shape → Text → Walk → Reading → Type 0
 StepsWith names s word w r2 = (turn_passes s [] w word ≡ true) × Tied names s.rules r2.waiting r2.left r2.given (walked s.rules [] w word)
 
-value_step : (names : List Text) (s : Shape) → Rules names s.rules → (left : List Text) (given : List (Text × Text)) (n word : Text) (w : Walk) (r2 : Reading) →
-    WaitsAt names s.rules n left given w → step names word (record { waiting = Some n; left = left; given = given }) ≡ Some r2 → StepsWith names s word w r2
+value_step : (names : List Text) (s : Shape) → Rules names s.rules →
+    (left : List Text) (given : List (Text × Text)) (n word : Text) (w : Walk) (r2 : Reading) →
+    WaitsAt names s.rules n left given w → step names word (record { waiting = Some n; left = left; given = given }) ≡ Some r2 →
+    StepsWith names s word w r2
 value_step names s rules left given n word w r2 tied e =
     let plain = unless_Some (is_hyphened word) _ r2 e in
     let is = gives_is n word (record { waiting = Some n; left = left; given = given }) r2 plain.1 in
@@ -244,8 +296,10 @@ value_step names s rules left given n word w r2 tied e =
       },
     )
 
-attached_step : (names : List Text) (s : Shape) → Rules names s.rules → s.args_override_self ≡ false → (left : List Text) (given : List (Text × Text)) (h : Held) (k : ℕ)
-    (n v word : Text) (r2 : Reading) → Idle s.rules given h → Operands s.rules k left → long_of word ≡ Some (n, Some v) → is_option_name names n ≡ true →
+attached_step : (names : List Text) (s : Shape) → Rules names s.rules → s.args_override_self ≡ false →
+    (left : List Text) (given : List (Text × Text)) (h : Held) (k : ℕ)
+    (n v word : Text) (r2 : Reading) → Idle s.rules given h → Operands s.rules k left → long_of word ≡ Some (n, Some v) →
+    is_option_name names n ≡ true →
     gives n v (record { waiting = None; left = left; given = given }) ≡ Some r2 → StepsWith names s word (walk_at k idle h) r2
 attached_step names s rules again left given h k n v word r2 idle_now operands long listed e =
     let is = gives_is n v (record { waiting = None; left = left; given = given }) r2 e in
@@ -261,8 +315,10 @@ attached_step names s rules again left given h k n v word r2 idle_now operands l
       },
     )
 
-separate_step : (names : List Text) (s : Shape) → Rules names s.rules → s.args_override_self ≡ false → (left : List Text) (given : List (Text × Text)) (h : Held) (k : ℕ)
-    (n word : Text) → Idle s.rules given h → Operands s.rules k left → long_of word ≡ Some (n, None) → is_option_name names n ≡ true → has_given n given ≡ false →
+separate_step : (names : List Text) (s : Shape) → Rules names s.rules → s.args_override_self ≡ false →
+    (left : List Text) (given : List (Text × Text)) (h : Held) (k : ℕ)
+    (n word : Text) → Idle s.rules given h → Operands s.rules k left → long_of word ≡ Some (n, None) → is_option_name names n ≡ true →
+    has_given n given ≡ false →
     StepsWith names s word (walk_at k idle h) (record { waiting = Some n; left = left; given = given })
 separate_step names s rules again left given h k n word idle_now operands long listed new =
     let rule = rules.long n listed in (
@@ -276,7 +332,8 @@ separate_step names s rules again left given h k n word idle_now operands long l
       },
     )
 
-operand_step : (names : List Text) (s : Shape) → s.args_override_self ≡ false → (left : List Text) (given : List (Text × Text)) (h : Held) (k : ℕ)
+operand_step : (names : List Text) (s : Shape) → s.args_override_self ≡ false →
+    (left : List Text) (given : List (Text × Text)) (h : Held) (k : ℕ)
     (word : Text) (r2 : Reading) → Idle s.rules given h → Operands s.rules k left → is_hyphened word ≡ false →
     operand_word left word (record { waiting = None; left = left; given = given }) ≡ Some r2 → StepsWith names s word (walk_at k idle h) r2
 operand_step names s again [] given h k word r2 idle_now operands plain e = cc
@@ -293,16 +350,20 @@ operand_step names s again (n ∷ rest) given h k word r2 idle_now operands plai
       },
     )
 
-value_or_name : (names : List Text) (s : Shape) → Rules names s.rules → s.args_override_self ≡ false → (left : List Text) (given : List (Text × Text)) (h : Held) (k : ℕ)
-    (n word : Text) (v : Option Text) (r2 : Reading) → Idle s.rules given h → Operands s.rules k left → long_of word ≡ Some (n, v) → is_option_name names n ≡ true →
-    has_given n given ≡ false → with_value n v (record { waiting = None; left = left; given = given }) ≡ Some r2 → StepsWith names s word (walk_at k idle h) r2
+value_or_name : (names : List Text) (s : Shape) → Rules names s.rules → s.args_override_self ≡ false →
+    (left : List Text) (given : List (Text × Text)) (h : Held) (k : ℕ)
+    (n word : Text) (v : Option Text) (r2 : Reading) → Idle s.rules given h → Operands s.rules k left → long_of word ≡ Some (n, v) →
+    is_option_name names n ≡ true →
+    has_given n given ≡ false → with_value n v (record { waiting = None; left = left; given = given }) ≡ Some r2 →
+    StepsWith names s word (walk_at k idle h) r2
 value_or_name names s rules again left given h k n word (Some v) r2 idle_now operands long listed new e =
     attached_step names s rules again left given h k n v word r2 idle_now operands long listed e
 value_or_name names s rules again left given h k n word None r2 idle_now operands long listed new e =
     let is : r2 ≡ record { waiting = Some n; left = left; given = given } = cc in
     rw is (separate_step names s rules again left given h k n word idle_now operands long listed new)
 
-option_step : (names : List Text) (s : Shape) → Rules names s.rules → s.args_override_self ≡ false → (left : List Text) (given : List (Text × Text)) (h : Held) (k : ℕ)
+option_step : (names : List Text) (s : Shape) → Rules names s.rules → s.args_override_self ≡ false →
+    (left : List Text) (given : List (Text × Text)) (h : Held) (k : ℕ)
     (word : Text) (o : Option (Text × Option Text)) (r2 : Reading) → Idle s.rules given h → Operands s.rules k left → long_of word ≡ o →
     option_word names o (record { waiting = None; left = left; given = given }) ≡ Some r2 → StepsWith names s word (walk_at k idle h) r2
 option_step names s rules again left given h k word None r2 idle_now operands long e = cc
@@ -311,16 +372,19 @@ option_step names s rules again left given h k word (Some p) r2 idle_now operand
     let both = and_not (is_option_name names p.0) (has_given p.0 given) first.0 in
     value_or_name names s rules again left given h k p.0 word p.1 r2 idle_now operands long both.0 both.1 first.1
 
-idle_step : (names : List Text) (s : Shape) → Rules names s.rules → s.args_override_self ≡ false → (left : List Text) (given : List (Text × Text)) (h : Held) (k : ℕ)
+idle_step : (names : List Text) (s : Shape) → Rules names s.rules → s.args_override_self ≡ false →
+    (left : List Text) (given : List (Text × Text)) (h : Held) (k : ℕ)
     (word : Text) (r2 : Reading) (b : Bool) → Idle s.rules given h → Operands s.rules k left → is_hyphened word ≡ b →
     cond b (option_word names (option_of word) (record { waiting = None; left = left; given = given }))
     (operand_word left word (record { waiting = None; left = left; given = given })) ≡ Some r2 →
     StepsWith names s word (walk_at k idle h) r2
 idle_step names s rules again left given h k word r2 true idle_now operands is e =
     option_step names s rules again left given h k word (option_of word) r2 idle_now operands (long_is word) e
-idle_step names s rules again left given h k word r2 false idle_now operands is e = operand_step names s again left given h k word r2 idle_now operands is e
+idle_step names s rules again left given h k word r2 false idle_now operands is e =
+    operand_step names s again left given h k word r2 idle_now operands is e
 
-pub one_step : (names : List Text) (s : Shape) → Rules names s.rules → s.args_override_self ≡ false → (waiting : Option Text) (left : List Text) (given : List (Text × Text))
+pub one_step : (names : List Text) (s : Shape) → Rules names s.rules → s.args_override_self ≡ false →
+    (waiting : Option Text) (left : List Text) (given : List (Text × Text))
     (word : Text) (w : Walk) (r2 : Reading) → Tied names s.rules waiting left given w →
     step_by names waiting word (record { waiting = waiting; left = left; given = given }) ≡ Some r2 → StepsWith names s word w r2
 one_step names s rules again (Some n) left given word w r2 tied e = value_step names s rules left given n word w r2 tied e
@@ -329,16 +393,19 @@ one_step names s rules again None left given word w r2 tied e =
 
 -- ---- all the words
 
-pub all_steps : (names : List Text) (s : Shape) → Rules names s.rules → s.args_override_self ≡ false → (words : List Text) (r r2 : Reading) (w : Walk) →
+pub all_steps : (names : List Text) (s : Shape) → Rules names s.rules → s.args_override_self ≡ false →
+    (words : List Text) (r r2 : Reading) (w : Walk) →
     Tied names s.rules r.waiting r.left r.given w → reads names words r ≡ Some r2 →
     (walk_passes s [] w words ≡ true) × Tied names s.rules r2.waiting r2.left r2.given (fold (walked s.rules []) w words)
 unfolding reads walk_passes
-all_steps names s rules again [] r r2 w tied e = let same : r ≡ r2 = cc in (refl, subst (λ (x : Reading). Tied names s.rules x.waiting x.left x.given w) same tied)
+all_steps names s rules again [] r r2 w tied e = let same : r ≡ r2 = cc in
+    (refl, subst (λ (x : Reading). Tied names s.rules x.waiting x.left x.given w) same tied)
 all_steps names s rules again (word ∷ rest) r r2 w tied e =
     go (λ r1 t more. all_steps names s rules again rest r1 r2 (walked s.rules [] w word) t more) (step names word r) refl e
   where
     go : ((r1 : Reading) → Tied names s.rules r1.waiting r1.left r1.given (walked s.rules [] w word) → reads names rest r1 ≡ Some r2 →
-        (walk_passes s [] (walked s.rules [] w word) rest ≡ true) × Tied names s.rules r2.waiting r2.left r2.given (fold (walked s.rules []) (walked s.rules [] w word) rest)) →
+        (walk_passes s [] (walked s.rules [] w word) rest ≡ true)
+        × Tied names s.rules r2.waiting r2.left r2.given (fold (walked s.rules []) (walked s.rules [] w word) rest)) →
         (o : Option Reading) → step names word r ≡ o → option_and_then (reads names rest) o ≡ Some r2 →
         ((turn_passes s [] w word && walk_passes s [] (walked s.rules [] w word) rest) ≡ true)
         × Tied names s.rules r2.waiting r2.left r2.given (fold (walked s.rules []) (walked s.rules [] w word) rest)

@@ -79,13 +79,15 @@ optional_number_of row value = optional_number_by row.kind (value row.name)
 abbrev pub run_with : Option Text → Option Keys → Option ℕ → Option ℕ → Option ℕ → Option (Option ℕ) → Option RunMeaning
 run_with file keys bound pages trace timer =
     option_and_then (λ f. option_and_then (λ k. option_and_then (λ b. option_and_then (λ p.
-    option_and_then (λ t. option_map (λ every. record { file = f; keys = k; bound = b; pages = p; trace = t; timer = every }) timer) trace) pages) bound)
+    option_and_then (λ t. option_map (λ every. record { file = f; keys = k; bound = b; pages = p; trace = t; timer = every }) timer) trace)
+    pages) bound)
     keys) file
 
 -- the run of a file and keystrokes, with the numbers of its options
 abbrev pub run_of_numbers : Option Text → Option Keys → (Text → Option Text) → Option RunMeaning
 run_of_numbers file keys value =
-    run_with file keys (number_of option.bound value) (number_of option.pages value) (number_of option.trace value) (optional_number_of option.timer value)
+    run_with file keys (number_of option.bound value) (number_of option.pages value) (number_of option.trace value)
+    (optional_number_of option.timer value)
 
 -- the run of the value of each name
 abbrev pub run_of_values : (Text → Option Text) → Option RunMeaning
@@ -99,7 +101,8 @@ soak_of_values value = option_and_then (number_in_text 20 0 (2 ^ 64 - 1)) (value
 abbrev pub pair_with : Option Text → Option Text → Option ℕ → Option ℕ → Option ℕ → Option ℕ → Option PairMeaning
 pair_with first second slice bound pages_a pages_b =
     option_and_then (λ f. option_and_then (λ g. option_and_then (λ s. option_and_then (λ b. option_and_then (λ p.
-    option_map (λ q. record { first = f; second = g; slice = s; bound = b; pages_a = p; pages_b = q }) pages_b) pages_a) bound) slice) second) first
+    option_map (λ q. record { first = f; second = g; slice = s; bound = b; pages_a = p; pages_b = q }) pages_b) pages_a) bound) slice)
+    second) first
 
 -- the pair of the value of each name
 abbrev pub pair_of_values : (Text → Option Text) → Option PairMeaning
@@ -139,7 +142,8 @@ abbrev pub run_in : Run → RunMeaning
 run_in r = record { file = r.file.now; keys = keys_in r.keys; bound = r.bound; pages = r.pages; trace = r.trace; timer = r.timer }
 
 abbrev pub pair_in : Pair → PairMeaning
-pair_in p = record { first = p.first.now; second = p.second.now; slice = p.slice; bound = p.bound; pages_a = p.pages_a; pages_b = p.pages_b }
+pair_in p =
+    record { first = p.first.now; second = p.second.now; slice = p.slice; bound = p.bound; pages_a = p.pages_a; pages_b = p.pages_b }
 
 abbrev pub meaning_in : Words → Meaning
 meaning_in (words.Run r) = Runs (run_in r)

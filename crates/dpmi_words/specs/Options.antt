@@ -1,6 +1,7 @@
 -- The options of the command. Source: own.
 use Rattle.std.specs.Prelude.{List, [], ◌∷◌, codes, map}
-use Rattle.client_world.specs.declared.limits.TheConstants.{MAX_STEPS, DEFAULT_BOUND, MAX_PAGES, MAX_PAIR_PAGES, DEFAULT_PAGES, MAX_TRACE, DEFAULT_TRACE, MAX_SLICE, DEFAULT_SLICE, GREATEST_TIMER}
+use Rattle.client_world.specs.declared.limits.TheConstants.{MAX_STEPS, DEFAULT_BOUND, MAX_PAGES, MAX_PAIR_PAGES, DEFAULT_PAGES, MAX_TRACE}
+use Rattle.client_world.specs.declared.limits.TheConstants.{DEFAULT_TRACE, MAX_SLICE, DEFAULT_SLICE, GREATEST_TIMER}
 use Rattle.dpmi_words.specs.Reading.{Text}
 use Rattle.dpmi_words.specs.declared.options.CommandOption.{CommandOption}
 use Rattle.dpmi_words.specs.declared.options.ValueKind.{ValueKind}

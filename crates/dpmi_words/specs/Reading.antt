@@ -1,6 +1,7 @@
 -- What the words after the first one give: each option its value, and the words that are no options, the operands, in their order.
 -- The words are read one by one. Source: own.
-use Rattle.std.specs.Prelude.{◌==◌, ◌&&◌, ◌||◌, not, Bool, true, false, ℕ, List, [], ◌∷◌, ◌++◌, codes, Some, None, if◌then◌else◌, option_map, option_and_then, find}
+use Rattle.std.specs.Prelude.{◌==◌, ◌&&◌, ◌||◌, not, Bool, true, false, ℕ, List, [], ◌∷◌, ◌++◌, codes, Some, None, if◌then◌else◌}
+use Rattle.std.specs.Prelude.{option_map, option_and_then, find}
 use Rattle.std.specs.declared.option.Option.{Option}
 use Rattle.std.specs.List.{list_any, before_first, after_first}
 use Rattle.std.specs.Str.{bytes_eq}
@@ -125,7 +126,8 @@ finished_by None (name ∷ rest) given = None
 abbrev pub finished : Reading → Option (List (Text × Text))
 finished r = finished_by r.waiting r.left r.given
 
--- the values that the words give, each with its name, where the options and the operands have these names; none where the words break a rule
+-- the values that the words give, each with its name, where the options and the operands have these names; none where the words break a
+-- rule
 abbrev pub given_by : List Text → List Text → List Text → Option (List (Text × Text))
 given_by names operands words = option_and_then finished (reads names words (nothing_read operands))
 

@@ -1,13 +1,15 @@
 -- Writes to places of the client change the bytes of these places, and leave the host's frames, in which none of the places lies.
-use Rattle.std.proofs.Common.{◌≡◌, ◌≢◌, ◌⊎◌, ℕ, suc, ◌+◌, ◌*◌, ◌<◌, ◌≤◌, true, List, [], ◌∷◌, length, slice_index, slice_index_or, slice_set, refl, sym, subst, arith, length-set, get_or-set_other, Result, Ok, Err}
+use Rattle.std.proofs.Common.{◌≡◌, ◌≢◌, ◌⊎◌, ℕ, suc, ◌+◌, ◌*◌, ◌<◌, ◌≤◌, true, List, [], ◌∷◌, length, slice_index, slice_index_or}
+use Rattle.std.proofs.Common.{slice_set, refl, sym, subst, arith, length-set, get_or-set_other, Result, Ok, Err}
 use Rattle.client_world.specs.declared.faults.Fault.{Fault}
-use Rattle.client_world.specs.declared.host_frames.TheConstants.{PAGE_SIZE, BUDGET_FRAMES, BLOCK_ROWS, BLOCK_ROW_FRAMES, BLOCK_TABLES, BLOCK_TABLE_FRAMES}
+use Rattle.client_world.specs.declared.host_frames.TheConstants.{PAGE_SIZE, BUDGET_FRAMES, BLOCK_ROWS, BLOCK_ROW_FRAMES, BLOCK_TABLES}
+use Rattle.client_world.specs.declared.host_frames.TheConstants.{BLOCK_TABLE_FRAMES}
 use Rattle.client_world.specs.declared.memory_map.TheConstants.{DOS_SIZE}
 use Rattle.client_world.specs.declared.place.Place.{Place}
 use Rattle.client_world.specs.declared.place.Place.TheVariants.{Nothing}
 use Rattle.client_world.specs.declared.segments.FarPtr.{FarPtr}
 use Rattle.client_world.specs.declared.segments.SegReg.TheVariants.{Es}
-use Rattle.client_world.specs.Access.{access, far_access, may_touch, place_of, protected_base}
+use Rattle.client_world.specs.Access.{access, far_access, protected_base}
 use Rattle.client_world.specs.World.{World}
 use Rattle.client_world.proofs.PlaceLaws.{place_in-with_byte_of}
 use Rattle.guest_ram.proofs.PutLaws.{same_region}
@@ -16,7 +18,8 @@ use Rattle.guest_space.specs.Far.{after_far_write}
 use Rattle.guest_space.specs.Pending.{after_writes, byte_count, number_bytes, places_of_writes, after_write}
 use Rattle.guest_space.specs.Transfer.{places_of_access, after_store, with_places}
 use Rattle.guest_space.proofs.KeptAccess.{near_kept}
-use Rattle.guest_space.proofs.Machines.{CanWrite, CanWriteAll, can_write_after, with_place, with_places_first, with_places_none, with_places_short}
+use Rattle.guest_space.proofs.Machines.{CanWrite, CanWriteAll, can_write_after, with_place, with_places_first, with_places_none}
+use Rattle.guest_space.proofs.Machines.{with_places_short}
 use Rattle.guest_space.proofs.OnlyWritten.{can_write_at, write_places}
 use Rattle.guest_space.proofs.Writes.{all_none, all_first}
 use Rattle.cpu_step.specs.Step.{view_with_next_eip}
@@ -37,12 +40,7 @@ pub record LiesAway (v : MachineView) : Type 0 where
 
 -- so it is in every machine
 pub machine_away : (v : MachineView) → IsMachineView v → LiesAway v
-machine_away v m = record {
-  size = omega (arith, m.holds.size);
-  away = λ p can.
-      (let here : may_touch (place_of v.world can.at) true ≡ true = rw can.is at can.may in
-      subst (λ (q : Place). IsOutside (address_of v.bytes q)) (sym can.is) (m.places can.at true here).away);
-}
+machine_away v m = grind arith
 
 -- and with the instruction pointer moved
 pub behind_away : (v : MachineView) (len : ℕ) → LiesAway v → LiesAway (view_with_next_eip len v)
@@ -60,9 +58,7 @@ host_kept b at x k out from to = get_or-set_other b at k x 0 (other_address at k
 
 frames_kept : (b : List ℕ) (at x first n : ℕ) → IsOutside at → PAGE_SIZE * BUDGET_FRAMES ≤ length b → DOS_SIZE ≤ PAGE_SIZE * first →
     first + n ≤ BUDGET_FRAMES → frames_at (slice_set b at x) first n ≡ frames_at b first n
-frames_kept b at x first n out size from to =
-    same_region (slice_set b at x) b (PAGE_SIZE * first) (PAGE_SIZE * n) (length-set b at x) (omega (arith, length-set b at x))
-    (λ k above below. host_kept b at x k out (omega arith) (omega arith))
+frames_kept b at x first n out size from to = grind (arith, host_kept, length-set, same_region)
 
 addresses_kept : (b : List ℕ) (at x : ℕ) → IsOutside at → PAGE_SIZE * BUDGET_FRAMES ≤ length b → (q : Place) →
     address_of (slice_set b at x) q ≡ address_of b q
@@ -71,12 +67,7 @@ addresses_kept b at x out size =
     (frames_kept b at x BLOCK_TABLES BLOCK_TABLE_FRAMES out size (omega arith) (omega arith))
 
 byte_away : (v : MachineView) (p : Place) (x : ℕ) → LiesAway v → CanWrite v.world p → LiesAway (with_place v p x)
-byte_away v p x h can = record {
-  size = omega (arith, h.size, length-set v.bytes (address_of v.bytes p) x);
-  away = λ q here.
-      (let there : CanWrite v.world q = record { at = here.at; is = rw (place_in-with_byte_of v.world p x here.at) at here.is; may = here.may } in
-      subst IsOutside (sym (addresses_kept v.bytes (address_of v.bytes p) x (h.away p can) h.size q)) (h.away q there));
-}
+byte_away v p x h can = grind (arith, addresses_kept, length-set, place_in-with_byte_of)
 
 byte_only : (v : MachineView) (p : Place) (x : ℕ) → LiesAway v → CanWrite v.world p → OnlyAt (p ∷ []) v.bytes (with_place v p x).bytes
 byte_only v p x h can =
@@ -109,7 +100,8 @@ places_written v (p ∷ places) (x ∷ bytes) h can =
     })
 
 access_written : (v : MachineView) (r : Result (List Place) Fault) (bytes : List ℕ) → LiesAway v →
-    ((places : List Place) → r ≡ Ok places → CanWriteAll v.world places) → Writes v (with_places v (places_of_access r) bytes) (places_of_access r)
+    ((places : List Place) → r ≡ Ok places → CanWriteAll v.world places) →
+    Writes v (with_places v (places_of_access r) bytes) (places_of_access r)
 access_written v (Ok places) bytes h can = places_written v places bytes h (can places refl)
 access_written v (Err f) bytes h can = places_written v [] bytes h (λ i within. absurd (omega arith))
 
@@ -140,7 +132,8 @@ writes_only v [] h = subst (λ (u : MachineView). OnlyAt [] v.bytes u.bytes) (sy
 writes_only v (x ∷ xs) h =
     let one = one_written v x h in
     subst (λ (u : MachineView). OnlyAt (places_of_writes v.world (x ∷ xs)) v.bytes u.bytes) (sym (all_first v x xs))
-    (only_then (places_of_write v.world x) (places_of_writes v.world xs) v.bytes (after_write v x).bytes (after_writes (after_write v x) xs).bytes one.only
+    (only_then (places_of_write v.world x) (places_of_writes v.world xs) v.bytes (after_write v x).bytes
+    (after_writes (after_write v x) xs).bytes one.only
     (subst (λ (places : List Place). OnlyAt places (after_write v x).bytes (after_writes (after_write v x) xs).bytes) (places_kept v x xs)
     (writes_only (after_write v x) xs one.away)))
 

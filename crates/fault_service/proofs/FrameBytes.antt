@@ -17,8 +17,10 @@ pub length-dwords : (items : List ℕ) → length (items_bytes 32 items) ≡ 4 *
 length-dwords [] = refl
 length-dwords (x ∷ xs) = let rest = length-dwords xs in omega arith
 
-pub all_words : (items into : List ℕ) → length items ≡ 8 → into ≡ put (replicate 16 0) 0 (items_bytes 16 items) → into ≡ items_bytes 16 items
+pub all_words : (items into : List ℕ) → length items ≡ 8 → into ≡ put (replicate 16 0) 0 (items_bytes 16 items) →
+    into ≡ items_bytes 16 items
 all_words items into size e = e ∙ put_all (replicate 16 0) (items_bytes 16 items) (omega (arith, length-words items, size))
 
-pub all_dwords : (items into : List ℕ) → length items ≡ 8 → into ≡ put (replicate 32 0) 0 (items_bytes 32 items) → into ≡ items_bytes 32 items
+pub all_dwords : (items into : List ℕ) → length items ≡ 8 → into ≡ put (replicate 32 0) 0 (items_bytes 32 items) →
+    into ≡ items_bytes 32 items
 all_dwords items into size e = e ∙ put_all (replicate 32 0) (items_bytes 32 items) (omega (arith, length-dwords items, size))

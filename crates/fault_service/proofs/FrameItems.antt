@@ -1,5 +1,6 @@
 -- The items of a frame on the host's stack, as a return reads them.
-use Rattle.std.proofs.Common.{◌≡◌, ◌≢◌, ℕ, ◌+◌, ◌*◌, ◌<◌, ◌≤◌, ◌⊎◌, inl, inr, zero, suc, Bool, true, false, List, [], ◌∷◌, length, get_or, refl, ap, ◌∙◌, arith, Option, None, Result, Ok, Err}
+use Rattle.std.proofs.Common.{◌≡◌, ◌≢◌, ℕ, ◌+◌, ◌*◌, ◌<◌, ◌≤◌, ◌⊎◌, inl, inr, zero, suc, Bool, true, false, List, [], ◌∷◌, length, get_or}
+use Rattle.std.proofs.Common.{refl, ap, ◌∙◌, arith, Option, None, Result, Ok, Err}
 use Rattle.std.proofs.Math.Seq.{drop-append-add}
 use Rattle.client_world.specs.declared.faults.Event.{Event}
 use Rattle.client_world.specs.declared.faults.Fault.{Fault}
@@ -26,7 +27,7 @@ use Rattle.insn_plan.specs.Act.{Act, Input, Pending, Read, done, number_of, numb
 use Rattle.insn_plan.proofs.Settled.{carried_by}
 use Rattle.insn_plan.specs.Plan.{after_plan, plan_result, with_state}
 use Rattle.insn_plan.specs.Registers.{cut_address}
-use Rattle.insn_plan.specs.Stack.{has_big_stack, stack_item, stack_pointer_up}
+use Rattle.insn_plan.specs.Stack.{stack_item, stack_pointer_up}
 use Rattle.fault_service.specs.Delivery.{items_bytes}
 use Rattle.fault_service.specs.Return.{pending_of_exception_frame, exception_frame_pop, frame_regs}
 use Rattle.fault_service.specs.Trip.{cut_item}
@@ -47,10 +48,7 @@ cut_small true a small = omega arith
 cut_small false a small = omega arith
 
 pointer_is : (w : World) (n esp : ℕ) → w.regs.esp ≡ esp → esp + n < 0x10000 → stack_pointer_up w n w.regs ≡ esp + n
-pointer_is w n esp e small =
-    ap (λ (a : ℕ). cut_address (has_big_stack w) (cut_address (has_big_stack w) a + n)) e
-    ∙ ap (λ (a : ℕ). cut_address (has_big_stack w) (a + n)) (cut_small (has_big_stack w) esp (omega arith))
-    ∙ cut_small (has_big_stack w) (esp + n) small
+pointer_is w n esp e small = grind (arith, cut_small)
 
 value_is : (w : World) (bits place off : ℕ) (bytes : List ℕ) → stack_pointer_up w (byte_count bits * place) w.regs ≡ off →
     read_result w Ss off (byte_count bits) ≡ Ok bytes → value_of w (stack_item w bits place) ≡ Ok (number_of bytes)
@@ -62,15 +60,7 @@ item_is : (w : World) (bits offset : ℕ) (frame : List ℕ) (place at : ℕ) �
     offset + 2 * byte_count bits + byte_count bits * place ≡ offset + at → at + byte_count bits ≤ 8 * byte_count bits →
     value_of w (stack_item w bits place) ≡ Ok (number_of (region frame at (byte_count bits)))
 item_is w bits offset frame place at h e within =
-    let c = byte_count bits in
-    let room = h.room in
-    let some = count_some bits in
-    value_is w bits place (offset + at) (far_bytes w (stacks_at (offset + at)) c)
-    (pointer_is w (c * place) (offset + 2 * c) h.esp (omega arith) ∙ e)
-    (stacks_loaded w (offset + at) c h.sound h.mode h.ss h.width (omega arith))
-    ∙ ap (λ (xs : List ℕ). Ok (number_of xs))
-    (part_is_read w (stacks_at offset) (8 * c) at c (stacks_reachable w offset (8 * c) false h.sound h.width room) within
-    ∙ ap (λ (xs : List ℕ). region xs at c) h.bytes)
+    grind (arith, count_some, part_is_read, pointer_is, stacks_loaded, stacks_reachable, value_is)
 
 -- the values of the items above the return address
 pub record ItemValues (w : World) (bits ip cs image sp ss : ℕ) : Type 0 where
@@ -82,8 +72,10 @@ pub record ItemValues (w : World) (bits ip cs image sp ss : ℕ) : Type 0 where
   pub fifth : value_of w (stack_item w bits 4) ≡ Ok sp
   pub sixth : value_of w (stack_item w bits 5) ≡ Ok ss
 
-step : (w : World) (input : Input) (rest : ℕ → Act) (v : ℕ) → value_of w input ≡ Ok v → plan_result w (Read input rest) ≡ plan_result w (rest v)
-step w input rest v e = ap (λ (r : Result ℕ Event). elim r as (λ _. Result Pending Event) [ Ok x ↦ plan_result w (rest x) | Err f ↦ Err f ]) e
+step : (w : World) (input : Input) (rest : ℕ → Act) (v : ℕ) → value_of w input ≡ Ok v →
+    plan_result w (Read input rest) ≡ plan_result w (rest v)
+step w input rest v e =
+    ap (λ (r : Result ℕ Event). elim r as (λ _. Result Pending Event) [ Ok x ↦ plan_result w (rest x) | Err f ↦ Err f ]) e
 
 pass : (w : World) (o : Option Fault) (act : Act) → o ≡ None → plan_result w (unless_fault o act) ≡ plan_result w act
 pass w o act e = ap (λ (x : Option Fault). plan_result w (unless_fault x act)) e
@@ -118,15 +110,7 @@ plan_is : (w : World) (bits ip cs image sp ss : ℕ) → ItemValues w bits ip cs
     load_fault w.descriptors Cs (low_half cs) ip true ≡ None → load_fault w.descriptors Ss (low_half ss) 0 false ≡ None →
     plan_result w (exception_frame_pop w bits) ≡ Ok (pending_of_exception_frame w ip (low_half cs) (low_half image) sp (low_half ss))
 unfolding exception_frame_pop
-plan_is w bits ip cs image sp ss h code stack =
-    step w (stack_item w bits 0) (after_first w bits) h.code h.first
-    ∙ step w (stack_item w bits 1) (after_code w bits) ip h.second
-    ∙ step w (stack_item w bits 2) (after_ip w bits ip) cs h.third
-    ∙ step w (stack_item w bits 3) (after_cs w bits ip cs) image h.fourth
-    ∙ step w (stack_item w bits 4) (after_image w bits ip cs image) sp h.fifth
-    ∙ step w (stack_item w bits 5) (asks w ip cs image sp) ss h.sixth
-    ∙ pass w (load_fault w.descriptors Cs (low_half cs) ip true) (asks_stack w ip cs image sp ss) code
-    ∙ pass w (load_fault w.descriptors Ss (low_half ss) 0 false) (leaves w ip cs image sp ss) stack
+plan_is w bits ip cs image sp ss h code stack = grind (arith, pass, step)
 
 carried_left : (y : MachineView) (plan : Result Pending Event) (p : Pending) → plan ≡ Ok p → p.writes ≡ [] →
     after_plan y plan ≡ Ok (with_state p.regs p.vif y)
@@ -135,9 +119,11 @@ carried_left y plan p e none = carried_by y plan p e ∙ settled_is y p none
 pub popped_is : (y : MachineView) (bits ip cs image sp ss : ℕ) → ItemValues y.world bits ip cs image sp ss →
     load_fault y.world.descriptors Cs (low_half cs) ip true ≡ None → load_fault y.world.descriptors Ss (low_half ss) 0 false ≡ None →
     after_plan y (plan_result y.world (exception_frame_pop y.world bits))
-    ≡ Ok (with_state (frame_regs y.world.regs ip (low_half cs) (low_half image) sp (low_half ss)) (has_bit (low_half image) INTERRUPT_BIT) y)
+    ≡ Ok
+    (with_state (frame_regs y.world.regs ip (low_half cs) (low_half image) sp (low_half ss)) (has_bit (low_half image) INTERRUPT_BIT) y)
 popped_is y bits ip cs image sp ss h code stack =
-    carried_left y (plan_result y.world (exception_frame_pop y.world bits)) (pending_of_exception_frame y.world ip (low_half cs) (low_half image) sp (low_half ss))
+    carried_left y (plan_result y.world (exception_frame_pop y.world bits))
+    (pending_of_exception_frame y.world ip (low_half cs) (low_half image) sp (low_half ss))
     (plan_is y.world bits ip cs image sp ss h code stack) refl
 
 -- the number of an item, of either width

@@ -19,5 +19,6 @@ some_record (r ∷ calls) e = omega arith
 pub exception_there : (w : World) → is_exception (top w) ≡ true → 0 < depth w
 exception_there w e = some_record w.calls e
 
-pub pop_keeps_depth : (v u : MachineView) (bits : ℕ) → after_plan v (plan_result v.world (exception_frame_pop v.world bits)) ≡ Ok u → depth u.world ≡ depth v.world
+pub pop_keeps_depth : (v u : MachineView) (bits : ℕ) → after_plan v (plan_result v.world (exception_frame_pop v.world bits)) ≡ Ok u →
+    depth u.world ≡ depth v.world
 pop_keeps_depth v u bits e = ap (λ (t : MachineView). depth t.world) (pop_restores v u bits e).is

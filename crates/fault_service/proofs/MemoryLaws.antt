@@ -1,5 +1,6 @@
 -- The bytes that a delivery and a return change.
-use Rattle.std.proofs.Common.{◌≡◌, ◌≢◌, ℕ, ◌+◌, ◌-◌, ◌*◌, ◌<◌, ◌≤◌, Bool, true, false, List, [], length, refl, ap, ◌∙◌, sym, subst, arith, Option, None, Some, Result, Ok, Err, slice_index_or}
+use Rattle.std.proofs.Common.{◌≡◌, ◌≢◌, ℕ, ◌-◌, ◌*◌, ◌<◌, ◌≤◌, Bool, true, false, List, [], refl, ap, ◌∙◌, sym, subst, arith, Option, None}
+use Rattle.std.proofs.Common.{Some, Result, Ok, Err}
 use Rattle.std.specs.Prelude.{nat_le, if◌then◌else◌}
 use Rattle.std.proofs.lemmas.Bool.{leb-false}
 use Rattle.client_world.specs.declared.calls.Record.TheVariants.{Exc}
@@ -17,9 +18,6 @@ use Rattle.client_world.specs.Soundness.{IsSound}
 use Rattle.client_world.specs.World.{World, depth}
 use Rattle.exec_flow.specs.Interrupts.{frame_bits, item_bits}
 use Rattle.guest_space.specs.Pending.{byte_count}
-use Rattle.client_world.specs.declared.memory_map.TheConstants.{PROTECTED_STACKS}
-use Rattle.client_world.specs.declared.place.Place.{Place}
-use Rattle.client_world.specs.declared.place.Place.TheVariants.{Nothing}
 use Rattle.client_world.specs.declared.registers.Mode.TheVariants.{Real, Protected}
 use Rattle.client_world.specs.declared.registers.Width.TheVariants.{Sixteen, ThirtyTwo}
 use Rattle.client_world.proofs.PlaceLaws.{length-places_from}
@@ -37,7 +35,8 @@ use Rattle.host_memory.proofs.OnlyAtLaws.{only_start}
 use Rattle.insn_plan.specs.Plan.{after_plan, plan_result}
 use Rattle.mode_stack.specs.Stack.{top}
 use Rattle.mode_stack.proofs.Trips.{length-record_bytes}
-use Rattle.fault_service.specs.Delivery.{after_delivery, delivery_to, exception_frame, exception_frame_start, exception_frame_size, protected_delivery}
+use Rattle.fault_service.specs.Delivery.{after_delivery, delivery_to, exception_frame, exception_frame_start, exception_frame_size}
+use Rattle.fault_service.specs.Delivery.{protected_delivery}
 use Rattle.interrupts.specs.Delivery.{exit_of_fault}
 use Rattle.guest_space.specs.VectorLists.{vector_at}
 use Rattle.fault_service.specs.Memory.{frame_places, DeliveryLaw, IsMachineView, ReturnLaw, LiesInStack}
@@ -52,17 +51,21 @@ pub record IsDelivered (v u : MachineView) (f : Fault) (p : FarPtr) : Type 0 whe
   pub loads : load_fault v.world.descriptors Cs p.sel p.off false ≡ None
   pub is : u ≡ after_delivery v f p
 
-made : (o : Option Fault) (v u : MachineView) (f : Fault) (p : FarPtr) → depth v.world < GREATEST_DEPTH → load_fault v.world.descriptors Cs p.sel p.off false ≡ o →
-    elim o as (λ _. Result MachineView Exit) [ Some g ↦ Err (exit_of_fault f) | None ↦ Ok (after_delivery v f p) ] ≡ Ok u → IsDelivered v u f p
+made : (o : Option Fault) (v u : MachineView) (f : Fault) (p : FarPtr) → depth v.world < GREATEST_DEPTH →
+    load_fault v.world.descriptors Cs p.sel p.off false ≡ o →
+    elim o as (λ _. Result MachineView Exit) [ Some g ↦ Err (exit_of_fault f) | None ↦ Ok (after_delivery v f p) ] ≡ Ok u →
+    IsDelivered v u f p
 made None v u f p room loads e = record { room = room; loads = loads; is = cc }
 made (Some g) v u f p room loads e = absurd cc
 
 where_room : (deep : Bool) (v u : MachineView) (f : Fault) (p : FarPtr) → nat_le GREATEST_DEPTH (depth v.world) ≡ deep →
     (if deep then Err exits.Deep else delivery_to v f p) ≡ Ok u → IsDelivered v u f p
 where_room true v u f p is e = absurd cc
-where_room false v u f p is e = made (load_fault v.world.descriptors Cs p.sel p.off false) v u f p (leb-false GREATEST_DEPTH (depth v.world) is) refl e
+where_room false v u f p is e =
+    made (load_fault v.world.descriptors Cs p.sel p.off false) v u f p (leb-false GREATEST_DEPTH (depth v.world) is) refl e
 
-pub is_delivered : (v u : MachineView) (f : Fault) → protected_delivery v f ≡ Ok u → IsDelivered v u f (vector_at v.world.exception_vectors f.number)
+pub is_delivered : (v u : MachineView) (f : Fault) → protected_delivery v f ≡ Ok u →
+    IsDelivered v u f (vector_at v.world.exception_vectors f.number)
 unfolding protected_delivery
 is_delivered v u f e = where_room (nat_le GREATEST_DEPTH (depth v.world)) v u f (vector_at v.world.exception_vectors f.number) refl e
 
@@ -72,7 +75,8 @@ frame_written v f = after_far_write v (exception_frame_start v.world) (exception
 
 pub depth_kept : (v : MachineView) (f : Fault) → depth (frame_written v f).world ≡ depth v.world
 unfolding frame_written
-depth_kept v f = ap (λ (w : World). depth w) (other_far v (exception_frame_start v.world) (exception_frame_size v.world) (exception_frame v.world f))
+depth_kept v f =
+    ap (λ (w : World). depth w) (other_far v (exception_frame_start v.world) (exception_frame_size v.world) (exception_frame v.world f))
 
 delivered_bytes : (v : MachineView) (f : Fault) (p : FarPtr) →
     (after_delivery v f p).bytes ≡ put (frame_written v f).bytes (record_place (depth v.world)) (record_bytes (Exc f.number f.code))
@@ -91,21 +95,15 @@ delivery_law v m f u e =
     (length-record_bytes (Exc f.number f.code)))
 
 -- a return
-back_bytes : (r : Result MachineView Event) (v u : MachineView) → 0 < depth v.world → ((x : MachineView) → r ≡ Ok x → (x.bytes ≡ v.bytes) × (depth x.world ≡ depth v.world)) →
+back_bytes : (r : Result MachineView Event) (v u : MachineView) → 0 < depth v.world →
+    ((x : MachineView) → r ≡ Ok x → (x.bytes ≡ v.bytes) × (depth x.world ≡ depth v.world)) →
     result_of_exception_pop r ≡ Ok u → u.bytes ≡ put v.bytes (record_place (depth v.world - 1)) (zeros record_size)
-back_bytes (Ok x) v u some keeps e =
-    let same = keeps x refl in
-    let is : put x.bytes (record_place (depth x.world - 1)) (zeros record_size) ≡ u.bytes = ap bytes_of e in
-    sym is ∙ ap (λ (b : List ℕ). put b (record_place (depth x.world - 1)) (zeros record_size)) same.0
-    ∙ ap (λ (n : ℕ). put v.bytes (record_place (n - 1)) (zeros record_size)) same.1
-  where
-    bytes_of : Result MachineView Exit → List ℕ
-    bytes_of (Ok t) = t.bytes
-    bytes_of (Err g) = []
+back_bytes (Ok x) v u some keeps e = grind arith
 back_bytes (Err g) v u some keeps e = absurd cc
 
 where_exception : (exception : Bool) (v u : MachineView) → is_exception (top v.world) ≡ exception →
-    (if exception then result_of_exception_pop (after_plan v (plan_result v.world (exception_frame_pop v.world (frame_bits v.world)))) else Err exits.Stray) ≡ Ok u →
+    (if exception then result_of_exception_pop (after_plan v (plan_result v.world (exception_frame_pop v.world (frame_bits v.world))))
+    else Err exits.Stray) ≡ Ok u →
     (0 < depth v.world) × (u.bytes ≡ put v.bytes (record_place (depth v.world - 1)) (zeros record_size))
 where_exception true v u is e =
     let some = exception_there v.world is in (
@@ -127,22 +125,16 @@ return_law v m u e =
     let done = returned_bytes v u e in
     let few = m.sound.depth in
     subst (λ (c : List ℕ). OnlyAtAndRow [] (depth w - 1) v.bytes c) (sym done.1)
-    (only_row [] v.bytes v.bytes w.budget (depth w - 1) (zeros record_size) (only_start [] v.bytes) m.holds.size (omega (arith, few, done.0)) (length-zeros record_size))
+    (only_row [] v.bytes v.bytes w.budget (depth w - 1) (zeros record_size) (only_start [] v.bytes) m.holds.size
+    (omega (arith, few, done.0)) (length-zeros record_size))
 
 -- where the frame lies
-size_of_width : (mode : Mode) (width : Option Width) → 8 * byte_count (elim mode as (λ _. ℕ) [ Real ↦ 16 | Protected ↦ item_bits width ]) ≤ 32
+size_of_width : (mode : Mode) (width : Option Width) →
+    8 * byte_count (elim mode as (λ _. ℕ) [ Real ↦ 16 | Protected ↦ item_bits width ]) ≤ 32
 size_of_width Real width = omega arith
 size_of_width Protected None = omega arith
 size_of_width Protected (Some Sixteen) = omega arith
 size_of_width Protected (Some ThirtyTwo) = omega arith
 
 pub frame_lies : (w : World) → IsSound w → w.width ≢ None → depth w < GREATEST_DEPTH → LiesInStack w
-frame_lies w s some room =
-    let small : exception_frame_size w ≤ 32 = size_of_width w.mode w.width in
-    let places = stacks_places w (exception_frame_start w).off (exception_frame_size w) s some (omega arith) in
-    record {
-      size = ap (λ (ps : List Place). length ps) places ∙ length-places_from w.blocks (PROTECTED_STACKS + (exception_frame_start w).off) (exception_frame_size w);
-      each = λ i less. ap (λ (ps : List Place). slice_index_or ps i Nothing) places ∙ stacks_place w (exception_frame_start w).off (exception_frame_size w) i less (omega arith);
-      from = omega arith;
-      to = omega arith;
-    }
+frame_lies w s some room = grind (arith, length-places_from, size_of_width, stacks_place, stacks_places)

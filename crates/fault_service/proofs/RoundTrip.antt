@@ -1,5 +1,6 @@
 -- At the handler the frame is read as it was written, and a return restores what a delivery saved.
-use Rattle.std.proofs.Common.{◌≡◌, ◌≢◌, ℕ, ◌+◌, ◌-◌, ◌*◌, ◌%◌, ◌<◌, ◌≤◌, ◌⊎◌, inl, inr, Bool, true, false, cond, nat_eq, List, [], ◌∷◌, ◌++◌, length, take, refl, ap, ◌∙◌, sym, subst, arith, if◌then◌else◌, Option, None, Some, Result, Ok, Err}
+use Rattle.std.proofs.Common.{◌≡◌, ◌≢◌, ℕ, ◌+◌, ◌-◌, ◌*◌, ◌<◌, ◌≤◌, ◌⊎◌, inl, inr, Bool, true, false, cond, List, [], ◌∷◌, ◌++◌, length}
+use Rattle.std.proofs.Common.{take, refl, ap, ◌∙◌, sym, subst, arith, Option, None, Some, Result, Ok}
 use Rattle.std.specs.List.{slice_get}
 use Rattle.std.proofs.lemmas.List.{length-append, get_or_at}
 use Rattle.std.proofs.Math.Seq.{take-append_seam}
@@ -9,7 +10,6 @@ use Rattle.client_world.specs.declared.calls.Record.TheVariants.{Exc}
 use Rattle.client_world.specs.declared.faults.Event.{Event}
 use Rattle.client_world.specs.declared.faults.Fault.{Fault}
 use Rattle.client_world.specs.declared.limits.TheConstants.{GREATEST_DEPTH}
-use Rattle.client_world.specs.declared.outcome.Exit.TheVariants as exits
 use Rattle.client_world.specs.declared.registers.Flags.{Flags}
 use Rattle.client_world.specs.declared.registers.Mode.{Mode}
 use Rattle.client_world.specs.declared.registers.Mode.TheVariants.{Real, Protected}
@@ -33,13 +33,13 @@ use Rattle.guest_space.proofs.FarLaws.{written_is_read}
 use Rattle.guest_space.proofs.HostStacks.{far_same, stacks_at, stacks_loaded, stacks_reachable}
 use Rattle.guest_space.specs.Transfer.{read_result}
 use Rattle.guest_space.proofs.MemoryAlone.{other_far}
-use Rattle.guest_space.specs.VectorLists.{vector_at}
 use Rattle.host_memory.specs.View.{MachineView}
 use Rattle.insn_plan.specs.Plan.{after_plan, plan_result, with_state}
 use Rattle.mode_stack.specs.Stack.{after_pop, top}
 use Rattle.mode_stack.proofs.Trips.{FlagsTrip}
-use Rattle.fault_service.specs.Delivery.{after_delivery, exception_frame, exception_items, exception_frame_start, exception_frame_size, handler_regs, protected_delivery}
-use Rattle.fault_service.specs.Return.{exception_frame_pop, exception_return, is_exception, result_of_exception_pop}
+use Rattle.fault_service.specs.Delivery.{after_delivery, exception_frame, exception_items, exception_frame_start, exception_frame_size}
+use Rattle.fault_service.specs.Delivery.{handler_regs, protected_delivery}
+use Rattle.fault_service.specs.Return.{exception_frame_pop, exception_return, is_exception}
 use Rattle.fault_service.specs.Trip.{FrameLaw, TripLaw, cut_item, regs_after_return}
 use Rattle.fault_service.proofs.FrameItems.{AtFrame, popped_is, item_values}
 use Rattle.fault_service.proofs.MemoryLaws.{is_delivered, frame_written}
@@ -63,7 +63,17 @@ weight false n = omega arith
 
 image_small : (f : Flags) (i : Bool) → flags_image f i < 0x10000
 image_small f i =
-    omega (arith, weight f.cf 1, weight f.pf 4, weight f.af 16, weight f.zf 64, weight f.sf 128, weight i 512, weight f.df 1024, weight f.of 2048)
+    omega (
+      arith,
+      weight f.cf 1,
+      weight f.pf 4,
+      weight f.af 16,
+      weight f.zf 64,
+      weight f.sf 128,
+      weight i 512,
+      weight f.df 1024,
+      weight f.of 2048,
+    )
 
 bits_by : (mode : Mode) (width : Option Width) →
     let bits = elim mode as (λ _. ℕ) [ Real ↦ 16 | Protected ↦ item_bits width ] in (bits ≡ 16) ⊎ (bits ≡ 32)
@@ -86,14 +96,7 @@ pub record Kept (v : MachineView) (f : Fault) : Type 0 where
 
 kept : (v : MachineView) (f : Fault) → Kept v f
 unfolding frame_written
-kept v f =
-    let same = other_far v (exception_frame_start v.world) (exception_frame_size v.world) (exception_frame v.world f) in
-    record {
-      mode = ap (λ (w : World). w.mode) same;
-      width = ap (λ (w : World). w.width) same;
-      descriptors = ap (λ (w : World). w.descriptors) same;
-      bits = ap (λ (w : World). frame_bits w) same;
-    }
+kept v f = grind (arith, other_far)
 
 -- the machine then, whatever the handler left in the registers
 abbrev calls_then : MachineView → Fault → List Record
@@ -102,33 +105,28 @@ calls_then v f = (frame_written v f).world.calls ++ Exc f.number f.code ∷ []
 abbrev world_then : MachineView → Fault → Regs → Bool → World
 world_then v f r on = record (frame_written v f).world { calls = calls_then v f; regs = r; vif = on }
 
-then_is : (v : MachineView) (f : Fault) (p : FarPtr) (r : Regs) (on : Bool) → (with_state r on (after_delivery v f p)).world ≡ world_then v f r on
+then_is : (v : MachineView) (f : Fault) (p : FarPtr) (r : Regs) (on : Bool) →
+    (with_state r on (after_delivery v f p)).world ≡ world_then v f r on
 unfolding after_delivery frame_written
 then_is v f p r on = refl
 
 length-frame : (w : World) (f : Fault) → length (exception_frame w f) ≡ 8 * byte_count (frame_bits w)
 unfolding exception_frame exception_items
-length-frame w f = elim (bits_are w) [
-  | inl short ↦ rw short refl
-  | inr long ↦ rw long refl
-]
+length-frame w f = grind (arith, bits_are)
 
 size_small : (w : World) → 8 * byte_count (frame_bits w) ≤ 32
-size_small w = elim (bits_are w) [
-  | inl short ↦ rw short (omega arith)
-  | inr long ↦ rw long (omega arith)
-]
+size_small w = grind (arith, bits_are)
 
-frame_there : (v : MachineView) (f : Fault) (r : Regs) (on : Bool) → IsSound v.world → v.world.width ≢ None → depth v.world < GREATEST_DEPTH →
-    far_bytes (world_then v f r on) (stacks_at (exception_frame_start v.world).off) (8 * byte_count (frame_bits v.world)) ≡ exception_frame v.world f
+frame_there : (v : MachineView) (f : Fault) (r : Regs) (on : Bool) → IsSound v.world → v.world.width ≢ None →
+    depth v.world < GREATEST_DEPTH →
+    far_bytes (world_then v f r on) (stacks_at (exception_frame_start v.world).off) (8 * byte_count (frame_bits v.world))
+    ≡ exception_frame v.world f
 unfolding frame_written
 frame_there v f r on s some room =
-    let small = size_small v.world in
-    far_same (frame_written v f).world (calls_then v f) r on (stacks_at (exception_frame_start v.world).off) (8 * byte_count (frame_bits v.world))
-    ∙ written_is_read v (exception_frame_start v.world) (exception_frame_size v.world) (exception_frame v.world f) s (omega arith) (length-frame v.world f)
-    (stacks_reachable v.world (exception_frame_start v.world).off (exception_frame_size v.world) true s some (omega arith))
+    grind (arith, far_same, length-frame, size_small, stacks_reachable, written_is_read)
 
-at_frame : (v : MachineView) (f : Fault) (p : FarPtr) (r : Regs) (on : Bool) → IsSound v.world → v.world.mode ≡ Protected → v.world.width ≢ None →
+at_frame : (v : MachineView) (f : Fault) (p : FarPtr) (r : Regs) (on : Bool) → IsSound v.world → v.world.mode ≡ Protected →
+    v.world.width ≢ None →
     depth v.world < GREATEST_DEPTH → p.sel < 0x10000 → HasSegments r → r.ss ≡ selector_of HOST_STACKS →
     r.esp ≡ (exception_frame_start v.world).off + 2 * byte_count (frame_bits v.world) →
     AtFrame (world_then v f r on) (frame_bits v.world) (exception_frame_start v.world).off (exception_frame v.world f)
@@ -150,20 +148,18 @@ at_frame v f p r on s mode some room word segments ss esp =
 -- ---- what the return reads
 
 half_of_item : (bits n : ℕ) → n < 0x10000 → low_half (cut_item bits n) ≡ n
-half_of_item bits n small = half (nat_eq bits 16)
-  where
-    half : (is_word : Bool) → low_half (if is_word then n % 0x10000 else n % 0x100000000) ≡ n
-    half true = omega arith
-    half false = omega arith
+half_of_item bits n small = grind arith
 
 -- the return in that machine
 abbrev carried : MachineView → ℕ → Result MachineView Event
 carried y bits = after_plan y (plan_result y.world (exception_frame_pop y.world bits))
 
-carried_is : (v y : MachineView) (f : Fault) (r : Regs) → FlagsTrip → InterruptTrip → IsSound v.world → y.world.regs ≡ r → y.world.descriptors ≡ v.world.descriptors →
+carried_is : (v y : MachineView) (f : Fault) (r : Regs) → FlagsTrip → InterruptTrip → IsSound v.world → y.world.regs ≡ r →
+    y.world.descriptors ≡ v.world.descriptors →
     AtFrame y.world (frame_bits v.world) (exception_frame_start v.world).off (exception_frame v.world f) →
     load_fault v.world.descriptors Cs v.world.regs.cs (cut_item (frame_bits v.world) v.world.regs.eip) true ≡ None →
-    load_fault v.world.descriptors Ss v.world.regs.ss 0 false ≡ None → carried y (frame_bits v.world) ≡ Ok (with_state (regs_after_return v.world r) v.world.vif y)
+    load_fault v.world.descriptors Ss v.world.regs.ss 0 false ≡ None →
+    carried y (frame_bits v.world) ≡ Ok (with_state (regs_after_return v.world r) v.world.vif y)
 unfolding exception_frame exception_items
 carried_is v y f r trip interrupt s regs descriptors h code stack =
     let w = v.world in
@@ -173,8 +169,10 @@ carried_is v y f r trip interrupt s regs descriptors h code stack =
     let cs : low_half (cut_item bits w.regs.cs) ≡ w.regs.cs = half_of_item bits w.regs.cs segments.cs in
     let ss : low_half (cut_item bits w.regs.ss) ≡ w.regs.ss = half_of_item bits w.regs.ss segments.ss in
     let flags : low_half (cut_item bits image) ≡ image = half_of_item bits image (image_small w.regs.flags w.vif) in
-    popped_is y bits (cut_item bits w.regs.eip) (cut_item bits w.regs.cs) (cut_item bits image) (cut_item bits w.regs.esp) (cut_item bits w.regs.ss)
-    (item_values y.world bits (exception_frame_start w).off 0x322 0x87 f.code w.regs.eip w.regs.cs image w.regs.esp w.regs.ss (bits_are w) h)
+    popped_is y bits (cut_item bits w.regs.eip) (cut_item bits w.regs.cs) (cut_item bits image) (cut_item bits w.regs.esp)
+    (cut_item bits w.regs.ss)
+    (item_values y.world bits (exception_frame_start w).off 0x322 0x87 f.code w.regs.eip w.regs.cs image w.regs.esp w.regs.ss
+    (bits_are w) h)
     (rw (descriptors, cs) code) (rw (descriptors, ss) stack)
     ∙ rw (regs, cs, ss, flags, trip w.regs.flags w.vif, interrupt w.regs.flags w.vif) refl
 
@@ -183,22 +181,22 @@ carried_is v y f r trip interrupt s regs descriptors h code stack =
 returned_where : (y t : MachineView) (bits : ℕ) → frame_bits y.world ≡ bits → is_exception (top y.world) ≡ true → carried y bits ≡ Ok t →
     exception_return y ≡ Ok (after_pop t)
 unfolding exception_return
-returned_where y t bits same is e =
-    ap (λ (b : Bool). if b then result_of_exception_pop (carried y (frame_bits y.world)) else Err exits.Stray) is
-    ∙ ap (λ (n : ℕ). result_of_exception_pop (carried y n)) same
-    ∙ ap result_of_exception_pop e
+returned_where y t bits same is e = grind arith
 
-trip_delivered : FlagsTrip → InterruptTrip → (v : MachineView) (f : Fault) (p : FarPtr) (r : Regs) (on : Bool) → IsSound v.world → v.world.mode ≡ Protected →
+trip_delivered : FlagsTrip → InterruptTrip → (v : MachineView) (f : Fault) (p : FarPtr) (r : Regs) (on : Bool) → IsSound v.world →
+    v.world.mode ≡ Protected →
     v.world.width ≢ None → depth v.world < GREATEST_DEPTH → p.sel < 0x10000 → HasSegments r → r.ss ≡ selector_of HOST_STACKS →
     r.esp ≡ (exception_frame_start v.world).off + 2 * byte_count (frame_bits v.world) →
     load_fault v.world.descriptors Cs v.world.regs.cs (cut_item (frame_bits v.world) v.world.regs.eip) true ≡ None →
     load_fault v.world.descriptors Ss v.world.regs.ss 0 false ≡ None →
-    exception_return (with_state r on (after_delivery v f p)) ≡ Ok (with_state (regs_after_return v.world r) v.world.vif (after_pop (after_delivery v f p)))
+    exception_return (with_state r on (after_delivery v f p))
+    ≡ Ok (with_state (regs_after_return v.world r) v.world.vif (after_pop (after_delivery v f p)))
 trip_delivered trip interrupt v f p r on s mode some room word segments ss esp code stack =
     let y = with_state r on (after_delivery v f p) in
     let k = kept v f in
     let is = then_is v f p r on in
-    let there = subst (λ (w : World). AtFrame w (frame_bits v.world) (exception_frame_start v.world).off (exception_frame v.world f)) (sym is)
+    let there =
+    subst (λ (w : World). AtFrame w (frame_bits v.world) (exception_frame_start v.world).off (exception_frame v.world f)) (sym is)
     (at_frame v f p r on s mode some room word segments ss esp) in
     returned_where y (with_state (regs_after_return v.world r) v.world.vif y) (frame_bits v.world)
     (ap (λ (w : World). frame_bits w) is ∙ k.bits)
@@ -207,11 +205,7 @@ trip_delivered trip interrupt v f p r on s mode some room word segments ss esp c
 
 pub trip_law : FlagsTrip → InterruptTrip → TripLaw
 trip_law trip interrupt v u f r on s mode e segments ss esp code stack =
-    let done = is_delivered v u f e in
-    let p = vector_at v.world.exception_vectors f.number in
-    subst (λ (x : MachineView). exception_return (with_state r on x) ≡ Ok (with_state (regs_after_return v.world r) v.world.vif (after_pop x))) (sym done.is)
-    (trip_delivered trip interrupt v f p r on s mode (protected_by v.world.width v.world mode s.width) done.room
-    (code_is_named_by_a_word v.world.descriptors p.sel p.off false s.descriptors.indices done.loads) segments ss esp code stack)
+    grind (arith, code_is_named_by_a_word, is_delivered, protected_by, trip_delivered)
 
 -- at the handler the frame is read at SS:ESP
 handler_world : (v : MachineView) (f : Fault) (p : FarPtr) → (after_delivery v f p).world ≡ world_then v f (handler_regs v.world p) false
@@ -224,7 +218,8 @@ handler_esp v f p = refl
 
 frame_read : (v : MachineView) (f : Fault) (p : FarPtr) → IsSound v.world → v.world.mode ≡ Protected → v.world.width ≢ None →
     depth v.world < GREATEST_DEPTH → p.sel < 0x10000 →
-    read_result (after_delivery v f p).world Ss (after_delivery v f p).world.regs.esp (exception_frame_size v.world) ≡ Ok (exception_frame v.world f)
+    read_result (after_delivery v f p).world Ss (after_delivery v f p).world.regs.esp (exception_frame_size v.world)
+    ≡ Ok (exception_frame v.world f)
 frame_read v f p s mode some room word =
     let r = handler_regs v.world p in
     let w = world_then v f r false in
@@ -233,17 +228,13 @@ frame_read v f p s mode some room word =
     let small = size_small v.world in
     ap (λ (a : ℕ). read_result (after_delivery v f p).world Ss a (exception_frame_size v.world)) (handler_esp v f p)
     ∙ ap (λ (x : World). read_result x Ss (exception_frame_start v.world).off (exception_frame_size v.world)) is
-    ∙ stacks_loaded w (exception_frame_start v.world).off (exception_frame_size v.world) (subst IsSound is (sound_delivered v f p s some room word)) (k.mode ∙ mode) refl
+    ∙ stacks_loaded w (exception_frame_start v.world).off (exception_frame_size v.world)
+    (subst IsSound is (sound_delivered v f p s some room word)) (k.mode ∙ mode) refl
     (λ e. some (sym k.width ∙ e)) (omega arith)
     ∙ ap Ok (frame_there v f r false s some room)
 
 pub frame_law : FrameLaw
-frame_law v u f s mode e =
-    let done = is_delivered v u f e in
-    let p = vector_at v.world.exception_vectors f.number in
-    subst (λ (x : MachineView). read_result x.world Ss x.world.regs.esp (exception_frame_size v.world) ≡ Ok (exception_frame v.world f)) (sym done.is)
-    (frame_read v f p s mode (protected_by v.world.width v.world mode s.width) done.room
-    (code_is_named_by_a_word v.world.descriptors p.sel p.off false s.descriptors.indices done.loads))
+frame_law v u f s mode e = grind (arith, code_is_named_by_a_word, frame_read, is_delivered, protected_by)
 
 -- and the records are those before
 front_is : (xs : List Record) (r : Record) → take (length (xs ++ r ∷ []) - 1) (xs ++ r ∷ []) ≡ xs
@@ -254,15 +245,13 @@ front_is xs r =
 
 pub calls_kept : (v : MachineView) (f : Fault) → (frame_written v f).world.calls ≡ v.world.calls
 unfolding frame_written
-calls_kept v f = ap (λ (w : World). w.calls) (other_far v (exception_frame_start v.world) (exception_frame_size v.world) (exception_frame v.world f))
+calls_kept v f =
+    ap (λ (w : World). w.calls) (other_far v (exception_frame_start v.world) (exception_frame_size v.world) (exception_frame v.world f))
 
-pub delivered_calls : (v : MachineView) (f : Fault) (p : FarPtr) → (after_delivery v f p).world.calls ≡ (frame_written v f).world.calls ++ Exc f.number f.code ∷ []
+pub delivered_calls : (v : MachineView) (f : Fault) (p : FarPtr) →
+    (after_delivery v f p).world.calls ≡ (frame_written v f).world.calls ++ Exc f.number f.code ∷ []
 unfolding after_delivery frame_written
 delivered_calls v f p = refl
 
 pub records_back : (v u : MachineView) (f : Fault) → protected_delivery v f ≡ Ok u → (after_pop u).world.calls ≡ v.world.calls
-records_back v u f e =
-    let done = is_delivered v u f e in
-    ap (λ (calls : List Record). take (length calls - 1) calls)
-    (ap (λ (x : MachineView). x.world.calls) done.is ∙ delivered_calls v f (vector_at v.world.exception_vectors f.number))
-    ∙ front_is (frame_written v f).world.calls (Exc f.number f.code) ∙ calls_kept v f
+records_back v u f e = grind (arith, calls_kept, delivered_calls, front_is, is_delivered)

@@ -1,9 +1,7 @@
 -- A delivery and a return lead from a sound world to a sound one, and depend on the world alone.
-use Rattle.std.proofs.Common.{◌≡◌, ◌≢◌, ℕ, zero, suc, ◌-◌, ◌<◌, ◌≤◌, inl, inr, Bool, true, false, List, [], ◌∷◌, ◌++◌, length, take, refl, ap, ◌∙◌, sym, subst, arith, if◌then◌else◌, Option, None, Some, Result, Ok, Err}
-use Rattle.std.specs.Prelude.{nat_le, slice_index}
-use Rattle.std.proofs.lemmas.Bool.{cases_lt}
+use Rattle.std.proofs.Common.{◌≡◌, ◌≢◌, ℕ, zero, suc, ◌-◌, ◌<◌, ◌≤◌, Bool, true, false, List, [], ◌∷◌, ◌++◌, length, take, refl, ap, ◌∙◌}
+use Rattle.std.proofs.Common.{sym, subst, arith, if◌then◌else◌, Option, None, Some, Result, Ok, Err}
 use Rattle.std.proofs.lemmas.List.{get_or_past, length-append, length-take-le}
-use Rattle.client_world.specs.declared.calls.Record.TheVariants.{Exc}
 use Rattle.client_world.specs.declared.faults.Event.{Event}
 use Rattle.client_world.specs.declared.faults.Fault.{Fault}
 use Rattle.client_world.specs.declared.limits.TheConstants.{GREATEST_DEPTH}
@@ -12,8 +10,6 @@ use Rattle.client_world.specs.declared.outcome.Exit.TheVariants as exits
 use Rattle.client_world.specs.declared.registers.Mode.TheVariants.{Protected}
 use Rattle.client_world.specs.declared.registers.Width.{Width}
 use Rattle.client_world.specs.declared.segments.FarPtr.{FarPtr}
-use Rattle.client_world.specs.declared.segments.SegReg.TheVariants.{Cs}
-use Rattle.client_world.specs.Loading.{load_fault}
 use Rattle.client_world.specs.Soundness.{IsSound, SoundWidth, HasSegments}
 use Rattle.client_world.specs.World.{World, depth}
 use Rattle.client_world.proofs.SoundWrites.{IsSound-regs, IsSound-vif}
@@ -26,7 +22,6 @@ use Rattle.guest_space.specs.VectorLists.{vector_at}
 use Rattle.cpu_step.proofs.FlowSegments.{code_is_word}
 use Rattle.cpu_step.proofs.SoundWritten.{number_is_bytes}
 use Rattle.interrupts.proofs.SoundAnswers.{code_is_named_by_a_word}
-use Rattle.interrupts.specs.Delivery.{exit_of_fault}
 use Rattle.interrupts.specs.Worlds.{view_without_bytes, world_of_result}
 use Rattle.insn_plan.specs.Act.{Pending}
 use Rattle.guest_space.proofs.RecordWrites.{has_width}
@@ -34,7 +29,8 @@ use Rattle.guest_space.proofs.SoundLists.{IsSound-calls}
 use Rattle.host_memory.specs.View.{MachineView}
 use Rattle.insn_plan.specs.Plan.{after_plan, plan_result}
 use Rattle.mode_stack.specs.Stack.{top}
-use Rattle.fault_service.specs.Delivery.{after_delivery, delivery_to, exception_frame, exception_items, exception_frame_start, exception_frame_size, handler_regs, items_bytes, protected_delivery}
+use Rattle.fault_service.specs.Delivery.{after_delivery, exception_frame, exception_items, exception_frame_start, exception_frame_size}
+use Rattle.fault_service.specs.Delivery.{handler_regs, items_bytes, protected_delivery}
 use Rattle.fault_service.specs.Return.{exception_frame_pop, exception_return, is_exception, result_of_exception_pop}
 use Rattle.fault_service.specs.Worlds.{world_exception_return, world_protected_delivery}
 use Rattle.fault_service.proofs.KeptRecords.{exception_there}
@@ -55,10 +51,7 @@ join_bytes [] ys one other = other
 join_bytes (x ∷ xs) ys one other = one_byte x (xs ++ ys) (one 0) (join_bytes xs ys (λ at. one (suc at)) other)
 
 item_is_bytes : (bits v : ℕ) → AreBytes (number_bytes bits v)
-item_is_bytes bits v at = elim (cases_lt at (length (number_bytes bits v))) [
-  | inl inside ↦ number_is_bytes bits v at inside
-  | inr past ↦ (let none : slice_index (number_bytes bits v) at ≡ 0 = get_or_past (number_bytes bits v) at 0 past in omega arith)
-]
+item_is_bytes bits v at = grind (arith, get_or_past, number_is_bytes)
 
 items_are_bytes : (bits : ℕ) (items : List ℕ) → AreBytes (items_bytes bits items)
 items_are_bytes bits [] = no_bytes
@@ -71,14 +64,7 @@ frame_is_bytes w f = items_are_bytes (frame_bits w) (exception_items w f)
 -- ---- a delivery
 
 handler_segments : (w : World) (p : FarPtr) → HasSegments w.regs → p.sel < 0x10000 → HasSegments (handler_regs w p)
-handler_segments w p s small = record {
-  es = s.es;
-  cs = code_is_word w p.sel small;
-  ss = omega arith;
-  ds = s.ds;
-  fs = s.fs;
-  gs = s.gs;
-}
+handler_segments w p s small = grind (arith, code_is_word)
 
 pub protected_by : (width : Option Width) (w : World) → w.mode ≡ Protected → SoundWidth width w → width ≢ None
 protected_by None w is s = λ e. (let real = s.mode in cc)
@@ -86,24 +72,22 @@ protected_by (Some width) w is s = λ e. cc
 
 width_kept : (v : MachineView) (f : Fault) → (frame_written v f).world.width ≡ v.world.width
 unfolding frame_written
-width_kept v f = ap (λ (w : World). w.width) (other_far v (exception_frame_start v.world) (exception_frame_size v.world) (exception_frame v.world f))
+width_kept v f =
+    ap (λ (w : World). w.width) (other_far v (exception_frame_start v.world) (exception_frame_size v.world) (exception_frame v.world f))
 
 sound_frame : (v : MachineView) (f : Fault) → IsSound v.world → IsSound (frame_written v f).world
 unfolding frame_written
-sound_frame v f s = sound_far v (exception_frame_start v.world) (exception_frame_size v.world) (exception_frame v.world f) s (frame_is_bytes v.world f)
+sound_frame v f s =
+    sound_far v (exception_frame_start v.world) (exception_frame_size v.world) (exception_frame v.world f) s (frame_is_bytes v.world f)
 
-pub sound_delivered : (v : MachineView) (f : Fault) (p : FarPtr) → IsSound v.world → v.world.width ≢ None → depth v.world < GREATEST_DEPTH → p.sel < 0x10000 →
+pub sound_delivered : (v : MachineView) (f : Fault) (p : FarPtr) → IsSound v.world → v.world.width ≢ None → depth v.world < GREATEST_DEPTH →
+    p.sel < 0x10000 →
     IsSound (after_delivery v f p).world
 unfolding after_delivery frame_written
-sound_delivered v f p s some room small =
-    let x = (frame_written v f).world in
-    let calls = x.calls ++ Exc f.number f.code ∷ [] in
-    let few : length calls ≤ GREATEST_DEPTH = omega (arith, length-append x.calls (Exc f.number f.code ∷ []), depth_kept v f, room) in
-    IsSound-vif (record x { calls = calls; regs = handler_regs v.world p }) false
-    (IsSound-regs (record x { calls = calls }) (handler_regs v.world p)
-    (IsSound-calls x calls (sound_frame v f s) (λ e. some (sym (width_kept v f) ∙ e)) few) (handler_segments v.world p s.segments small))
+sound_delivered v f p s some room small = grind (arith, depth_kept, handler_segments, length-append, sound_frame, width_kept)
 
-pub sound_delivery : (v u : MachineView) (f : Fault) → IsSound v.world → v.world.mode ≡ Protected → protected_delivery v f ≡ Ok u → IsSound u.world
+pub sound_delivery : (v u : MachineView) (f : Fault) → IsSound v.world → v.world.mode ≡ Protected → protected_delivery v f ≡ Ok u →
+    IsSound u.world
 sound_delivery v u f s mode e =
     let done = is_delivered v u f e in
     let p = vector_at v.world.exception_vectors f.number in
@@ -113,7 +97,8 @@ sound_delivery v u f s mode e =
 
 -- ---- a return
 
-sound_returned : (r : Result MachineView Event) (v u : MachineView) → IsSound v.world → 0 < depth v.world → ((x : MachineView) → r ≡ Ok x → Restores v x) →
+sound_returned : (r : Result MachineView Event) (v u : MachineView) → IsSound v.world → 0 < depth v.world →
+    ((x : MachineView) → r ≡ Ok x → Restores v x) →
     result_of_exception_pop r ≡ Ok u → IsSound u.world
 sound_returned (Ok x) v u s some restores e =
     let h = restores x refl in
@@ -121,8 +106,10 @@ sound_returned (Ok x) v u s some restores e =
     let depths = s.depth in
     let few : length calls ≤ GREATEST_DEPTH = omega (arith, length-take-le (depth v.world - 1) v.world.calls (omega arith), depths) in
     let sound = IsSound-calls (record v.world { regs = h.regs; vif = h.vif }) calls
-    (IsSound-vif (record v.world { regs = h.regs }) h.vif (IsSound-regs v.world h.regs s (h.segments s.segments))) (has_width v.world s some) few in
-    subst IsSound (ap (λ (t : MachineView). record t.world { calls = take (depth t.world - 1) t.world.calls }) (sym h.is) ∙ ap world_of e) sound
+    (IsSound-vif (record v.world { regs = h.regs }) h.vif (IsSound-regs v.world h.regs s (h.segments s.segments)))
+    (has_width v.world s some) few in
+    subst IsSound (ap (λ (t : MachineView). record t.world { calls = take (depth t.world - 1) t.world.calls }) (sym h.is)
+    ∙ ap world_of e) sound
   where
     world_of : Result MachineView Exit → World
     world_of (Ok t) = t.world
@@ -130,10 +117,12 @@ sound_returned (Ok x) v u s some restores e =
 sound_returned (Err g) v u s some restores e = absurd cc
 
 where_exception : (exception : Bool) (v u : MachineView) → IsSound v.world → is_exception (top v.world) ≡ exception →
-    (if exception then result_of_exception_pop (after_plan v (plan_result v.world (exception_frame_pop v.world (frame_bits v.world)))) else Err exits.Stray) ≡ Ok u →
+    (if exception then result_of_exception_pop (after_plan v (plan_result v.world (exception_frame_pop v.world (frame_bits v.world))))
+    else Err exits.Stray) ≡ Ok u →
     IsSound u.world
 where_exception true v u s is e =
-    sound_returned (after_plan v (plan_result v.world (exception_frame_pop v.world (frame_bits v.world)))) v u s (exception_there v.world is)
+    sound_returned (after_plan v (plan_result v.world (exception_frame_pop v.world (frame_bits v.world)))) v u s
+    (exception_there v.world is)
     (λ x was. pop_restores v x (frame_bits v.world) was) e
 where_exception false v u s is e = absurd cc
 
@@ -143,14 +132,14 @@ sound_return v u s e = where_exception (is_exception (top v.world)) v u s refl e
 
 -- ---- of worlds
 
-delivered_alone : (v : MachineView) (f : Fault) (p : FarPtr) → (after_delivery v f p).world ≡ (after_delivery (view_without_bytes v.world) f p).world
+delivered_alone : (v : MachineView) (f : Fault) (p : FarPtr) →
+    (after_delivery v f p).world ≡ (after_delivery (view_without_bytes v.world) f p).world
 unfolding after_delivery
-delivered_alone v f p =
-    ap (λ (x : World). record x { calls = x.calls ++ Exc f.number f.code ∷ []; regs = handler_regs v.world p; vif = false })
-    (far_alone v (view_without_bytes v.world) (exception_frame_start v.world) (exception_frame_size v.world) (exception_frame v.world f) refl)
+delivered_alone v f p = grind (arith, far_alone)
 
 by_fault : (o : Option Fault) (x y : MachineView) (g : Exit) → x.world ≡ y.world →
-    world_of_result (elim o as (λ _. Result MachineView Exit) [ Some h ↦ Err g | None ↦ Ok x ]) ≡ world_of_result (elim o as (λ _. Result MachineView Exit) [ Some h ↦ Err g | None ↦ Ok y ])
+    world_of_result (elim o as (λ _. Result MachineView Exit) [ Some h ↦ Err g | None ↦ Ok x ])
+    ≡ world_of_result (elim o as (λ _. Result MachineView Exit) [ Some h ↦ Err g | None ↦ Ok y ])
 by_fault None x y g same = ap (λ (w : World). Ok w) same
 by_fault (Some h) x y g same = refl
 
@@ -161,17 +150,13 @@ by_depth false r s same = same
 
 pub delivery_alone : (v : MachineView) (f : Fault) → world_of_result (protected_delivery v f) ≡ world_protected_delivery v.world f
 unfolding protected_delivery world_protected_delivery
-delivery_alone v f =
-    let p = vector_at v.world.exception_vectors f.number in
-    by_depth (nat_le GREATEST_DEPTH (depth v.world)) (delivery_to v f p) (delivery_to (view_without_bytes v.world) f p)
-    (by_fault (load_fault v.world.descriptors Cs p.sel p.off false) (after_delivery v f p) (after_delivery (view_without_bytes v.world) f p) (exit_of_fault f) (delivered_alone v f p))
+delivery_alone v f = grind (arith, by_depth, by_fault, delivered_alone)
 
 returned_alone : (v : MachineView) (r : Result Pending Event) → OfPlan v.world.regs r →
-    world_of_result (result_of_exception_pop (after_plan v r)) ≡ world_of_result (result_of_exception_pop (after_plan (view_without_bytes v.world) r))
+    world_of_result (result_of_exception_pop (after_plan v r))
+    ≡ world_of_result (result_of_exception_pop (after_plan (view_without_bytes v.world) r))
 unfolding after_plan
-returned_alone v (Ok p) h =
-    ap (λ (r : Result MachineView Event). world_of_result (result_of_exception_pop r)) (settled_is v p h.writes)
-    ∙ ap (λ (r : Result MachineView Event). world_of_result (result_of_exception_pop r)) (sym (settled_is (view_without_bytes v.world) p h.writes))
+returned_alone v (Ok p) h = grind (arith, settled_is)
 returned_alone v (Err g) h = refl
 
 by_exception : (exception : Bool) (r s : Result MachineView Exit) → world_of_result r ≡ world_of_result s →
@@ -181,7 +166,4 @@ by_exception false r s same = refl
 
 pub return_alone : (v : MachineView) → world_of_result (exception_return v) ≡ world_exception_return v.world
 unfolding exception_return world_exception_return
-return_alone v =
-    let plan = plan_result v.world (exception_frame_pop v.world (frame_bits v.world)) in
-    by_exception (is_exception (top v.world)) (result_of_exception_pop (after_plan v plan)) (result_of_exception_pop (after_plan (view_without_bytes v.world) plan))
-    (returned_alone v plan (of_popped v.world (frame_bits v.world)).plan)
+return_alone v = grind (arith, by_exception, of_popped, returned_alone)

@@ -1,15 +1,13 @@
 -- The bytes that the client's next instruction and its software interrupt change.
-use Rattle.std.proofs.Common.{◌≡◌, ℕ, false, List, ap, sym, subst, Option, None, Some, Result, Ok, Err}
+use Rattle.std.proofs.Common.{◌≡◌, ℕ, List, sym, subst, Option, None, Some, Result, Ok, Err, arith}
 use Rattle.client_world.specs.declared.faults.Event.{Event}
 use Rattle.client_world.specs.declared.faults.Event.TheVariants.{Fault as fault}
 use Rattle.client_world.specs.declared.faults.Fault.{Fault}
-use Rattle.client_world.specs.Loading.{transfer_fault}
 use Rattle.cpu_step.specs.Step.{view_with_next_eip, client_row, client_step, code, after_instruction, has_big_code, step_of}
-use Rattle.exec_flow.specs.FarTransfers.{code_selector}
 use Rattle.exec_flow.specs.Interrupts.{interrupt_push}
-use Rattle.interrupts.specs.Delivery.{after_frame_push, after_handler_entry, handler_interrupts, has_real_vector, interrupt_vector, after_interrupt_entry, real_delivery, software_interrupt}
+use Rattle.interrupts.specs.Delivery.{has_real_vector, after_interrupt_entry, real_delivery, software_interrupt}
 use Rattle.interrupts.proofs.SoundAnswers.{delivered_was, granted_was}
-use Rattle.guest_space.specs.Pending.{after_writes, first_write_fault, places_of_writes}
+use Rattle.guest_space.specs.Pending.{after_writes, places_of_writes}
 use Rattle.host_memory.specs.View.{MachineView, OnlyAt}
 use Rattle.insn_decode.specs.declared.decoding.Decoded.{Decoded}
 use Rattle.insn_decode.specs.declared.decoding.Decoded.TheVariants.{Whole, More, Invalid}
@@ -17,7 +15,7 @@ use Rattle.insn_decode.specs.Decode.{decoded}
 use Rattle.insn_forms.specs.declared.insn.Insn.{Insn}
 use Rattle.insn_plan.specs.Accesses.{with_next_eip}
 use Rattle.insn_plan.specs.Act.{Pending}
-use Rattle.insn_plan.specs.Plan.{after_plan, plan_result, after_commit, with_state}
+use Rattle.insn_plan.specs.Plan.{after_plan, plan_result, after_commit}
 use Rattle.fault_service.specs.Memory.{IsMachineView}
 use Rattle.fault_service.specs.StepMemory.{InterruptLaw, RealDeliveryLaw, StepLaw, interrupt_places, written_by, written_of, written_places}
 use Rattle.fault_service.proofs.AwayWrites.{behind_away, machine_away, writes_only}
@@ -31,23 +29,26 @@ granted : (o : Option Fault) (x u : MachineView) →
 granted None x u e = cc
 granted (Some f) x u e = absurd cc
 
-settled_only : (v u : MachineView) (p : Pending) → WritesOnly v → after_commit v p ≡ Ok u → OnlyAt (places_of_writes v.world p.writes) v.bytes u.bytes
+settled_only : (v u : MachineView) (p : Pending) → WritesOnly v → after_commit v p ≡ Ok u →
+    OnlyAt (places_of_writes v.world p.writes) v.bytes u.bytes
 unfolding after_commit
-settled_only v u p only e =
-    subst (λ (t : MachineView). OnlyAt (places_of_writes v.world p.writes) v.bytes t.bytes)
-    (granted (first_write_fault v.world p.writes) (with_state p.regs p.vif (after_writes v p.writes)) u e) (only p)
+settled_only v u p only e = grind (arith, granted)
 
-carried_only : (v u : MachineView) (r : Result Pending Event) → WritesOnly v → after_plan v r ≡ Ok u → OnlyAt (written_by v.world r) v.bytes u.bytes
+carried_only : (v u : MachineView) (r : Result Pending Event) → WritesOnly v → after_plan v r ≡ Ok u →
+    OnlyAt (written_by v.world r) v.bytes u.bytes
 unfolding after_plan
 carried_only v u (Ok p) only e = settled_only v u p only e
 carried_only v u (Err g) only e = absurd cc
 
 executed_only : (v u : MachineView) (insn : Insn) (len : ℕ) → WritesOnly (view_with_next_eip len v) → after_instruction v insn len ≡ Ok u →
-    OnlyAt (written_by (with_next_eip len v.world) (plan_result (with_next_eip len v.world) (client_row (with_next_eip len v.world) insn len))) v.bytes u.bytes
+    OnlyAt (written_by (with_next_eip len v.world)
+    (plan_result (with_next_eip len v.world) (client_row (with_next_eip len v.world) insn len))) v.bytes u.bytes
 unfolding after_instruction
-executed_only v u insn len only e = carried_only (view_with_next_eip len v) u (plan_result (with_next_eip len v.world) (client_row (with_next_eip len v.world) insn len)) only e
+executed_only v u insn len only e = carried_only (view_with_next_eip len v) u
+    (plan_result (with_next_eip len v.world) (client_row (with_next_eip len v.world) insn len)) only e
 
-step_only : (v u : MachineView) (d : Decoded) → ((len : ℕ) → WritesOnly (view_with_next_eip len v)) → step_of v d ≡ Ok u → OnlyAt (written_of v.world d) v.bytes u.bytes
+step_only : (v u : MachineView) (d : Decoded) → ((len : ℕ) → WritesOnly (view_with_next_eip len v)) → step_of v d ≡ Ok u →
+    OnlyAt (written_of v.world d) v.bytes u.bytes
 step_only v u (Whole insn len) only e = executed_only v u insn len (only len) e
 step_only v u More only e = absurd cc
 step_only v u Invalid only e = absurd cc
@@ -62,16 +63,9 @@ step_law v m u e = step_only v u (decoded (has_big_code v.world) (code v.world))
 
 -- ---- a software interrupt
 
-pushed_bytes : (v u : MachineView) (n : ℕ) → after_interrupt_entry v n ≡ Ok u → u.bytes ≡ (after_writes v (interrupt_push v.world).writes).bytes
-pushed_bytes v u n e =
-    let at = after_frame_push v in
-    let p = interrupt_vector at.world n in
-    let after = with_state (record at.world.regs { cs = code_selector at.world p.sel; eip = p.off }) (handler_interrupts at.world) at in
-    let entered : after_handler_entry at p ≡ Ok u =
-    granted_was (λ (f : Fault). f) (first_write_fault v.world (interrupt_push v.world).writes) (after_handler_entry at p) u e in
-    let loaded : Ok after ≡ Ok u = granted_was (λ (f : Fault). f) (transfer_fault at.world p.sel p.off false) (Ok after) u entered in
-    let is : after ≡ u = cc in
-    sym (ap (λ (m : MachineView). m.bytes) is)
+pushed_bytes : (v u : MachineView) (n : ℕ) → after_interrupt_entry v n ≡ Ok u →
+    u.bytes ≡ (after_writes v (interrupt_push v.world).writes).bytes
+pushed_bytes v u n e = grind (arith, granted_was)
 
 pub interrupt_law : (v : MachineView) → IsMachineView v → InterruptLaw v
 unfolding software_interrupt

@@ -1,5 +1,6 @@
 -- A delivery and a return of worlds: they keep a world sound, a delivery adds the record of its exception, and a return takes one away.
-use Rattle.std.proofs.Common.{arith, ◌≡◌, ◌∙◌, ℕ, ◌-◌, Bool, true, false, List, [], ◌∷◌, ◌++◌, length, take, refl, ap, sym, Option, None, Some, Result, Ok, Err}
+use Rattle.std.proofs.Common.{arith, ◌≡◌, ◌∙◌, ℕ, ◌-◌, Bool, true, false, List, [], ◌∷◌, ◌++◌, length, take, refl, ap, sym, Option, None}
+use Rattle.std.proofs.Common.{Some, Result, Ok, Err}
 use Rattle.std.specs.List.{slice_get}
 use Rattle.std.specs.Prelude.{if◌then◌else◌}
 use Rattle.client_world.specs.declared.calls.Record.{Record}
@@ -14,7 +15,6 @@ use Rattle.client_world.specs.World.{World}
 use Rattle.exec_flow.specs.Interrupts.{frame_bits}
 use Rattle.interrupts.specs.Worlds.{view_without_bytes}
 use Rattle.interrupts.proofs.SoundAnswers.{holds_of_world}
-use Rattle.guest_space.specs.VectorLists.{vector_at}
 use Rattle.host_memory.specs.View.{MachineView}
 use Rattle.insn_plan.specs.Plan.{after_plan, plan_result}
 use Rattle.mode_stack.specs.Stack.{top}
@@ -33,21 +33,18 @@ sound_world_delivery w u f s mode e =
 
 pub sound_world_return : (w u : World) → IsSound w → world_exception_return w ≡ Ok u → IsSound u
 unfolding world_exception_return
-sound_world_return w u s e = holds_of_world IsSound (exception_return (view_without_bytes w)) u (λ v is. sound_return (view_without_bytes w) v s is) e
+sound_world_return w u s e =
+    holds_of_world IsSound (exception_return (view_without_bytes w)) u (λ v is. sound_return (view_without_bytes w) v s is) e
 
 -- ---- a delivery adds the record of its exception
 
-delivered_record : (v u : MachineView) (f : Fault) → protected_delivery v f ≡ Ok u → u.world.calls ≡ v.world.calls ++ Exc f.number f.code ∷ []
-delivered_record v u f e =
-    ap (λ (x : MachineView). x.world.calls) (is_delivered v u f e).is
-    ∙ delivered_calls v f (vector_at v.world.exception_vectors f.number)
-    ∙ ap (λ (calls : List Record). calls ++ Exc f.number f.code ∷ []) (calls_kept v f)
+delivered_record : (v u : MachineView) (f : Fault) → protected_delivery v f ≡ Ok u →
+    u.world.calls ≡ v.world.calls ++ Exc f.number f.code ∷ []
+delivered_record v u f e = grind (arith, calls_kept, delivered_calls, is_delivered)
 
 pub pushed_record : (w u : World) (f : Fault) → world_protected_delivery w f ≡ Ok u → u.calls ≡ w.calls ++ Exc f.number f.code ∷ []
 unfolding world_protected_delivery
-pushed_record w u f e =
-    holds_of_world (λ (x : World). x.calls ≡ w.calls ++ Exc f.number f.code ∷ []) (protected_delivery (view_without_bytes w) f) u
-    (λ v is. delivered_record (view_without_bytes w) v f is) e
+pushed_record w u f e = grind (arith, delivered_record, holds_of_world)
 
 -- ---- a return takes the record of an exception away
 
@@ -72,13 +69,16 @@ split_last (x ∷ xs) r e =
     let less : length (x ∷ xs) - 1 ≡ length xs = omega arith in
     last_is x xs r (ap (slice_get (x ∷ xs)) (sym less) ∙ e) ∙ ap (λ (n : ℕ). take n (x ∷ xs) ++ r ∷ []) (sym less)
 
-popped_by : (calls : List Record) (o : Option Record) → slice_get calls (length calls - 1) ≡ o → is_exception o ≡ true → Popped calls (but_last calls)
+popped_by : (calls : List Record) (o : Option Record) → slice_get calls (length calls - 1) ≡ o → is_exception o ≡ true →
+    Popped calls (but_last calls)
 popped_by calls None is e = absurd cc
 popped_by calls (Some (Sim call saved vif at)) is e = absurd cc
 popped_by calls (Some (Back slot at)) is e = absurd cc
-popped_by calls (Some (Exc number code)) is e = record { number = number; code = code; top_is = is; is = split_last calls (Exc number code) is }
+popped_by calls (Some (Exc number code)) is e =
+    record { number = number; code = code; top_is = is; is = split_last calls (Exc number code) is }
 
-returned_calls : (r : Result MachineView Event) (v u : MachineView) → ((x : MachineView) → r ≡ Ok x → Restores v x) → result_of_exception_pop r ≡ Ok u →
+returned_calls : (r : Result MachineView Event) (v u : MachineView) → ((x : MachineView) → r ≡ Ok x → Restores v x) →
+    result_of_exception_pop r ≡ Ok u →
     u.world.calls ≡ but_last v.world.calls
 returned_calls (Ok x) v u restores e =
     let same : u.world.calls ≡ but_last x.world.calls = ap calls_of (sym e) in
@@ -90,7 +90,8 @@ returned_calls (Ok x) v u restores e =
 returned_calls (Err g) v u restores e = absurd cc
 
 where_exception : (exception : Bool) (v u : MachineView) → is_exception (top v.world) ≡ exception →
-    (if exception then result_of_exception_pop (after_plan v (plan_result v.world (exception_frame_pop v.world (frame_bits v.world)))) else Err exits.Stray) ≡ Ok u →
+    (if exception then result_of_exception_pop (after_plan v (plan_result v.world (exception_frame_pop v.world (frame_bits v.world))))
+    else Err exits.Stray) ≡ Ok u →
     Popped v.world.calls u.world.calls
 where_exception true v u is e =
     let rest = returned_calls (after_plan v (plan_result v.world (exception_frame_pop v.world (frame_bits v.world)))) v u
@@ -105,4 +106,5 @@ machine_popped v u e = where_exception (is_exception (top v.world)) v u refl e
 pub popped_record : (w u : World) → world_exception_return w ≡ Ok u → Popped w.calls u.calls
 unfolding world_exception_return
 popped_record w u e =
-    holds_of_world (λ (x : World). Popped w.calls x.calls) (exception_return (view_without_bytes w)) u (λ v is. machine_popped (view_without_bytes w) v is) e
+    holds_of_world (λ (x : World). Popped w.calls x.calls) (exception_return (view_without_bytes w)) u
+    (λ v is. machine_popped (view_without_bytes w) v is) e

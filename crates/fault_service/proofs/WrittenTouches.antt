@@ -1,8 +1,10 @@
 -- What a client instruction writes it touches, and every place that it or its software interrupt writes is the client's.
-use Rattle.std.proofs.Common.{◌≡◌, ◌∙◌, ℕ, ◌+◌, ◌%◌, ◌^◌, true, List, [], ◌∷◌, ◌++◌, slice_index_or, refl, sym, ap, subst, Option, None, Some, Result, Ok, Err}
+use Rattle.std.proofs.Common.{◌≡◌, ◌∙◌, ℕ, true, List, [], ◌∷◌, ◌++◌, slice_index_or, refl, sym, ap, subst, Option, None, Some, Result, Ok}
+use Rattle.std.proofs.Common.{Err, arith}
 use Rattle.std.specs.Prelude.{All, Contains}
 use Rattle.std.proofs.lemmas.List.{get_or_default}
-use Rattle.std.proofs.lemmas.List.Elements.{All-append, All-contains_itself, All-nil, All-weaker, Contains-append_left, Contains-append_right}
+use Rattle.std.proofs.lemmas.List.Elements.{All-append, All-contains_itself, All-nil, All-weaker, Contains-append_left}
+use Rattle.std.proofs.lemmas.List.Elements.{Contains-append_right}
 use Rattle.client_world.specs.declared.faults.Event.{Event}
 use Rattle.client_world.specs.declared.faults.Event.TheVariants.{Fault as fault, Soft}
 use Rattle.client_world.specs.declared.faults.Fault.{Fault}
@@ -13,11 +15,12 @@ use Rattle.client_world.specs.declared.registers.Mode.TheVariants.{Real, Protect
 use Rattle.client_world.specs.declared.registers.Regs.{Regs}
 use Rattle.client_world.specs.declared.segments.SegReg.{SegReg}
 use Rattle.client_world.specs.declared.segments.SegReg.TheVariants.{Ss}
-use Rattle.client_world.specs.Access.{IsHeld, access, places_at, segment_base}
+use Rattle.client_world.specs.Access.{IsHeld, access, segment_base}
 use Rattle.client_world.specs.Selector.{Row}
 use Rattle.client_world.specs.World.{World}
 use Rattle.cpu_step.specs.Step.{view_with_next_eip, client_row, client_step, code, after_instruction, has_big_code, step_of}
-use Rattle.cpu_step.specs.Touched.{and_then, touched_by_decoded, touched_by_instruction, touched_by_fetch, places_after_reads, read_places, touched_by_step, vector_read_places, write_places}
+use Rattle.cpu_step.specs.Touched.{and_then, touched_by_decoded, touched_by_instruction, touched_by_fetch, places_after_reads, read_places}
+use Rattle.cpu_step.specs.Touched.{touched_by_step, vector_read_places, write_places}
 use Rattle.exec_flow.specs.Interrupts.{interrupt_push}
 use Rattle.interrupts.specs.Delivery.{software_interrupt}
 use Rattle.guest_space.specs.Code.{code_room}
@@ -62,7 +65,8 @@ commit_granted : (v u : MachineView) (p : Pending) → after_commit v p ≡ Ok u
 unfolding after_commit
 commit_granted v u p e = not_refused (first_write_fault v.world p.writes) (with_state p.regs p.vif (after_writes v p.writes)) u e
 
-written_behind : (v u : MachineView) (r : Result Pending Event) → after_plan v r ≡ Ok u → places_after_reads v.world r ≡ written_by v.world r
+written_behind : (v u : MachineView) (r : Result Pending Event) → after_plan v r ≡ Ok u →
+    places_after_reads v.world r ≡ written_by v.world r
 unfolding after_plan
 written_behind v u (Ok p) e = granted_places v.world p.writes (commit_granted v u p e)
 written_behind v u (Err event) e = absurd cc
@@ -74,7 +78,8 @@ AreIn places some = All (Contains places) some
 last_in : (first second third : List Place) → AreIn (first ++ (second ++ third)) third
 last_in first second third =
     All-weaker (Contains third) (Contains (first ++ (second ++ third)))
-    (λ p here. Contains-append_right first (second ++ third) p (Contains-append_right second third p here)) third (All-contains_itself third)
+    (λ p here. Contains-append_right first (second ++ third) p (Contains-append_right second third p here)) third
+    (All-contains_itself third)
 
 executed_in : (v u : MachineView) (insn : Insn) (len : ℕ) (before : List Place) → after_instruction v insn len ≡ Ok u →
     AreIn (before ++ touched_by_decoded v.world (Whole insn len)) (written_of v.world (Whole insn len))
@@ -83,7 +88,8 @@ executed_in v u insn len before e =
     let w = with_next_eip len v.world in
     let act = client_row w insn len in
     let same = written_behind (view_with_next_eip len v) u (plan_result w act) e in
-    subst (AreIn (before ++ touched_by_instruction w act)) same (last_in before (read_places w act) (places_after_reads w (plan_result w act)))
+    subst (AreIn (before ++ touched_by_instruction w act)) same
+    (last_in before (read_places w act) (places_after_reads w (plan_result w act)))
 
 decoded_in : (v u : MachineView) (d : Decoded) (before : List Place) → step_of v d ≡ Ok u →
     AreIn (before ++ touched_by_decoded v.world d) (written_of v.world d)
@@ -111,11 +117,10 @@ unfolding segment_base
 stack_base Real r eip rows off n = refl
 stack_base Protected r eip rows off n = refl
 
-stack_access : (w : World) (len : ℕ) (seg : SegReg) (off n : ℕ) → seg ≡ Ss → access (with_next_eip len w) seg off n true ≡ access w seg off n true
+stack_access : (w : World) (len : ℕ) (seg : SegReg) (off n : ℕ) → seg ≡ Ss →
+    access (with_next_eip len w) seg off n true ≡ access w seg off n true
 unfolding access
-stack_access w len seg off n is = rw is
-    (ap (λ (base : Result ℕ Fault). places_at w.blocks base off n true)
-    (stack_base w.mode w.regs ((w.regs.eip + len) % 2 ^ 32) w.descriptors off n))
+stack_access w len seg off n is = grind (arith, stack_base)
 
 stack_places : (w : World) (len : ℕ) (xs : List Write) → AreOnStack xs → places_of_writes (with_next_eip len w) xs ≡ places_of_writes w xs
 stack_places w len [] on = refl
@@ -127,7 +132,8 @@ stack_places w len (x ∷ xs) on =
 refused_first : Option Fault → Result (List Place) Fault → Option Fault
 refused_first more r = elim (fault_of r) [ Some f ↦ Some f | None ↦ more ]
 
-stack_refusal : (w : World) (len : ℕ) (xs : List Write) → AreOnStack xs → first_write_fault (with_next_eip len w) xs ≡ first_write_fault w xs
+stack_refusal : (w : World) (len : ℕ) (xs : List Write) → AreOnStack xs →
+    first_write_fault (with_next_eip len w) xs ≡ first_write_fault w xs
 unfolding first_write_fault write_fault access_fault refused_first
 stack_refusal w len [] on = refl
 stack_refusal w len (x ∷ xs) on =
@@ -151,21 +157,19 @@ unfolding interrupt_push with_pushed_number has_big_stack first_write_fault writ
 same_refusal w one other = refl
 
 interrupt_places_same : (w : World) (one other : ℕ) → interrupt_places w one ≡ interrupt_places w other
-interrupt_places_same w one other =
-    stack_places w one (pushes w one) (pushes_on_stack w one) ∙ same_pushes w one other
-    ∙ sym (stack_places w other (pushes w other) (pushes_on_stack w other))
+interrupt_places_same w one other = grind (arith, pushes_on_stack, same_pushes, stack_places)
 
-refusal_same : (w : World) (one other : ℕ) → first_write_fault (with_next_eip one w) (pushes w one) ≡ first_write_fault (with_next_eip other w) (pushes w other)
-refusal_same w one other =
-    stack_refusal w one (pushes w one) (pushes_on_stack w one) ∙ same_refusal w one other
-    ∙ sym (stack_refusal w other (pushes w other) (pushes_on_stack w other))
+refusal_same : (w : World) (one other : ℕ) → first_write_fault (with_next_eip one w) (pushes w one)
+    ≡ first_write_fault (with_next_eip other w) (pushes w other)
+refusal_same w one other = grind (arith, pushes_on_stack, same_refusal, stack_refusal)
 
 interrupt_granted_by : (o : Option Fault) (r : Result MachineView Fault) (u : MachineView) →
     elim o as (λ _. Result MachineView Fault) [ Some f ↦ Err f | None ↦ r ] ≡ Ok u → o ≡ None
 interrupt_granted_by None r u e = refl
 interrupt_granted_by (Some f) r u e = absurd cc
 
-interrupt_granted : (v u : MachineView) (n len : ℕ) → software_interrupt v n len ≡ Ok u → first_write_fault (with_next_eip len v.world) (pushes v.world len) ≡ None
+interrupt_granted : (v u : MachineView) (n len : ℕ) → software_interrupt v n len ≡ Ok u →
+    first_write_fault (with_next_eip len v.world) (pushes v.world len) ≡ None
 unfolding software_interrupt
 interrupt_granted v u n len e = interrupt_granted_by (first_write_fault (with_next_eip len v.world) (pushes v.world len)) _ u e
 
@@ -177,9 +181,11 @@ event_was v (Some f) x number len e = cc
 
 no_commit : (v : MachineView) (p : Pending) (number len : ℕ) → after_commit v p ≡ Err (Soft number len) → ⊥
 unfolding after_commit
-no_commit v p number len e = event_was v (first_write_fault v.world p.writes) (with_state p.regs p.vif (after_writes v p.writes)) number len e
+no_commit v p number len e =
+    event_was v (first_write_fault v.world p.writes) (with_state p.regs p.vif (after_writes v p.writes)) number len e
 
-plan_was : (v : MachineView) (r : Result Pending Event) (number len : ℕ) → after_plan v r ≡ Err (Soft number len) → r ≡ Err (Soft number len)
+plan_was : (v : MachineView) (r : Result Pending Event) (number len : ℕ) → after_plan v r ≡ Err (Soft number len) →
+    r ≡ Err (Soft number len)
 unfolding after_plan
 plan_was v (Ok p) number len e = absurd (no_commit v p number len e)
 plan_was v (Err event) number len e = cc
@@ -191,8 +197,10 @@ third_in first second third fourth =
     (λ p here. Contains-append_right first (second ++ (third ++ fourth)) p
     (Contains-append_right second (third ++ fourth) p (Contains-append_left third fourth p here))) third (All-contains_itself third)
 
-executed_pushes : (v : MachineView) (insn : Insn) (long number len : ℕ) (before : List Place) → after_instruction v insn long ≡ Err (Soft number len) →
-    first_write_fault (with_next_eip long v.world) (pushes v.world long) ≡ None → AreIn (before ++ touched_by_decoded v.world (Whole insn long)) (interrupt_places v.world long)
+executed_pushes : (v : MachineView) (insn : Insn) (long number len : ℕ) (before : List Place) →
+    after_instruction v insn long ≡ Err (Soft number len) →
+    first_write_fault (with_next_eip long v.world) (pushes v.world long) ≡ None →
+    AreIn (before ++ touched_by_decoded v.world (Whole insn long)) (interrupt_places v.world long)
 unfolding after_instruction
 executed_pushes v insn long number len before e granted =
     let w = with_next_eip long v.world in
@@ -202,11 +210,13 @@ executed_pushes v insn long number len before e granted =
     let behind_is = ap (places_after_reads w) plan in
     let written_is = granted_places w xs granted in
     subst (λ (places : List Place). AreIn (before ++ (read_places w act ++ places)) (places_of_writes w xs)) (sym behind_is)
-    (subst (λ (places : List Place). AreIn (before ++ (read_places w act ++ (places ++ vector_read_places w number))) (places_of_writes w xs)) (sym written_is)
+    (subst (λ (places : List Place).
+    AreIn (before ++ (read_places w act ++ (places ++ vector_read_places w number))) (places_of_writes w xs)) (sym written_is)
     (third_in before (read_places w act) (places_of_writes w xs) (vector_read_places w number)))
 
 decoded_pushes : (v : MachineView) (d : Decoded) (number len : ℕ) (before : List Place) → step_of v d ≡ Err (Soft number len) →
-    first_write_fault (with_next_eip len v.world) (pushes v.world len) ≡ None → AreIn (before ++ touched_by_decoded v.world d) (interrupt_places v.world len)
+    first_write_fault (with_next_eip len v.world) (pushes v.world len) ≡ None →
+    AreIn (before ++ touched_by_decoded v.world d) (interrupt_places v.world len)
 decoded_pushes v (Whole insn long) number len before e granted =
     subst (AreIn (before ++ touched_by_decoded v.world (Whole insn long))) (interrupt_places_same v.world long len)
     (executed_pushes v insn long number len before e (refusal_same v.world long len ∙ granted))
@@ -218,12 +228,14 @@ pub pushed_touched : (v u : MachineView) (number len : ℕ) → client_step v �
 unfolding client_step touched_by_step
 pushed_touched v u number len e made =
     let w = v.world in
-    decoded_pushes v (decoded (has_big_code w) (code w)) number len (touched_by_fetch w 0 code_room) e (interrupt_granted v u number len made)
+    decoded_pushes v (decoded (has_big_code w) (code w)) number len (touched_by_fetch w 0 code_room) e
+    (interrupt_granted v u number len made)
 
 -- ---- they are the client's
 
 run_held : (w : World) (places : List Place) → CanWriteAll w places → All (IsHeld w) places
-run_held w places can = λ k d less. subst (IsHeld w) (get_or_default places k Nothing d less) (held_there w (slice_index_or places k Nothing) (can k less))
+run_held w places can =
+    λ k d less. subst (IsHeld w) (get_or_default places k Nothing d less) (held_there w (slice_index_or places k Nothing) (can k less))
 
 access_held : (w : World) (r : Result (List Place) Fault) → ((places : List Place) → r ≡ Ok places → CanWriteAll w places) →
     All (IsHeld w) (places_of_access r)
@@ -246,7 +258,8 @@ held_before w len Nothing h = h
 
 moved_held : (w : World) (len : ℕ) (xs : List Write) → All (IsHeld w) (places_of_writes (with_next_eip len w) xs)
 moved_held w len xs =
-    All-weaker (IsHeld (with_next_eip len w)) (IsHeld w) (held_before w len) (places_of_writes (with_next_eip len w) xs) (writes_held (with_next_eip len w) xs)
+    All-weaker (IsHeld (with_next_eip len w)) (IsHeld w) (held_before w len) (places_of_writes (with_next_eip len w) xs)
+    (writes_held (with_next_eip len w) xs)
 
 pub pushed_held : (w : World) (len : ℕ) → All (IsHeld w) (interrupt_places w len)
 pushed_held w len = moved_held w len (interrupt_push (with_next_eip len w)).writes

@@ -53,12 +53,14 @@ exception_frame_start w = frame_address w (exception_frame_size w)
 
 -- the registers at the handler: it runs on the host's stack, with the frame at the stack's top
 abbrev pub handler_regs : World → FarPtr → Regs
-handler_regs w p = record w.regs { cs = code_selector w p.sel; eip = p.off; ss = selector_of HOST_STACKS; esp = (exception_frame_start w).off }
+handler_regs w p =
+    record w.regs { cs = code_selector w p.sel; eip = p.off; ss = selector_of HOST_STACKS; esp = (exception_frame_start w).off }
 
 -- the machine at the handler: the frame is written, the exception is the innermost record, and virtual interrupts are off
 unfoldable pub after_delivery : MachineView → Fault → FarPtr → MachineView
 after_delivery v f p = with_state (handler_regs v.world p) false
-    (after_push (after_far_write v (exception_frame_start v.world) (exception_frame_size v.world) (exception_frame v.world f)) (Exc f.number f.code))
+    (after_push (after_far_write v (exception_frame_start v.world) (exception_frame_size v.world) (exception_frame v.world f))
+    (Exc f.number f.code))
 
 -- the delivery to a handler: where its address can't be loaded into CS, the exception ends the client
 abbrev pub delivery_to : MachineView → Fault → FarPtr → Result MachineView Exit

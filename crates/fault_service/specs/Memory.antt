@@ -29,7 +29,8 @@ frame_places w = places_of_access (far_access w (exception_frame_start w) (excep
 -- each byte of the frame lies in the megabyte, in the host's stack of the depth
 pub record LiesInStack (w : World) : Type 0 where
   pub size : length (frame_places w) ≡ exception_frame_size w
-  pub each : (i : ℕ) → i < exception_frame_size w → slice_index_or (frame_places w) i Nothing ≡ Dos (PROTECTED_STACKS + (exception_frame_start w).off + i)
+  pub each : (i : ℕ) → i < exception_frame_size w →
+      slice_index_or (frame_places w) i Nothing ≡ Dos (PROTECTED_STACKS + (exception_frame_start w).off + i)
   pub from : PROTECTED_STACK_SIZE * depth w ≤ (exception_frame_start w).off
   pub to : (exception_frame_start w).off + exception_frame_size w ≡ PROTECTED_STACK_SIZE * (depth w + 1)
 

@@ -25,7 +25,8 @@ written_by w (Err e) = []
 
 -- the places that a decoded instruction writes
 abbrev pub written_of : World → Decoded → List Place
-written_of w (Whole insn len) = written_by (with_next_eip len w) (plan_result (with_next_eip len w) (client_row (with_next_eip len w) insn len))
+written_of w (Whole insn len) =
+    written_by (with_next_eip len w) (plan_result (with_next_eip len w) (client_row (with_next_eip len w) insn len))
 written_of w More = []
 written_of w Invalid = []
 

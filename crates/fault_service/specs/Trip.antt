@@ -41,7 +41,8 @@ regs_after_return w r = record r {
 -- whatever the handler left in the other registers and in the virtual interrupt flag, with the stack pointer above the return address, and
 -- with the memory as the delivery left it
 abbrev pub TripLaw : Type 0
-TripLaw = (v u : MachineView) (f : Fault) (r : Regs) (on : Bool) → IsSound v.world → v.world.mode ≡ Protected → protected_delivery v f ≡ Ok u →
+TripLaw = (v u : MachineView) (f : Fault) (r : Regs) (on : Bool) → IsSound v.world → v.world.mode ≡ Protected →
+    protected_delivery v f ≡ Ok u →
     HasSegments r → r.ss ≡ selector_of HOST_STACKS → r.esp ≡ (exception_frame_start v.world).off + 2 * byte_count (frame_bits v.world) →
     load_fault v.world.descriptors Cs v.world.regs.cs (cut_item (frame_bits v.world) v.world.regs.eip) true ≡ None →
     load_fault v.world.descriptors Ss v.world.regs.ss 0 false ≡ None →

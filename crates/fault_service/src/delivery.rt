@@ -6,7 +6,8 @@ ghost use Rattle.client_world.specs.World.{depth};
 ghost use Rattle.guest_space.specs.VectorLists.{vector_at};
 ghost use Rattle.guest_space.specs.Far.{after_far_write};
 ghost use Rattle.guest_space.specs.Pending.{byte_count};
-ghost use Rattle.fault_service.specs.Delivery.{after_delivery, exception_frame, exception_frame_start, exception_frame_size, protected_delivery};
+ghost use Rattle.fault_service.specs.Delivery.{after_delivery, exception_frame, exception_frame_start, exception_frame_size};
+ghost use Rattle.fault_service.specs.Delivery.{protected_delivery};
 
 use crate::frame::{dword_frame, exception_items, word_frame};
 use client_world::limits::{EXCEPTION_VECTORS, GREATEST_DEPTH};
@@ -35,7 +36,8 @@ fn exception_frame_start(m: &Machine) -> FarPtr
 fn write_frame(m: &mut Machine, f: Fault)
     requires width { m.old.world.width ≢ None }
     requires depth { depth m.old.world < GREATEST_DEPTH }
-    ensures { m.new ≡ after_far_write m.old (exception_frame_start m.old.world) (exception_frame_size m.old.world) (exception_frame m.old.world f) }
+    ensures { m.new ≡ after_far_write m.old (exception_frame_start m.old.world) (exception_frame_size m.old.world)
+        (exception_frame m.old.world f) }
 {
     the_protected_stacks_are_reachable();
     m.soundness();
@@ -90,7 +92,8 @@ fn handler(m: &Machine, number: u8) -> FarPtr
     }
 }
 
-/// Delivers an exception of protected mode to its handler, with the frame on the host's stack of the depth. `Deep` at the greatest depth, else
+/// Delivers an exception of protected mode to its handler, with the frame on the host's stack of the depth. `Deep` at the greatest depth,
+/// else
 /// `Fault` of this exception where the handler's address can't be loaded; an exit leaves the machine as it was.
 /// Source: DPMI 0.9, "Exceptions"; the exits are own.
 #[tactic(auto, unfolding(crate::specs::Delivery::protected_delivery))]

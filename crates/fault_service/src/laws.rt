@@ -38,7 +38,8 @@ pub fn every_answer_depends_on_the_world_alone()
 
 /// A delivery in protected mode and a return lead from a sound world to a sound one.
 pub fn every_answer_is_sound()
-    ensures delivery { (v u : MachineView) (f : Fault) → IsSound v.world → v.world.mode ≡ Protected → protected_delivery v f ≡ Ok u → IsSound u.world }
+    ensures delivery { (v u : MachineView) (f : Fault) → IsSound v.world → v.world.mode ≡ Protected → protected_delivery v f ≡ Ok u →
+        IsSound u.world }
     ensures back { (v u : MachineView) → IsSound v.world → exception_return v ≡ Ok u → IsSound u.world }
 {}
 
@@ -65,10 +66,12 @@ pub fn every_step_changes_only_what_it_writes()
     ensures exception { (v : MachineView) → IsMachineView v → RealDeliveryLaw v }
 {}
 
-/// What a client instruction writes, or its software interrupt pushes, it touches; and each such place lies in memory that the client holds.
+/// What a client instruction writes, or its software interrupt pushes, it touches; and each such place lies in memory that the client
+/// holds.
 pub fn every_written_place_is_touched_and_held()
     ensures touched { (v u : MachineView) → client_step v ≡ Ok u → All (Contains (touched_by_step v.world)) (written_places v.world) }
-    ensures pushed_touched { (v u : MachineView) (number len : ℕ) → client_step v ≡ Err (Soft number len) → software_interrupt v number len ≡ Ok u →
+    ensures pushed_touched { (v u : MachineView) (number len : ℕ) → client_step v ≡ Err (Soft number len) →
+        software_interrupt v number len ≡ Ok u →
         All (Contains (touched_by_step v.world)) (interrupt_places v.world len) }
     ensures held { (w : World) → All (IsHeld w) (written_places w) }
     ensures pushed { (w : World) (len : ℕ) → All (IsHeld w) (interrupt_places w len) }

@@ -2,7 +2,8 @@
 ghost use Rattle.std.specs.Prelude.{◌≡◌, Ok, Err, MatchResult};
 ghost use Rattle.insn_plan.specs.Plan.{CarriesOut, plan_result};
 ghost use Rattle.mode_stack.specs.Stack.{top};
-ghost use Rattle.fault_service.specs.Return.{pending_of_exception_frame, exception_frame_pop, exception_return, exit_of_record, is_exception};
+ghost use Rattle.fault_service.specs.Return.{pending_of_exception_frame, exception_frame_pop, exception_return, exit_of_record};
+ghost use Rattle.fault_service.specs.Return.{is_exception};
 
 use client_world::{Exit, Flags, Record, Regs, SegReg, is_interrupt_set, low_half};
 use exec_flow::frame_bits;
@@ -94,7 +95,8 @@ pub fn back(m: &mut Machine) -> Result<(), Exit>
     }
 }
 
-/// The exit of a default exception handler: `Fault` of the innermost record's exception, or `Stray` where it is no exception's. Source: own.
+/// The exit of a default exception handler: `Fault` of the innermost record's exception, or `Stray` where it is no exception's. Source:
+/// own.
 pub fn default_handler_exit(m: &Machine) -> Exit
     ensures { result ≡ exit_of_record (top m.now.world) }
 {

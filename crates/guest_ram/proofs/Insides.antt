@@ -38,10 +38,13 @@ held_set h d i v e = (ap (λ (k : List ℕ). set k i v) e.0, subst (λ (n : ℕ)
 abbrev pub Words : RattleType
 Words = Struct (shape IN.the_type)
 
-pub fields_made : {M : Type 1} {𝓤 : Ura M} (𝓛 : Logic 𝓤) (d : Inside) → d.frames < 2 ^ 32 → ent 𝓤 (emp 𝓤) (sem 𝓛 (Words.own_val (to IN.the_type d) (lowers.lowered d ∷ [])))
+pub fields_made : {M : Type 1} {𝓤 : Ura M} (𝓛 : Logic 𝓤) (d : Inside) → d.frames < 2 ^ 32 →
+    ent 𝓤 (emp 𝓤) (sem 𝓛 (Words.own_val (to IN.the_type d) (lowers.lowered d ∷ [])))
 fields_made 𝓛 d fits = makes_shadow 𝓛 (Words.own_val (to IN.the_type d) (lowers.lowered d ∷ []))
-    (λ _. (tt, (tt, ((tt, tt), ((λ _. (tt, ((λ _. (tt, (tt, tt))), tt))), tt)))))
-    ((ptr_val d.block ∷ [], (vint w32 d.frames ∷ [], (handle ∷ [], tt))), (refl, (refl, ((refl, fits), (((seal ∷ [], tt), (refl, (((vunit ∷ [], tt), (refl, (refl, tt))), tt))), tt)))))
+    (λ _. (tt, (tt, ((tt, tt), ((λ _. (tt, ((λ _. (tt, (tt, tt))), tt))), tt))))) (
+      (ptr_val d.block ∷ [], (vint w32 d.frames ∷ [], (handle ∷ [], tt))),
+      (refl, (refl, ((refl, fits), (((seal ∷ [], tt), (refl, (((vunit ∷ [], tt), (refl, (refl, tt))), tt))), tt)))),
+    )
   where
     seal : Val
     seal = vstruct (vcons vunit vnil)
@@ -59,4 +62,7 @@ with_copies d at k v small = record d {
 
 pub held_copies : (h : List ℕ) (d : Inside) (at k v : ℕ) → (d.bytes ≡ h) × (length d.bytes ≤ MAX_FRAMES * FRAME_SIZE)
     → (put d.bytes at (copies k v) ≡ put h at (copies k v)) × (length (put d.bytes at (copies k v)) ≤ MAX_FRAMES * FRAME_SIZE)
-held_copies h d at k v e = (ap (λ (b : List ℕ). put b at (copies k v)) e.0, subst (λ (n : ℕ). n ≤ MAX_FRAMES * FRAME_SIZE) (sym (length-put d.bytes at (copies k v))) e.1)
+held_copies h d at k v e = (
+  ap (λ (b : List ℕ). put b at (copies k v)) e.0,
+  subst (λ (n : ℕ). n ≤ MAX_FRAMES * FRAME_SIZE) (sym (length-put d.bytes at (copies k v))) e.1,
+)

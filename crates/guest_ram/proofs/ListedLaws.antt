@@ -1,8 +1,8 @@
 -- The length of a list given by a function, what is at each place, and when two are the same.
-use Rattle.std.proofs.Common.{◌≡◌, ◌≢◌, ap, ℕ, ◌<◌, List, length, get_or, set, ◌∙◌, sym, arith, zero-add, get_or-set_same, get_or-set_other, length-set, inl, inr}
+use Rattle.std.proofs.Common.{◌≡◌, ◌≢◌, ℕ, ◌<◌, List, length, get_or, set, ◌∙◌, sym, arith, zero-add, get_or-set_same, get_or-set_other}
+use Rattle.std.proofs.Common.{length-set}
 use Rattle.std.proofs.lemmas.List.{same_lists, length-replicate, get_or-replicate}
 use Rattle.std.proofs.lemmas.List.FromFn.{length-map-range_with_len, get_or-map-range_with_len}
-use Rattle.std.proofs.lemmas.Bool.{cases_eq}
 use Rattle.guest_ram.specs.Listed.{listed, zeros, copies}
 
 pub length-listed : {X : Type 0} (n : ℕ) (f : ℕ → X) → length (listed n f) ≡ n
@@ -14,7 +14,8 @@ unfolding listed
 at_listed n f k d h = get_or-map-range_with_len f 0 n k k d h (zero-add k)
 
 -- a list of n that has f k at each k
-pub is_listed : {X : Type 0} (xs : List X) (n : ℕ) (f : ℕ → X) → length xs ≡ n → ((k : ℕ) (d : X) → k < n → get_or xs k d ≡ f k) → xs ≡ listed n f
+pub is_listed : {X : Type 0} (xs : List X) (n : ℕ) (f : ℕ → X) → length xs ≡ n → ((k : ℕ) (d : X) → k < n → get_or xs k d ≡ f k) →
+    xs ≡ listed n f
 is_listed xs n f e h = same_lists xs (listed n f) (e ∙ sym (length-listed n f)) (λ k d l.
     let small : k < n = omega arith in h k d small ∙ sym (at_listed n f k d small))
 
@@ -22,15 +23,12 @@ pub same_listed : {X : Type 0} (n : ℕ) (f g : ℕ → X) → ((k : ℕ) → k 
 same_listed n f g h = is_listed (listed n f) n g (length-listed n f) (λ k d l. at_listed n f k d l ∙ h k l)
 
 -- where g differs from f at one place alone
-pub listed-set : {X : Type 0} (n : ℕ) (f g : ℕ → X) (i : ℕ) (v : X) → i < n → g i ≡ v → ((k : ℕ) → k < n → k ≢ i → g k ≡ f k) → listed n g ≡ set (listed n f) i v
+pub listed-set : {X : Type 0} (n : ℕ) (f g : ℕ → X) (i : ℕ) (v : X) → i < n → g i ≡ v → ((k : ℕ) → k < n → k ≢ i → g k ≡ f k) →
+    listed n g ≡ set (listed n f) i v
 listed-set n f g i v within here others = sym (is_listed (set (listed n f) i v) n g (length-set (listed n f) i v ∙ length-listed n f) step)
   where
     step : (k : ℕ) (d : _) → k < n → get_or (set (listed n f) i v) k d ≡ g k
-    step k d l = elim (cases_eq k i) [
-      | inl e ↦ (let long : i < length (listed n f) = omega (arith, length-listed n f) in
-          ap (λ (j : ℕ). get_or (set (listed n f) i v) j d) e ∙ get_or-set_same (listed n f) i v d long ∙ sym here ∙ ap g (sym e))
-      | inr ne ↦ get_or-set_other (listed n f) i k v d ne ∙ at_listed n f k d l ∙ sym (others k l ne)
-    ]
+    step k d l = grind (arith, at_listed, get_or-set_other, get_or-set_same, length-listed)
 
 pub length-zeros : (n : ℕ) → length (zeros n) ≡ n
 unfolding zeros

@@ -1,5 +1,7 @@
 -- What a run of bytes that is put changes, and what it leaves.
-use Rattle.std.proofs.Common.{◌≡◌, ℕ, ◌+◌, ◌*◌, ◌/◌, ◌%◌, ◌⊎◌, inl, inr, add_assoc, ◌<◌, ◌≤◌, ◌≢◌, List, [], ◌∷◌, length, get_or, set, take, drop, refl, ap, ◌∙◌, sym, arith, get_or-set_same, get_or-set_other, length-set, zero-add, add-zero, suc, zero, ◌++◌, add-one, append_assoc}
+use Rattle.std.proofs.Common.{◌≡◌, ℕ, ◌+◌, ◌⊎◌, inl, inr, add_assoc, ◌<◌, ◌≤◌, ◌≢◌, List, [], ◌∷◌, length, get_or, set, take, drop, refl}
+use Rattle.std.proofs.Common.{ap, ◌∙◌, sym, arith, get_or-set_same, get_or-set_other, length-set, zero-add, suc, zero, ◌++◌, add-one}
+use Rattle.std.proofs.Common.{append_assoc}
 use Rattle.std.proofs.lemmas.List.{drop-set-add, get_or-take, get_or-drop, length-take, length-drop, take_at, drop-drop}
 use Rattle.std.proofs.lemmas.Grind.{same_number_lists}
 use Rattle.std.proofs.lemmas.List.Edits.{sets, sets-eq}
@@ -22,12 +24,7 @@ put_is b at xs room = put-sets b at xs ∙ sets-eq xs b at room ∙ append_assoc
 pub put_part : (b : List ℕ) (at : ℕ) (xs : List ℕ) (old part : List ℕ) (long k : ℕ) →
     old ≡ b → part ≡ xs → long ≡ length b → k ≡ length xs → at + length xs ≤ length b →
     take long (put_mid at k old part ++ drop (length (put_mid at k old part)) b) ≡ put b at xs
-put_part b at xs old part long k e f g h room =
-    ap (λ (p : List ℕ). take long (p ++ drop (length p) b)) (mid ∙ sym (put_is b at xs room))
-    ∙ take_at (put b at xs) (drop (length (put b at xs)) b) long (length-put b at xs ∙ sym g)
-  where
-    mid : put_mid at k old part ≡ take at b ++ (xs ++ drop (at + length xs) b)
-    mid = rw (e, f, h, drop-drop (length xs) at b) refl
+put_part b at xs old part long k e f g h room = grind (arith, drop-drop, length-put, put_is, take_at)
 
 pub put_below : (b : List ℕ) (at : ℕ) (xs : List ℕ) (k : ℕ) → k < at → get_or (put b at xs) k 0 ≡ get_or b k 0
 put_below b at [] k h = refl
@@ -41,10 +38,12 @@ put_above b at (x ∷ xs) k h =
     let ne : k ≢ at = omega arith in
     put_above (set b at x) (at + 1) xs k (omega arith) ∙ get_or-set_other b at k x 0 ne
 
-pub put_within : (b : List ℕ) (at : ℕ) (xs : List ℕ) (i k : ℕ) → at + length xs ≤ length b → i < length xs → k ≡ at + i → get_or (put b at xs) k 0 ≡ get_or xs i 0
+pub put_within : (b : List ℕ) (at : ℕ) (xs : List ℕ) (i k : ℕ) → at + length xs ≤ length b → i < length xs → k ≡ at + i →
+    get_or (put b at xs) k 0 ≡ get_or xs i 0
 put_within b at [] i k room h e = absurd (omega arith)
 put_within b at (x ∷ xs) zero k room h e =
-    put_below (set b at x) (at + 1) xs k (omega arith) ∙ ap (λ (j : ℕ). get_or (set b at x) j 0) (let e' : k ≡ at = omega arith in e') ∙ get_or-set_same b at x 0 (omega arith)
+    put_below (set b at x) (at + 1) xs k (omega arith) ∙ ap (λ (j : ℕ). get_or (set b at x) j 0) (let e' : k ≡ at = omega arith in e')
+    ∙ get_or-set_same b at x 0 (omega arith)
 put_within b at (x ∷ xs) (suc i) k room h e =
     put_within (set b at x) (at + 1) xs i k (omega (arith, length-set b at x)) (omega arith) (omega arith)
 
@@ -57,18 +56,18 @@ unfolding region
 at_region b lo n k h = get_or-take n (drop lo b) k 0 h ∙ get_or-drop lo b k 0
 
 -- two memories of one length that agree from lo to lo + n have one region there
-pub same_region : (b c : List ℕ) (lo n : ℕ) → length b ≡ length c → lo + n ≤ length b → ((k : ℕ) → lo ≤ k → k < lo + n → get_or b k 0 ≡ get_or c k 0) → region b lo n ≡ region c lo n
-same_region b c lo n e room h = same_number_lists (region b lo n) (region c lo n)
-    (length-region b lo n room ∙ sym (length-region c lo n (omega arith)))
-    (λ k within. let small : k < n = omega (arith, length-region b lo n room) in
-    at_region b lo n k small ∙ h (lo + k) (omega arith) (omega arith) ∙ sym (at_region c lo n k small))
+pub same_region : (b c : List ℕ) (lo n : ℕ) → length b ≡ length c → lo + n ≤ length b →
+    ((k : ℕ) → lo ≤ k → k < lo + n → get_or b k 0 ≡ get_or c k 0) → region b lo n ≡ region c lo n
+same_region b c lo n e room h = grind (arith, at_region, length-region, same_number_lists)
 
 -- what is written below or above a region leaves it
-pub region-put_below : (b : List ℕ) (at : ℕ) (xs : List ℕ) (lo n : ℕ) → at + length xs ≤ lo → lo + n ≤ length b → region (put b at xs) lo n ≡ region b lo n
+pub region-put_below : (b : List ℕ) (at : ℕ) (xs : List ℕ) (lo n : ℕ) → at + length xs ≤ lo → lo + n ≤ length b →
+    region (put b at xs) lo n ≡ region b lo n
 region-put_below b at xs lo n h room = same_region (put b at xs) b lo n (length-put b at xs) (omega (arith, length-put b at xs))
     (λ k from to. put_above b at xs k (omega arith))
 
-pub region-put_above : (b : List ℕ) (at : ℕ) (xs : List ℕ) (lo n : ℕ) → lo + n ≤ at → lo + n ≤ length b → region (put b at xs) lo n ≡ region b lo n
+pub region-put_above : (b : List ℕ) (at : ℕ) (xs : List ℕ) (lo n : ℕ) → lo + n ≤ at → lo + n ≤ length b →
+    region (put b at xs) lo n ≡ region b lo n
 region-put_above b at xs lo n h room = same_region (put b at xs) b lo n (length-put b at xs) (omega (arith, length-put b at xs))
     (λ k from to. put_below b at xs k (omega arith))
 
@@ -83,7 +82,8 @@ region-set b lo n i x h = rw drop-set-add (take-set-in n (drop lo b) i x h)
     take-set-in (suc n) (y ∷ l) (suc i) x h = ap (λ (r : List ℕ). y ∷ r) (take-set-in n l i x (omega arith))
 
 -- what is written within a region is written in the region
-pub region-put : (b : List ℕ) (at : ℕ) (xs : List ℕ) (lo n i : ℕ) → at ≡ lo + i → i + length xs ≤ n → region (put b at xs) lo n ≡ put (region b lo n) i xs
+pub region-put : (b : List ℕ) (at : ℕ) (xs : List ℕ) (lo n i : ℕ) → at ≡ lo + i → i + length xs ≤ n →
+    region (put b at xs) lo n ≡ put (region b lo n) i xs
 region-put b at [] lo n i e h = refl
 region-put b at (x ∷ xs) lo n i e h =
     region-put (set b at x) (at + 1) xs lo n (i + 1) (omega arith) (omega arith)
@@ -92,12 +92,7 @@ region-put b at (x ∷ xs) lo n i e h =
 -- four bytes that are the same are the same doubleword
 pub same_dword : (b c : List ℕ) (p q : ℕ) → ((i : ℕ) → i < 4 → get_or b (p + i) 0 ≡ get_or c (q + i) 0) → dword b p ≡ dword c q
 unfolding dword
-same_dword b c p q h =
-    let e0 : get_or b p 0 ≡ get_or c q 0 = rw (← add-zero p, ← add-zero q) (h 0 (omega arith)) in
-    let e1 : get_or b (p + 1) 0 ≡ get_or c (q + 1) 0 = h 1 (omega arith) in
-    let e2 : get_or b (p + 2) 0 ≡ get_or c (q + 2) 0 = h 2 (omega arith) in
-    let e3 : get_or b (p + 3) 0 ≡ get_or c (q + 3) 0 = h 3 (omega arith) in
-    rw (e0, e1, e2, e3)
+same_dword b c p q h = grind arith
 
 pub dword-region : (b : List ℕ) (lo n k : ℕ) → k + 4 ≤ n → dword (region b lo n) k ≡ dword b (lo + k)
 dword-region b lo n k h = same_dword (region b lo n) b k (lo + k) (λ i l.
@@ -105,10 +100,7 @@ dword-region b lo n k h = same_dword (region b lo n) b k (lo + k) (λ i l.
 
 dword_back : (v : ℕ) → dword (dword_bytes v) 0 ≡ v
 unfolding dword
-dword_back v = back v
-  where
-    back : (v : ℕ) → v % 0x100 + 0x100 * (v / 0x100 % 0x100) + 0x10000 * (v / 0x10000 % 0x100) + 0x1000000 * (v / 0x1000000) ≡ v
-    back v = omega arith
+dword_back v = grind arith
 
 -- a doubleword that was written is there
 pub dword_put : (b : List ℕ) (p v : ℕ) → p + 4 ≤ length b → dword (put b p (dword_bytes v)) p ≡ v
@@ -124,22 +116,13 @@ dword_put_other b p q v h = same_dword (put b p (dword_bytes v)) b q q (λ i l. 
 ])
 
 -- what is beside the bytes that are put is as it was
-pub region-put_away : (b : List ℕ) (at : ℕ) (xs : List ℕ) (lo n : ℕ) → (at + length xs ≤ lo) ⊎ (lo + n ≤ at) → lo + n ≤ length b → region (put b at xs) lo n ≡ region b lo n
-region-put_away b at xs lo n h room = elim h [
-  | inl below ↦ region-put_below b at xs lo n below room
-  | inr above ↦ region-put_above b at xs lo n above room
-]
+pub region-put_away : (b : List ℕ) (at : ℕ) (xs : List ℕ) (lo n : ℕ) → (at + length xs ≤ lo) ⊎ (lo + n ≤ at) → lo + n ≤ length b →
+    region (put b at xs) lo n ≡ region b lo n
+region-put_away b at xs lo n h room = grind (arith, region-put_above, region-put_below)
 
 pub put_away : (b : List ℕ) (at : ℕ) (xs : List ℕ) (k : ℕ) → (at + length xs ≤ k) ⊎ (k < at) → get_or (put b at xs) k 0 ≡ get_or b k 0
-put_away b at xs k h = elim h [
-  | inl above ↦ put_above b at xs k above
-  | inr below ↦ put_below b at xs k below
-]
+put_away b at xs k h = grind (arith, put_above, put_below)
 
 -- four bytes that are put one by one
 pub put_four : (b : List ℕ) (at w x y z : ℕ) → set (set (set (set b at w) (at + 1) x) (at + 2) y) (at + 3) z ≡ put b at (w ∷ x ∷ y ∷ z ∷ [])
-put_four b at w x y z =
-    let third : at + 2 ≡ at + 1 + 1 = omega arith in
-    let fourth : at + 3 ≡ at + 1 + 1 + 1 = omega arith in
-    let two = set (set b at w) (at + 1) x in
-    ap (λ (i : ℕ). set (set two i y) (at + 3) z) third ∙ ap (λ (i : ℕ). set (set two (at + 1 + 1) y) i z) fourth
+put_four b at w x y z = grind arith

@@ -1,5 +1,6 @@
 -- A run that is put or taken byte by byte: one more byte, at its end or before it.
-use Rattle.std.proofs.Common.{◌≡◌, ◌≢◌, ℕ, ◌+◌, ◌*◌, ◌/◌, ◌%◌, ◌<◌, List, [], ◌∷◌, ◌++◌, length, get_or, set, take, drop, replicate, refl, ap, ◌∙◌, sym, arith, zero, suc, add-zero, add-one}
+use Rattle.std.proofs.Common.{◌≡◌, ◌≢◌, ℕ, ◌+◌, ◌*◌, ◌/◌, ◌%◌, ◌<◌, List, [], ◌∷◌, ◌++◌, length, get_or, set, take, drop, replicate, refl}
+use Rattle.std.proofs.Common.{ap, ◌∙◌, sym, arith, zero, suc, add-zero, add-one}
 use Rattle.std.proofs.lemmas.List.{set_comm, get_or-drop, replicate-append-replicate, length-replicate, length-drop}
 use Rattle.std.proofs.Math.Seq.{drop-cons}
 use Rattle.guest_ram.specs.Bytes.{AreBytes, word_of, with_word, dword, dword_bytes, put, region}
@@ -34,24 +35,16 @@ region_more b lo i h =
 
 pub region_before : (b : List ℕ) (lo i : ℕ) → lo < length b → region b lo (i + 1) ≡ get_or b lo 0 ∷ region b (lo + 1) i
 unfolding region
-region_before b lo i h =
-    ap (λ (l : List ℕ). take (i + 1) l) (drop-cons b lo 0 h) ∙ taken (get_or b lo 0) (drop (suc lo) b) i
-    ∙ ap (λ (k : ℕ). get_or b lo 0 ∷ take i (drop k b)) (sym (add-one lo))
-  where
-    taken : (x : ℕ) (xs : List ℕ) (i : ℕ) → take (i + 1) (x ∷ xs) ≡ x ∷ take i xs
-    taken x xs i = ap (λ (k : ℕ). take k (x ∷ xs)) (add-one i)
+region_before b lo i h = grind (arith, add-one, drop-cons)
 
 -- the run of one more byte that is put as it stands in the old list
-pub moved_up : (b : List ℕ) (from to i : ℕ) → from + i < length b → set (put b to (region b from i)) (to + i) (get_or b (from + i) 0) ≡ put b to (region b from (i + 1))
-moved_up b from to i h =
-    ap (λ (k : ℕ). set (put b to (region b from i)) (to + k) (get_or b (from + i) 0)) (sym (length-region b from i (omega arith)))
-    ∙ sym (put_more b to (region b from i) (get_or b (from + i) 0))
-    ∙ ap (put b to) (sym (region_more b from i h))
+pub moved_up : (b : List ℕ) (from to i : ℕ) → from + i < length b →
+    set (put b to (region b from i)) (to + i) (get_or b (from + i) 0) ≡ put b to (region b from (i + 1))
+moved_up b from to i h = grind (arith, length-region, put_more, region_more)
 
-pub moved_down : (b : List ℕ) (from to i : ℕ) → from < length b → set (put b (to + 1) (region b (from + 1) i)) to (get_or b from 0) ≡ put b to (region b from (i + 1))
-moved_down b from to i h =
-    put_before b to (to + 1) (region b (from + 1) i) (get_or b from 0) (omega arith)
-    ∙ ap (put b to) (sym (region_before b from i h))
+pub moved_down : (b : List ℕ) (from to i : ℕ) → from < length b →
+    set (put b (to + 1) (region b (from + 1) i)) to (get_or b from 0) ≡ put b to (region b from (i + 1))
+moved_down b from to i h = grind (arith, put_before, region_before)
 
 pub copies_more : (b : List ℕ) (at i v : ℕ) → set (put b at (copies i v)) (at + i) v ≡ put b at (copies (i + 1) v)
 unfolding copies
@@ -68,12 +61,9 @@ pub no_region : (b c : List ℕ) (at from : ℕ) → put b at (region c from 0) 
 unfolding region
 no_region b c at from = refl
 
-pub taken_more : (b : List ℕ) (at : ℕ) (xs : List ℕ) (i : ℕ) → i < length xs → set (put b at (region xs 0 i)) (at + i) (get_or xs i 0) ≡ put b at (region xs 0 (i + 1))
-taken_more b at xs i h =
-    let here : 0 + i ≡ i = omega arith in
-    ap (λ (k : ℕ). set (put b at (region xs 0 i)) (at + k) (get_or xs i 0)) (sym (length-region xs 0 i (omega arith)))
-    ∙ sym (put_more b at (region xs 0 i) (get_or xs i 0))
-    ∙ ap (put b at) (ap (λ (k : ℕ). region xs 0 i ++ get_or xs k 0 ∷ []) (sym here) ∙ sym (region_more xs 0 i (omega arith)))
+pub taken_more : (b : List ℕ) (at : ℕ) (xs : List ℕ) (i : ℕ) → i < length xs →
+    set (put b at (region xs 0 i)) (at + i) (get_or xs i 0) ≡ put b at (region xs 0 (i + 1))
+taken_more b at xs i h = grind (arith, length-region, put_more, region_more)
 
 pub all_taken : (xs : List ℕ) → region xs 0 (length xs) ≡ xs
 unfolding region
@@ -93,7 +83,8 @@ two_taken b at xs i h =
     ∙ taken_more b at xs (i + 1) h ∙ ap (λ (k : ℕ). put b at (region xs 0 k)) two
 
 -- a word of the run, put at once
-pub word_more : (b : List ℕ) (at : ℕ) (xs : List ℕ) (i : ℕ) → AreBytes xs → i + 1 < length xs → with_word (put b at (region xs 0 i)) (at + i) (word_of xs i) ≡ put b at (region xs 0 (i + 2))
+pub word_more : (b : List ℕ) (at : ℕ) (xs : List ℕ) (i : ℕ) → AreBytes xs → i + 1 < length xs →
+    with_word (put b at (region xs 0 i)) (at + i) (word_of xs i) ≡ put b at (region xs 0 (i + 2))
 word_more b at xs i bytes h =
     let P = put b at (region xs 0 i) in
     let x = get_or xs i 0 in let y = get_or xs (i + 1) 0 in
@@ -105,7 +96,8 @@ word_more b at xs i bytes h =
     ∙ two_taken b at xs i h
 
 -- and a doubleword
-pub dword_more : (b : List ℕ) (at : ℕ) (xs : List ℕ) (i : ℕ) → AreBytes xs → i + 3 < length xs → put (put b at (region xs 0 i)) (at + i) (dword_bytes (dword xs i)) ≡ put b at (region xs 0 (i + 4))
+pub dword_more : (b : List ℕ) (at : ℕ) (xs : List ℕ) (i : ℕ) → AreBytes xs → i + 3 < length xs →
+    put (put b at (region xs 0 i)) (at + i) (dword_bytes (dword xs i)) ≡ put b at (region xs 0 (i + 4))
 unfolding dword
 dword_more b at xs i bytes h =
     let P = put b at (region xs 0 i) in
@@ -120,9 +112,6 @@ dword_more b at xs i bytes h =
     ∙ ap (λ (k : ℕ). set (set (put b at (region xs 0 (i + 2))) (at + (i + 2)) y) (at + (i + 2) + 1) (get_or xs k 0)) (sym third)
     ∙ two_taken b at xs (i + 2) (omega arith) ∙ ap (λ (k : ℕ). put b at (region xs 0 k)) four
   where
-    bytes_back : (w x y z : ℕ) → w < 0x100 → x < 0x100 → y < 0x100 → z < 0x100 → dword_bytes (w + 0x100 * x + 0x10000 * y + 0x1000000 * z) ≡ w ∷ x ∷ y ∷ z ∷ []
-    bytes_back w x y z wf xf yf zf =
-        let v = w + 0x100 * x + 0x10000 * y + 0x1000000 * z in
-        let first : v % 0x100 ≡ w = omega arith in let second : v / 0x100 % 0x100 ≡ x = omega arith in
-        let third : v / 0x10000 % 0x100 ≡ y = omega arith in let fourth : v / 0x1000000 ≡ z = omega arith in
-        rw (first, second, third, fourth) refl
+    bytes_back : (w x y z : ℕ) → w < 0x100 → x < 0x100 → y < 0x100 → z < 0x100 →
+        dword_bytes (w + 0x100 * x + 0x10000 * y + 0x1000000 * z) ≡ w ∷ x ∷ y ∷ z ∷ []
+    bytes_back w x y z wf xf yf zf = grind arith

@@ -8,8 +8,10 @@ pub use mir.Syntax.{ty_int, named}
 pub use mir.Val.{Val, vunit, vint}
 pub use contract.Monad.{fact}
 pub use contract.Running.{tables}
-pub use types.Kit.{fpick, fpack, ‵, raw, ◌⊛◌, some, later, prop, at_ret, Sq, ◌$◌, ◌∵◌, !, qed, done, move, keep, drop, use1, use2, split, join, fsplit, fsplit3, fjoin, feq_i, feq_l, pick, await, rewrite, regoal, suffices, frame, group}
-pub use types.Run.{un, enter, of_opd, lit, unit_lit, bin, load, look, store, stop, fld, no_more, and_then, assigns, assigns_last, first, blocks, branches, skips, exec, returns}
+pub use types.Kit.{fpick, fpack, ‵, raw, ◌⊛◌, some, later, prop, at_ret, Sq, ◌$◌, ◌∵◌, !, qed, done, move, keep, drop, use1, use2, split}
+pub use types.Kit.{join, fsplit, fsplit3, fjoin, feq_i, feq_l, pick, await, rewrite, regoal, suffices, frame, group}
+pub use types.Run.{un, enter, of_opd, lit, unit_lit, bin, load, look, store, stop, fld, no_more, and_then, assigns, assigns_last, first}
+pub use types.Run.{blocks, branches, skips, exec, returns}
 pub use types.ByLocal.{alloc_all, pass_all, free_all, look_at, get, through, sets, lands_as, env}
 pub use denote.Builtin.{u8, unit}
 pub use denote.Exit.{yes}

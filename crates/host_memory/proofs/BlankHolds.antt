@@ -2,46 +2,41 @@
 use Rattle.std.proofs.Common.{◌≡◌, ℕ, ◌+◌, ◌-◌, ◌*◌, ◌≤◌, inl, inr, true, false, List, slice_index, nat_eq, None, refl, ap, ◌∙◌, sym, arith}
 use Rattle.std.specs.declared.option.Option.{Option}
 use Rattle.client_world.specs.declared.registers.Mode.TheVariants.{Real}
-use Rattle.client_world.specs.declared.host_frames.TheConstants.{PAGE_SIZE, PAGE_DIRECTORY, LOW_TABLE, WINDOW_TABLE, DESCRIPTORS, BLOCK_ROW_SIZE, CALLBACK_SIZE, DESCRIPTOR_ROW_SIZE, FIXED_TABLE_FRAMES, PAGE_ENTRY_SIZE, VECTOR_SIZE}
+use Rattle.client_world.specs.declared.host_frames.TheConstants.{DESCRIPTORS, BLOCK_ROW_SIZE, CALLBACK_SIZE, DESCRIPTOR_ROW_SIZE}
+use Rattle.client_world.specs.declared.host_frames.TheConstants.{VECTOR_SIZE}
 use Rattle.client_world.specs.declared.limits.TheConstants.{MAX_BLOCKS, MAX_PAGES, CALLBACKS, INTERRUPT_VECTORS, EXCEPTION_VECTORS}
 use Rattle.client_world.specs.declared.memory_map.TheConstants.{DOS_VIEW_PAGES}
 use Rattle.client_world.specs.declared.traps.TheConstants.{PROTECTED_VECTOR_TRAPS, EXCEPTION_TRAPS}
 use Rattle.client_world.specs.Selector.{Row}
 use Rattle.client_world.specs.World.{Callback}
-use Rattle.guest_ram.specs.Bytes.{dword}
 use Rattle.guest_ram.specs.Listed.{listed}
 use Rattle.guest_ram.proofs.PutLaws.{dword-region}
 use Rattle.guest_ram.proofs.ListedLaws.{same_listed}
 use Rattle.desc_table.specs.Rows.{row_at, row_bytes, rows_from}
 use Rattle.host_memory.specs.Blank.{no_regs, blank_world, host_pointer}
 use Rattle.host_memory.specs.Holds.{Holds, KeepsRows, KeepsHandles}
-use Rattle.host_memory.specs.Layout.{world_of, fixed_part, tables_part, rows_part, vectors_part, records_part, handles_part, locks_part, arena_part, taken_part, budget_part, block_in, blocks_in, pages_of}
+use Rattle.host_memory.specs.Layout.{world_of, fixed_part, tables_part, rows_part, vectors_part, records_part, handles_part, locks_part}
+use Rattle.host_memory.specs.Layout.{arena_part, taken_part, budget_part, block_in, blocks_in, pages_of}
 use Rattle.host_memory.specs.Records.{KeepsRecords}
-use Rattle.host_memory.specs.Tables.{HasFixedEntries, HasBlockEntries, low_table_start, window_table_start}
-use Rattle.host_memory.specs.Vectors.{KeepsVectors, pointer_at, callback_at, callback_bytes, callbacks_start, pageable_start, exceptions_start, interrupt_vectors_in, exception_vectors_in, callbacks_in, pageable_in}
+use Rattle.host_memory.specs.Tables.{HasFixedEntries, HasBlockEntries}
+use Rattle.host_memory.specs.Vectors.{KeepsVectors, pointer_at, callback_at, callback_bytes, callbacks_start, pageable_start}
+use Rattle.host_memory.specs.Vectors.{exceptions_start, interrupt_vectors_in, exception_vectors_in, callbacks_in, pageable_in}
 use Rattle.host_memory.proofs.FreeParts.{parts_of_list}
 use Rattle.host_memory.proofs.FreshMemory.{IsBlank}
 use Rattle.host_memory.proofs.BlankLists.{OneEntry, no_records, no_calls, arena_is_whole, keeps_one_entry, none_used, no_pages_together}
-use Rattle.host_memory.proofs.BlankParts.{rows_zero, records_zero, handles_zero, taken_zero, no_entry, no_pages, no_lock, free_row_byte, no_row, vector_of, vector_is, vector_byte_is, rest_zero, no_callback, free_callback_byte, arena_byte, arena_zero}
+use Rattle.host_memory.proofs.BlankParts.{rows_zero, records_zero, handles_zero, taken_zero, no_entry, no_pages, no_lock, free_row_byte}
+use Rattle.host_memory.proofs.BlankParts.{no_row, vector_of, vector_is, vector_byte_is, rest_zero, no_callback, free_callback_byte}
+use Rattle.host_memory.proofs.BlankParts.{arena_byte, arena_zero}
 
 fixed_entries : (b : List ℕ) (budget : ℕ) → IsBlank b budget → HasFixedEntries (fixed_part b)
-fixed_entries b budget h = record {
-  directory = λ k small. dword-region b (PAGE_SIZE * PAGE_DIRECTORY) (PAGE_SIZE * FIXED_TABLE_FRAMES) (PAGE_ENTRY_SIZE * k) (omega arith) ∙ h.directory k small;
-  low = λ k small.
-      dword-region b (PAGE_SIZE * PAGE_DIRECTORY) (PAGE_SIZE * FIXED_TABLE_FRAMES) (low_table_start + PAGE_ENTRY_SIZE * k) (omega arith)
-      ∙ ap (dword b) (let e : PAGE_SIZE * PAGE_DIRECTORY + (low_table_start + PAGE_ENTRY_SIZE * k) ≡ PAGE_SIZE * LOW_TABLE + PAGE_ENTRY_SIZE * k = omega arith in e)
-      ∙ h.low k small;
-  window = λ k small.
-      dword-region b (PAGE_SIZE * PAGE_DIRECTORY) (PAGE_SIZE * FIXED_TABLE_FRAMES) (window_table_start + PAGE_ENTRY_SIZE * k) (omega arith)
-      ∙ ap (dword b) (let e : PAGE_SIZE * PAGE_DIRECTORY + (window_table_start + PAGE_ENTRY_SIZE * k) ≡ PAGE_SIZE * WINDOW_TABLE + PAGE_ENTRY_SIZE * k = omega arith in e)
-      ∙ h.window k small;
-}
+fixed_entries b budget h = grind (arith, dword-region)
 
 free_rows : (b : List ℕ) (budget : ℕ) → IsBlank b budget → KeepsRows (rows_part b)
 free_rows b budget h = record {
   each = λ index at small within.
       rows_zero b budget h (DESCRIPTOR_ROW_SIZE * index + at)
-      ∙ sym (ap (λ (row : Row). slice_index (row_bytes row) at) (no_row b budget h (DESCRIPTOR_ROW_SIZE * index)) ∙ free_row_byte at within);
+      ∙ sym (ap (λ (row : Row). slice_index (row_bytes row) at) (no_row b budget h (DESCRIPTOR_ROW_SIZE * index))
+      ∙ free_row_byte at within);
 }
 
 host_vectors : (b : List ℕ) (budget : ℕ) → IsBlank b budget → KeepsVectors (vectors_part b)
@@ -51,7 +46,8 @@ host_vectors b budget h = record {
       rest_zero b budget h (callbacks_start + (CALLBACK_SIZE * slot + at)) (omega arith) (omega arith) (inl (omega arith))
       ∙ sym (ap (λ (callback : Option Callback). slice_index (callback_bytes callback) at)
       (no_callback b budget h (callbacks_start + CALLBACK_SIZE * slot) (omega arith) (omega arith)) ∙ free_callback_byte at within);
-  pageable = λ page small. let e = rest_zero b budget h (pageable_start + page) (omega arith) (omega arith) (inl (omega arith)) in omega arith;
+  pageable = λ page small. let e = rest_zero b budget h (pageable_start + page) (omega arith) (omega arith) (inl (omega arith)) in
+      omega arith;
   rest = λ at from to. rest_zero b budget h at (omega arith) to (inr from);
 }
 
@@ -99,13 +95,15 @@ blank_holds b budget most h = record {
 }
 
 -- and which one
-no_block : (handles tables locks frames : List ℕ) (place : ℕ) → pages_of handles place ≡ 0 → block_in handles tables locks frames place ≡ None
+no_block : (handles tables locks frames : List ℕ) (place : ℕ) → pages_of handles place ≡ 0 →
+    block_in handles tables locks frames place ≡ None
 unfolding block_in
 no_block handles tables locks frames place e = rw e refl
 
 no_blocks : (b : List ℕ) (budget : ℕ) → IsBlank b budget →
     blocks_in (handles_part b) (tables_part b) (locks_part b) (budget_part b budget) ≡ listed MAX_BLOCKS (λ place. None)
-no_blocks b budget h = same_listed MAX_BLOCKS (block_in (handles_part b) (tables_part b) (locks_part b) (budget_part b budget)) (λ place. None)
+no_blocks b budget h =
+    same_listed MAX_BLOCKS (block_in (handles_part b) (tables_part b) (locks_part b) (budget_part b budget)) (λ place. None)
     (λ place small. no_block (handles_part b) (tables_part b) (locks_part b) (budget_part b budget) place (no_pages b budget h place))
 
 no_rows : (b : List ℕ) (budget : ℕ) → IsBlank b budget → rows_from (rows_part b) 0 ≡ listed DESCRIPTORS (λ index. None)
@@ -115,24 +113,30 @@ no_rows b budget h = same_listed DESCRIPTORS (λ index. row_at (rows_part b) (0 
 
 interrupts : (b : List ℕ) (budget : ℕ) → IsBlank b budget →
     interrupt_vectors_in (vectors_part b) ≡ listed INTERRUPT_VECTORS (λ n. host_pointer (PROTECTED_VECTOR_TRAPS + n))
-interrupts b budget h = same_listed INTERRUPT_VECTORS (λ n. pointer_at (vectors_part b) (VECTOR_SIZE * n)) (λ n. host_pointer (PROTECTED_VECTOR_TRAPS + n))
+interrupts b budget h =
+    same_listed INTERRUPT_VECTORS (λ n. pointer_at (vectors_part b) (VECTOR_SIZE * n)) (λ n. host_pointer (PROTECTED_VECTOR_TRAPS + n))
     (λ n small. vector_is b budget h n (omega arith)
     ∙ ap vector_of (let e : 0x200 + n ≡ 0xF0200 + n - 0xF0000 = omega arith in e))
 
 exceptions : (b : List ℕ) (budget : ℕ) → IsBlank b budget →
     exception_vectors_in (vectors_part b) ≡ listed EXCEPTION_VECTORS (λ n. host_pointer (EXCEPTION_TRAPS + n))
-exceptions b budget h = same_listed EXCEPTION_VECTORS (λ n. pointer_at (vectors_part b) (exceptions_start + VECTOR_SIZE * n)) (λ n. host_pointer (EXCEPTION_TRAPS + n))
-    (λ n small. ap (λ (at : ℕ). pointer_at (vectors_part b) at) (let e : exceptions_start + VECTOR_SIZE * n ≡ VECTOR_SIZE * (INTERRUPT_VECTORS + n) = omega arith in e)
+exceptions b budget h = same_listed EXCEPTION_VECTORS (λ n. pointer_at (vectors_part b) (exceptions_start + VECTOR_SIZE * n))
+    (λ n. host_pointer (EXCEPTION_TRAPS + n))
+    (λ n small. ap (λ (at : ℕ). pointer_at (vectors_part b) at)
+    (let e : exceptions_start + VECTOR_SIZE * n ≡ VECTOR_SIZE * (INTERRUPT_VECTORS + n) = omega arith in e)
     ∙ vector_is b budget h (INTERRUPT_VECTORS + n) (omega arith)
     ∙ ap vector_of (let e : 0x200 + (INTERRUPT_VECTORS + n) ≡ 0xF0300 + n - 0xF0000 = omega arith in e))
 
 no_callbacks : (b : List ℕ) (budget : ℕ) → IsBlank b budget → callbacks_in (vectors_part b) ≡ listed CALLBACKS (λ slot. None)
-no_callbacks b budget h = same_listed CALLBACKS (λ slot. callback_at (vectors_part b) (callbacks_start + CALLBACK_SIZE * slot)) (λ slot. None)
+no_callbacks b budget h =
+    same_listed CALLBACKS (λ slot. callback_at (vectors_part b) (callbacks_start + CALLBACK_SIZE * slot)) (λ slot. None)
     (λ slot small. no_callback b budget h (callbacks_start + CALLBACK_SIZE * slot) (omega arith) (omega arith))
 
 not_pageable : (b : List ℕ) (budget : ℕ) → IsBlank b budget → pageable_in (vectors_part b) ≡ listed DOS_VIEW_PAGES (λ page. false)
-not_pageable b budget h = same_listed DOS_VIEW_PAGES (λ page. nat_eq (slice_index (vectors_part b) (pageable_start + page)) 1) (λ page. false)
-    (λ page small. ap (λ (v : ℕ). nat_eq v 1) (rest_zero b budget h (pageable_start + page) (omega arith) (omega arith) (inl (omega arith))))
+not_pageable b budget h =
+    same_listed DOS_VIEW_PAGES (λ page. nat_eq (slice_index (vectors_part b) (pageable_start + page)) 1) (λ page. false)
+    (λ page small.
+    ap (λ (v : ℕ). nat_eq v 1) (rest_zero b budget h (pageable_start + page) (omega arith) (omega arith) (inl (omega arith))))
 
 pub blank_world_is : (b : List ℕ) (budget : ℕ) → IsBlank b budget → world_of b budget Real no_regs true None ≡ blank_world budget
 unfolding world_of blank_world

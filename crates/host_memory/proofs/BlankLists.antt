@@ -49,13 +49,7 @@ count_is part h = one_entry part 40959 (h.each 4 (omega arith)) (h.zeros 12 (ome
 
 entry_is : (part : List ℕ) → OneEntry part → entry_at part 0 ≡ whole_arena
 unfolding entry_at
-entry_is part h =
-    let e0 : slice_index part 0 ≡ 0x60 = h.each 0 (omega arith) in
-    let e1 : slice_index part 1 ≡ 0 = h.each 1 (omega arith) in
-    let e2 : slice_index part 2 ≡ 0x9F = h.each 2 (omega arith) in
-    let e3 : slice_index part 3 ≡ 0x9F = h.each 3 (omega arith) in
-    let e4 : slice_index part 4 ≡ 1 = h.each 4 (omega arith) in
-    rw (e0, e1, e2, e3, e4) refl
+entry_is part h = grind arith
 
 one_listed : {X : Type 0} (n : ℕ) (f : ℕ → X) → n ≡ 1 → listed n f ≡ f 0 ∷ []
 unfolding listed
@@ -63,15 +57,10 @@ one_listed n f e = rw e refl
 
 pub arena_is_whole : (part : List ℕ) → OneEntry part → arena_in part ≡ blank_arena
 unfolding arena_in
-arena_is_whole part h =
-    one_listed (entry_count part) (λ place. entry_at part (entry_size * place)) (count_is part h)
-    ∙ ap (λ (entry : DosEntry). entry ∷ []) (entry_is part h)
+arena_is_whole part h = grind (arith, count_is, entry_is, one_listed)
 
 pub keeps_one_entry : (part : List ℕ) → OneEntry part → KeepsArena part
-keeps_one_entry part h = record {
-  each = λ place at within small. each place at (let count = count_is part h in omega arith) small;
-  rest = λ at behind within. h.zeros at (let count = count_is part h in omega arith);
-}
+keeps_one_entry part h = grind (arith, count_is, each)
   where
     each : (place at : ℕ) → place ≡ 0 → at < entry_size →
         slice_index part (entry_size * place + at) ≡ slice_index (entry_bytes (entry_at part (entry_size * place))) at

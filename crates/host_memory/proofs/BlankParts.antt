@@ -1,10 +1,16 @@
 -- The parts of a new memory: most are zeros, the vectors lead to the host, and the list of DOS memory has one entry.
-use Rattle.std.proofs.Common.{◌≡◌, ℕ, ◌+◌, ◌-◌, ◌*◌, ◌/◌, ◌%◌, ◌<◌, ◌≤◌, ◌⊎◌, inl, inr, zero, suc, List, length, slice_index, None, refl, ap, ◌∙◌, sym, arith, zero-add}
+use Rattle.std.proofs.Common.{◌≡◌, ℕ, ◌+◌, ◌-◌, ◌*◌, ◌%◌, ◌<◌, ◌≤◌, ◌⊎◌, inl, inr, zero, suc, List, length, slice_index, None, refl, ap}
+use Rattle.std.proofs.Common.{◌∙◌, sym, arith, zero-add}
 use Rattle.std.proofs.lemmas.Bool.{cases_lt}
 use Rattle.std.proofs.lemmas.List.{get_or_past}
 use Rattle.client_world.specs.declared.limits.TheConstants.{EXCEPTION_VECTORS, INTERRUPT_VECTORS}
 use Rattle.client_world.specs.declared.segments.FarPtr.{FarPtr}
-use Rattle.client_world.specs.declared.host_frames.TheConstants.{PAGE_SIZE, BLOCK_TABLES, DESCRIPTOR_ROWS, VECTORS, RECORDS, BLOCK_ROWS, LOCK_COUNTS, DOS_LIST, TAKEN_FRAMES, BLOCK_ROW_FRAMES, BLOCK_ROW_SIZE, BLOCK_TABLE_FRAMES, DESCRIPTOR_ROW_FRAMES, DOS_LIST_FRAMES, LOCK_COUNT_FRAMES, LOCK_COUNT_SIZE, PAGE_ENTRY_SIZE, RECORD_FRAMES, TAKEN_BYTE_FRAMES, VECTOR_FRAMES, VECTOR_SIZE, CALLBACK_SIZE, DESCRIPTOR_ROW_SIZE}
+use Rattle.client_world.specs.declared.host_frames.TheConstants.{PAGE_SIZE, BLOCK_TABLES, DESCRIPTOR_ROWS, VECTORS, RECORDS, BLOCK_ROWS}
+use Rattle.client_world.specs.declared.host_frames.TheConstants.{LOCK_COUNTS, DOS_LIST, TAKEN_FRAMES, BLOCK_ROW_FRAMES, BLOCK_ROW_SIZE}
+use Rattle.client_world.specs.declared.host_frames.TheConstants.{BLOCK_TABLE_FRAMES, DESCRIPTOR_ROW_FRAMES, DOS_LIST_FRAMES}
+use Rattle.client_world.specs.declared.host_frames.TheConstants.{LOCK_COUNT_FRAMES, LOCK_COUNT_SIZE, PAGE_ENTRY_SIZE, RECORD_FRAMES}
+use Rattle.client_world.specs.declared.host_frames.TheConstants.{TAKEN_BYTE_FRAMES, VECTOR_FRAMES, VECTOR_SIZE, CALLBACK_SIZE}
+use Rattle.client_world.specs.declared.host_frames.TheConstants.{DESCRIPTOR_ROW_SIZE}
 use Rattle.client_world.specs.declared.selectors.TheConstants.{HOST_CODE}
 use Rattle.client_world.specs.Selector.{selector_of}
 use Rattle.guest_ram.specs.Bytes.{dword, dword_bytes, region, word_of}
@@ -17,7 +23,8 @@ use Rattle.desc_table.proofs.RowLaws.{same_row, row_at-row_bytes}
 use Rattle.host_memory.specs.declared.blank.TheConstants.{VECTOR_HALVES}
 use Rattle.host_memory.specs.DosList.{entry_bytes, entry_size}
 use Rattle.host_memory.specs.Filling.{vector_half_at}
-use Rattle.host_memory.specs.Layout.{tables_part, rows_part, vectors_part, records_part, handles_part, locks_part, arena_part, taken_part, entry_of, pages_of, lock_of}
+use Rattle.host_memory.specs.Layout.{tables_part, rows_part, vectors_part, records_part, handles_part, locks_part, arena_part, taken_part}
+use Rattle.host_memory.specs.Layout.{entry_of, pages_of, lock_of}
 use Rattle.host_memory.specs.Vectors.{pointer_at, vector_bytes, callback_at, callback_bytes, callbacks_start, head_start, head_end}
 use Rattle.host_memory.proofs.Filling.{dword_is}
 use Rattle.host_memory.proofs.FreshMemory.{IsBlank, whole_arena}
@@ -25,10 +32,7 @@ use Rattle.host_memory.proofs.FreshMemory.{IsBlank, whole_arena}
 -- a part in which all bytes are zero reads as zero everywhere
 zero_part : (b : List ℕ) (from n : ℕ) → from + n ≤ length b → ((at : ℕ) → from ≤ at → at < from + n → slice_index b at ≡ 0) →
     (at : ℕ) → slice_index (region b from n) at ≡ 0
-zero_part b from n room h at = elim (cases_lt at n) [
-  | inl within ↦ at_region b from n at within ∙ h (from + at) (omega arith) (omega arith)
-  | inr past ↦ get_or_past (region b from n) at 0 (let long = length-region b from n room in omega arith)
-]
+zero_part b from n room h at = grind (arith, at_region, get_or_past, length-region)
 
 pub tables_zero : (b : List ℕ) (budget : ℕ) → IsBlank b budget → (at : ℕ) → slice_index (tables_part b) at ≡ 0
 tables_zero b budget h = zero_part b (PAGE_SIZE * BLOCK_TABLES) (PAGE_SIZE * BLOCK_TABLE_FRAMES) (let size = h.size in omega arith)
@@ -55,10 +59,12 @@ taken_zero b budget h = zero_part b (PAGE_SIZE * TAKEN_FRAMES) (PAGE_SIZE * TAKE
     (λ at from to. h.zeros at (omega arith) (omega arith) (inr (omega arith)) (inr (omega arith)) (inr (omega arith)))
 
 pub no_entry : (b : List ℕ) (budget : ℕ) → IsBlank b budget → (page : ℕ) → entry_of (tables_part b) page ≡ 0
-no_entry b budget h page = dword_zero (tables_part b) (PAGE_ENTRY_SIZE * page) (λ at small. tables_zero b budget h (PAGE_ENTRY_SIZE * page + at))
+no_entry b budget h page =
+    dword_zero (tables_part b) (PAGE_ENTRY_SIZE * page) (λ at small. tables_zero b budget h (PAGE_ENTRY_SIZE * page + at))
 
 pub no_pages : (b : List ℕ) (budget : ℕ) → IsBlank b budget → (place : ℕ) → pages_of (handles_part b) place ≡ 0
-no_pages b budget h place = dword_zero (handles_part b) (BLOCK_ROW_SIZE * place + 4) (λ at small. handles_zero b budget h (BLOCK_ROW_SIZE * place + 4 + at))
+no_pages b budget h place =
+    dword_zero (handles_part b) (BLOCK_ROW_SIZE * place + 4) (λ at small. handles_zero b budget h (BLOCK_ROW_SIZE * place + 4 + at))
 
 pub no_lock : (b : List ℕ) (budget : ℕ) → IsBlank b budget → (page : ℕ) → lock_of (locks_part b) page ≡ 0
 no_lock b budget h page =
@@ -85,10 +91,7 @@ abbrev pub vector_of : ℕ → FarPtr
 vector_of offset = record { sel = selector_of HOST_CODE; off = offset }
 
 even_half : (n : ℕ) → vector_half_at (2 * n) ≡ 0x200 + n
-even_half n =
-    let even : 2 * n % 2 ≡ 0 = omega arith in
-    let half : 2 * n / 2 ≡ n = omega arith in
-    rw (even, half) refl
+even_half n = grind arith
 
 odd_half : (n : ℕ) → vector_half_at (2 * n + 1) ≡ selector_of HOST_CODE
 odd_half n = let odd : (2 * n + 1) % 2 ≡ 1 = omega arith in rw odd refl
@@ -105,7 +108,8 @@ offset_byte b budget h n at small within =
     ∙ half_byte b budget h (2 * n) at (omega arith) within
     ∙ ap (λ (v : ℕ). slice_index (dword_bytes v) at) (even_half n)
 
-selector_byte : (b : List ℕ) (budget : ℕ) → IsBlank b budget → (n at p : ℕ) → n < INTERRUPT_VECTORS + EXCEPTION_VECTORS → at < 4 → p ≡ VECTOR_SIZE * n + 4 + at →
+selector_byte : (b : List ℕ) (budget : ℕ) → IsBlank b budget → (n at p : ℕ) → n < INTERRUPT_VECTORS + EXCEPTION_VECTORS → at < 4 →
+    p ≡ VECTOR_SIZE * n + 4 + at →
     slice_index (vectors_part b) p ≡ slice_index (dword_bytes (selector_of HOST_CODE)) at
 selector_byte b budget h n at p small within e =
     ap (λ (q : ℕ). slice_index (vectors_part b) q) (let f : p ≡ 4 * (2 * n + 1) + at = omega arith in f)
@@ -132,14 +136,16 @@ front_bytes offset (suc (suc zero)) small = refl
 front_bytes offset (suc (suc (suc zero))) small = refl
 front_bytes offset (suc (suc (suc (suc at)))) small = absurd (omega arith)
 
-back_bytes : (offset at : ℕ) → at < 4 → slice_index (dword_bytes (selector_of HOST_CODE)) at ≡ slice_index (vector_bytes (vector_of offset)) (4 + at)
+back_bytes : (offset at : ℕ) → at < 4 → slice_index (dword_bytes (selector_of HOST_CODE)) at
+    ≡ slice_index (vector_bytes (vector_of offset)) (4 + at)
 back_bytes offset zero small = refl
 back_bytes offset (suc zero) small = refl
 back_bytes offset (suc (suc zero)) small = refl
 back_bytes offset (suc (suc (suc zero))) small = refl
 back_bytes offset (suc (suc (suc (suc at)))) small = absurd (omega arith)
 
-pub vector_byte_is : (b : List ℕ) (budget : ℕ) → IsBlank b budget → (n at : ℕ) → n < INTERRUPT_VECTORS + EXCEPTION_VECTORS → at < VECTOR_SIZE →
+pub vector_byte_is : (b : List ℕ) (budget : ℕ) → IsBlank b budget → (n at : ℕ) → n < INTERRUPT_VECTORS + EXCEPTION_VECTORS →
+    at < VECTOR_SIZE →
     slice_index (vectors_part b) (VECTOR_SIZE * n + at) ≡ slice_index (vector_bytes (pointer_at (vectors_part b) (VECTOR_SIZE * n))) at
 vector_byte_is b budget h n at small within =
     elim (cases_lt at 4) [
@@ -154,10 +160,7 @@ vector_byte_is b budget h n at small within =
 -- after the vectors their frame is zero, but for the head of the list of free frames
 pub rest_zero : (b : List ℕ) (budget : ℕ) → IsBlank b budget → (at : ℕ) → callbacks_start ≤ at → at < PAGE_SIZE * VECTOR_FRAMES →
     (at < head_start) ⊎ (head_end ≤ at) → slice_index (vectors_part b) at ≡ 0
-rest_zero b budget h at from within away =
-    at_region b (PAGE_SIZE * VECTORS) (PAGE_SIZE * VECTOR_FRAMES) at within
-    ∙ h.zeros (PAGE_SIZE * VECTORS + at) (omega arith) (omega arith) (inr (omega arith)) (inl (omega arith))
-    (elim away [ inl below ↦ inl (omega arith) | inr above ↦ inr (omega arith) ])
+rest_zero b budget h at from within away = grind (arith, at_region)
 
 free_callback : (part : List ℕ) (at : ℕ) → slice_index part (at + 12) ≡ 0 → callback_at part at ≡ None
 unfolding callback_at
@@ -165,7 +168,8 @@ free_callback part at e = rw e refl
 
 pub no_callback : (b : List ℕ) (budget : ℕ) → IsBlank b budget → (at : ℕ) → callbacks_start ≤ at → at + CALLBACK_SIZE ≤ head_start →
     callback_at (vectors_part b) at ≡ None
-no_callback b budget h at from room = free_callback (vectors_part b) at (rest_zero b budget h (at + 12) (omega arith) (omega arith) (inl (omega arith)))
+no_callback b budget h at from room =
+    free_callback (vectors_part b) at (rest_zero b budget h (at + 12) (omega arith) (omega arith) (inl (omega arith)))
 
 no_callback_is_zeros : callback_bytes None ≡ zeros CALLBACK_SIZE
 unfolding callback_bytes zeros
@@ -180,11 +184,4 @@ pub arena_byte : (b : List ℕ) (budget : ℕ) → IsBlank b budget → (at : �
 arena_byte b budget h at small = at_region b (PAGE_SIZE * DOS_LIST) (PAGE_SIZE * DOS_LIST_FRAMES) at (omega arith) ∙ h.list at small
 
 pub arena_zero : (b : List ℕ) (budget : ℕ) → IsBlank b budget → (at : ℕ) → entry_size ≤ at → slice_index (arena_part b) at ≡ 0
-arena_zero b budget h at from = elim (cases_lt at (PAGE_SIZE * DOS_LIST_FRAMES)) [
-  | inl within ↦
-      at_region b (PAGE_SIZE * DOS_LIST) (PAGE_SIZE * DOS_LIST_FRAMES) at within
-      ∙ h.zeros (PAGE_SIZE * DOS_LIST + at) (omega arith) (omega arith) (inr (omega arith)) (inr (omega arith)) (inr (omega arith))
-  | inr past ↦
-      get_or_past (arena_part b) at 0
-      (let long = length-region b (PAGE_SIZE * DOS_LIST) (PAGE_SIZE * DOS_LIST_FRAMES) (let size = h.size in omega arith) in omega arith)
-]
+arena_zero b budget h at from = grind (arith, at_region, get_or_past, length-region)

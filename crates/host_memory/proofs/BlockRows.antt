@@ -1,12 +1,13 @@
 -- The rows of the memory blocks and the blocks of the world that they give; what is at a linear address of the block region.
-use Rattle.std.proofs.Common.{◌≡◌, ◌≢◌, ℕ, zero, suc, ◌+◌, ◌-◌, ◌*◌, ◌%◌, ◌<◌, ◌≤◌, ◌⊎◌, inl, inr, true, nat_lt, nat_le, List, length, slice_index, None, Some, refl, ap, ◌∙◌, sym, arith}
+use Rattle.std.proofs.Common.{◌≡◌, ◌≢◌, ℕ, zero, suc, ◌+◌, ◌-◌, ◌*◌, ◌%◌, ◌<◌, ◌≤◌, ◌⊎◌, inl, inr, true, nat_lt, nat_le, List, length}
+use Rattle.std.proofs.Common.{slice_index, None, Some, refl, ◌∙◌, sym, arith}
 use Rattle.std.proofs.lemmas.List.{get_or_past}
-use Rattle.std.proofs.lemmas.Bool.{lt-ltb, le-ltb, le-leb, eq-eqb, ne_eqb, cases_lt, cases_eq, ltb-true, leb-true, and_parts, and_from, false≢true}
+use Rattle.std.proofs.lemmas.Bool.{lt-ltb, le-ltb, le-leb, eq-eqb, ne_eqb, cases_lt, ltb-true, leb-true, and_parts, and_from, false≢true}
 use Rattle.std.specs.declared.option.Option.{Option}
 use Rattle.client_world.specs.declared.place.Place.TheVariants.{Block, Nothing}
 use Rattle.client_world.specs.declared.host_frames.TheConstants.{PAGE_SIZE}
 use Rattle.client_world.specs.declared.limits.TheConstants.{MAX_BLOCKS}
-use Rattle.client_world.specs.declared.memory_map.TheConstants.{BLOCK_REGION, BLOCK_REGION_END, DOS_VIEW_END}
+use Rattle.client_world.specs.declared.memory_map.TheConstants.{BLOCK_REGION, BLOCK_REGION_END}
 use Rattle.client_world.specs.Access.{place_in, block_place, covers}
 use Rattle.client_world.specs.Soundness.{SoundBlocks}
 use Rattle.client_world.specs.World.{MemoryBlock, block_at}
@@ -15,7 +16,8 @@ use Rattle.host_memory.specs.Layout.{base_of, pages_of, first_page_of, lock_of, 
 use Rattle.host_memory.proofs.BlockPlaces.{search_tells, FindsBlock, FindsNothing}
 
 -- the fields of the block of a row
-pub held_base : (handles tables locks budget : List ℕ) (place : ℕ) → (held_block handles tables locks budget place).base ≡ base_of handles place
+pub held_base : (handles tables locks budget : List ℕ) (place : ℕ) →
+    (held_block handles tables locks budget place).base ≡ base_of handles place
 unfolding held_block
 held_base handles tables locks budget place = refl
 
@@ -78,20 +80,7 @@ pub record GivesBlock (handles tables locks budget : List ℕ) (place : ℕ) (bl
 
 pub row_gives : (handles tables locks budget : List ℕ) (place : ℕ) (block : MemoryBlock) →
     block_in handles tables locks budget place ≡ Some block → GivesBlock handles tables locks budget place block
-row_gives handles tables locks budget place block e = elim (cases_eq (pages_of handles place) 0) [
-  | inl none ↦ (let free : block_in handles tables locks budget place ≡ None = row_free handles tables locks budget place none in absurd cc)
-  | inr some ↦ (
-      let there : block_in handles tables locks budget place ≡ Some (held_block handles tables locks budget place) =
-      row_there handles tables locks budget place some in
-      let same : block ≡ held_block handles tables locks budget place = cc in
-      record {
-        some = some;
-        is = same;
-        base = ap (λ (b : MemoryBlock). b.base) same ∙ held_base handles tables locks budget place;
-        bytes = ap (λ (b : MemoryBlock). length b.bytes) same ∙ length-held_bytes handles tables locks budget place;
-        pages = ap (λ (b : MemoryBlock). length b.locks) same ∙ length-held_locks handles tables locks budget place;
-      })
-]
+row_gives handles tables locks budget place block e = grind (arith, held_base, length-held_bytes, length-held_locks, row_free, row_there)
 
 -- the row after a block of the world
 pub record HeldRow (handles tables locks budget : List ℕ) (handle : ℕ) (block : MemoryBlock) : Type 0 where
@@ -102,12 +91,12 @@ pub record HeldRow (handles tables locks budget : List ℕ) (handle : ℕ) (bloc
 
 -- the row of a handle whose block is there
 pub row_at_block : (handles tables locks budget : List ℕ) (place : ℕ) (block : MemoryBlock) →
-    block_at (blocks_in handles tables locks budget) (suc place) ≡ Some block → (place < MAX_BLOCKS) × GivesBlock handles tables locks budget place block
+    block_at (blocks_in handles tables locks budget) (suc place) ≡ Some block → (place < MAX_BLOCKS)
+    × GivesBlock handles tables locks budget place block
 row_at_block handles tables locks budget place block e = elim (cases_lt place MAX_BLOCKS) [
-  | inl within ↦ (within, row_gives handles tables locks budget place block (sym (block_at_row handles tables locks budget place within) ∙ e))
-  | inr beyond ↦ (
-      let none : block_at (blocks_in handles tables locks budget) (suc place) ≡ None =
-      get_or_past (blocks_in handles tables locks budget) place None (omega (arith, length-blocks_in handles tables locks budget)) in absurd cc)
+  | inl within ↦
+      (within, row_gives handles tables locks budget place block (sym (block_at_row handles tables locks budget place within) ∙ e))
+  | inr beyond ↦ (grind (arith, get_or_past, length-blocks_in))
 ]
 
 -- each block of the world is that of a row
@@ -133,10 +122,12 @@ pub record HasRanges (handles : List ℕ) : Type 0 where
       ⊎ (base_of handles other + PAGE_SIZE * pages_of handles other ≤ base_of handles place)
 
 -- where the blocks are sound the rows are
-pub ranges : (handles tables locks budget : List ℕ) (pages : ℕ) → SoundBlocks (blocks_in handles tables locks budget) pages → HasRanges handles
+pub ranges : (handles tables locks budget : List ℕ) (pages : ℕ) → SoundBlocks (blocks_in handles tables locks budget) pages →
+    HasRanges handles
 ranges handles tables locks budget pages sound = record {
   each = λ place within some. (
-      let is = sound.each (suc place) (held_block handles tables locks budget place) (block_there handles tables locks budget place within some) in
+      let is = sound.each (suc place) (held_block handles tables locks budget place)
+      (block_there handles tables locks budget place within some) in
       let base = held_base handles tables locks budget place in
       let long = length-held_bytes handles tables locks budget place in
       let whole = is.whole in let from = is.from in let to = is.to in
@@ -147,7 +138,8 @@ ranges handles tables locks budget pages sound = record {
       let long = length-held_bytes handles tables locks budget place in
       let other_base = held_base handles tables locks budget other in
       let other_long = length-held_bytes handles tables locks budget other in
-      elim (sound.apart (suc place) (suc other) (held_block handles tables locks budget place) (held_block handles tables locks budget other) ne_handles
+      elim (sound.apart (suc place) (suc other) (held_block handles tables locks budget place)
+      (held_block handles tables locks budget other) ne_handles
       (block_there handles tables locks budget place within some) (block_there handles tables locks budget other inside more)) [
         | inl below ↦ inl (omega arith)
         | inr above ↦ inr (omega arith)
@@ -179,9 +171,7 @@ pub record InNoBlock (handles tables locks budget : List ℕ) (lin : ℕ) : Type
 pub place_in_region : (blocks : List (Option MemoryBlock)) (lin : ℕ) → BLOCK_REGION ≤ lin → lin < BLOCK_REGION_END →
     place_in blocks lin ≡ block_place blocks 1 lin
 unfolding place_in
-place_in_region blocks lin from to =
-    let above : DOS_VIEW_END ≤ lin = omega arith in
-    rw (le-ltb lin DOS_VIEW_END above, le-leb BLOCK_REGION lin from, lt-ltb lin BLOCK_REGION_END to) refl
+place_in_region blocks lin from to = grind (arith, le-leb, le-ltb, lt-ltb)
 
 found_row : (handles tables locks budget : List ℕ) (lin : ℕ) → BLOCK_REGION ≤ lin → lin < BLOCK_REGION_END →
     FindsBlock (blocks_in handles tables locks budget) 1 lin → InBlock handles tables locks budget lin
@@ -201,9 +191,7 @@ found_row handles tables locks budget lin from to found =
       some = omega arith;
       offset = omega arith;
       inside = omega arith;
-      answer = place_in_region (blocks_in handles tables locks budget) lin from to ∙ found.answer
-          ∙ ap (λ (number : ℕ). Block number (lin - found.block.base)) (let next : 1 + found.place ≡ suc found.place = omega arith in next)
-          ∙ ap (λ (k : ℕ). Block (suc found.place) (lin - k)) base;
+      answer = grind (arith, place_in_region);
     }
 
 missed_rows : (handles tables locks budget : List ℕ) (lin : ℕ) → FindsNothing (blocks_in handles tables locks budget) 1 lin →
@@ -213,7 +201,8 @@ missed_rows handles tables locks budget lin missed place row =
     let to = row.to in
     let some : pages_of handles place ≢ 0 = omega arith in
     let block = held_block handles tables locks budget place in
-    let within : place < length (blocks_in handles tables locks budget) = omega (arith, row.within, length-blocks_in handles tables locks budget) in
+    let within : place < length (blocks_in handles tables locks budget) =
+    omega (arith, row.within, length-blocks_in handles tables locks budget) in
     let base : block.base ≤ lin = omega (arith, held_base handles tables locks budget place) in
     let end : lin < block.base + length block.bytes =
     omega (arith, held_base handles tables locks budget place, length-held_bytes handles tables locks budget place) in
@@ -223,10 +212,4 @@ missed_rows handles tables locks budget lin missed place row =
 -- what is at a linear address of the block region: a byte of a block, or nothing
 pub over_tells : (handles tables locks budget : List ℕ) (lin : ℕ) → BLOCK_REGION ≤ lin → lin < BLOCK_REGION_END →
     InBlock handles tables locks budget lin ⊎ InNoBlock handles tables locks budget lin
-over_tells handles tables locks budget lin from to = elim (search_tells (blocks_in handles tables locks budget) 1 lin) [
-  | inl found ↦ inl (found_row handles tables locks budget lin from to found)
-  | inr missed ↦ inr (record {
-    none = missed_rows handles tables locks budget lin missed;
-    answer = place_in_region (blocks_in handles tables locks budget) lin from to ∙ missed.answer;
-  })
-]
+over_tells handles tables locks budget lin from to = grind (arith, found_row, missed_rows, place_in_region, search_tells)

@@ -1,8 +1,9 @@
 -- The blocks of a memory that holds a world: their bytes, their rows and their lock counts, said with no decoding.
-use Rattle.std.proofs.Common.{◌≡◌, ℕ, zero, suc, ◌+◌, ◌-◌, ◌*◌, ◌/◌, ◌%◌, ◌<◌, ◌≤◌, inl, inr, List, length, slice_index, None, Some, ap, ◌∙◌, sym, subst, arith, add-zero}
-use Rattle.std.proofs.lemmas.Bool.{cases_eq}
+use Rattle.std.proofs.Common.{◌≡◌, ℕ, zero, suc, ◌+◌, ◌-◌, ◌*◌, ◌/◌, ◌%◌, ◌<◌, ◌≤◌, List, length, slice_index, Some, ap, ◌∙◌, sym, subst}
+use Rattle.std.proofs.Common.{arith, add-zero}
 use Rattle.std.specs.declared.option.Option.{Option}
-use Rattle.client_world.specs.declared.host_frames.TheConstants.{PAGE_SIZE, BLOCK_ROWS, LOCK_COUNTS, BUDGET_FRAMES, BLOCK_ROW_FRAMES, BLOCK_ROW_SIZE, LOCK_COUNT_FRAMES, LOCK_COUNT_SIZE}
+use Rattle.client_world.specs.declared.host_frames.TheConstants.{PAGE_SIZE, BLOCK_ROWS, LOCK_COUNTS, BUDGET_FRAMES, BLOCK_ROW_FRAMES}
+use Rattle.client_world.specs.declared.host_frames.TheConstants.{BLOCK_ROW_SIZE, LOCK_COUNT_FRAMES, LOCK_COUNT_SIZE}
 use Rattle.client_world.specs.declared.limits.TheConstants.{MAX_BLOCKS}
 use Rattle.client_world.specs.Soundness.{pages_of_block}
 use Rattle.client_world.specs.World.{World, MemoryBlock, block_at}
@@ -10,7 +11,8 @@ use Rattle.guest_ram.specs.Bytes.{dword, word_of}
 use Rattle.guest_ram.proofs.PutLaws.{at_region}
 use Rattle.host_memory.specs.Holds.{Holds}
 use Rattle.host_memory.specs.HoldsWorld.{base_of_block, HoldsBlocks, IsBlockRow, block_entry, block_page, frame_place}
-use Rattle.host_memory.specs.Layout.{tables_part, handles_part, locks_part, budget_part, base_of, pages_of, first_page_of, entry_of, held_block, blocks_in}
+use Rattle.host_memory.specs.Layout.{tables_part, handles_part, locks_part, budget_part, base_of, pages_of, first_page_of, entry_of}
+use Rattle.host_memory.specs.Layout.{blocks_in}
 use Rattle.host_memory.proofs.BlockBytes.{IsBlockByte, page_inside, page_small, byte_frame, spot_small}
 use Rattle.host_memory.proofs.BlockRows.{HasRanges, held_base, held_byte, held_lock, length-held_locks, block_there, block_free}
 use Rattle.host_memory.proofs.ByteLaw.{spot}
@@ -46,7 +48,8 @@ byte_claim b budget w holds ranges has handle at block e inside =
     ∙ held_byte (handles_part b) (tables_part b) (locks_part b) (budget_part b budget) place at byte.inside)
 
 -- a doubleword of four zeros is 0
-dword_zero : (b : List ℕ) (at : ℕ) → slice_index b at ≡ 0 → slice_index b (at + 1) ≡ 0 → slice_index b (at + 2) ≡ 0 → slice_index b (at + 3) ≡ 0 →
+dword_zero : (b : List ℕ) (at : ℕ) → slice_index b at ≡ 0 → slice_index b (at + 1) ≡ 0 → slice_index b (at + 2) ≡ 0 →
+    slice_index b (at + 3) ≡ 0 →
     dword b at ≡ 0
 unfolding dword
 dword_zero b at e f g h = omega arith
@@ -55,7 +58,8 @@ dword_zero b at e f g h = omega arith
 pub base_free : (b : List ℕ) (budget : ℕ) → Holds b budget → (place : ℕ) → place < MAX_BLOCKS → pages_of (handles_part b) place ≡ 0 →
     base_of (handles_part b) place ≡ 0
 base_free b budget holds place within none = dword_zero (handles_part b) (BLOCK_ROW_SIZE * place)
-    (ap (slice_index (handles_part b)) (sym (add-zero (BLOCK_ROW_SIZE * place))) ∙ zeros 0 (omega arith)) (zeros 1 (omega arith)) (zeros 2 (omega arith)) (zeros 3 (omega arith))
+    (ap (slice_index (handles_part b)) (sym (add-zero (BLOCK_ROW_SIZE * place))) ∙ zeros 0 (omega arith)) (zeros 1 (omega arith))
+    (zeros 2 (omega arith)) (zeros 3 (omega arith))
   where
     zeros : (at : ℕ) → at < BLOCK_ROW_SIZE → slice_index (handles_part b) (BLOCK_ROW_SIZE * place + at) ≡ 0
     zeros at less = holds.handles.free place at within none less
@@ -64,34 +68,28 @@ row_claim : (b : List ℕ) (budget : ℕ) (w : World) → Holds b budget → Has
     IsBlockRow b (frame_place BLOCK_ROWS (BLOCK_ROW_SIZE * place)) (block_at w.blocks (suc place))
 row_claim b budget w holds has place within = record {
   base = part_dword b BLOCK_ROWS BLOCK_ROW_FRAMES (BLOCK_ROW_SIZE * place) (omega arith) ∙ fields.0;
-  pages = ap (dword b) (let e : frame_place BLOCK_ROWS (BLOCK_ROW_SIZE * place) + 4 ≡ frame_place BLOCK_ROWS (BLOCK_ROW_SIZE * place + 4) = omega arith in e)
+  pages = ap (dword b) (let e : frame_place BLOCK_ROWS (BLOCK_ROW_SIZE * place) + 4 ≡ frame_place BLOCK_ROWS (BLOCK_ROW_SIZE * place + 4) =
+      omega arith in e)
       ∙ part_dword b BLOCK_ROWS BLOCK_ROW_FRAMES (BLOCK_ROW_SIZE * place + 4) (omega arith) ∙ fields.1;
-  rest = λ at from less. ap (slice_index b) (let e : frame_place BLOCK_ROWS (BLOCK_ROW_SIZE * place) + at ≡ frame_place BLOCK_ROWS (BLOCK_ROW_SIZE * place + at) = omega arith in e)
+  rest = λ at from less. ap (slice_index b) (let e : frame_place BLOCK_ROWS (BLOCK_ROW_SIZE * place) + at
+      ≡ frame_place BLOCK_ROWS (BLOCK_ROW_SIZE * place + at) = omega arith in e)
       ∙ part_byte b BLOCK_ROWS BLOCK_ROW_FRAMES (BLOCK_ROW_SIZE * place + at) (omega arith) ∙ holds.handles.rest place at within from less;
 }
   where
     block : Option MemoryBlock
     block = block_at w.blocks (suc place)
 
-    reads : (found : Option MemoryBlock) → block_at (blocks_in (handles_part b) (tables_part b) (locks_part b) (budget_part b budget)) (suc place) ≡ found →
+    reads : (found : Option MemoryBlock) →
+        block_at (blocks_in (handles_part b) (tables_part b) (locks_part b) (budget_part b budget)) (suc place) ≡ found →
         block ≡ found
     reads found e = ap (λ (blocks : List (Option MemoryBlock)). block_at blocks (suc place)) has ∙ e
 
     fields : (base_of (handles_part b) place ≡ base_of_block block) × (pages_of (handles_part b) place ≡ pages_of_block block)
-    fields = elim (cases_eq (pages_of (handles_part b) place) 0) [
-      | inl none ↦ (
-          let free : block ≡ None = reads None (block_free (handles_part b) (tables_part b) (locks_part b) (budget_part b budget) place within none) in
-          (base_free b budget holds place within none ∙ sym (ap base_of_block free), none ∙ sym (ap pages_of_block free)))
-      | inr some ↦ (
-          let there : block ≡ Some (held_block (handles_part b) (tables_part b) (locks_part b) (budget_part b budget) place) =
-          reads _ (block_there (handles_part b) (tables_part b) (locks_part b) (budget_part b budget) place within some) in (
-            sym (ap base_of_block there ∙ held_base (handles_part b) (tables_part b) (locks_part b) (budget_part b budget) place),
-            sym (ap pages_of_block there ∙ length-held_locks (handles_part b) (tables_part b) (locks_part b) (budget_part b budget) place),
-          ))
-    ]
+    fields = grind (arith, base_free, block, block_free, block_there, held_base, length-held_locks, reads)
 
 -- the row of each handle
-pub rows_claim : (b : List ℕ) (budget : ℕ) (w : World) → Holds b budget → HasBlocks b budget w → (handle : ℕ) → 0 < handle → handle ≤ MAX_BLOCKS →
+pub rows_claim : (b : List ℕ) (budget : ℕ) (w : World) → Holds b budget → HasBlocks b budget w → (handle : ℕ) → 0 < handle →
+    handle ≤ MAX_BLOCKS →
     IsBlockRow b (frame_place BLOCK_ROWS (BLOCK_ROW_SIZE * (handle - 1))) (block_at w.blocks handle)
 rows_claim b budget w holds has zero some most = absurd (omega arith)
 rows_claim b budget w holds has (suc place) some most =
@@ -114,7 +112,8 @@ lock_claim b budget w holds ranges has handle page block e inside =
     ∙ held_lock (handles_part b) (tables_part b) (locks_part b) (budget_part b budget) place page less)
 
 -- the blocks
-pub blocks_claim : (b : List ℕ) (budget : ℕ) (w : World) → Holds b budget → HasRanges (handles_part b) → HasBlocks b budget w → HoldsBlocks b w
+pub blocks_claim : (b : List ℕ) (budget : ℕ) (w : World) → Holds b budget → HasRanges (handles_part b) → HasBlocks b budget w →
+    HoldsBlocks b w
 blocks_claim b budget w holds ranges has = record {
   bytes = byte_claim b budget w holds ranges has;
   rows = rows_claim b budget w holds has;

@@ -1,88 +1,66 @@
 -- The world's byte at a place that the client may touch is at the place's address, outside of the host's frames.
-use Rattle.std.proofs.Common.{◌≡◌, ℕ, suc, ◌+◌, ◌-◌, ◌*◌, ◌/◌, ◌%◌, ◌<◌, ◌⊎◌, inl, inr, Bool, true, false, List, slice_index, refl, ap, ◌∙◌, sym, arith, zero-add}
-use Rattle.std.proofs.lemmas.Bool.{cases_lt, false≢true}
+use Rattle.std.proofs.Common.{◌≡◌, ℕ, suc, ◌+◌, ◌-◌, ◌*◌, ◌/◌, ◌%◌, ◌<◌, ◌⊎◌, inl, inr, Bool, true, false, List, slice_index, ap, ◌∙◌, sym}
+use Rattle.std.proofs.Common.{arith, zero-add}
+use Rattle.std.proofs.lemmas.Bool.{false≢true}
 use Rattle.std.specs.declared.option.Option.{Option}
 use Rattle.client_world.specs.declared.registers.Mode.{Mode}
 use Rattle.client_world.specs.declared.registers.Regs.{Regs}
 use Rattle.client_world.specs.declared.registers.Width.{Width}
 use Rattle.client_world.specs.declared.place.Place.{Place}
-use Rattle.client_world.specs.declared.place.Place.TheVariants.{Dos, Block, Host, Nothing}
+use Rattle.client_world.specs.declared.place.Place.TheVariants.{Dos, Block}
 use Rattle.client_world.specs.declared.host_frames.TheConstants.{PAGE_SIZE, BUDGET_FRAMES}
 use Rattle.client_world.specs.declared.limits.TheConstants.{MAX_BLOCKS}
-use Rattle.client_world.specs.declared.memory_map.TheConstants.{DOS_SIZE, DOS_VIEW_END, BLOCK_REGION, BLOCK_REGION_END, HOST_WINDOW, HOST_WINDOW_END}
-use Rattle.client_world.specs.Access.{place_in, place_of, dos_address, may_touch, byte_of, bytes_of_block}
-use Rattle.client_world.specs.World.{World, MemoryBlock, block_at}
+use Rattle.client_world.specs.declared.memory_map.TheConstants.{DOS_SIZE}
+use Rattle.client_world.specs.Access.{place_in, place_of, may_touch, byte_of}
+use Rattle.client_world.specs.World.{World, MemoryBlock}
 use Rattle.guest_ram.proofs.PutLaws.{at_region}
 use Rattle.host_memory.specs.Holds.{Holds}
 use Rattle.host_memory.specs.Law.{StandsAt}
-use Rattle.host_memory.specs.Layout.{world_of, address_of, tables_part, handles_part, locks_part, budget_part, pages_of, first_page_of, entry_of}
+use Rattle.host_memory.specs.Layout.{world_of, address_of, tables_part, handles_part, locks_part, budget_part, pages_of, first_page_of}
+use Rattle.host_memory.specs.Layout.{entry_of}
 use Rattle.host_memory.proofs.BlockRows.{InBlock, InNoBlock, over_tells, block_there, held_byte}
-use Rattle.host_memory.proofs.PlaceRanges.{place_in_view, place_in_gap, place_below_window, place_in_window, place_above_window, block_address_is}
+use Rattle.host_memory.proofs.PlaceRanges.{place_in_view, place_in_gap, place_below_window, place_in_window, place_above_window}
+use Rattle.host_memory.proofs.PlaceRanges.{block_address_is}
 use Rattle.host_memory.proofs.WorldParts.{dos_is, blocks_is}
 
 -- the address of a byte of a block, counted from the budget frames
 abbrev pub spot : List ℕ → ℕ → ℕ → ℕ
 spot tables page at = PAGE_SIZE * (entry_of tables (page + at / PAGE_SIZE) / PAGE_SIZE - BUDGET_FRAMES) + at % PAGE_SIZE
 
-pub block_spot : (b : List ℕ) (budget place at : ℕ) → Holds b budget → place < MAX_BLOCKS → at < PAGE_SIZE * pages_of (handles_part b) place →
+pub block_spot : (b : List ℕ) (budget place at : ℕ) → Holds b budget → place < MAX_BLOCKS →
+    at < PAGE_SIZE * pages_of (handles_part b) place →
     address_of b (Block (suc place) at) ≡ PAGE_SIZE * BUDGET_FRAMES + spot (tables_part b) (first_page_of (handles_part b) place) at
-block_spot b budget place at holds within inside =
-    let named = holds.blocks.named place (at / PAGE_SIZE) within (omega arith) in
-    let from = named.from in
-    let e : PAGE_SIZE * (entry_of (tables_part b) (first_page_of (handles_part b) place + at / PAGE_SIZE) / PAGE_SIZE) + at % PAGE_SIZE
-    ≡ PAGE_SIZE * BUDGET_FRAMES + spot (tables_part b) (first_page_of (handles_part b) place) at = omega arith in
-    block_address_is b place at ∙ e
+block_spot b budget place at holds within inside = grind (arith, block_address_is)
 
-pub spot_inside : (b : List ℕ) (budget place at : ℕ) → Holds b budget → place < MAX_BLOCKS → at < PAGE_SIZE * pages_of (handles_part b) place →
+pub spot_inside : (b : List ℕ) (budget place at : ℕ) → Holds b budget → place < MAX_BLOCKS →
+    at < PAGE_SIZE * pages_of (handles_part b) place →
     spot (tables_part b) (first_page_of (handles_part b) place) at < PAGE_SIZE * budget
-spot_inside b budget place at holds within inside =
-    let named = holds.blocks.named place (at / PAGE_SIZE) within (omega arith) in
-    let from = named.from in
-    let to = named.to in
-    omega arith
+spot_inside b budget place at holds within inside = grind arith
 
 -- a byte of the DOS megabyte
-pub dos_stands : (b : List ℕ) (budget : ℕ) (mode : Mode) (regs : Regs) (vif : Bool) (width : Option Width) (at : ℕ) → Holds b budget → at < DOS_SIZE →
+pub dos_stands : (b : List ℕ) (budget : ℕ) (mode : Mode) (regs : Regs) (vif : Bool) (width : Option Width) (at : ℕ) → Holds b budget →
+    at < DOS_SIZE →
     StandsAt b (world_of b budget mode regs vif width) (Dos at)
 unfolding address_of
-dos_stands b budget mode regs vif width at holds below =
-    let size = holds.size in
-    record {
-      byte = sym (ap (λ (dos : List ℕ). slice_index dos at) (dos_is b budget mode regs vif width) ∙ at_region b 0 DOS_SIZE at below
-          ∙ ap (λ (k : ℕ). slice_index b k) (zero-add at));
-      inside = omega arith;
-      away = inl below;
-    }
+dos_stands b budget mode regs vif width at holds below = grind (arith, at_region, dos_is, zero-add)
 
 -- a byte of a block of the world is that of its page
 pub block_byte : (b : List ℕ) (budget : ℕ) (mode : Mode) (regs : Regs) (vif : Bool) (width : Option Width) (place at : ℕ) →
     place < MAX_BLOCKS → at < PAGE_SIZE * pages_of (handles_part b) place →
     byte_of (world_of b budget mode regs vif width) (Block (suc place) at)
     ≡ slice_index (budget_part b budget) (spot (tables_part b) (first_page_of (handles_part b) place) at)
-block_byte b budget mode regs vif width place at within inside =
-    ap (λ (blocks : List (Option MemoryBlock)). slice_index (bytes_of_block (block_at blocks (suc place))) at) (blocks_is b budget mode regs vif width)
-    ∙ ap (λ (block : Option MemoryBlock). slice_index (bytes_of_block block) at)
-    (block_there (handles_part b) (tables_part b) (locks_part b) (budget_part b budget) place within (omega arith))
-    ∙ held_byte (handles_part b) (tables_part b) (locks_part b) (budget_part b budget) place at inside
+block_byte b budget mode regs vif width place at within inside = grind (arith, block_there, blocks_is, held_byte)
 
 -- it is at its address
-pub block_stands : (b : List ℕ) (budget : ℕ) (mode : Mode) (regs : Regs) (vif : Bool) (width : Option Width) (place at : ℕ) → Holds b budget →
+pub block_stands : (b : List ℕ) (budget : ℕ) (mode : Mode) (regs : Regs) (vif : Bool) (width : Option Width) (place at : ℕ) →
+    Holds b budget →
     place < MAX_BLOCKS → at < PAGE_SIZE * pages_of (handles_part b) place →
     StandsAt b (world_of b budget mode regs vif width) (Block (suc place) at)
-block_stands b budget mode regs vif width place at holds within inside =
-    let size = holds.size in
-    let address = block_spot b budget place at holds within inside in
-    let less = spot_inside b budget place at holds within inside in
-    record {
-      byte = ap (λ (k : ℕ). slice_index b k) address
-          ∙ sym (at_region b (PAGE_SIZE * BUDGET_FRAMES) (PAGE_SIZE * budget) (spot (tables_part b) (first_page_of (handles_part b) place) at) less)
-          ∙ sym (block_byte b budget mode regs vif width place at within inside);
-      inside = omega arith;
-      away = inr (omega arith);
-    }
+block_stands b budget mode regs vif width place at holds within inside = grind (arith, at_region, block_byte, block_spot, spot_inside)
 
 -- what is said of a place holds of the address where it is
-pub stands_by : (b : List ℕ) (w : World) (lin : ℕ) (place : Place) → place_of w lin ≡ place → StandsAt b w place → StandsAt b w (place_of w lin)
+pub stands_by : (b : List ℕ) (w : World) (lin : ℕ) (place : Place) → place_of w lin ≡ place → StandsAt b w place →
+    StandsAt b w (place_of w lin)
 stands_by b w lin place e stands = rw e stands
 
 -- and no byte is asked for where the client may not touch
@@ -91,7 +69,8 @@ pub forbidden : (b : List ℕ) (w : World) (lin : ℕ) (write : Bool) (place : P
 forbidden b w lin write place e barred may = absurd (false≢true (sym barred ∙ ap (λ (p : Place). may_touch p write) (sym e) ∙ may))
 
 -- in the block region
-region_byte : (b : List ℕ) (budget : ℕ) (mode : Mode) (regs : Regs) (vif : Bool) (width : Option Width) (lin : ℕ) (write : Bool) → Holds b budget →
+region_byte : (b : List ℕ) (budget : ℕ) (mode : Mode) (regs : Regs) (vif : Bool) (width : Option Width) (lin : ℕ) (write : Bool) →
+    Holds b budget →
     may_touch (place_of (world_of b budget mode regs vif width) lin) write ≡ true →
     InBlock (handles_part b) (tables_part b) (locks_part b) (budget_part b budget) lin
     ⊎ InNoBlock (handles_part b) (tables_part b) (locks_part b) (budget_part b budget) lin →
@@ -100,31 +79,24 @@ region_byte b budget mode regs vif width lin write holds may (inl found) =
     stands_by b (world_of b budget mode regs vif width) lin (Block (suc found.place) found.at)
     (ap (λ (blocks : List (Option MemoryBlock)). place_in blocks lin) (blocks_is b budget mode regs vif width) ∙ found.answer)
     (block_stands b budget mode regs vif width found.place found.at holds found.within found.inside)
-region_byte b budget mode regs vif width lin write holds may (inr missed) =
-    forbidden b (world_of b budget mode regs vif width) lin write Nothing
-    (ap (λ (blocks : List (Option MemoryBlock)). place_in blocks lin) (blocks_is b budget mode regs vif width) ∙ missed.answer) refl may
+region_byte b budget mode regs vif width lin write holds may (inr missed) = grind (arith, blocks_is, forbidden)
 
 -- what is at a linear address where the client may touch is at the address of its place
-pub byte_agrees : (b : List ℕ) (budget : ℕ) → Holds b budget → (mode : Mode) (regs : Regs) (vif : Bool) (width : Option Width) (lin : ℕ) (write : Bool) →
+pub byte_agrees : (b : List ℕ) (budget : ℕ) → Holds b budget →
+    (mode : Mode) (regs : Regs) (vif : Bool) (width : Option Width) (lin : ℕ) (write : Bool) →
     may_touch (place_of (world_of b budget mode regs vif width) lin) write ≡ true →
     StandsAt b (world_of b budget mode regs vif width) (place_of (world_of b budget mode regs vif width) lin)
 byte_agrees b budget holds mode regs vif width lin write may =
-    let w = world_of b budget mode regs vif width in
-    elim (cases_lt lin DOS_VIEW_END) [
-      | inl shown ↦ stands_by b w lin (Dos (dos_address lin)) (place_in_view w.blocks lin shown)
-          (dos_stands b budget mode regs vif width (dos_address lin) holds (omega arith))
-      | inr behind ↦ elim (cases_lt lin BLOCK_REGION) [
-        | inl gap ↦ forbidden b w lin write Nothing (place_in_gap w.blocks lin behind gap) refl may
-        | inr from ↦ elim (cases_lt lin BLOCK_REGION_END) [
-          | inl to ↦ region_byte b budget mode regs vif width lin write holds may
-              (over_tells (handles_part b) (tables_part b) (locks_part b) (budget_part b budget) lin from to)
-          | inr high ↦ elim (cases_lt lin HOST_WINDOW) [
-            | inl below ↦ forbidden b w lin write Nothing (place_below_window w.blocks lin high below) refl may
-            | inr window ↦ elim (cases_lt lin HOST_WINDOW_END) [
-              | inl host ↦ forbidden b w lin write Host (place_in_window w.blocks lin window host) refl may
-              | inr above ↦ forbidden b w lin write Nothing (place_above_window w.blocks lin above) refl may
-            ]
-          ]
-        ]
-      ]
-    ]
+    grind (
+      arith,
+      dos_stands,
+      forbidden,
+      over_tells,
+      place_above_window,
+      place_below_window,
+      place_in_gap,
+      place_in_view,
+      place_in_window,
+      region_byte,
+      stands_by,
+    )

@@ -1,5 +1,6 @@
 -- The places that the client may write, and where they lie in the memory.
-use Rattle.std.proofs.Common.{◌≡◌, ℕ, suc, ◌*◌, ◌<◌, ◌≤◌, ◌⊎◌, inl, inr, Bool, true, List, length, refl, ap, ◌∙◌, sym, subst, arith, Option, Some, None}
+use Rattle.std.proofs.Common.{◌≡◌, ℕ, suc, ◌*◌, ◌<◌, ◌≤◌, ◌⊎◌, inl, inr, Bool, true, List, length, refl, ap, ◌∙◌, sym, subst, arith, Option}
+use Rattle.std.proofs.Common.{Some, None}
 use Rattle.std.proofs.lemmas.Bool.{ltb-true}
 use Rattle.client_world.specs.declared.registers.Mode.{Mode}
 use Rattle.client_world.specs.declared.registers.Regs.{Regs}
@@ -55,12 +56,7 @@ byte_in handles tables locks frames number at byte =
     let row = held_row handles tables locks frames number has.held has.there in
     let inside = has.inside in
     let long = row.gives.bytes in
-    record {
-      place = row.place;
-      at = at;
-      is = ap (λ (n : ℕ). Block n at) row.named;
-      byte = record { within = row.within; inside = omega arith };
-    }
+    grind arith
 
 -- what the client holds of the world lies in the memory
 stands_in : (b : List ℕ) (budget : ℕ) (w : World) (p : Place) (bound : ℕ) →
@@ -68,7 +64,8 @@ stands_in : (b : List ℕ) (budget : ℕ) (w : World) (p : Place) (bound : ℕ) 
     ((at : ℕ) → p ≡ Dos at → at < bound) → IsHeld w p → StandsBelow (handles_part b) bound p
 stands_in b budget w (Dos at) bound e low held = inl (record { at = at; is = refl; low = low at refl })
 stands_in b budget w (Block number at) bound e low held =
-    inr (byte_in (handles_part b) (tables_part b) (locks_part b) (budget_part b budget) number at (subst (λ (bs : List (Option MemoryBlock)). HasByte (block_at bs number) at) e held))
+    inr (byte_in (handles_part b) (tables_part b) (locks_part b) (budget_part b budget) number at
+    (subst (λ (bs : List (Option MemoryBlock)). HasByte (block_at bs number) at) e held))
 stands_in b budget w Host bound e low held = absurd held
 stands_in b budget w Nothing bound e low held = absurd held
 
@@ -76,10 +73,12 @@ below_rom : (p : Place) (at : ℕ) → may_touch p true ≡ true → p ≡ Dos a
 below_rom p at may e = ltb-true at ROM_START (ap (λ (q : Place). may_touch q true) (sym e) ∙ may)
 
 -- a place that the client holds and may write is one of these
-pub writable : (b : List ℕ) (budget : ℕ) (mode : Mode) (regs : Regs) (vif : Bool) (width : Option Width) (p : Place) → may_touch p true ≡ true →
+pub writable : (b : List ℕ) (budget : ℕ) (mode : Mode) (regs : Regs) (vif : Bool) (width : Option Width) (p : Place) →
+    may_touch p true ≡ true →
     IsHeld (world_of b budget mode regs vif width) p → IsWritable (handles_part b) p
 writable b budget mode regs vif width p may held =
-    stands_in b budget (world_of b budget mode regs vif width) p ROM_START (blocks_is b budget mode regs vif width) (λ at e. below_rom p at may e) held
+    stands_in b budget (world_of b budget mode regs vif width) p ROM_START (blocks_is b budget mode regs vif width)
+    (λ at e. below_rom p at may e) held
 
 -- the rows of the blocks of a world whose blocks are sound
 pub ranges_of : (b : List ℕ) (budget pages : ℕ) (mode : Mode) (regs : Regs) (vif : Bool) (width : Option Width) →
@@ -97,7 +96,4 @@ address_dos b at = refl
 -- the place lies in the megabyte below that bound, or among the budget frames
 pub address_outside : (b : List ℕ) (budget : ℕ) → Holds b budget → (bound : ℕ) (p : Place) → StandsBelow (handles_part b) bound p →
     (address_of b p < bound) ⊎ (PAGE_SIZE * BUDGET_FRAMES ≤ address_of b p)
-address_outside b budget holds bound p at = elim at [
-  | inl dos ↦ inl (let low = dos.low in let e = ap (address_of b) dos.is ∙ address_dos b dos.at in omega arith)
-  | inr block ↦ inr (let e = ap (address_of b) block.is ∙ block_spot b budget block.place block.at holds block.byte.within block.byte.inside in omega arith)
-]
+address_outside b budget holds bound p at = grind (arith, address_dos, block_spot)

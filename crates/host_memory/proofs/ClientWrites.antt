@@ -1,6 +1,7 @@
 -- A byte that the client may write, put where its place is, is that byte in the world, and in nothing else: the memory still holds a
 -- world, the host's frames keep their bytes and places their addresses.
-use Rattle.std.proofs.Common.{◌≡◌, ◌≢◌, ℕ, suc, ◌+◌, ◌-◌, ◌*◌, ◌<◌, ◌≤◌, inl, inr, Bool, true, List, [], ◌∷◌, length, slice_index, slice_set, refl, ap, ◌∙◌, arith, Option, get_or-set_other}
+use Rattle.std.proofs.Common.{◌≡◌, ◌≢◌, ℕ, suc, ◌+◌, ◌-◌, ◌*◌, ◌<◌, ◌≤◌, inl, inr, Bool, true, List, [], ◌∷◌, length, slice_index}
+use Rattle.std.proofs.Common.{slice_set, refl, ap, arith, Option, get_or-set_other}
 use Rattle.client_world.specs.declared.registers.Mode.{Mode}
 use Rattle.client_world.specs.declared.registers.Regs.{Regs}
 use Rattle.client_world.specs.declared.registers.Width.{Width}
@@ -14,10 +15,12 @@ use Rattle.client_world.specs.World.{MemoryBlock}
 use Rattle.guest_ram.specs.Bytes.{put}
 use Rattle.guest_ram.proofs.PutLaws.{length-region}
 use Rattle.page_tables.proofs.FreeWrites.{dword_set_other}
-use Rattle.host_memory.specs.Layout.{world_of, address_of, dos_part, handles_part, tables_part, locks_part, budget_part, taken_part, first_page_of, blocks_in}
+use Rattle.host_memory.specs.Layout.{world_of, address_of, dos_part, handles_part, tables_part, locks_part, budget_part, taken_part}
+use Rattle.host_memory.specs.Layout.{first_page_of, blocks_in}
 use Rattle.host_memory.specs.Holds.{Holds}
 use Rattle.host_memory.specs.Tables.{IsIdle, next_frame}
-use Rattle.host_memory.proofs.Parts.{MemoryParts, parts_of, world_by, holds_by, holds_parts, holds_with_dos, holds_with_frames, addresses_by}
+use Rattle.host_memory.proofs.Parts.{MemoryParts, parts_of, world_by, holds_by, holds_parts, holds_with_dos, holds_with_frames}
+use Rattle.host_memory.proofs.Parts.{addresses_by}
 use Rattle.host_memory.proofs.PutParts.{put_dos, put_frames, size_put}
 use Rattle.host_memory.proofs.BlockRows.{HasRanges}
 use Rattle.host_memory.proofs.BlockBytes.{IsBlockByte, spot_small, blocks_written}
@@ -27,17 +30,20 @@ use Rattle.host_memory.proofs.ClientPlaces.{IsWritable, writable, ranges_of, add
 
 -- a run of bytes in the megabyte
 
-pub dos_world : (b : List ℕ) (budget : ℕ) → Holds b budget → (mode : Mode) (regs : Regs) (vif : Bool) (width : Option Width) (at : ℕ) (xs : List ℕ) →
+pub dos_world : (b : List ℕ) (budget : ℕ) → Holds b budget →
+    (mode : Mode) (regs : Regs) (vif : Bool) (width : Option Width) (at : ℕ) (xs : List ℕ) →
     at + length xs ≤ DOS_SIZE →
     world_of (put b at xs) budget mode regs vif width
     ≡ record (world_of b budget mode regs vif width) { dos = put (world_of b budget mode regs vif width).dos at xs }
 unfolding world_of
 dos_world b budget holds mode regs vif width at xs room =
-    world_by (put b at xs) budget (record (parts_of b budget) { dos = put (dos_part b) at xs }) (put_dos b budget at at xs holds.size refl room) mode regs vif width
+    world_by (put b at xs) budget (record (parts_of b budget) { dos = put (dos_part b) at xs })
+    (put_dos b budget at at xs holds.size refl room) mode regs vif width
 
 pub dos_holds : (b : List ℕ) (budget : ℕ) → Holds b budget → (at : ℕ) (xs : List ℕ) → at + length xs ≤ DOS_SIZE → Holds (put b at xs) budget
 dos_holds b budget holds at xs room =
-    holds_by (put b at xs) budget (record (parts_of b budget) { dos = put (dos_part b) at xs }) (put_dos b budget at at xs holds.size refl room)
+    holds_by (put b at xs) budget (record (parts_of b budget) { dos = put (dos_part b) at xs })
+    (put_dos b budget at at xs holds.size refl room)
     (size_put b budget at xs holds.size) holds.most
     (holds_with_dos (parts_of b budget) budget (put (dos_part b) at xs) (holds_parts b budget holds))
 
@@ -49,15 +55,13 @@ dos_addresses b budget holds at xs room =
 
 -- a run of bytes in the budget frames. Which blocks it changes, the caller says
 
-pub frames_world : (b : List ℕ) (budget : ℕ) → Holds b budget → (mode : Mode) (regs : Regs) (vif : Bool) (width : Option Width) (address at : ℕ) (xs : List ℕ) →
+pub frames_world : (b : List ℕ) (budget : ℕ) → Holds b budget →
+    (mode : Mode) (regs : Regs) (vif : Bool) (width : Option Width) (address at : ℕ) (xs : List ℕ) →
     address ≡ PAGE_SIZE * BUDGET_FRAMES + at → at + length xs ≤ PAGE_SIZE * budget → (blocks : List (Option MemoryBlock)) →
     blocks_in (handles_part b) (tables_part b) (locks_part b) (put (budget_part b budget) at xs) ≡ blocks →
     world_of (put b address xs) budget mode regs vif width ≡ record (world_of b budget mode regs vif width) { blocks = blocks }
 unfolding world_of
-frames_world b budget holds mode regs vif width address at xs e room blocks is =
-    world_by (put b address xs) budget (record (parts_of b budget) { frames = put (budget_part b budget) at xs })
-    (put_frames b budget address at xs holds.size e room) mode regs vif width
-    ∙ ap (λ (bs : List (Option MemoryBlock)). record (world_of b budget mode regs vif width) { blocks = bs }) is
+frames_world b budget holds mode regs vif width address at xs e room blocks is = grind (arith, put_frames, world_by)
 
 pub frames_holds : (b : List ℕ) (budget : ℕ) → Holds b budget → (address at : ℕ) (xs : List ℕ) →
     address ≡ PAGE_SIZE * BUDGET_FRAMES + at → at + length xs ≤ PAGE_SIZE * budget →
@@ -78,44 +82,56 @@ frames_addresses b budget holds address at xs e room =
 
 -- one byte of a block
 
-block_world : (b : List ℕ) (budget : ℕ) → Holds b budget → HasRanges (handles_part b) → (mode : Mode) (regs : Regs) (vif : Bool) (width : Option Width) (place at v : ℕ) →
+block_world : (b : List ℕ) (budget : ℕ) → Holds b budget → HasRanges (handles_part b) →
+    (mode : Mode) (regs : Regs) (vif : Bool) (width : Option Width) (place at v : ℕ) →
     IsBlockByte (handles_part b) place at →
-    world_of (slice_set b (address_of b (Block (suc place) at)) v) budget mode regs vif width ≡ with_byte_of (world_of b budget mode regs vif width) (Block (suc place) at) v
+    world_of (slice_set b (address_of b (Block (suc place) at)) v) budget mode regs vif width
+    ≡ with_byte_of (world_of b budget mode regs vif width) (Block (suc place) at) v
 unfolding world_of
 block_world b budget holds ranges mode regs vif width place at v byte =
     let offset = spot (tables_part b) (first_page_of (handles_part b) place) at in
-    let small : offset < PAGE_SIZE * budget = spot_small (handles_part b) (tables_part b) (taken_part b) budget holds.blocks place at byte in
-    let long : length (budget_part b budget) ≡ PAGE_SIZE * budget = length-region b (PAGE_SIZE * BUDGET_FRAMES) (PAGE_SIZE * budget) (omega (arith, holds.size)) in
-    frames_world b budget holds mode regs vif width (address_of b (Block (suc place) at)) offset (v ∷ []) (block_spot b budget place at holds byte.within byte.inside) (omega arith) _
-    (blocks_written (handles_part b) (tables_part b) (locks_part b) (taken_part b) (budget_part b budget) budget ranges holds.blocks long place at v byte)
+    let small : offset < PAGE_SIZE * budget =
+    spot_small (handles_part b) (tables_part b) (taken_part b) budget holds.blocks place at byte in
+    let long : length (budget_part b budget) ≡ PAGE_SIZE * budget =
+    length-region b (PAGE_SIZE * BUDGET_FRAMES) (PAGE_SIZE * budget) (omega (arith, holds.size)) in
+    frames_world b budget holds mode regs vif width (address_of b (Block (suc place) at)) offset (v ∷ [])
+    (block_spot b budget place at holds byte.within byte.inside) (omega arith) _
+    (blocks_written (handles_part b) (tables_part b) (locks_part b) (taken_part b) (budget_part b budget) budget ranges holds.blocks long
+    place at v byte)
 
 block_holds : (b : List ℕ) (budget : ℕ) → Holds b budget → (place at v : ℕ) → IsBlockByte (handles_part b) place at →
     Holds (slice_set b (address_of b (Block (suc place) at)) v) budget
 block_holds b budget holds place at v byte =
     let small = spot_small (handles_part b) (tables_part b) (taken_part b) budget holds.blocks place at byte in
-    frames_holds b budget holds (address_of b (Block (suc place) at)) (spot (tables_part b) (first_page_of (handles_part b) place) at) (v ∷ [])
+    frames_holds b budget holds (address_of b (Block (suc place) at))
+    (spot (tables_part b) (first_page_of (handles_part b) place) at) (v ∷ [])
     (block_spot b budget place at holds byte.within byte.inside) (omega arith)
-    (λ frame is. dword_set_other (budget_part b budget) (spot (tables_part b) (first_page_of (handles_part b) place) at) (PAGE_SIZE * (frame - BUDGET_FRAMES)) v
+    (λ frame is. dword_set_other (budget_part b budget) (spot (tables_part b) (first_page_of (handles_part b) place) at)
+    (PAGE_SIZE * (frame - BUDGET_FRAMES)) v
     (spot_away b budget place at frame holds byte is))
 
 block_addresses : (b : List ℕ) (budget : ℕ) → Holds b budget → (place at v : ℕ) → IsBlockByte (handles_part b) place at → (q : Place) →
     address_of (slice_set b (address_of b (Block (suc place) at)) v) q ≡ address_of b q
 block_addresses b budget holds place at v byte =
     let small = spot_small (handles_part b) (tables_part b) (taken_part b) budget holds.blocks place at byte in
-    frames_addresses b budget holds (address_of b (Block (suc place) at)) (spot (tables_part b) (first_page_of (handles_part b) place) at) (v ∷ [])
+    frames_addresses b budget holds (address_of b (Block (suc place) at))
+    (spot (tables_part b) (first_page_of (handles_part b) place) at) (v ∷ [])
     (block_spot b budget place at holds byte.within byte.inside) (omega arith)
 
 -- one byte at a place that the client may write
 
-pub store_world : (b : List ℕ) (budget : ℕ) → Holds b budget → HasRanges (handles_part b) → (mode : Mode) (regs : Regs) (vif : Bool) (width : Option Width) (p : Place) (v : ℕ) →
+pub store_world : (b : List ℕ) (budget : ℕ) → Holds b budget → HasRanges (handles_part b) →
+    (mode : Mode) (regs : Regs) (vif : Bool) (width : Option Width) (p : Place) (v : ℕ) →
     IsWritable (handles_part b) p →
     world_of (slice_set b (address_of b p) v) budget mode regs vif width ≡ with_byte_of (world_of b budget mode regs vif width) p v
 store_world b budget holds ranges mode regs vif width p v at = elim at [
-  | inl dos ↦ (let low = dos.low in rw dos.is (rw (address_dos b dos.at) (dos_world b budget holds mode regs vif width dos.at (v ∷ []) (omega arith))))
+  | inl dos ↦ (let low = dos.low in
+      rw dos.is (rw (address_dos b dos.at) (dos_world b budget holds mode regs vif width dos.at (v ∷ []) (omega arith))))
   | inr block ↦ rw block.is (block_world b budget holds ranges mode regs vif width block.place block.at v block.byte)
 ]
 
-pub store_holds : (b : List ℕ) (budget : ℕ) → Holds b budget → (p : Place) (v : ℕ) → IsWritable (handles_part b) p → Holds (slice_set b (address_of b p) v) budget
+pub store_holds : (b : List ℕ) (budget : ℕ) → Holds b budget → (p : Place) (v : ℕ) → IsWritable (handles_part b) p →
+    Holds (slice_set b (address_of b p) v) budget
 store_holds b budget holds p v at = elim at [
   | inl dos ↦ (let low = dos.low in rw dos.is (rw (address_dos b dos.at) (dos_holds b budget holds dos.at (v ∷ []) (omega arith))))
   | inr block ↦ rw block.is (block_holds b budget holds block.place block.at v block.byte)
@@ -145,18 +161,25 @@ pub write_world : (b : List ℕ) (budget pages : ℕ) → Holds b budget → (mo
     IsHeld (world_of b budget mode regs vif width) p →
     world_of (slice_set b (address_of b p) v) budget mode regs vif width ≡ with_byte_of (world_of b budget mode regs vif width) p v
 write_world b budget pages holds mode regs vif width sound p v may held =
-    store_world b budget holds (ranges_of b budget pages mode regs vif width sound) mode regs vif width p v (writable b budget mode regs vif width p may held)
+    store_world b budget holds (ranges_of b budget pages mode regs vif width sound) mode regs vif width p v
+    (writable b budget mode regs vif width p may held)
 
-pub write_holds : (b : List ℕ) (budget : ℕ) → Holds b budget → (mode : Mode) (regs : Regs) (vif : Bool) (width : Option Width) (p : Place) (v : ℕ) →
+pub write_holds : (b : List ℕ) (budget : ℕ) → Holds b budget →
+    (mode : Mode) (regs : Regs) (vif : Bool) (width : Option Width) (p : Place) (v : ℕ) →
     may_touch p true ≡ true → IsHeld (world_of b budget mode regs vif width) p → Holds (slice_set b (address_of b p) v) budget
-write_holds b budget holds mode regs vif width p v may held = store_holds b budget holds p v (writable b budget mode regs vif width p may held)
+write_holds b budget holds mode regs vif width p v may held =
+    store_holds b budget holds p v (writable b budget mode regs vif width p may held)
 
-pub write_addresses : (b : List ℕ) (budget : ℕ) → Holds b budget → (mode : Mode) (regs : Regs) (vif : Bool) (width : Option Width) (p : Place) (v : ℕ) →
+pub write_addresses : (b : List ℕ) (budget : ℕ) → Holds b budget →
+    (mode : Mode) (regs : Regs) (vif : Bool) (width : Option Width) (p : Place) (v : ℕ) →
     may_touch p true ≡ true → IsHeld (world_of b budget mode regs vif width) p → (q : Place) →
     address_of (slice_set b (address_of b p) v) q ≡ address_of b q
-write_addresses b budget holds mode regs vif width p v may held = store_addresses b budget holds p v (writable b budget mode regs vif width p may held)
+write_addresses b budget holds mode regs vif width p v may held =
+    store_addresses b budget holds p v (writable b budget mode regs vif width p may held)
 
-pub write_host : (b : List ℕ) (budget : ℕ) → Holds b budget → (mode : Mode) (regs : Regs) (vif : Bool) (width : Option Width) (p : Place) (v : ℕ) →
+pub write_host : (b : List ℕ) (budget : ℕ) → Holds b budget →
+    (mode : Mode) (regs : Regs) (vif : Bool) (width : Option Width) (p : Place) (v : ℕ) →
     may_touch p true ≡ true → IsHeld (world_of b budget mode regs vif width) p → (k : ℕ) → ROM_START ≤ k → k < PAGE_SIZE * BUDGET_FRAMES →
     slice_index (slice_set b (address_of b p) v) k ≡ slice_index b k
-write_host b budget holds mode regs vif width p v may held = store_host b budget holds p v (writable b budget mode regs vif width p may held)
+write_host b budget holds mode regs vif width p v may held =
+    store_host b budget holds p v (writable b budget mode regs vif width p may held)

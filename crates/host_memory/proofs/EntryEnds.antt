@@ -50,7 +50,8 @@ supervisor_user : (frame : ℕ) → has_bit (supervisor_entry frame) USER ≡ fa
 supervisor_user frame = let none : (PAGE_SIZE * frame + SUPERVISOR_WRITABLE) / 4 % 2 ≡ 0 = omega arith in ap (λ (n : ℕ). nat_eq n 1) none
 
 -- a page of the host's window, and none there
-pub forbids_client : (table frame lin : ℕ) (write : Bool) → walk_end (supervisor_entry table) (supervisor_entry frame) lin write ≡ fault true
+pub forbids_client : (table frame lin : ℕ) (write : Bool) →
+    walk_end (supervisor_entry table) (supervisor_entry frame) lin write ≡ fault true
 unfolding walk_end
 forbids_client table frame lin write = rw (supervisor_present table, supervisor_present frame, supervisor_user table) refl
 

@@ -1,5 +1,6 @@
 -- One doubleword more of a table, and what a table that was written holds.
-use Rattle.std.proofs.Common.{◌≡◌, ℕ, ◌+◌, ◌*◌, ◌/◌, ◌%◌, ◌<◌, ◌≤◌, inl, inr, List, length, slice_index, refl, ap, ◌∙◌, sym, arith, below_more, add_assoc, zero-add}
+use Rattle.std.proofs.Common.{◌≡◌, ℕ, ◌+◌, ◌*◌, ◌<◌, ◌≤◌, inl, inr, List, length, slice_index, refl, ap, ◌∙◌, sym, arith, below_more}
+use Rattle.std.proofs.Common.{add_assoc, zero-add}
 use Rattle.guest_ram.specs.Bytes.{dword, dword_bytes, put}
 use Rattle.guest_ram.proofs.PutLaws.{length-put, put_away, put_within, same_dword}
 use Rattle.host_memory.specs.Filling.{Written}
@@ -23,7 +24,8 @@ one_written f from k v place b c w at_place room e = record {
         put_within c place (dword_bytes v) at (from + (4 * k + at)) room small (omega arith)
         ∙ ap (λ (x : ℕ). slice_index (dword_bytes x) at) e
 
-    each : (j at : ℕ) → j < k + 1 → at < 4 → slice_index (put c place (dword_bytes v)) (from + (4 * j + at)) ≡ slice_index (dword_bytes (f j)) at
+    each : (j at : ℕ) → j < k + 1 → at < 4 → slice_index (put c place (dword_bytes v)) (from + (4 * j + at))
+        ≡ slice_index (dword_bytes (f j)) at
     each j at within small =
         below_more (λ (i : ℕ). slice_index (put c place (dword_bytes v)) (from + (4 * i + at)) ≡ slice_index (dword_bytes (f i)) at) k
         (λ i below. put_away c place (dword_bytes v) (from + (4 * i + at)) (inr (omega arith)) ∙ w.each i at below small)
@@ -31,10 +33,7 @@ one_written f from k v place b c w at_place room e = record {
 
 back : (v : ℕ) → dword (dword_bytes v) 0 ≡ v
 unfolding dword
-back v = sum v
-  where
-    sum : (v : ℕ) → v % 0x100 + 0x100 * (v / 0x100 % 0x100) + 0x10000 * (v / 0x10000 % 0x100) + 0x1000000 * (v / 0x1000000) ≡ v
-    sum v = omega arith
+back v = grind arith
 
 -- four bytes that are a doubleword's are that doubleword
 pub dword_is : (b : List ℕ) (p v : ℕ) → ((at : ℕ) → at < 4 → slice_index b (p + at) ≡ slice_index (dword_bytes v) at) → dword b p ≡ v

@@ -1,7 +1,8 @@
 -- The entries that a walk meets in the host's tables, by the range of its linear address.
 use Rattle.std.proofs.Common.{◌≡◌, ◌≢◌, ℕ, ◌+◌, ◌-◌, ◌*◌, ◌/◌, ◌%◌, ◌<◌, ◌≤◌, ◌^◌, ◌⊎◌, Bool, true, false, List, refl, ap, ◌∙◌, sym, arith}
 use Rattle.std.proofs.lemmas.Bool.{le-leb, lt-leb, ne_eqb}
-use Rattle.client_world.specs.declared.host_frames.TheConstants.{PAGE_SIZE, PAGE_DIRECTORY, LOW_TABLE, WINDOW_TABLE, BLOCK_TABLES, BLOCK_TABLE_FRAMES, FIXED_TABLE_FRAMES, PAGE_ENTRY_SIZE, TABLE_ENTRIES}
+use Rattle.client_world.specs.declared.host_frames.TheConstants.{PAGE_SIZE, PAGE_DIRECTORY, LOW_TABLE, WINDOW_TABLE, BLOCK_TABLES}
+use Rattle.client_world.specs.declared.host_frames.TheConstants.{BLOCK_TABLE_FRAMES, FIXED_TABLE_FRAMES, PAGE_ENTRY_SIZE, TABLE_ENTRIES}
 use Rattle.client_world.specs.declared.memory_map.TheConstants.{BLOCK_REGION, BLOCK_REGION_END, HOST_WINDOW}
 use Rattle.guest_ram.specs.Bytes.{dword}
 use Rattle.guest_ram.proofs.PutLaws.{dword-region}
@@ -10,24 +11,23 @@ use Rattle.page_tables.specs.Walk.{walked, walk_end, fault, directory_entry, ent
 use Rattle.page_tables.specs.Mapping.{directory_word}
 use Rattle.page_tables.specs.declared.entry.TheConstants.{TABLE_SPAN}
 use Rattle.host_memory.specs.Layout.{fixed_part, tables_part, entry_of}
-use Rattle.host_memory.specs.Tables.{HasFixedEntries, directory_entry_at, low_entry_at, window_entry_at, supervisor_entry, low_table_start, window_table_start}
+use Rattle.host_memory.specs.Tables.{HasFixedEntries, directory_entry_at, low_entry_at, window_entry_at, supervisor_entry, low_table_start}
+use Rattle.host_memory.specs.Tables.{window_table_start}
 use Rattle.host_memory.proofs.EntryEnds.{finds_no_table}
 
 -- the entries of the directory
 pub directory_is : (b : List ℕ) (index : ℕ) → HasFixedEntries (fixed_part b) → index < TABLE_ENTRIES →
     directory_word b index ≡ directory_entry_at index
 directory_is b index fixed within =
-    sym (dword-region b (PAGE_SIZE * PAGE_DIRECTORY) (PAGE_SIZE * FIXED_TABLE_FRAMES) (PAGE_ENTRY_SIZE * index) (omega arith)) ∙ fixed.directory index within
+    sym (dword-region b (PAGE_SIZE * PAGE_DIRECTORY) (PAGE_SIZE * FIXED_TABLE_FRAMES) (PAGE_ENTRY_SIZE * index) (omega arith))
+    ∙ fixed.directory index within
 
-pub directory_of_block : (index : ℕ) → 0 < index → index ≤ BLOCK_TABLE_FRAMES → directory_entry_at index ≡ page_entry (BLOCK_TABLES + (index - 1)) true
-directory_of_block index from to =
-    let some : index ≢ 0 = omega arith in
-    rw (ne_eqb index 0 some, le-leb index BLOCK_TABLE_FRAMES to) refl
+pub directory_of_block : (index : ℕ) → 0 < index → index ≤ BLOCK_TABLE_FRAMES →
+    directory_entry_at index ≡ page_entry (BLOCK_TABLES + (index - 1)) true
+directory_of_block index from to = grind (arith, le-leb, ne_eqb)
 
 pub directory_of_none : (index : ℕ) → BLOCK_TABLE_FRAMES < index → index ≢ HOST_WINDOW / TABLE_SPAN → directory_entry_at index ≡ 0
-directory_of_none index from other =
-    let some : index ≢ 0 = omega arith in
-    rw (ne_eqb index 0 some, lt-leb index BLOCK_TABLE_FRAMES from, ne_eqb index (HOST_WINDOW / TABLE_SPAN) other) refl
+directory_of_none index from other = grind (arith, lt-leb, ne_eqb)
 
 -- a walk whose directory entry is known
 walk_by : (b : List ℕ) (lin directory : ℕ) (write : Bool) → directory_entry b PAGE_DIRECTORY lin ≡ directory →
@@ -44,27 +44,24 @@ low_walk b lin write fixed below =
     let directory : directory_entry b PAGE_DIRECTORY lin ≡ page_entry LOW_TABLE true =
     directory_is b (lin / TABLE_SPAN) fixed (omega arith) ∙ ap directory_entry_at first in
     let page : lin / PAGE_SIZE % TABLE_ENTRIES ≡ lin / PAGE_SIZE = omega arith in
-    let at : PAGE_SIZE * LOW_TABLE + PAGE_ENTRY_SIZE * (lin / PAGE_SIZE) ≡ PAGE_SIZE * PAGE_DIRECTORY + (low_table_start + PAGE_ENTRY_SIZE * (lin / PAGE_SIZE)) = omega arith in
+    let at : PAGE_SIZE * LOW_TABLE + PAGE_ENTRY_SIZE * (lin / PAGE_SIZE)
+    ≡ PAGE_SIZE * PAGE_DIRECTORY + (low_table_start + PAGE_ENTRY_SIZE * (lin / PAGE_SIZE)) = omega arith in
     walk_by b lin (page_entry LOW_TABLE true) write directory
-    ∙ ap (λ (entry : ℕ). walk_end (page_entry LOW_TABLE true) entry lin write) (
-    ap (λ (k : ℕ). dword b (entry_place LOW_TABLE k)) page
-    ∙ ap (dword b) at
-    ∙ sym (dword-region b (PAGE_SIZE * PAGE_DIRECTORY) (PAGE_SIZE * FIXED_TABLE_FRAMES) (low_table_start + PAGE_ENTRY_SIZE * (lin / PAGE_SIZE)) (omega arith))
-    ∙ fixed.low (lin / PAGE_SIZE) (omega arith))
+    ∙ ap (λ (entry : ℕ). walk_end (page_entry LOW_TABLE true) entry lin write) (grind (arith, dword-region))
 
 -- in the 4 MB of the host's window
-pub window_walk : (b : List ℕ) (lin : ℕ) (write : Bool) → HasFixedEntries (fixed_part b) → HOST_WINDOW ≤ lin → lin < HOST_WINDOW + TABLE_SPAN →
-    walked b PAGE_DIRECTORY lin write ≡ walk_end (supervisor_entry WINDOW_TABLE) (window_entry_at (lin / PAGE_SIZE % TABLE_ENTRIES)) lin write
+pub window_walk : (b : List ℕ) (lin : ℕ) (write : Bool) → HasFixedEntries (fixed_part b) → HOST_WINDOW ≤ lin →
+    lin < HOST_WINDOW + TABLE_SPAN →
+    walked b PAGE_DIRECTORY lin write
+    ≡ walk_end (supervisor_entry WINDOW_TABLE) (window_entry_at (lin / PAGE_SIZE % TABLE_ENTRIES)) lin write
 window_walk b lin write fixed from to =
     let index : lin / TABLE_SPAN ≡ HOST_WINDOW / TABLE_SPAN = omega arith in
     let directory : directory_entry b PAGE_DIRECTORY lin ≡ supervisor_entry WINDOW_TABLE =
     directory_is b (lin / TABLE_SPAN) fixed (omega arith) ∙ ap directory_entry_at index in
-    let at : PAGE_SIZE * WINDOW_TABLE + PAGE_ENTRY_SIZE * (lin / PAGE_SIZE % TABLE_ENTRIES) ≡ PAGE_SIZE * PAGE_DIRECTORY + (window_table_start + PAGE_ENTRY_SIZE * (lin / PAGE_SIZE % TABLE_ENTRIES)) = omega arith in
+    let at : PAGE_SIZE * WINDOW_TABLE + PAGE_ENTRY_SIZE * (lin / PAGE_SIZE % TABLE_ENTRIES)
+    ≡ PAGE_SIZE * PAGE_DIRECTORY + (window_table_start + PAGE_ENTRY_SIZE * (lin / PAGE_SIZE % TABLE_ENTRIES)) = omega arith in
     walk_by b lin (supervisor_entry WINDOW_TABLE) write directory
-    ∙ ap (λ (entry : ℕ). walk_end (supervisor_entry WINDOW_TABLE) entry lin write) (
-    ap (dword b) at
-    ∙ sym (dword-region b (PAGE_SIZE * PAGE_DIRECTORY) (PAGE_SIZE * FIXED_TABLE_FRAMES) (window_table_start + PAGE_ENTRY_SIZE * (lin / PAGE_SIZE % TABLE_ENTRIES)) (omega arith))
-    ∙ fixed.window (lin / PAGE_SIZE % TABLE_ENTRIES) (omega arith))
+    ∙ ap (λ (entry : ℕ). walk_end (supervisor_entry WINDOW_TABLE) entry lin write) (grind (arith, dword-region))
 
 -- the frame of the table of a linear address of the block region
 abbrev pub block_table : ℕ → ℕ
@@ -80,9 +77,7 @@ region_walk b lin write fixed from to =
     let at : entry_place (frame_of (page_entry (block_table lin) true)) (lin / PAGE_SIZE % TABLE_ENTRIES)
     ≡ PAGE_SIZE * BLOCK_TABLES + PAGE_ENTRY_SIZE * ((lin - BLOCK_REGION) / PAGE_SIZE) = omega arith in
     walk_by b lin (page_entry (block_table lin) true) write directory
-    ∙ ap (λ (entry : ℕ). walk_end (page_entry (block_table lin) true) entry lin write) (
-    ap (dword b) at
-    ∙ sym (dword-region b (PAGE_SIZE * BLOCK_TABLES) (PAGE_SIZE * BLOCK_TABLE_FRAMES) (PAGE_ENTRY_SIZE * ((lin - BLOCK_REGION) / PAGE_SIZE)) (omega arith)))
+    ∙ ap (λ (entry : ℕ). walk_end (page_entry (block_table lin) true) entry lin write) (grind (arith, dword-region))
 
 -- elsewhere
 pub no_walk : (b : List ℕ) (lin : ℕ) (write : Bool) → HasFixedEntries (fixed_part b) → lin < 2 ^ 32 → BLOCK_REGION_END ≤ lin →

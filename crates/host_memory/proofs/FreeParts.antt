@@ -1,6 +1,7 @@
 -- The list of free frames in the parts of the memory and in its bytes, and what leaves it.
 use Rattle.std.proofs.Common.{◌≡◌, ℕ, ◌+◌, ◌-◌, ◌*◌, ◌<◌, ◌≤◌, List, length, ap, ◌∙◌, sym, arith}
-use Rattle.client_world.specs.declared.host_frames.TheConstants.{PAGE_SIZE, VECTORS, TAKEN_FRAMES, BUDGET_FRAMES, TAKEN_BYTE_FRAMES, VECTOR_FRAMES}
+use Rattle.client_world.specs.declared.host_frames.TheConstants.{PAGE_SIZE, VECTORS, TAKEN_FRAMES, BUDGET_FRAMES, TAKEN_BYTE_FRAMES}
+use Rattle.client_world.specs.declared.host_frames.TheConstants.{VECTOR_FRAMES}
 use Rattle.client_world.specs.declared.limits.TheConstants.{MAX_PAGES}
 use Rattle.guest_ram.specs.Bytes.{dword}
 use Rattle.page_tables.specs.FreeList.{HasFreeList, IsFreeFrame, first_free, next_free}
@@ -43,23 +44,26 @@ idle_is_free b budget frame has is =
     }
 
 -- what the parts list, the bytes list
-pub list_of_parts : (b : List ℕ) (budget : ℕ) → HasFrames b budget → ListsFreeFrames (vectors_part b) (taken_part b) (budget_part b budget) budget → HasFreeList b
+pub list_of_parts : (b : List ℕ) (budget : ℕ) → HasFrames b budget →
+    ListsFreeFrames (vectors_part b) (taken_part b) (budget_part b budget) budget → HasFreeList b
 list_of_parts b budget has list =
-    same_free (dword (vectors_part b) head_start) (first_free b) (next_frame (budget_part b budget)) (next_free b) (IsIdle (taken_part b) budget) (IsFreeFrame b) list
+    same_free (dword (vectors_part b) head_start) (first_free b) (next_frame (budget_part b budget)) (next_free b)
+    (IsIdle (taken_part b) budget) (IsFreeFrame b) list
     (head_is b) (λ frame is. next_is b budget frame is.from is.to)
     (λ frame. (free_is_idle b budget frame has, idle_is_free b budget frame has))
 
 -- and the other way round
-pub parts_of_list : (b : List ℕ) (budget : ℕ) → HasFrames b budget → HasFreeList b → ListsFreeFrames (vectors_part b) (taken_part b) (budget_part b budget) budget
+pub parts_of_list : (b : List ℕ) (budget : ℕ) → HasFrames b budget → HasFreeList b →
+    ListsFreeFrames (vectors_part b) (taken_part b) (budget_part b budget) budget
 parts_of_list b budget has list =
-    same_free (first_free b) (dword (vectors_part b) head_start) (next_free b) (next_frame (budget_part b budget)) (IsFreeFrame b) (IsIdle (taken_part b) budget) list
+    same_free (first_free b) (dword (vectors_part b) head_start) (next_free b) (next_frame (budget_part b budget)) (IsFreeFrame b)
+    (IsIdle (taken_part b) budget) list
     (sym (head_is b)) (λ frame is. (let idle = free_is_idle b budget frame has is in sym (next_is b budget frame idle.from idle.to)))
     (λ frame. (idle_is_free b budget frame has, free_is_idle b budget frame has))
 
 -- a write that leaves the head, the taken bytes and the first doublewords of idle frames leaves the list
 pub list_kept : (vectors others taken frames writes : List ℕ) (budget : ℕ) → dword others head_start ≡ dword vectors head_start →
-    ((frame : ℕ) → IsIdle taken budget frame → next_frame writes frame ≡ next_frame frames frame) → ListsFreeFrames vectors taken frames budget →
+    ((frame : ℕ) → IsIdle taken budget frame → next_frame writes frame ≡ next_frame frames frame) →
+    ListsFreeFrames vectors taken frames budget →
     ListsFreeFrames others taken writes budget
-list_kept vectors others taken frames writes budget head next list =
-    same_free (dword vectors head_start) (dword others head_start) (next_frame frames) (next_frame writes) (IsIdle taken budget) (IsIdle taken budget) list
-    head next (λ frame. (λ is. is, λ is. is))
+list_kept vectors others taken frames writes budget head next list = grind (arith, same_free)

@@ -1,20 +1,24 @@
--- The writes of a new memory, one after the other, and what they leave: its tables, its megabyte, the list of free frames, and zeros elsewhere.
-use Rattle.std.proofs.Common.{◌≡◌, ℕ, ◌+◌, ◌-◌, ◌*◌, ◌/◌, ◌%◌, ◌<◌, ◌≤◌, ◌⊎◌, inl, inr, zero, suc, List, length, slice_index, nat_eq, if◌then◌else◌, refl, ap, ◌∙◌, sym, arith, zero-add}
+-- The writes of a new memory, one after the other, and what they leave: its tables, its megabyte, the list of free frames, and zeros
+-- elsewhere.
+use Rattle.std.proofs.Common.{◌≡◌, ℕ, ◌+◌, ◌-◌, ◌*◌, ◌/◌, ◌%◌, ◌<◌, ◌≤◌, ◌⊎◌, inl, inr, zero, suc, List, length, slice_index, nat_eq}
+use Rattle.std.proofs.Common.{if◌then◌else◌, refl, ap, ◌∙◌, sym, arith, zero-add}
 use Rattle.std.proofs.lemmas.Bool.{cases_lt, lt-ltb, le-ltb}
 use Rattle.std.proofs.lemmas.Grind.{same_number_lists}
 use Rattle.client_world.specs.declared.dos_memory.DosEntry.{DosEntry}
 use Rattle.client_world.specs.declared.dos_memory.DosState.TheVariants.{Free}
-use Rattle.client_world.specs.declared.host_frames.TheConstants.{PAGE_SIZE, PAGE_DIRECTORY, LOW_TABLE, WINDOW_TABLE, BLOCK_TABLES, VECTORS, DOS_LIST, BUDGET_FRAMES, PAGE_ENTRY_SIZE, TABLE_ENTRIES}
+use Rattle.client_world.specs.declared.host_frames.TheConstants.{PAGE_SIZE, PAGE_DIRECTORY, LOW_TABLE, WINDOW_TABLE, BLOCK_TABLES, VECTORS}
+use Rattle.client_world.specs.declared.host_frames.TheConstants.{DOS_LIST, BUDGET_FRAMES, PAGE_ENTRY_SIZE, TABLE_ENTRIES}
 use Rattle.client_world.specs.declared.limits.TheConstants.{INTERRUPT_VECTORS, MAX_PAGES}
-use Rattle.client_world.specs.declared.memory_map.TheConstants.{PARAGRAPH_SIZE, DOS_SIZE, VECTOR_TABLE_SIZE, ROM_START, ROM_BYTE, ARENA_START, ARENA_END}
+use Rattle.client_world.specs.declared.memory_map.TheConstants.{PARAGRAPH_SIZE, DOS_SIZE, VECTOR_TABLE_SIZE, ROM_START, ROM_BYTE}
+use Rattle.client_world.specs.declared.memory_map.TheConstants.{ARENA_START, ARENA_END}
 use Rattle.guest_ram.specs.Bytes.{put, region, dword, dword_bytes}
 use Rattle.guest_ram.specs.Listed.{listed, copies}
 use Rattle.guest_ram.specs.declared.ram.TheConstants.{FRAME_SIZE}
-use Rattle.page_tables.specs.Budget.{taken_place}
 use Rattle.page_tables.specs.FreeList.{HasFreeList}
 use Rattle.page_tables.specs.declared.budget.TheConstants.{FREE_LIST_HEAD}
 use Rattle.page_tables.proofs.FreeWrites.{same_free_list}
-use Rattle.guest_ram.proofs.PutLaws.{length-put, put_below, put_above, put_within, put_away, length-region, at_region, same_region, region-put, same_dword}
+use Rattle.guest_ram.proofs.PutLaws.{length-put, put_below, put_above, put_within, put_away, length-region, at_region, same_region}
+use Rattle.guest_ram.proofs.PutLaws.{region-put, same_dword}
 use Rattle.guest_ram.proofs.ListedLaws.{length-listed, at_listed, length-copies, at_copies}
 use Rattle.host_memory.specs.declared.blank.TheConstants.{VECTOR_HALVES}
 use Rattle.host_memory.specs.Blank.{plain_byte, vector_byte, blank_megabyte}
@@ -110,22 +114,14 @@ with_header : (header b2 b3 : List ℕ) → header ≡ dos_header 0x5A whole_are
     ((k : ℕ) → k < DOS_SIZE → slice_index b2 k ≡ plain_byte k) → b3 ≡ put b2 (PARAGRAPH_SIZE * ARENA_START) header →
     dos_part b3 ≡ blank_megabyte
 unfolding blank_megabyte
-with_header header b2 b3 header_is room each e =
-    ap dos_part e
-    ∙ region-put b2 1536 header 0 DOS_SIZE 1536 refl (let long = length-header header header_is in omega arith)
-    ∙ ap (λ (dos : List ℕ). put dos 1536 header) plain
-    ∙ ap (λ (run : List ℕ). put (listed DOS_SIZE plain_byte) 1536 run) header_is
+with_header header b2 b3 header_is room each e = grind (arith, length-header, plain, region-put)
   where
     plain : region b2 0 DOS_SIZE ≡ listed DOS_SIZE plain_byte
-    plain = same_number_lists (region b2 0 DOS_SIZE) (listed DOS_SIZE plain_byte)
-        (length-region b2 0 DOS_SIZE room ∙ sym (length-listed DOS_SIZE plain_byte))
-        (λ k within.
-        let small : k < DOS_SIZE = omega (arith, length-region b2 0 DOS_SIZE room) in
-        at_region b2 0 DOS_SIZE k small ∙ ap (λ (p : ℕ). slice_index b2 p) (zero-add k) ∙ each k small
-        ∙ sym (at_listed DOS_SIZE plain_byte k 0 small))
+    plain = grind (arith, at_listed, at_region, length-listed, length-region, same_number_lists, zero-add)
 
 -- the writes leave the bytes of a new memory
-pub is_blank : (budget : ℕ) (header row b0 b1 b2 b3 b4 b5 b6 b7 b8 : List ℕ) → Fresh budget header row b0 b1 b2 b3 b4 b5 b6 b7 b8 → IsBlank b8 budget
+pub is_blank : (budget : ℕ) (header row b0 b1 b2 b3 b4 b5 b6 b7 b8 : List ℕ) → Fresh budget header row b0 b1 b2 b3 b4 b5 b6 b7 b8 →
+    IsBlank b8 budget
 is_blank budget header row b0 b1 b2 b3 b4 b5 b6 b7 b8 w = record {
   size = at_end ∙ at_tables ∙ at_head ∙ before ∙ w.size ∙ omega arith;
   megabyte =
@@ -133,17 +129,13 @@ is_blank budget header row b0 b1 b2 b3 b4 b5 b6 b7 b8 w = record {
       (let e = at_end ∙ at_tables ∙ at_head ∙ before in let size = w.size in omega arith)
       (λ at from to. in_megabyte at (omega arith))
       ∙ with_header header b2 b3 w.header_is (let e = before in let size = w.size in omega arith)
-      (vectors_and_rom b0 b1 b2 (let room = w.size in omega arith) (λ at low. w.zero at (omega arith) (inl (omega arith))) w.rom w.reals) w.head;
+      (vectors_and_rom b0 b1 b2 (let room = w.size in omega arith) (λ at low. w.zero at (omega arith) (inl (omega arith))) w.rom w.reals)
+      w.head;
   directory = λ k small.
-      same_dword b8 b4 (PAGE_SIZE * PAGE_DIRECTORY + 4 * k) (PAGE_SIZE * PAGE_DIRECTORY + 4 * k) (λ at within.
-      late (PAGE_SIZE * PAGE_DIRECTORY + 4 * k + at) (inl (omega arith)) (inl (omega arith))
-      ∙ w.window.others (PAGE_SIZE * PAGE_DIRECTORY + 4 * k + at) (inl (omega arith))
-      ∙ w.low.others (PAGE_SIZE * PAGE_DIRECTORY + 4 * k + at) (inl (omega arith)))
+      same_dword b8 b4 (PAGE_SIZE * PAGE_DIRECTORY + 4 * k) (PAGE_SIZE * PAGE_DIRECTORY + 4 * k) (grind (arith, late))
       ∙ written_dword directory_entry_at (PAGE_SIZE * PAGE_DIRECTORY) TABLE_ENTRIES k b3 b4 w.directory small;
   low = λ k small.
-      same_dword b8 b5 (PAGE_SIZE * LOW_TABLE + 4 * k) (PAGE_SIZE * LOW_TABLE + 4 * k) (λ at within.
-      late (PAGE_SIZE * LOW_TABLE + 4 * k + at) (inl (omega arith)) (inl (omega arith))
-      ∙ w.window.others (PAGE_SIZE * LOW_TABLE + 4 * k + at) (inl (omega arith)))
+      same_dword b8 b5 (PAGE_SIZE * LOW_TABLE + 4 * k) (PAGE_SIZE * LOW_TABLE + 4 * k) (grind (arith, late))
       ∙ written_dword low_entry_at (PAGE_SIZE * LOW_TABLE) TABLE_ENTRIES k b4 b5 w.low small;
   window = λ k small.
       same_dword b8 b6 (PAGE_SIZE * WINDOW_TABLE + 4 * k) (PAGE_SIZE * WINDOW_TABLE + 4 * k) (λ at within.
@@ -153,17 +145,12 @@ is_blank budget header row b0 b1 b2 b3 b4 b5 b6 b7 b8 w = record {
       w.vectors.others (PAGE_SIZE * DOS_LIST + at) (inr (omega arith))
       ∙ ap (λ (b : List ℕ). slice_index b (PAGE_SIZE * DOS_LIST + at)) w.list
       ∙ put_within b6 (PAGE_SIZE * DOS_LIST) row at (PAGE_SIZE * DOS_LIST + at)
-      (let e = at_tables ∙ at_head ∙ before in let size = w.size in let long = long_row in omega arith) (let long = long_row in omega arith) refl
+      (let e = at_tables ∙ at_head ∙ before in let size = w.size in let long = long_row in omega arith)
+      (let long = long_row in omega arith) refl
       ∙ ap (λ (run : List ℕ). slice_index run at) w.row_is;
   vectors = w.vectors.each;
   zeros = λ at from to no_vector no_list no_head. kept at from no_vector no_list ∙ w.zero at to no_head;
-  free = (
-      let size = w.size in let few = w.few in
-      same_free_list b0 b8 w.free (at_end ∙ at_tables ∙ at_head ∙ before)
-      (same_dword b8 b0 FREE_LIST_HEAD FREE_LIST_HEAD (λ i less. kept (FREE_LIST_HEAD + i) (omega arith) (inr (omega arith)) (inl (omega arith))))
-      (λ frame is. (let from = is.from in same_dword b8 b0 (PAGE_SIZE * frame) (PAGE_SIZE * frame)
-      (λ i less. kept (PAGE_SIZE * frame + i) (omega arith) (inr (omega arith)) (inr (omega arith)))))
-      (λ frame is. (let from = is.from in kept (taken_place frame) (omega arith) (inr (omega arith)) (inr (omega arith)))));
+  free = (grind (arith, at_end, at_head, at_tables, before, kept, same_dword, same_free_list));
 }
   where
     long_row : length row ≡ 8
@@ -187,24 +174,12 @@ is_blank budget header row b0 b1 b2 b3 b4 b5 b6 b7 b8 w = record {
     -- what the last two writes leave
     late : (at : ℕ) → (at < PAGE_SIZE * VECTORS) ⊎ (PAGE_SIZE * VECTORS + 4 * VECTOR_HALVES ≤ at) →
         (at < PAGE_SIZE * DOS_LIST) ⊎ (PAGE_SIZE * DOS_LIST + entry_size ≤ at) → slice_index b8 at ≡ slice_index b6 at
-    late at no_vector no_list =
-        w.vectors.others at no_vector ∙ ap (λ (b : List ℕ). slice_index b at) w.list
-        ∙ put_away b6 (PAGE_SIZE * DOS_LIST) row at (elim no_list [
-          | inl below ↦ inr below
-          | inr above ↦ inl (let long = long_row in omega arith)
-        ])
+    late at no_vector no_list = grind (arith, long_row, put_away)
 
     -- and what all writes leave
     kept : (at : ℕ) → PAGE_SIZE * BLOCK_TABLES ≤ at → (at < PAGE_SIZE * VECTORS) ⊎ (PAGE_SIZE * VECTORS + 4 * VECTOR_HALVES ≤ at) →
         (at < PAGE_SIZE * DOS_LIST) ⊎ (PAGE_SIZE * DOS_LIST + entry_size ≤ at) → slice_index b8 at ≡ slice_index b0 at
-    kept at from no_vector no_list =
-        late at no_vector no_list
-        ∙ w.window.others at (inr (omega arith)) ∙ w.low.others at (inr (omega arith)) ∙ w.directory.others at (inr (omega arith))
-        ∙ ap (λ (b : List ℕ). slice_index b at) w.head ∙ put_above b2 (PARAGRAPH_SIZE * ARENA_START) header at (let long = long_header in omega arith)
-        ∙ w.reals.others at (inr (omega arith)) ∙ ap (λ (b : List ℕ). slice_index b at) w.rom
-        ∙ put_above b0 ROM_START (copies (DOS_SIZE - ROM_START) ROM_BYTE) at (let long = length-copies (DOS_SIZE - ROM_START) ROM_BYTE in omega arith)
+    kept at from no_vector no_list = grind (arith, late, length-copies, long_header, put_above)
 
     in_megabyte : (at : ℕ) → at < DOS_SIZE → slice_index b8 at ≡ slice_index b3 at
-    in_megabyte at small =
-        late at (inl (omega arith)) (inl (omega arith))
-        ∙ w.window.others at (inl (omega arith)) ∙ w.low.others at (inl (omega arith)) ∙ w.directory.others at (inl (omega arith))
+    in_megabyte at small = grind (arith, late)

@@ -71,13 +71,15 @@ entry_claim b budget w holds arena place at entry e less =
     part_byte b DOS_LIST DOS_LIST_FRAMES (entry_size * place + at) (omega arith) ∙ holds.arena.each place at within less
     ∙ sym (ap (λ (x : DosEntry). slice_index (entry_bytes x) at) item.is)
 
-pub lists_claim : (b : List ℕ) (budget : ℕ) (w : World) → Holds b budget → w.calls ≡ calls_in (records_part b) → w.arena ≡ arena_in (arena_part b) →
+pub lists_claim : (b : List ℕ) (budget : ℕ) (w : World) → Holds b budget → w.calls ≡ calls_in (records_part b) →
+    w.arena ≡ arena_in (arena_part b) →
     HoldsLists b w
 lists_claim b budget w holds calls arena = record {
   records = record_claim b budget w holds calls;
   no_more_records = λ at from less. part_byte b RECORDS RECORD_FRAMES at (omega arith) ∙ holds.records.rest at (omega (arith, depth)) less;
   entries = entry_claim b budget w holds arena;
-  no_more_entries = λ at from less. part_byte b DOS_LIST DOS_LIST_FRAMES at (omega arith) ∙ holds.arena.rest at (omega (arith, number)) less;
+  no_more_entries = λ at from less. part_byte b DOS_LIST DOS_LIST_FRAMES at (omega arith)
+      ∙ holds.arena.rest at (omega (arith, number)) less;
 }
   where
     depth : length w.calls ≡ record_count (records_part b)

@@ -13,7 +13,8 @@ use Rattle.client_world.specs.World.{World}
 use Rattle.guest_ram.specs.Bytes.{dword}
 use Rattle.guest_ram.specs.Count.{used}
 use Rattle.desc_table.specs.Rows.{rows_from}
-use Rattle.host_memory.specs.Layout.{world_of, address_of, dos_part, fixed_part, tables_part, rows_part, vectors_part, records_part, handles_part, locks_part, arena_part, taken_part, budget_part, blocks_in}
+use Rattle.host_memory.specs.Layout.{world_of, address_of, dos_part, fixed_part, tables_part, rows_part, vectors_part, records_part}
+use Rattle.host_memory.specs.Layout.{handles_part, locks_part, arena_part, taken_part, budget_part, blocks_in}
 use Rattle.host_memory.specs.Vectors.{interrupt_vectors_in, exception_vectors_in, callbacks_in, pageable_in, head_start, KeepsVectors}
 use Rattle.host_memory.specs.Records.{calls_in, KeepsRecords}
 use Rattle.host_memory.specs.DosList.{arena_in, KeepsArena}
@@ -99,34 +100,10 @@ pub record HoldsParts (parts : MemoryParts) (budget : ℕ) : Type 0 where
   pub arena : KeepsArena parts.arena
 
 pub holds_parts : (b : List ℕ) (budget : ℕ) → Holds b budget → HoldsParts (parts_of b budget) budget
-holds_parts b budget holds = record {
-  fixed = holds.fixed;
-  rows = holds.rows;
-  vectors = holds.vectors;
-  records = holds.records;
-  handles = holds.handles;
-  blocks = holds.blocks;
-  free = holds.free;
-  count = holds.count;
-  locks = holds.locks;
-  arena = holds.arena;
-}
+holds_parts b budget holds = assumption
 
 parts_hold : (c : List ℕ) (budget : ℕ) → HasSize c budget → budget ≤ MAX_PAGES → HoldsParts (parts_of c budget) budget → Holds c budget
-parts_hold c budget size most holds = record {
-  size = size;
-  most = most;
-  fixed = holds.fixed;
-  rows = holds.rows;
-  vectors = holds.vectors;
-  records = holds.records;
-  handles = holds.handles;
-  blocks = holds.blocks;
-  free = holds.free;
-  count = holds.count;
-  locks = holds.locks;
-  arena = holds.arena;
-}
+parts_hold c budget size most holds = assumption
 
 -- a memory whose parts are known holds a world where they keep it
 pub holds_by : (c : List ℕ) (budget : ℕ) (parts : MemoryParts) → parts_of c budget ≡ parts → HasSize c budget → budget ≤ MAX_PAGES →
@@ -148,41 +125,38 @@ addresses_by b c handles tables Nothing = refl
 holds_with : (parts : MemoryParts) (budget : ℕ) (dos rows vectors records arena frames : List ℕ) → KeepsRows rows → KeepsVectors vectors →
     KeepsRecords records → KeepsArena arena → ListsFreeFrames vectors parts.taken frames budget → HoldsParts parts budget →
     HoldsParts (record parts { dos = dos; rows = rows; vectors = vectors; records = records; arena = arena; frames = frames }) budget
-holds_with parts budget dos rows vectors records arena frames keeps_rows keeps_vectors keeps_records keeps_arena free h = record {
-  fixed = h.fixed;
-  rows = keeps_rows;
-  vectors = keeps_vectors;
-  records = keeps_records;
-  handles = h.handles;
-  blocks = h.blocks;
-  free = free;
-  count = h.count;
-  locks = h.locks;
-  arena = keeps_arena;
-}
+holds_with parts budget dos rows vectors records arena frames keeps_rows keeps_vectors keeps_records keeps_arena free h = assumption
 
-pub holds_with_dos : (parts : MemoryParts) (budget : ℕ) (dos : List ℕ) → HoldsParts parts budget → HoldsParts (record parts { dos = dos }) budget
-holds_with_dos p budget dos h = holds_with p budget dos p.rows p.vectors p.records p.arena p.frames h.rows h.vectors h.records h.arena h.free h
+pub holds_with_dos : (parts : MemoryParts) (budget : ℕ) (dos : List ℕ) → HoldsParts parts budget →
+    HoldsParts (record parts { dos = dos }) budget
+holds_with_dos p budget dos h =
+    holds_with p budget dos p.rows p.vectors p.records p.arena p.frames h.rows h.vectors h.records h.arena h.free h
 
 pub holds_with_rows : (parts : MemoryParts) (budget : ℕ) (rows : List ℕ) → KeepsRows rows → HoldsParts parts budget →
     HoldsParts (record parts { rows = rows }) budget
-holds_with_rows p budget rows keeps h = holds_with p budget p.dos rows p.vectors p.records p.arena p.frames keeps h.vectors h.records h.arena h.free h
+holds_with_rows p budget rows keeps h =
+    holds_with p budget p.dos rows p.vectors p.records p.arena p.frames keeps h.vectors h.records h.arena h.free h
 
 pub holds_with_vectors : (parts : MemoryParts) (budget : ℕ) (vectors : List ℕ) → KeepsVectors vectors →
-    dword vectors head_start ≡ dword parts.vectors head_start → HoldsParts parts budget → HoldsParts (record parts { vectors = vectors }) budget
-holds_with_vectors p budget vectors keeps head h = holds_with p budget p.dos p.rows vectors p.records p.arena p.frames h.rows keeps h.records h.arena
+    dword vectors head_start ≡ dword parts.vectors head_start → HoldsParts parts budget →
+    HoldsParts (record parts { vectors = vectors }) budget
+holds_with_vectors p budget vectors keeps head h =
+    holds_with p budget p.dos p.rows vectors p.records p.arena p.frames h.rows keeps h.records h.arena
     (list_kept p.vectors vectors p.taken p.frames p.frames budget head (λ frame is. refl) h.free) h
 
 pub holds_with_records : (parts : MemoryParts) (budget : ℕ) (records : List ℕ) → KeepsRecords records → HoldsParts parts budget →
     HoldsParts (record parts { records = records }) budget
-holds_with_records p budget records keeps h = holds_with p budget p.dos p.rows p.vectors records p.arena p.frames h.rows h.vectors keeps h.arena h.free h
+holds_with_records p budget records keeps h =
+    holds_with p budget p.dos p.rows p.vectors records p.arena p.frames h.rows h.vectors keeps h.arena h.free h
 
 pub holds_with_arena : (parts : MemoryParts) (budget : ℕ) (arena : List ℕ) → KeepsArena arena → HoldsParts parts budget →
     HoldsParts (record parts { arena = arena }) budget
-holds_with_arena p budget arena keeps h = holds_with p budget p.dos p.rows p.vectors p.records arena p.frames h.rows h.vectors h.records keeps h.free h
+holds_with_arena p budget arena keeps h =
+    holds_with p budget p.dos p.rows p.vectors p.records arena p.frames h.rows h.vectors h.records keeps h.free h
 
 pub holds_with_frames : (parts : MemoryParts) (budget : ℕ) (frames : List ℕ) →
     ((frame : ℕ) → IsIdle parts.taken budget frame → next_frame frames frame ≡ next_frame parts.frames frame) → HoldsParts parts budget →
     HoldsParts (record parts { frames = frames }) budget
-holds_with_frames p budget frames same h = holds_with p budget p.dos p.rows p.vectors p.records p.arena frames h.rows h.vectors h.records h.arena
+holds_with_frames p budget frames same h =
+    holds_with p budget p.dos p.rows p.vectors p.records p.arena frames h.rows h.vectors h.records h.arena
     (list_kept p.vectors p.vectors p.taken p.frames frames budget refl same h.free) h

@@ -4,7 +4,8 @@ use Rattle.std.proofs.lemmas.Bool.{lt-ltb, le-ltb, le-leb, lt-leb}
 use Rattle.std.specs.declared.option.Option.{Option}
 use Rattle.client_world.specs.declared.place.Place.TheVariants.{Dos, Block, Host, Nothing}
 use Rattle.client_world.specs.declared.host_frames.TheConstants.{PAGE_SIZE}
-use Rattle.client_world.specs.declared.memory_map.TheConstants.{DOS_VIEW_END, ROM_START, BLOCK_REGION, BLOCK_REGION_END, HOST_WINDOW, HOST_WINDOW_END}
+use Rattle.client_world.specs.declared.memory_map.TheConstants.{DOS_VIEW_END, ROM_START, BLOCK_REGION, BLOCK_REGION_END, HOST_WINDOW}
+use Rattle.client_world.specs.declared.memory_map.TheConstants.{HOST_WINDOW_END}
 use Rattle.client_world.specs.Access.{place_in, dos_address}
 use Rattle.client_world.specs.World.{MemoryBlock}
 use Rattle.page_tables.specs.Walk.{fault}
@@ -19,48 +20,24 @@ place_in_view blocks lin below = rw (lt-ltb lin DOS_VIEW_END below) refl
 -- after it
 pub place_in_gap : (blocks : List (Option MemoryBlock)) (lin : ℕ) → DOS_VIEW_END ≤ lin → lin < BLOCK_REGION → place_in blocks lin ≡ Nothing
 unfolding place_in
-place_in_gap blocks lin from to =
-    let below : lin < HOST_WINDOW = omega arith in
-    rw (le-ltb lin DOS_VIEW_END from, lt-leb BLOCK_REGION lin to, lt-leb HOST_WINDOW lin below) refl
+place_in_gap blocks lin from to = grind (arith, le-ltb, lt-leb)
 
 -- between the block region and the host's window
-pub place_below_window : (blocks : List (Option MemoryBlock)) (lin : ℕ) → BLOCK_REGION_END ≤ lin → lin < HOST_WINDOW → place_in blocks lin ≡ Nothing
+pub place_below_window : (blocks : List (Option MemoryBlock)) (lin : ℕ) → BLOCK_REGION_END ≤ lin → lin < HOST_WINDOW →
+    place_in blocks lin ≡ Nothing
 unfolding place_in
-place_below_window blocks lin from to =
-    let shown : DOS_VIEW_END ≤ lin = omega arith in
-    let region : BLOCK_REGION ≤ lin = omega arith in
-    rw (le-ltb lin DOS_VIEW_END shown, le-leb BLOCK_REGION lin region, le-ltb lin BLOCK_REGION_END from, lt-leb HOST_WINDOW lin to) refl
+place_below_window blocks lin from to = grind (arith, le-leb, le-ltb, lt-leb)
 
 -- in the window
-pub place_in_window : (blocks : List (Option MemoryBlock)) (lin : ℕ) → HOST_WINDOW ≤ lin → lin < HOST_WINDOW_END → place_in blocks lin ≡ Host
+pub place_in_window : (blocks : List (Option MemoryBlock)) (lin : ℕ) → HOST_WINDOW ≤ lin → lin < HOST_WINDOW_END →
+    place_in blocks lin ≡ Host
 unfolding place_in
-place_in_window blocks lin from to =
-    let shown : DOS_VIEW_END ≤ lin = omega arith in
-    let region : BLOCK_REGION ≤ lin = omega arith in
-    let behind : BLOCK_REGION_END ≤ lin = omega arith in
-    rw (
-      le-ltb lin DOS_VIEW_END shown,
-      le-leb BLOCK_REGION lin region,
-      le-ltb lin BLOCK_REGION_END behind,
-      le-leb HOST_WINDOW lin from,
-      lt-ltb lin HOST_WINDOW_END to,
-    ) refl
+place_in_window blocks lin from to = grind (arith, le-leb, le-ltb, lt-ltb)
 
 -- above it
 pub place_above_window : (blocks : List (Option MemoryBlock)) (lin : ℕ) → HOST_WINDOW_END ≤ lin → place_in blocks lin ≡ Nothing
 unfolding place_in
-place_above_window blocks lin from =
-    let shown : DOS_VIEW_END ≤ lin = omega arith in
-    let region : BLOCK_REGION ≤ lin = omega arith in
-    let behind : BLOCK_REGION_END ≤ lin = omega arith in
-    let window : HOST_WINDOW ≤ lin = omega arith in
-    rw (
-      le-ltb lin DOS_VIEW_END shown,
-      le-leb BLOCK_REGION lin region,
-      le-ltb lin BLOCK_REGION_END behind,
-      le-leb HOST_WINDOW lin window,
-      le-ltb lin HOST_WINDOW_END from,
-    ) refl
+place_above_window blocks lin from = grind (arith, le-leb, le-ltb)
 
 -- where an access ends: below read-only memory, in it, in a block, in the host's window and where nothing is
 pub told_dos : (b : List ℕ) (at : ℕ) (write : Bool) → at < ROM_START → walk_result b (Dos at) write ≡ Ok at

@@ -1,10 +1,13 @@
--- A row of the descriptors that is written is that row of the world, and nothing else changes; the rows of the memory are those of the world.
-use Rattle.std.proofs.Common.{◌≡◌, ◌≢◌, ℕ, ◌+◌, ◌*◌, ◌<◌, ◌≤◌, ◌⊎◌, inl, inr, Bool, List, length, get_or, slice_index, slice_set, refl, ap, ◌∙◌, sym, arith, Option, None, zero-add}
+-- A row of the descriptors that is written is that row of the world, and nothing else changes; the rows of the memory are those of the
+-- world.
+use Rattle.std.proofs.Common.{◌≡◌, ◌≢◌, ℕ, ◌+◌, ◌*◌, ◌<◌, ◌≤◌, ◌⊎◌, Bool, List, length, slice_set, refl, ap, ◌∙◌, sym, arith, Option, None}
+use Rattle.std.proofs.Common.{zero-add}
 use Rattle.std.proofs.lemmas.Bool.{cases_order}
 use Rattle.client_world.specs.declared.registers.Mode.{Mode}
 use Rattle.client_world.specs.declared.registers.Regs.{Regs}
 use Rattle.client_world.specs.declared.registers.Width.{Width}
-use Rattle.client_world.specs.declared.host_frames.TheConstants.{PAGE_SIZE, DESCRIPTOR_ROWS, DESCRIPTORS, DESCRIPTOR_ROW_SIZE, FIRST_FREE_DESCRIPTOR, DESCRIPTOR_ROW_FRAMES}
+use Rattle.client_world.specs.declared.host_frames.TheConstants.{PAGE_SIZE, DESCRIPTOR_ROWS, DESCRIPTORS, DESCRIPTOR_ROW_SIZE}
+use Rattle.client_world.specs.declared.host_frames.TheConstants.{FIRST_FREE_DESCRIPTOR, DESCRIPTOR_ROW_FRAMES}
 use Rattle.client_world.specs.FreeRuns.{IsFreeRunOf, IsFirstFreeRunOf}
 use Rattle.client_world.specs.Selector.{Row, FitsRow, row_at_index}
 use Rattle.guest_ram.specs.Bytes.{put}
@@ -18,7 +21,8 @@ use Rattle.host_memory.proofs.PutParts.{put_rows, size_put}
 use Rattle.host_memory.proofs.WorldParts.{descriptors_is}
 
 length-rows_part : (b : List ℕ) (budget : ℕ) → Holds b budget → length (rows_part b) ≡ DESCRIPTOR_ROW_SIZE * DESCRIPTORS
-length-rows_part b budget holds = length-region b (PAGE_SIZE * DESCRIPTOR_ROWS) (PAGE_SIZE * DESCRIPTOR_ROW_FRAMES) (omega (arith, holds.size))
+length-rows_part b budget holds =
+    length-region b (PAGE_SIZE * DESCRIPTOR_ROWS) (PAGE_SIZE * DESCRIPTOR_ROW_FRAMES) (omega (arith, holds.size))
 
 -- a row in the part of the rows
 abbrev with_row : List ℕ → ℕ → Row → List ℕ
@@ -26,50 +30,29 @@ with_row rows index row = put rows (DESCRIPTOR_ROW_SIZE * index) (row_bytes row)
 
 -- another row is beside it
 beside_row : (index other : ℕ) → other ≢ index →
-    (DESCRIPTOR_ROW_SIZE * index + DESCRIPTOR_ROW_SIZE ≤ DESCRIPTOR_ROW_SIZE * other) ⊎ (DESCRIPTOR_ROW_SIZE * other + DESCRIPTOR_ROW_SIZE ≤ DESCRIPTOR_ROW_SIZE * index)
-beside_row index other ne = elim (cases_order other index) [
-  | inl same ↦ absurd (ne same)
-  | inr o ↦ elim o [
-    | inl below ↦ inr (omega arith)
-    | inr above ↦ inl (omega arith)
-  ]
-]
+    (DESCRIPTOR_ROW_SIZE * index + DESCRIPTOR_ROW_SIZE ≤ DESCRIPTOR_ROW_SIZE * other)
+    ⊎ (DESCRIPTOR_ROW_SIZE * other + DESCRIPTOR_ROW_SIZE ≤ DESCRIPTOR_ROW_SIZE * index)
+beside_row index other ne = grind (arith, cases_order)
 
 -- each row is still exactly the bytes of what it holds
 keeps_rows : (rows : List ℕ) (index : ℕ) (row : Row) → length rows ≡ DESCRIPTOR_ROW_SIZE * DESCRIPTORS → index < DESCRIPTORS → FitsRow row →
     KeepsRows rows → KeepsRows (with_row rows index row)
-keeps_rows rows index row long small fits keeps = record { each = each }
-  where
-    there : row_at (with_row rows index row) (DESCRIPTOR_ROW_SIZE * index) ≡ row
-    there = row_at-put rows (DESCRIPTOR_ROW_SIZE * index) row fits (omega arith)
-
-    each : (other at : ℕ) → other < DESCRIPTORS → at < DESCRIPTOR_ROW_SIZE →
-        slice_index (with_row rows index row) (DESCRIPTOR_ROW_SIZE * other + at)
-        ≡ slice_index (row_bytes (row_at (with_row rows index row) (DESCRIPTOR_ROW_SIZE * other))) at
-    each other at inside within = elim (cases_order other index) [
-      | inl same ↦ (put_within rows (DESCRIPTOR_ROW_SIZE * index) (row_bytes row) at (DESCRIPTOR_ROW_SIZE * other + at)
-          (omega (arith, length-row_bytes row)) (omega (arith, length-row_bytes row)) (omega arith)
-          ∙ sym (ap (λ (r : Row). get_or (row_bytes r) at 0) (ap (λ (n : ℕ). row_at (with_row rows index row) (DESCRIPTOR_ROW_SIZE * n)) same ∙ there)))
-      | inr o ↦ (
-          let ne : other ≢ index = elim o [ inl below ↦ omega arith | inr above ↦ omega arith ] in
-          let away : (DESCRIPTOR_ROW_SIZE * index + length (row_bytes row) ≤ DESCRIPTOR_ROW_SIZE * other + at) ⊎ (DESCRIPTOR_ROW_SIZE * other + at < DESCRIPTOR_ROW_SIZE * index) =
-          elim o [ inl below ↦ inr (omega arith) | inr above ↦ inl (omega (arith, length-row_bytes row)) ] in
-          put_away rows (DESCRIPTOR_ROW_SIZE * index) (row_bytes row) (DESCRIPTOR_ROW_SIZE * other + at) away
-          ∙ keeps.each other at inside within
-          ∙ sym (ap (λ (r : Row). get_or (row_bytes r) at 0)
-          (row_at-put_away rows (DESCRIPTOR_ROW_SIZE * index) (DESCRIPTOR_ROW_SIZE * other) row (beside_row index other ne))))
-    ]
+keeps_rows rows index row long small fits keeps =
+    grind (arith, beside_row, cases_order, length-row_bytes, put_away, put_within, row_at-put, row_at-put_away)
 
 -- what the write does to the parts
 row_parts : (b : List ℕ) (budget : ℕ) → Holds b budget → (index : ℕ) (row : Row) → index < DESCRIPTORS →
     parts_of (put b (row_address index) (row_bytes row)) budget ≡ record (parts_of b budget) { rows = with_row (rows_part b) index row }
 row_parts b budget holds index row small =
-    put_rows b budget (row_address index) (DESCRIPTOR_ROW_SIZE * index) (row_bytes row) holds.size refl (omega (arith, length-row_bytes row))
+    put_rows b budget (row_address index) (DESCRIPTOR_ROW_SIZE * index) (row_bytes row) holds.size refl
+    (omega (arith, length-row_bytes row))
 
-pub row_world : (b : List ℕ) (budget : ℕ) → Holds b budget → (mode : Mode) (regs : Regs) (vif : Bool) (width : Option Width) (index : ℕ) (row : Row) →
+pub row_world : (b : List ℕ) (budget : ℕ) → Holds b budget →
+    (mode : Mode) (regs : Regs) (vif : Bool) (width : Option Width) (index : ℕ) (row : Row) →
     index < DESCRIPTORS → FitsRow row →
     world_of (put b (row_address index) (row_bytes row)) budget mode regs vif width
-    ≡ record (world_of b budget mode regs vif width) { descriptors = slice_set (world_of b budget mode regs vif width).descriptors index row }
+    ≡ record (world_of b budget mode regs vif
+    width) { descriptors = slice_set (world_of b budget mode regs vif width).descriptors index row }
 unfolding world_of
 row_world b budget holds mode regs vif width index row small fits =
     world_by (put b (row_address index) (row_bytes row)) budget (record (parts_of b budget) { rows = with_row (rows_part b) index row })
@@ -90,23 +73,21 @@ row_holds b budget holds index row small fits =
 pub rows_are : (b : List ℕ) (budget : ℕ) (mode : Mode) (regs : Regs) (vif : Bool) (width : Option Width) →
     rows_from b rows_start ≡ (world_of b budget mode regs vif width).descriptors
 rows_are b budget mode regs vif width =
-    sym (descriptors_is b budget mode regs vif width ∙ rows_from-region b (PAGE_SIZE * DESCRIPTOR_ROWS) (PAGE_SIZE * DESCRIPTOR_ROW_FRAMES) 0 (omega arith))
+    sym (descriptors_is b budget mode regs vif width
+    ∙ rows_from-region b (PAGE_SIZE * DESCRIPTOR_ROWS) (PAGE_SIZE * DESCRIPTOR_ROW_FRAMES) 0 (omega arith))
 
-pub row_reads : (b : List ℕ) (budget : ℕ) (mode : Mode) (regs : Regs) (vif : Bool) (width : Option Width) (index : ℕ) → index < DESCRIPTORS →
+pub row_reads : (b : List ℕ) (budget : ℕ) (mode : Mode) (regs : Regs) (vif : Bool) (width : Option Width) (index : ℕ) →
+    index < DESCRIPTORS →
     row_at b (row_address index) ≡ row_at_index (world_of b budget mode regs vif width).descriptors index
 row_reads b budget mode regs vif width index small =
-    sym (at_rows_from b rows_start index None small) ∙ ap (λ (rows : List Row). row_at_index rows index) (rows_are b budget mode regs vif width)
+    sym (at_rows_from b rows_start index None small)
+    ∙ ap (λ (rows : List Row). row_at_index rows index) (rows_are b budget mode regs vif width)
 
 -- rows that are free in the memory are free in the world, and the other way round
 
 pub run_in_world : (b : List ℕ) (budget : ℕ) (mode : Mode) (regs : Regs) (vif : Bool) (width : Option Width) (first n : ℕ) →
     IsFreeRun b first n → IsFreeRunOf (world_of b budget mode regs vif width).descriptors first n
-run_in_world b budget mode regs vif width first n run =
-    let within = run.within in
-    record {
-      within = within;
-      free = λ index from to. sym (row_reads b budget mode regs vif width index (omega arith)) ∙ run.free index from to;
-    }
+run_in_world b budget mode regs vif width first n run = grind (arith, row_reads)
 
 pub run_in_memory : (b : List ℕ) (budget : ℕ) (mode : Mode) (regs : Regs) (vif : Bool) (width : Option Width) (first n : ℕ) →
     IsFreeRunOf (world_of b budget mode regs vif width).descriptors first n → IsFreeRun b first n
@@ -130,9 +111,11 @@ first_run_in_world b budget mode regs vif width first n run = record {
 pub no_run_in_world : (b : List ℕ) (budget : ℕ) (mode : Mode) (regs : Regs) (vif : Bool) (width : Option Width) (n : ℕ) →
     ((first : ℕ) → FIRST_FREE_DESCRIPTOR ≤ first → ¬ IsFreeRun b first n) →
     (first : ℕ) → FIRST_FREE_DESCRIPTOR ≤ first → ¬ IsFreeRunOf (world_of b budget mode regs vif width).descriptors first n
-no_run_in_world b budget mode regs vif width n none first from run = none first from (run_in_memory b budget mode regs vif width first n run)
+no_run_in_world b budget mode regs vif width n none first from run =
+    none first from (run_in_memory b budget mode regs vif width first n run)
 
 pub no_run_in_memory : (b : List ℕ) (budget : ℕ) (mode : Mode) (regs : Regs) (vif : Bool) (width : Option Width) (n : ℕ) →
     ((first : ℕ) → FIRST_FREE_DESCRIPTOR ≤ first → ¬ IsFreeRunOf (world_of b budget mode regs vif width).descriptors first n) →
     (first : ℕ) → FIRST_FREE_DESCRIPTOR ≤ first → ¬ IsFreeRun b first n
-no_run_in_memory b budget mode regs vif width n none first from run = none first from (run_in_world b budget mode regs vif width first n run)
+no_run_in_memory b budget mode regs vif width n none first from run =
+    none first from (run_in_world b budget mode regs vif width first n run)

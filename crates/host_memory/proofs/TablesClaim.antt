@@ -1,15 +1,19 @@
 -- The page tables and the taken bytes of a memory that holds a world, said with no decoding.
-use Rattle.std.proofs.Common.{◌≡◌, ◌≢◌, ℕ, suc, ◌+◌, ◌-◌, ◌*◌, ◌/◌, ◌<◌, inl, inr, true, List, length, slice_index, Some, ap, ◌∙◌, sym, arith}
+use Rattle.std.proofs.Common.{◌≡◌, ◌≢◌, ℕ, suc, ◌+◌, ◌-◌, ◌*◌, ◌/◌, ◌<◌, inl, inr, true, List, length, slice_index, Some, ap, ◌∙◌, sym}
+use Rattle.std.proofs.Common.{arith}
 use Rattle.std.proofs.lemmas.Bool.{cases_eq}
 use Rattle.std.specs.declared.option.Option.{Option}
-use Rattle.client_world.specs.declared.host_frames.TheConstants.{PAGE_SIZE, PAGE_DIRECTORY, LOW_TABLE, WINDOW_TABLE, BLOCK_TABLES, TAKEN_FRAMES, BUDGET_FRAMES, BLOCK_TABLE_FRAMES, FIXED_TABLE_FRAMES, PAGE_ENTRY_SIZE, TAKEN_BYTE_FRAMES}
+use Rattle.client_world.specs.declared.host_frames.TheConstants.{PAGE_SIZE, PAGE_DIRECTORY, LOW_TABLE, WINDOW_TABLE, BLOCK_TABLES}
+use Rattle.client_world.specs.declared.host_frames.TheConstants.{TAKEN_FRAMES, BUDGET_FRAMES, BLOCK_TABLE_FRAMES, FIXED_TABLE_FRAMES}
+use Rattle.client_world.specs.declared.host_frames.TheConstants.{PAGE_ENTRY_SIZE, TAKEN_BYTE_FRAMES}
 use Rattle.client_world.specs.declared.memory_map.TheConstants.{BLOCK_REGION, BLOCK_REGION_PAGES}
 use Rattle.client_world.specs.World.{World, MemoryBlock, block_at}
 use Rattle.guest_ram.specs.Bytes.{dword}
 use Rattle.page_tables.specs.Entry.{page_entry}
 use Rattle.host_memory.specs.Holds.{Holds}
 use Rattle.host_memory.specs.HoldsWorld.{HoldsTables, HoldsTaken, IsNoBlocks, block_entry, block_page, frame_place}
-use Rattle.host_memory.specs.Layout.{tables_part, handles_part, locks_part, budget_part, taken_part, pages_of, first_page_of, entry_of, held_block, blocks_in}
+use Rattle.host_memory.specs.Layout.{tables_part, handles_part, locks_part, budget_part, taken_part, pages_of, first_page_of, entry_of}
+use Rattle.host_memory.specs.Layout.{held_block, blocks_in}
 use Rattle.host_memory.specs.Tables.{NamesBudgetFrame, IsOutside, low_table_start, window_table_start}
 use Rattle.host_memory.proofs.BlockBytes.{page_small}
 use Rattle.host_memory.proofs.BlockRows.{HeldRow, HasRanges, held_row, held_base, length-held_locks, block_there}
@@ -25,9 +29,7 @@ RowOf b budget handle block = HeldRow (handles_part b) (tables_part b) (locks_pa
 
 pub row_of_block : (b : List ℕ) (budget : ℕ) (w : World) → HasBlocks b budget w → (handle : ℕ) (block : MemoryBlock) →
     block_at w.blocks handle ≡ Some block → RowOf b budget handle block
-row_of_block b budget w has handle block e =
-    held_row (handles_part b) (tables_part b) (locks_part b) (budget_part b budget) handle block
-    (sym (ap (λ (blocks : List (Option MemoryBlock)). block_at blocks handle) has) ∙ e)
+row_of_block b budget w has handle block e = grind (arith, held_row)
 
 -- a page of a block is that page of its row
 pub page_of_row : (b : List ℕ) (budget handle : ℕ) (block : MemoryBlock) (row : RowOf b budget handle block) (page : ℕ) →
@@ -39,7 +41,8 @@ pub entry_is : (b : List ℕ) (page : ℕ) → page < BLOCK_REGION_PAGES → blo
 entry_is b page small = part_dword b BLOCK_TABLES BLOCK_TABLE_FRAMES (PAGE_ENTRY_SIZE * page) (omega arith)
 
 -- a page that no block of the world has belongs to no row
-pub outside_rows : (b : List ℕ) (budget : ℕ) (w : World) → HasBlocks b budget w → (page : ℕ) → IsNoBlocks w page → IsOutside (handles_part b) page
+pub outside_rows : (b : List ℕ) (budget : ℕ) (w : World) → HasBlocks b budget w → (page : ℕ) → IsNoBlocks w page →
+    IsOutside (handles_part b) page
 outside_rows b budget w has page none = λ place offset within small same.
     let some : pages_of (handles_part b) place ≢ 0 = omega arith in
     none (suc place) offset (block place)
@@ -53,14 +56,20 @@ outside_rows b budget w has page none = λ place offset within small same.
     block place = held_block (handles_part b) (tables_part b) (locks_part b) (budget_part b budget) place
 
 -- the page tables
-pub tables_claim : (b : List ℕ) (budget : ℕ) (w : World) → Holds b budget → HasRanges (handles_part b) → HasBlocks b budget w → w.budget ≡ budget →
+pub tables_claim : (b : List ℕ) (budget : ℕ) (w : World) → Holds b budget → HasRanges (handles_part b) → HasBlocks b budget w →
+    w.budget ≡ budget →
     HoldsTables b w
 tables_claim b budget w holds ranges has budgets = record {
-  directory = λ index small. part_dword b PAGE_DIRECTORY FIXED_TABLE_FRAMES (PAGE_ENTRY_SIZE * index) (omega arith) ∙ holds.fixed.directory index small;
-  low = λ page small. ap (dword b) (let e : frame_place LOW_TABLE (PAGE_ENTRY_SIZE * page) ≡ frame_place PAGE_DIRECTORY (low_table_start + PAGE_ENTRY_SIZE * page) = omega arith in e)
-      ∙ part_dword b PAGE_DIRECTORY FIXED_TABLE_FRAMES (low_table_start + PAGE_ENTRY_SIZE * page) (omega arith) ∙ holds.fixed.low page small;
-  window = λ page small. ap (dword b) (let e : frame_place WINDOW_TABLE (PAGE_ENTRY_SIZE * page) ≡ frame_place PAGE_DIRECTORY (window_table_start + PAGE_ENTRY_SIZE * page) = omega arith in e)
-      ∙ part_dword b PAGE_DIRECTORY FIXED_TABLE_FRAMES (window_table_start + PAGE_ENTRY_SIZE * page) (omega arith) ∙ holds.fixed.window page small;
+  directory = λ index small. part_dword b PAGE_DIRECTORY FIXED_TABLE_FRAMES (PAGE_ENTRY_SIZE * index) (omega arith)
+      ∙ holds.fixed.directory index small;
+  low = λ page small. ap (dword b) (let e : frame_place LOW_TABLE (PAGE_ENTRY_SIZE * page)
+      ≡ frame_place PAGE_DIRECTORY (low_table_start + PAGE_ENTRY_SIZE * page) = omega arith in e)
+      ∙ part_dword b PAGE_DIRECTORY FIXED_TABLE_FRAMES (low_table_start + PAGE_ENTRY_SIZE * page) (omega arith)
+      ∙ holds.fixed.low page small;
+  window = λ page small. ap (dword b) (let e : frame_place WINDOW_TABLE (PAGE_ENTRY_SIZE * page)
+      ≡ frame_place PAGE_DIRECTORY (window_table_start + PAGE_ENTRY_SIZE * page) = omega arith in e)
+      ∙ part_dword b PAGE_DIRECTORY FIXED_TABLE_FRAMES (window_table_start + PAGE_ENTRY_SIZE * page) (omega arith)
+      ∙ holds.fixed.window page small;
   named = named;
   absent = λ page small none. entry_is b page small ∙ holds.blocks.absent page small (outside_rows b budget w has page none);
   once = λ page other small less ne there same. holds.blocks.once page other small less ne
@@ -84,21 +93,18 @@ taken_claim b budget w holds budgets =
     record {
       taken = λ page frame small less named.
           let inside : frame < budget = omega arith in
-          part_byte b TAKEN_FRAMES TAKEN_BYTE_FRAMES frame (omega arith) ∙ taken_one page frame small inside (sym (entry_is b page small) ∙ named);
+          part_byte b TAKEN_FRAMES TAKEN_BYTE_FRAMES frame (omega arith)
+          ∙ taken_one page frame small inside (sym (entry_is b page small) ∙ named);
       free = λ frame less none.
           let inside : frame < budget = omega arith in
           part_byte b TAKEN_FRAMES TAKEN_BYTE_FRAMES frame (omega arith) ∙ taken_none frame inside none;
-      beyond = λ frame from less. part_byte b TAKEN_FRAMES TAKEN_BYTE_FRAMES frame (omega arith) ∙ holds.blocks.beyond frame (omega arith) less;
+      beyond = λ frame from less. part_byte b TAKEN_FRAMES TAKEN_BYTE_FRAMES frame (omega arith)
+          ∙ holds.blocks.beyond frame (omega arith) less;
     }
   where
     taken_one : (page frame : ℕ) → page < BLOCK_REGION_PAGES → frame < budget →
         entry_of (tables_part b) page ≡ page_entry (BUDGET_FRAMES + frame) true → slice_index (taken_part b) frame ≡ 1
-    taken_one page frame small inside named =
-        let bit = holds.blocks.bits frame in
-        elim (cases_eq (slice_index (taken_part b) frame) 0) [
-          | inl none ↦ absurd (holds.blocks.idle frame page inside small none named)
-          | inr some ↦ omega arith
-        ]
+    taken_one page frame small inside named = grind arith
 
     taken_none : (frame : ℕ) → frame < budget →
         ((page : ℕ) → page < BLOCK_REGION_PAGES → block_entry b page ≢ page_entry (BUDGET_FRAMES + frame) true) →

@@ -1,5 +1,6 @@
 -- The memory after a write of a vector, of a callback or of a pageable page.
-use Rattle.std.proofs.Common.{◌≡◌, ℕ, ◌+◌, ◌*◌, ◌<◌, ◌≤◌, inl, inr, Bool, List, [], ◌∷◌, length, slice_index, slice_set, refl, ap, ◌∙◌, subst, arith, Option, cond}
+use Rattle.std.proofs.Common.{◌≡◌, ℕ, ◌+◌, ◌*◌, ◌<◌, ◌≤◌, inl, Bool, List, [], ◌∷◌, length, slice_index, slice_set, refl, ap, ◌∙◌, subst}
+use Rattle.std.proofs.Common.{arith, Option, cond}
 use Rattle.client_world.specs.declared.host_frames.TheConstants.{PAGE_SIZE, CALLBACK_SIZE, VECTORS, VECTOR_FRAMES, VECTOR_SIZE}
 use Rattle.client_world.specs.declared.limits.TheConstants.{CALLBACKS, INTERRUPT_VECTORS, EXCEPTION_VECTORS}
 use Rattle.client_world.specs.declared.memory_map.TheConstants.{DOS_VIEW_PAGES}
@@ -13,10 +14,14 @@ use Rattle.guest_ram.specs.Bytes.{put, dword_bytes}
 use Rattle.guest_ram.proofs.PutLaws.{length-region, same_dword}
 use Rattle.host_memory.specs.Holds.{Holds}
 use Rattle.host_memory.specs.Layout.{address_of, rows_part, vectors_part, world_of}
-use Rattle.host_memory.specs.Vectors.{KeepsVectors, callback_bytes, callbacks_in, callbacks_start, exception_vectors_in, exceptions_start, head_end, head_start, interrupt_vectors_in, pageable_in, pageable_start, word_bytes}
+use Rattle.host_memory.specs.Vectors.{KeepsVectors, callback_bytes, callbacks_in, callbacks_start, exception_vectors_in, exceptions_start}
+use Rattle.host_memory.specs.Vectors.{head_end, head_start, interrupt_vectors_in, pageable_in, pageable_start, word_bytes}
 use Rattle.host_memory.proofs.Parts.{HasSize, MemoryParts, addresses_by, holds_by, holds_parts, holds_with_vectors, parts_of, world_by}
 use Rattle.host_memory.proofs.PutParts.{put_vectors, size_put}
-use Rattle.host_memory.proofs.VectorParts.{callback_away, callbacks_set, exceptions_set, head_away, interrupts_set, keeps_callback, keeps_pageable, keeps_pointer, length-callback_bytes, pageable_away, pageable_set, pointer_away, put_callback, put_head, put_pageable, put_pointer, same_callbacks, same_exceptions, same_interrupts, same_pageable}
+use Rattle.host_memory.proofs.VectorParts.{callback_away, callbacks_set, exceptions_set, head_away, interrupts_set, keeps_callback}
+use Rattle.host_memory.proofs.VectorParts.{keeps_pageable, keeps_pointer, length-callback_bytes, pageable_away, pageable_set, pointer_away}
+use Rattle.host_memory.proofs.VectorParts.{put_callback, put_head, put_pageable, put_pointer, same_callbacks, same_exceptions}
+use Rattle.host_memory.proofs.VectorParts.{same_interrupts, same_pageable}
 
 -- a world with other vectors, other callbacks and other pageable pages
 abbrev pub with_vectors : World → List FarPtr → List FarPtr → List (Option Callback) → List Bool → World
@@ -28,7 +33,8 @@ with_vectors w interrupts exceptions callbacks pageable = record w {
 }
 
 -- the memory still holds a world, of which those lists alone have changed
-pub record ChangesVectors (b c : List ℕ) (budget : ℕ) (interrupts exceptions : List FarPtr) (callbacks : List (Option Callback)) (pageable : List Bool) : Type 0 where
+pub record ChangesVectors (b c : List ℕ) (budget : ℕ) (interrupts exceptions : List FarPtr) (callbacks : List (Option Callback))
+    (pageable : List Bool) : Type 0 where
   pub holds : Holds c budget
   pub world : (mode : Mode) (regs : Regs) (vif : Bool) (width : Option Width) →
       world_of c budget mode regs vif width ≡ with_vectors (world_of b budget mode regs vif width) interrupts exceptions callbacks pageable
@@ -36,36 +42,28 @@ pub record ChangesVectors (b c : List ℕ) (budget : ℕ) (interrupts exceptions
   pub addresses : (p : Place) → address_of c p ≡ address_of b p
 
 -- the lists of a frame
-pub record Lists (part : List ℕ) (interrupts exceptions : List FarPtr) (callbacks : List (Option Callback)) (pageable : List Bool) : Type 0 where
+pub record Lists (part : List ℕ) (interrupts exceptions : List FarPtr) (callbacks : List (Option Callback)) (pageable : List Bool)
+    : Type 0 where
   pub int : interrupt_vectors_in part ≡ interrupts
   pub exc : exception_vectors_in part ≡ exceptions
   pub back : callbacks_in part ≡ callbacks
   pub page : pageable_in part ≡ pageable
 
-pub same_lists : (w : World) (part : List ℕ) (interrupts exceptions : List FarPtr) (callbacks : List (Option Callback)) (pageable : List Bool) →
+pub same_lists : (w : World) (part : List ℕ) (interrupts exceptions : List FarPtr) (callbacks : List (Option Callback))
+    (pageable : List Bool) →
     Lists part interrupts exceptions callbacks pageable →
     with_vectors w (interrupt_vectors_in part) (exception_vectors_in part) (callbacks_in part) (pageable_in part)
     ≡ with_vectors w interrupts exceptions callbacks pageable
-same_lists w part interrupts exceptions callbacks pageable l =
-    ap (λ (xs : List FarPtr). with_vectors w xs (exception_vectors_in part) (callbacks_in part) (pageable_in part)) l.int
-    ∙ ap (λ (xs : List FarPtr). with_vectors w interrupts xs (callbacks_in part) (pageable_in part)) l.exc
-    ∙ ap (λ (xs : List (Option Callback)). with_vectors w interrupts exceptions xs (pageable_in part)) l.back
-    ∙ ap (λ (xs : List Bool). with_vectors w interrupts exceptions callbacks xs) l.page
+same_lists w part interrupts exceptions callbacks pageable l = grind arith
 
-changes : (b c : List ℕ) (budget : ℕ) (part : List ℕ) (interrupts exceptions : List FarPtr) (callbacks : List (Option Callback)) (pageable : List Bool) → Holds b budget →
+changes : (b c : List ℕ) (budget : ℕ) (part : List ℕ) (interrupts exceptions : List FarPtr) (callbacks : List (Option Callback))
+    (pageable : List Bool) → Holds b budget →
     parts_of c budget ≡ record (parts_of b budget) { vectors = part } → HasSize c budget → KeepsVectors part →
     ((k : ℕ) → head_start ≤ k → k < head_end → slice_index part k ≡ slice_index (vectors_part b) k) →
     Lists part interrupts exceptions callbacks pageable → ChangesVectors b c budget interrupts exceptions callbacks pageable
 unfolding world_of
-changes b c budget part interrupts exceptions callbacks pageable holds e size keeps same lists = record {
-  holds = holds_by c budget (record (parts_of b budget) { vectors = part }) e size holds.most
-      (holds_with_vectors (parts_of b budget) budget part keeps
-      (same_dword part (vectors_part b) head_start head_start (λ i less. same (head_start + i) (omega arith) (omega arith))) (holds_parts b budget holds));
-  world = λ mode regs vif width. world_by c budget (record (parts_of b budget) { vectors = part }) e mode regs vif width
-      ∙ same_lists (world_of b budget mode regs vif width) part interrupts exceptions callbacks pageable lists;
-  rows = ap (λ (x : MemoryParts). x.rows) e;
-  addresses = addresses_by b c (ap (λ (x : MemoryParts). x.handles) e) (ap (λ (x : MemoryParts). x.tables) e);
-}
+changes b c budget part interrupts exceptions callbacks pageable holds e size keeps same lists =
+    grind (arith, addresses_by, holds_by, holds_parts, holds_with_vectors, same_dword, same_lists, world_by)
 
 pub vectors_size : (b : List ℕ) (budget : ℕ) → HasSize b budget → length (vectors_part b) ≡ PAGE_SIZE * VECTOR_FRAMES
 vectors_size b budget size = length-region b (PAGE_SIZE * VECTORS) (PAGE_SIZE * VECTOR_FRAMES) (omega (arith, size))
@@ -85,7 +83,8 @@ pointer_parts : (b : List ℕ) (budget at : ℕ) (p : FarPtr) → HasSize b budg
 pointer_parts b budget at p size room =
     let c = put b (PAGE_SIZE * VECTORS + at) (dword_bytes p.off) in
     let first = put_vectors b budget (PAGE_SIZE * VECTORS + at) at (dword_bytes p.off) size refl (omega arith) in
-    put_vectors c budget (PAGE_SIZE * VECTORS + at + 4) (at + 4) (word_bytes p.sel) (size_put b budget (PAGE_SIZE * VECTORS + at) (dword_bytes p.off) size) (omega arith) (omega arith)
+    put_vectors c budget (PAGE_SIZE * VECTORS + at + 4) (at + 4) (word_bytes p.sel)
+    (size_put b budget (PAGE_SIZE * VECTORS + at) (dword_bytes p.off) size) (omega arith) (omega arith)
     ∙ ap (λ (x : MemoryParts). record x { vectors = put x.vectors (at + 4) (word_bytes p.sel) }) first
 
 pub interrupt_changes : (b : List ℕ) (budget n : ℕ) (p : FarPtr) → Holds b budget → n < INTERRUPT_VECTORS →
@@ -94,18 +93,15 @@ pub interrupt_changes : (b : List ℕ) (budget n : ℕ) (p : FarPtr) → Holds b
 interrupt_changes b budget n p holds within =
     let part = vectors_part b in
     let long = vectors_size b budget holds.size in
-    changes b (with_pointer b (VECTOR_SIZE * n) p) budget (put_pointer part (VECTOR_SIZE * n) p) (slice_set (interrupt_vectors_in part) n p) (exception_vectors_in part) (callbacks_in part) (pageable_in part) holds
+    changes b (with_pointer b (VECTOR_SIZE * n) p) budget (put_pointer part (VECTOR_SIZE * n) p) (slice_set (interrupt_vectors_in part) n p)
+    (exception_vectors_in part) (callbacks_in part) (pageable_in part) holds
     (pointer_parts b budget (VECTOR_SIZE * n) p holds.size (omega arith)) (pointer_size b budget (VECTOR_SIZE * n) p holds.size)
     (keeps_pointer part n p long (omega arith) holds.vectors)
     (λ k from to. pointer_away part (VECTOR_SIZE * n) p k (inl (omega arith)))
-    (record {
-      int = interrupts_set part n p long within;
-      exc = same_exceptions (put_pointer part (VECTOR_SIZE * n) p) part (λ k from to. pointer_away part (VECTOR_SIZE * n) p k (inl (omega arith)));
-      back = same_callbacks (put_pointer part (VECTOR_SIZE * n) p) part (λ k from to. pointer_away part (VECTOR_SIZE * n) p k (inl (omega arith)));
-      page = same_pageable (put_pointer part (VECTOR_SIZE * n) p) part (λ k from to. pointer_away part (VECTOR_SIZE * n) p k (inl (omega arith)));
-    })
+    (grind (arith, interrupts_set, pointer_away, same_callbacks, same_exceptions, same_pageable))
 
-keeps_exception : (part : List ℕ) (n : ℕ) (p : FarPtr) → length part ≡ PAGE_SIZE * VECTOR_FRAMES → n < EXCEPTION_VECTORS → KeepsVectors part →
+keeps_exception : (part : List ℕ) (n : ℕ) (p : FarPtr) → length part ≡ PAGE_SIZE * VECTOR_FRAMES → n < EXCEPTION_VECTORS →
+    KeepsVectors part →
     KeepsVectors (put_pointer part (exceptions_start + VECTOR_SIZE * n) p)
 keeps_exception part n p long within keeps =
     let at : VECTOR_SIZE * (INTERRUPT_VECTORS + n) ≡ exceptions_start + VECTOR_SIZE * n = omega arith in
@@ -118,15 +114,11 @@ exception_changes b budget n p holds within =
     let part = vectors_part b in
     let long = vectors_size b budget holds.size in
     let at = exceptions_start + VECTOR_SIZE * n in
-    changes b (with_pointer b at p) budget (put_pointer part at p) (interrupt_vectors_in part) (slice_set (exception_vectors_in part) n p) (callbacks_in part) (pageable_in part) holds
+    changes b (with_pointer b at p) budget (put_pointer part at p) (interrupt_vectors_in part) (slice_set (exception_vectors_in part) n p)
+    (callbacks_in part) (pageable_in part) holds
     (pointer_parts b budget at p holds.size (omega arith)) (pointer_size b budget at p holds.size)
     (keeps_exception part n p long within holds.vectors) (λ k from to. pointer_away part at p k (inl (omega arith)))
-    (record {
-      int = same_interrupts (put_pointer part at p) part (λ k to. pointer_away part at p k (inr (omega arith)));
-      exc = exceptions_set part n p long within;
-      back = same_callbacks (put_pointer part at p) part (λ k from to. pointer_away part at p k (inl (omega arith)));
-      page = same_pageable (put_pointer part at p) part (λ k from to. pointer_away part at p k (inl (omega arith)));
-    })
+    (grind (arith, exceptions_set, pointer_away, same_callbacks, same_interrupts, same_pageable))
 
 -- ---- a callback
 
@@ -140,16 +132,12 @@ callback_changes b budget slot row holds within =
     let part = vectors_part b in
     let long = vectors_size b budget holds.size in
     let at = callbacks_start + CALLBACK_SIZE * slot in
-    changes b (with_callback b slot row) budget (put_callback part slot row) (interrupt_vectors_in part) (exception_vectors_in part) (slice_set (callbacks_in part) slot row) (pageable_in part) holds
+    changes b (with_callback b slot row) budget (put_callback part slot row) (interrupt_vectors_in part) (exception_vectors_in part)
+    (slice_set (callbacks_in part) slot row) (pageable_in part) holds
     (put_vectors b budget (PAGE_SIZE * VECTORS + at) at (callback_bytes row) holds.size refl (omega (arith, length-callback_bytes row)))
     (size_put b budget (PAGE_SIZE * VECTORS + at) (callback_bytes row) holds.size)
     (keeps_callback part slot row long within holds.vectors) (λ k from to. callback_away part slot row k (inl (omega arith)))
-    (record {
-      int = same_interrupts (put_callback part slot row) part (λ k to. callback_away part slot row k (inr (omega arith)));
-      exc = same_exceptions (put_callback part slot row) part (λ k from to. callback_away part slot row k (inr (omega arith)));
-      back = callbacks_set part slot row long within;
-      page = same_pageable (put_callback part slot row) part (λ k from to. callback_away part slot row k (inl (omega arith)));
-    })
+    (grind (arith, callback_away, callbacks_set, same_exceptions, same_interrupts, same_pageable))
 
 -- ---- a pageable page
 
@@ -162,23 +150,15 @@ pub pageable_changes : (b : List ℕ) (budget page : ℕ) (on : Bool) → Holds 
 pageable_changes b budget page on holds within =
     let part = vectors_part b in
     let long = vectors_size b budget holds.size in
-    changes b (with_pageable b page on) budget (put_pageable part page on) (interrupt_vectors_in part) (exception_vectors_in part) (callbacks_in part) (slice_set (pageable_in part) page on) holds
-    (put_vectors b budget (PAGE_SIZE * VECTORS + pageable_start + page) (pageable_start + page) (cond on 1 0 ∷ []) holds.size (omega arith) (omega arith))
+    changes b (with_pageable b page on) budget (put_pageable part page on) (interrupt_vectors_in part) (exception_vectors_in part)
+    (callbacks_in part) (slice_set (pageable_in part) page on) holds
+    (put_vectors b budget (PAGE_SIZE * VECTORS + pageable_start + page) (pageable_start + page) (cond on 1 0 ∷ []) holds.size (omega arith)
+    (omega arith))
     (size_put b budget (PAGE_SIZE * VECTORS + pageable_start + page) (cond on 1 0 ∷ []) holds.size)
     (keeps_pageable part page on long within holds.vectors) (λ k from to. pageable_away part page on k (λ z. omega arith))
-    (record {
-      int = same_interrupts (put_pageable part page on) part (λ k to. pageable_away part page on k (λ z. omega arith));
-      exc = same_exceptions (put_pageable part page on) part (λ k from to. pageable_away part page on k (λ z. omega arith));
-      back = same_callbacks (put_pageable part page on) part (λ k from to. pageable_away part page on k (λ z. omega arith));
-      page = pageable_set part page on long within;
-    })
+    (grind (arith, pageable_away, pageable_set, same_callbacks, same_exceptions, same_interrupts))
 
 -- ---- the head of the list of free frames, which is in none of these lists
 pub head_lists : (part : List ℕ) (frame : ℕ) →
     Lists (put_head part frame) (interrupt_vectors_in part) (exception_vectors_in part) (callbacks_in part) (pageable_in part)
-head_lists part frame = record {
-  int = same_interrupts (put_head part frame) part (λ k to. head_away part frame k (inl (omega arith)));
-  exc = same_exceptions (put_head part frame) part (λ k from to. head_away part frame k (inl (omega arith)));
-  back = same_callbacks (put_head part frame) part (λ k from to. head_away part frame k (inl (omega arith)));
-  page = same_pageable (put_head part frame) part (λ k from to. head_away part frame k (inl to));
-}
+head_lists part frame = grind (arith, head_away, same_callbacks, same_exceptions, same_interrupts, same_pageable)

@@ -1,20 +1,20 @@
 -- The frame of the vectors of a memory that holds a world, said with no decoding.
-use Rattle.std.proofs.Common.{◌≡◌, ℕ, ◌+◌, ◌*◌, ◌<◌, inl, inr, Bool, false, nat_eq, cond, List, get_or, slice_index, None, Some, ap, ◌∙◌, sym, arith}
+use Rattle.std.proofs.Common.{◌≡◌, ℕ, ◌+◌, ◌*◌, ◌<◌, false, nat_eq, cond, List, get_or, slice_index, None, Some, ap, ◌∙◌, sym, arith}
 use Rattle.std.specs.List.{slice_get}
-use Rattle.std.proofs.lemmas.Bool.{cases_eq, eq-eqb, ne_eqb}
+use Rattle.std.proofs.lemmas.Bool.{eq-eqb, ne_eqb}
 use Rattle.std.proofs.lemmas.Option.{slice_get_within, get_or_from_slice_get}
-use Rattle.std.specs.declared.option.Option.{Option}
 use Rattle.client_world.specs.declared.segments.FarPtr.{FarPtr}
 use Rattle.client_world.specs.declared.host_frames.TheConstants.{PAGE_SIZE, VECTORS, CALLBACK_SIZE, VECTOR_FRAMES, VECTOR_SIZE}
 use Rattle.client_world.specs.declared.limits.TheConstants.{CALLBACKS, INTERRUPT_VECTORS, EXCEPTION_VECTORS}
 use Rattle.client_world.specs.declared.memory_map.TheConstants.{DOS_VIEW_PAGES}
-use Rattle.client_world.specs.World.{World, Callback}
+use Rattle.client_world.specs.World.{World}
 use Rattle.guest_ram.specs.Listed.{listed}
 use Rattle.guest_ram.proofs.ListedLaws.{length-listed, at_listed}
 use Rattle.host_memory.specs.Holds.{Holds}
 use Rattle.host_memory.specs.HoldsWorld.{HoldsVectors, frame_place}
 use Rattle.host_memory.specs.Layout.{vectors_part}
-use Rattle.host_memory.specs.Vectors.{pointer_at, vector_bytes, callback_at, callback_bytes, exceptions_start, callbacks_start, pageable_start, interrupt_vectors_in, exception_vectors_in, callbacks_in, pageable_in}
+use Rattle.host_memory.specs.Vectors.{pointer_at, vector_bytes, callback_bytes, exceptions_start, callbacks_start, pageable_start}
+use Rattle.host_memory.specs.Vectors.{interrupt_vectors_in, exception_vectors_in, callbacks_in, pageable_in}
 use Rattle.host_memory.proofs.PartBytes.{part_byte}
 
 -- an item of a list that is given by a function
@@ -30,25 +30,18 @@ item_is n f place x e =
     record { within = within; is = sym (get_or_from_slice_get (listed n f) place x x e) ∙ at_listed n f place x within }
 
 -- a byte of the frame
-vectors_byte : (b : List ℕ) (at : ℕ) → at < PAGE_SIZE * VECTOR_FRAMES → slice_index b (frame_place VECTORS at) ≡ slice_index (vectors_part b) at
+vectors_byte : (b : List ℕ) (at : ℕ) → at < PAGE_SIZE * VECTOR_FRAMES →
+    slice_index b (frame_place VECTORS at) ≡ slice_index (vectors_part b) at
 vectors_byte b at within = part_byte b VECTORS VECTOR_FRAMES at (omega arith)
 
 -- a byte that is 0 or 1 says whether it is 1
 bit_is : (n : ℕ) → n < 2 → n ≡ cond (nat_eq n 1) 1 0
-bit_is n small = elim (cases_eq n 1) [
-  | inl one ↦ rw (eq-eqb n 1 one) one
-  | inr other ↦ rw (ne_eqb n 1 other) (omega arith)
-]
+bit_is n small = grind (arith, eq-eqb, ne_eqb)
 
 pub interrupt_claim : (b : List ℕ) (budget : ℕ) (w : World) → Holds b budget → w.interrupt_vectors ≡ interrupt_vectors_in (vectors_part b) →
     (n at : ℕ) (p : FarPtr) → slice_get w.interrupt_vectors n ≡ Some p → at < VECTOR_SIZE →
     slice_index b (frame_place VECTORS (VECTOR_SIZE * n + at)) ≡ slice_index (vector_bytes p) at
-interrupt_claim b budget w holds vectors n at p e less =
-    let item = item_is INTERRUPT_VECTORS (λ k. pointer_at (vectors_part b) (VECTOR_SIZE * k)) n p
-    (sym (ap (λ (xs : List FarPtr). slice_get xs n) vectors) ∙ e) in
-    let within = item.within in
-    vectors_byte b (VECTOR_SIZE * n + at) (omega arith) ∙ holds.vectors.vectors n at (omega arith) less
-    ∙ sym (ap (λ (q : FarPtr). slice_index (vector_bytes q) at) item.is)
+interrupt_claim b budget w holds vectors n at p e less = grind (arith, item_is, vectors_byte)
 
 pub exception_claim : (b : List ℕ) (budget : ℕ) (w : World) → Holds b budget → w.exception_vectors ≡ exception_vectors_in (vectors_part b) →
     (n at : ℕ) (p : FarPtr) → slice_get w.exception_vectors n ≡ Some p → at < VECTOR_SIZE →
@@ -66,21 +59,14 @@ exception_claim b budget w holds vectors n at p e less =
 
 pub callback_claim : (b : List ℕ) (budget : ℕ) (w : World) → Holds b budget → w.callbacks ≡ callbacks_in (vectors_part b) →
     (slot at : ℕ) → slot < CALLBACKS → at < CALLBACK_SIZE →
-    slice_index b (frame_place VECTORS (callbacks_start + (CALLBACK_SIZE * slot + at))) ≡ slice_index (callback_bytes (get_or w.callbacks slot None)) at
-callback_claim b budget w holds callbacks slot at within less =
-    vectors_byte b (callbacks_start + (CALLBACK_SIZE * slot + at)) (omega arith) ∙ holds.vectors.callbacks slot at within less
-    ∙ sym (ap (λ (x : Option Callback). slice_index (callback_bytes x) at)
-    (ap (λ (xs : List (Option Callback)). get_or xs slot None) callbacks
-    ∙ at_listed CALLBACKS (λ k. callback_at (vectors_part b) (callbacks_start + CALLBACK_SIZE * k)) slot None within))
+    slice_index b (frame_place VECTORS (callbacks_start + (CALLBACK_SIZE * slot + at)))
+    ≡ slice_index (callback_bytes (get_or w.callbacks slot None)) at
+callback_claim b budget w holds callbacks slot at within less = grind (arith, at_listed, vectors_byte)
 
 pub pageable_claim : (b : List ℕ) (budget : ℕ) (w : World) → Holds b budget → w.pageable ≡ pageable_in (vectors_part b) →
-    (page : ℕ) → page < DOS_VIEW_PAGES → slice_index b (frame_place VECTORS (pageable_start + page)) ≡ cond (get_or w.pageable page false) 1 0
-pageable_claim b budget w holds pageable page within =
-    vectors_byte b (pageable_start + page) (omega arith)
-    ∙ bit_is (slice_index (vectors_part b) (pageable_start + page)) (holds.vectors.pageable page within)
-    ∙ sym (ap (λ (on : Bool). cond on 1 0)
-    (ap (λ (xs : List Bool). get_or xs page false) pageable
-    ∙ at_listed DOS_VIEW_PAGES (λ k. nat_eq (slice_index (vectors_part b) (pageable_start + k)) 1) page false within))
+    (page : ℕ) → page < DOS_VIEW_PAGES → slice_index b (frame_place VECTORS (pageable_start + page))
+    ≡ cond (get_or w.pageable page false) 1 0
+pageable_claim b budget w holds pageable page within = grind (arith, at_listed, bit_is, vectors_byte)
 
 -- the parts of the world that the frame holds
 pub record HasVectors (b : List ℕ) (w : World) : Type 0 where
@@ -90,10 +76,4 @@ pub record HasVectors (b : List ℕ) (w : World) : Type 0 where
   pub pageable : w.pageable ≡ pageable_in (vectors_part b)
 
 pub vectors_claim : (b : List ℕ) (budget : ℕ) (w : World) → Holds b budget → HasVectors b w → HoldsVectors b w
-vectors_claim b budget w holds has = record {
-  interrupts = interrupt_claim b budget w holds has.interrupts;
-  exceptions = exception_claim b budget w holds has.exceptions;
-  callbacks = callback_claim b budget w holds has.callbacks;
-  pageable = pageable_claim b budget w holds has.pageable;
-  rest = λ at from less. vectors_byte b at less ∙ holds.vectors.rest at from less;
-}
+vectors_claim b budget w holds has = grind (arith, callback_claim, exception_claim, interrupt_claim, pageable_claim, vectors_byte)

@@ -1,5 +1,5 @@
 -- What the answer of an access says of the world.
-use Rattle.std.proofs.Common.{◌≡◌, ℕ, inl, inr, Bool, true, false, List, Ok, Err, refl, ap, sym}
+use Rattle.std.proofs.Common.{◌≡◌, ℕ, Bool, true, false, List, Ok, Err, refl, arith}
 use Rattle.std.proofs.lemmas.Bool.{cases_Bool}
 use Rattle.client_world.specs.declared.faults.PageFault.{PageFault}
 use Rattle.client_world.specs.declared.place.Place.{Place}
@@ -14,12 +14,10 @@ pub record TouchesAt (b : List ℕ) (place : Place) (write : Bool) (p : ℕ) : T
 
 pub told_ends : (b : List ℕ) (place : Place) (write : Bool) (p : ℕ) → walk_result b place write ≡ Ok p → TouchesAt b place write p
 unfolding walk_result
-told_ends b place write p e = elim (cases_Bool (may_touch place write)) [
-  | inl may ↦ (let same : Ok (address_of b place) ≡ Ok p = rw may at e in record { may = may; address = cc })
-  | inr barred ↦ (let fails = rw barred at e in absurd cc)
-]
+told_ends b place write p e = grind (arith, cases_Bool)
 
-pub told_may : (b : List ℕ) (place : Place) (write : Bool) → may_touch place write ≡ true → walk_result b place write ≡ Ok (address_of b place)
+pub told_may : (b : List ℕ) (place : Place) (write : Bool) → may_touch place write ≡ true →
+    walk_result b place write ≡ Ok (address_of b place)
 unfolding walk_result
 told_may b place write may = rw may refl
 
@@ -30,10 +28,4 @@ pub record BarredAt (place : Place) (write : Bool) (f : PageFault) : Type 0 wher
 
 pub told_fails : (b : List ℕ) (place : Place) (write : Bool) (f : PageFault) → walk_result b place write ≡ Err f → BarredAt place write f
 unfolding walk_result
-told_fails b place write f e = elim (cases_Bool (may_touch place write)) [
-  | inl may ↦ (let ends = rw may at e in absurd cc)
-  | inr barred ↦ (
-      let same : Err (record { present = is_present place }) ≡ Err f = rw barred at e in
-      let fault : record { present = is_present place } ≡ f = cc in
-      record { barred = barred; present = sym (ap (λ (g : PageFault). g.present) fault) })
-]
+told_fails b place write f e = grind (arith, cases_Bool)

@@ -1,5 +1,6 @@
 -- A walk of the page tables ends exactly where the client may touch, at the address of the place, and else fails as the place says.
-use Rattle.std.proofs.Common.{◌≡◌, ◌≢◌, ℕ, ◌+◌, ◌-◌, ◌*◌, ◌/◌, ◌%◌, ◌<◌, ◌≤◌, ◌^◌, inl, inr, Bool, true, false, List, ap, ◌∙◌, sym, arith, Ok}
+use Rattle.std.proofs.Common.{◌≡◌, ◌≢◌, ℕ, ◌+◌, ◌-◌, ◌*◌, ◌/◌, ◌%◌, ◌<◌, ◌≤◌, ◌^◌, inl, inr, Bool, true, false, List, ap, ◌∙◌, sym, arith}
+use Rattle.std.proofs.Common.{Ok}
 use Rattle.std.proofs.lemmas.Bool.{lt-ltb, le-ltb, cases_lt}
 use Rattle.std.specs.declared.option.Option.{Option}
 use Rattle.client_world.specs.declared.limits.TheConstants.{MAX_BLOCKS}
@@ -7,7 +8,8 @@ use Rattle.client_world.specs.declared.registers.Mode.{Mode}
 use Rattle.client_world.specs.declared.registers.Regs.{Regs}
 use Rattle.client_world.specs.declared.registers.Width.{Width}
 use Rattle.client_world.specs.declared.place.Place.{Place}
-use Rattle.client_world.specs.declared.host_frames.TheConstants.{PAGE_SIZE, PAGE_DIRECTORY, LOW_TABLE, WINDOW_TABLE, DOS_FRAMES, BUDGET_FRAMES, TABLE_ENTRIES}
+use Rattle.client_world.specs.declared.host_frames.TheConstants.{PAGE_SIZE, PAGE_DIRECTORY, LOW_TABLE, WINDOW_TABLE, DOS_FRAMES}
+use Rattle.client_world.specs.declared.host_frames.TheConstants.{BUDGET_FRAMES, TABLE_ENTRIES}
 use Rattle.client_world.specs.declared.memory_map.TheConstants.{DOS_VIEW_PAGES, ROM_START, BLOCK_REGION, BLOCK_REGION_END, HOST_WINDOW}
 use Rattle.client_world.specs.Access.{place_in, place_of, dos_address}
 use Rattle.client_world.specs.Soundness.{SoundBlocks}
@@ -17,12 +19,14 @@ use Rattle.page_tables.specs.Walk.{walked, walk_end}
 use Rattle.page_tables.specs.declared.entry.TheConstants.{TABLE_SPAN}
 use Rattle.host_memory.specs.Holds.{Holds}
 use Rattle.host_memory.specs.Law.{walk_result}
-use Rattle.host_memory.specs.Layout.{world_of, fixed_part, tables_part, handles_part, locks_part, taken_part, budget_part, base_of, pages_of, first_page_of, entry_of, blocks_in}
+use Rattle.host_memory.specs.Layout.{world_of, fixed_part, tables_part, handles_part, locks_part, taken_part, budget_part, base_of}
+use Rattle.host_memory.specs.Layout.{pages_of, first_page_of, blocks_in}
 use Rattle.host_memory.specs.Tables.{HasFixedEntries, HasBlockEntries, IsOutside}
 use Rattle.host_memory.proofs.BlockRows.{HasRanges, InRow, InBlock, InNoBlock, over_tells, ranges}
 use Rattle.host_memory.proofs.EntryEnds.{ends_in_page, reads_in_page, forbids_write, finds_no_page, forbids_client, finds_no_host_page}
-use Rattle.host_memory.proofs.FixedWalks.{low_walk, window_walk, region_walk, no_walk, block_table}
-use Rattle.host_memory.proofs.PlaceRanges.{place_in_view, place_in_gap, place_below_window, place_in_window, place_above_window, told_dos, told_read, told_rom_write, told_block, told_host, told_nothing}
+use Rattle.host_memory.proofs.FixedWalks.{low_walk, window_walk, region_walk, no_walk}
+use Rattle.host_memory.proofs.PlaceRanges.{place_in_view, place_in_gap, place_below_window, place_in_window, place_above_window, told_dos}
+use Rattle.host_memory.proofs.PlaceRanges.{told_read, told_rom_write, told_block, told_host, told_nothing}
 use Rattle.host_memory.proofs.WorldParts.{blocks_is}
 
 -- an access ends at the place that is there
@@ -54,7 +58,8 @@ rom_law b blocks lin false from to =
     ∙ to_place b blocks lin false _ (place_in_view blocks lin (omega arith))
 
 -- below 4 MB
-pub low_law : (b : List ℕ) (blocks : List (Option MemoryBlock)) (lin : ℕ) (write : Bool) → HasFixedEntries (fixed_part b) → lin < BLOCK_REGION →
+pub low_law : (b : List ℕ) (blocks : List (Option MemoryBlock)) (lin : ℕ) (write : Bool) → HasFixedEntries (fixed_part b) →
+    lin < BLOCK_REGION →
     walked b PAGE_DIRECTORY lin write ≡ walk_result b (place_in blocks lin) write
 low_law b blocks lin write fixed below = low_walk b lin write fixed below ∙ elim (cases_lt (lin / PAGE_SIZE) (ROM_START / PAGE_SIZE)) [
   | inl writable ↦ rw (lt-ltb (lin / PAGE_SIZE) (ROM_START / PAGE_SIZE) writable)
@@ -63,12 +68,7 @@ low_law b blocks lin write fixed below = low_walk b lin write fixed below ∙ el
     | inl rom ↦ rw (le-ltb (lin / PAGE_SIZE) (ROM_START / PAGE_SIZE) from_rom, lt-ltb (lin / PAGE_SIZE) DOS_FRAMES rom)
         (rom_law b blocks lin write (omega arith) (omega arith))
     | inr from_view ↦ elim (cases_lt (lin / PAGE_SIZE) DOS_VIEW_PAGES) [
-      | inl view ↦ rw (
-        le-ltb (lin / PAGE_SIZE) (ROM_START / PAGE_SIZE) from_rom,
-        le-ltb (lin / PAGE_SIZE) DOS_FRAMES from_view,
-        lt-ltb (lin / PAGE_SIZE) DOS_VIEW_PAGES view,
-      )
-          (writable_law b blocks lin (lin / PAGE_SIZE - DOS_FRAMES) write (omega arith) (omega arith) (omega arith))
+      | inl view ↦ grind (arith, le-ltb, lt-ltb, writable_law)
       | inr gap ↦ rw (
         le-ltb (lin / PAGE_SIZE) (ROM_START / PAGE_SIZE) from_rom,
         le-ltb (lin / PAGE_SIZE) DOS_FRAMES from_view,
@@ -109,11 +109,7 @@ pub record InPages (handles : List ℕ) (place at lin : ℕ) : Type 0 where
 
 pub in_pages : (handles : List ℕ) (place at lin : ℕ) → HasRanges handles → place < MAX_BLOCKS → pages_of handles place ≢ 0 →
     lin ≡ base_of handles place + at → at < PAGE_SIZE * pages_of handles place → InPages handles place at lin
-in_pages handles place at lin ranged within some offset inside =
-    let range = ranged.each place within some in
-    let whole = range.whole in
-    let from = range.from in
-    record { page = omega arith; number = omega arith; rest = omega arith }
+in_pages handles place at lin ranged within some offset inside = grind arith
 
 -- at a byte of a block
 pub block_law : (b : List ℕ) (budget lin : ℕ) (write : Bool) → HasFixedEntries (fixed_part b) → HasRanges (handles_part b) →
@@ -122,26 +118,12 @@ pub block_law : (b : List ℕ) (budget lin : ℕ) (write : Bool) → HasFixedEnt
     walked b PAGE_DIRECTORY lin write
     ≡ walk_result b (place_in (blocks_in (handles_part b) (tables_part b) (locks_part b) (budget_part b budget)) lin) write
 block_law b budget lin write fixed ranged entries from to found =
-    let is = in_pages (handles_part b) found.place found.at lin ranged found.within found.some found.offset found.inside in
-    let entry = entry_of (tables_part b) (first_page_of (handles_part b) found.place + found.at / PAGE_SIZE) in
-    let named = entries.named found.place (found.at / PAGE_SIZE) found.within is.page in
-    region_walk b lin write fixed from to
-    ∙ ap (λ (page : ℕ). walk_end (page_entry (block_table lin) true) (entry_of (tables_part b) page) lin write) is.number
-    ∙ ap (λ (e : ℕ). walk_end (page_entry (block_table lin) true) e lin write) named.writable
-    ∙ ends_in_page (block_table lin) (entry / PAGE_SIZE) lin write
-    ∙ ap (λ (r : ℕ). Ok (PAGE_SIZE * (entry / PAGE_SIZE) + r)) (sym is.rest)
-    ∙ sym (told_block b found.place found.at write)
-    ∙ to_place b (blocks_in (handles_part b) (tables_part b) (locks_part b) (budget_part b budget)) lin write _ found.answer
+    grind (arith, ends_in_page, in_pages, region_walk, to_place, told_block)
 
 -- a page that no row covers belongs to no block
 pub outside_rows : (handles : List ℕ) (lin : ℕ) → HasRanges handles → BLOCK_REGION ≤ lin → ((place : ℕ) → InRow handles place lin → ⊥) →
     IsOutside handles ((lin - BLOCK_REGION) / PAGE_SIZE)
-outside_rows handles lin ranged from none place offset within inside e =
-    let some : pages_of handles place ≢ 0 = omega arith in
-    let range = ranged.each place within some in
-    let whole = range.whole in
-    let above = range.from in
-    none place (record { within = within; from = omega arith; to = omega arith })
+outside_rows handles lin ranged from none place offset within inside e = grind arith
 
 -- and where no block is
 pub no_block_law : (b : List ℕ) (budget lin : ℕ) (write : Bool) → HasFixedEntries (fixed_part b) → HasRanges (handles_part b) →
@@ -150,33 +132,20 @@ pub no_block_law : (b : List ℕ) (budget lin : ℕ) (write : Bool) → HasFixed
     walked b PAGE_DIRECTORY lin write
     ≡ walk_result b (place_in (blocks_in (handles_part b) (tables_part b) (locks_part b) (budget_part b budget)) lin) write
 no_block_law b budget lin write fixed ranged entries from to missed =
-    let absent = entries.absent ((lin - BLOCK_REGION) / PAGE_SIZE) (omega arith) (outside_rows (handles_part b) lin ranged from missed.none) in
-    region_walk b lin write fixed from to
-    ∙ ap (λ (e : ℕ). walk_end (page_entry (block_table lin) true) e lin write) absent
-    ∙ finds_no_page (block_table lin) lin write
-    ∙ sym (told_nothing b write)
-    ∙ to_place b (blocks_in (handles_part b) (tables_part b) (locks_part b) (budget_part b budget)) lin write _ missed.answer
+    grind (arith, finds_no_page, outside_rows, region_walk, to_place, told_nothing)
 
 -- the law, of the blocks that the memory holds
 pub walk_in_blocks : (b : List ℕ) (budget lin : ℕ) (write : Bool) → Holds b budget → HasRanges (handles_part b) → lin < 2 ^ 32 →
     walked b PAGE_DIRECTORY lin write
     ≡ walk_result b (place_in (blocks_in (handles_part b) (tables_part b) (locks_part b) (budget_part b budget)) lin) write
-walk_in_blocks b budget lin write holds ranged small = elim (cases_lt lin BLOCK_REGION) [
-  | inl low ↦ low_law b _ lin write holds.fixed low
-  | inr from ↦ elim (cases_lt lin BLOCK_REGION_END) [
-    | inl to ↦ elim (over_tells (handles_part b) (tables_part b) (locks_part b) (budget_part b budget) lin from to) [
-      | inl found ↦ block_law b budget lin write holds.fixed ranged holds.blocks from to found
-      | inr missed ↦ no_block_law b budget lin write holds.fixed ranged holds.blocks from to missed
-    ]
-    | inr high ↦ high_law b _ lin write holds.fixed high small
-  ]
-]
+walk_in_blocks b budget lin write holds ranged small = grind (arith, block_law, high_law, low_law, no_block_law, over_tells)
 
 -- the rows of a memory whose world has sound blocks
 pub world_ranges : (b : List ℕ) (budget : ℕ) (mode : Mode) (regs : Regs) (vif : Bool) (width : Option Width) (pages : ℕ) →
     SoundBlocks (world_of b budget mode regs vif width).blocks pages → HasRanges (handles_part b)
 world_ranges b budget mode regs vif width pages sound =
-    ranges (handles_part b) (tables_part b) (locks_part b) (budget_part b budget) pages (rw (blocks_is b budget mode regs vif width) at sound)
+    ranges (handles_part b) (tables_part b) (locks_part b) (budget_part b budget) pages
+    (rw (blocks_is b budget mode regs vif width) at sound)
 
 -- the law
 pub walk_agrees : (b : List ℕ) (budget : ℕ) → Holds b budget → (mode : Mode) (regs : Regs) (vif : Bool) (width : Option Width) →

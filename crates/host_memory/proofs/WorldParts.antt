@@ -8,7 +8,8 @@ use Rattle.desc_table.specs.Rows.{rows_from}
 use Rattle.host_memory.specs.Vectors.{interrupt_vectors_in, exception_vectors_in, callbacks_in, pageable_in}
 use Rattle.host_memory.specs.Records.{calls_in}
 use Rattle.host_memory.specs.DosList.{arena_in}
-use Rattle.host_memory.specs.Layout.{world_of, dos_part, tables_part, rows_part, vectors_part, records_part, handles_part, locks_part, arena_part, budget_part, blocks_in}
+use Rattle.host_memory.specs.Layout.{world_of, dos_part, tables_part, rows_part, vectors_part, records_part, handles_part, locks_part}
+use Rattle.host_memory.specs.Layout.{arena_part, budget_part, blocks_in}
 
 -- what the processor keeps
 pub regs_is : (b : List ℕ) (budget : ℕ) (mode : Mode) (regs : Regs) (vif : Bool) (width : Option Width) →

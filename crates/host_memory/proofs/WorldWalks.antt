@@ -1,19 +1,22 @@
 -- A memory that holds a sound world, said with no decoding, is walked as the world says: the law, from the bytes that the world asks for.
-use Rattle.std.proofs.Common.{◌≡◌, ℕ, zero, suc, ◌+◌, ◌-◌, ◌*◌, ◌/◌, ◌%◌, ◌<◌, ◌≤◌, ◌^◌, ◌⊎◌, inl, inr, Bool, true, List, length, slice_index, None, Some, Ok, refl, ap, ◌∙◌, sym, arith}
+use Rattle.std.proofs.Common.{◌≡◌, ℕ, zero, suc, ◌+◌, ◌-◌, ◌*◌, ◌/◌, ◌%◌, ◌<◌, ◌≤◌, ◌^◌, ◌⊎◌, inl, inr, Bool, true, List, length}
+use Rattle.std.proofs.Common.{slice_index, Some, Ok, refl, ap, ◌∙◌, sym, arith}
 use Rattle.std.proofs.lemmas.List.{get_or_past}
 use Rattle.std.proofs.lemmas.Bool.{le-leb, lt-ltb, cases_lt, ltb-true, leb-true, and_parts, and_from, false≢true}
 use Rattle.std.specs.declared.option.Option.{Option}
-use Rattle.client_world.specs.declared.place.Place.TheVariants.{Dos, Block, Host, Nothing}
-use Rattle.client_world.specs.declared.host_frames.TheConstants.{PAGE_SIZE, PAGE_DIRECTORY, LOW_TABLE, WINDOW_TABLE, BLOCK_ROWS, FIXED_TABLE_FRAMES, BLOCK_ROW_FRAMES, BLOCK_ROW_SIZE, PAGE_ENTRY_SIZE}
+use Rattle.client_world.specs.declared.place.Place.TheVariants.{Dos, Block, Nothing}
+use Rattle.client_world.specs.declared.host_frames.TheConstants.{PAGE_SIZE, PAGE_DIRECTORY, LOW_TABLE, WINDOW_TABLE, BLOCK_ROWS}
+use Rattle.client_world.specs.declared.host_frames.TheConstants.{FIXED_TABLE_FRAMES, BLOCK_ROW_FRAMES, BLOCK_ROW_SIZE, PAGE_ENTRY_SIZE}
 use Rattle.client_world.specs.declared.limits.TheConstants.{MAX_BLOCKS}
-use Rattle.client_world.specs.declared.memory_map.TheConstants.{DOS_SIZE, DOS_VIEW_END, BLOCK_REGION, BLOCK_REGION_END, BLOCK_REGION_PAGES, HOST_WINDOW, HOST_WINDOW_END}
+use Rattle.client_world.specs.declared.memory_map.TheConstants.{DOS_SIZE, DOS_VIEW_END, BLOCK_REGION, BLOCK_REGION_END, BLOCK_REGION_PAGES}
 use Rattle.client_world.specs.Access.{place_of, dos_address, may_touch, bytes_of_block, covers}
 use Rattle.client_world.specs.Soundness.{IsBlock, SoundBlocks}
 use Rattle.client_world.specs.World.{World, MemoryBlock, block_at}
 use Rattle.guest_ram.specs.Bytes.{dword}
 use Rattle.page_tables.specs.Entry.{page_entry}
 use Rattle.page_tables.specs.Walk.{walked, walk_end}
-use Rattle.host_memory.specs.HoldsWorld.{HoldsWorld, HoldsTables, HoldsBlocks, IsNoBlocks, base_of_block, block_entry, block_page, frame_place}
+use Rattle.host_memory.specs.HoldsWorld.{HoldsWorld, HoldsTables, HoldsBlocks, IsNoBlocks, base_of_block, block_entry, block_page}
+use Rattle.host_memory.specs.HoldsWorld.{frame_place}
 use Rattle.host_memory.specs.Law.{walk_result, StandsAt}
 use Rattle.host_memory.specs.Layout.{address_of, fixed_part, tables_part, handles_part, base_of, entry_of}
 use Rattle.host_memory.specs.Tables.{HasFixedEntries, low_table_start, window_table_start}
@@ -23,7 +26,8 @@ use Rattle.host_memory.proofs.ByteLaw.{stands_by, forbidden}
 use Rattle.host_memory.proofs.EntryEnds.{ends_in_page, finds_no_page}
 use Rattle.host_memory.proofs.FixedWalks.{block_table, region_walk}
 use Rattle.host_memory.proofs.PartBytes.{part_dword}
-use Rattle.host_memory.proofs.PlaceRanges.{block_address_is, place_in_view, place_in_gap, place_below_window, place_in_window, place_above_window, told_nothing}
+use Rattle.host_memory.proofs.PlaceRanges.{block_address_is, place_in_view, place_in_gap, place_below_window, place_in_window}
+use Rattle.host_memory.proofs.PlaceRanges.{place_above_window, told_nothing}
 use Rattle.host_memory.proofs.TablesClaim.{entry_is}
 use Rattle.host_memory.proofs.WalkAnswers.{told_may}
 use Rattle.host_memory.proofs.WalkLaw.{to_place, low_law, high_law}
@@ -88,10 +92,7 @@ found_byte w lin sound from to found =
 -- a handle that has a block is one of the list
 place_inside : (blocks : List (Option MemoryBlock)) (place : ℕ) (block : MemoryBlock) → block_at blocks (suc place) ≡ Some block →
     place < length blocks
-place_inside blocks place block e = elim (cases_lt place (length blocks)) [
-  | inl within ↦ within
-  | inr beyond ↦ (let none : block_at blocks (suc place) ≡ None = get_or_past blocks place None beyond in absurd cc)
-]
+place_inside blocks place block e = grind (arith, get_or_past)
 
 -- a block that had the page would cover the address
 missed_blocks : (w : World) (lin : ℕ) → SoundBlocks w.blocks w.budget → BLOCK_REGION ≤ lin → FindsNothing w.blocks 1 lin →
@@ -139,26 +140,12 @@ record IsPageByte (w : World) (lin : ℕ) (byte : HasBlockByte w lin) : Type 0 w
   small : block_page byte.block (byte.at / PAGE_SIZE) < BLOCK_REGION_PAGES
 
 page_of_byte : (w : World) (lin : ℕ) (byte : HasBlockByte w lin) → IsPageByte w lin byte
-page_of_byte w lin byte =
-    let is = byte.is in
-    let pages = is.pages in
-    let whole = is.whole in
-    let from = is.from in
-    let to = is.to in
-    let offset = byte.offset in
-    let inside = byte.inside in
-    record { page = omega arith; number = omega arith; rest = omega arith; small = omega arith }
+page_of_byte w lin byte = grind arith
 
 -- its address: its place in the frame that the entry names
 byte_address : (b : List ℕ) (w : World) (lin : ℕ) (byte : HasBlockByte w lin) → HoldsBlocks b w →
     address_of b (Block (suc byte.place) byte.at) ≡ frame_place (byte_entry b w lin byte / PAGE_SIZE) (byte.at % PAGE_SIZE)
-byte_address b w lin byte holds =
-    let first = λ (base : ℕ). (base - BLOCK_REGION) / PAGE_SIZE in
-    let place = λ (page : ℕ). frame_place (entry_of (tables_part b) (page + byte.at / PAGE_SIZE) / PAGE_SIZE) (byte.at % PAGE_SIZE) in
-    block_address_is b byte.place byte.at
-    ∙ ap (λ (base : ℕ). place (first base)) (base_in_row b w byte.place byte.block holds byte.within byte.there)
-    ∙ ap (λ (entry : ℕ). frame_place (entry / PAGE_SIZE) (byte.at % PAGE_SIZE))
-    (sym (entry_is b (block_page byte.block (byte.at / PAGE_SIZE)) (page_of_byte w lin byte).small))
+byte_address b w lin byte holds = grind (arith, base_in_row, block_address_is, entry_is, page_of_byte)
 
 -- a walk to a byte of a block
 block_walk : (b : List ℕ) (w : World) (lin : ℕ) (write : Bool) → HoldsTables b w → HoldsBlocks b w →
@@ -194,23 +181,12 @@ no_block_walk b w lin write tables from to missed =
 -- the law of the walk
 pub world_walk : (b : List ℕ) (w : World) → HoldsWorld b w → SoundBlocks w.blocks w.budget → (lin : ℕ) (write : Bool) → lin < 2 ^ 32 →
     walked b PAGE_DIRECTORY lin write ≡ walk_result b (place_of w lin) write
-world_walk b w holds sound lin write small = elim (cases_lt lin BLOCK_REGION) [
-  | inl low ↦ low_law b w.blocks lin write (fixed_entries b w holds.tables) low
-  | inr from ↦ elim (cases_lt lin BLOCK_REGION_END) [
-    | inl to ↦ elim (region_tells w lin sound from to) [
-      | inl byte ↦ block_walk b w lin write holds.tables holds.blocks from to byte
-      | inr missed ↦ no_block_walk b w lin write holds.tables from to missed
-    ]
-    | inr high ↦ high_law b w.blocks lin write (fixed_entries b w holds.tables) high small
-  ]
-]
+world_walk b w holds sound lin write small = grind (arith, block_walk, fixed_entries, high_law, low_law, no_block_walk, region_tells)
 
 -- a byte of the DOS megabyte is at its address
 megabyte_stands : (b : List ℕ) (w : World) (at : ℕ) → HoldsWorld b w → at < DOS_SIZE → StandsAt b w (Dos at)
 unfolding address_of
-megabyte_stands b w at holds below =
-    let size = holds.size in
-    record { byte = holds.megabyte at below; inside = omega arith; away = inl below }
+megabyte_stands b w at holds below = grind arith
 
 -- so is a byte of a block
 block_byte_stands : (b : List ℕ) (w : World) (lin : ℕ) → HoldsWorld b w → (byte : HasBlockByte w lin) →
@@ -247,13 +223,7 @@ world_byte b w holds sound lin write may = elim (cases_lt lin DOS_VIEW_END) [
     | inl gap ↦ forbidden b w lin write Nothing (place_in_gap w.blocks lin behind gap) refl may
     | inr from ↦ elim (cases_lt lin BLOCK_REGION_END) [
       | inl to ↦ region_stands b w lin write holds may (region_tells w lin sound from to)
-      | inr high ↦ elim (cases_lt lin HOST_WINDOW) [
-        | inl below ↦ forbidden b w lin write Nothing (place_below_window w.blocks lin high below) refl may
-        | inr window ↦ elim (cases_lt lin HOST_WINDOW_END) [
-          | inl host ↦ forbidden b w lin write Host (place_in_window w.blocks lin window host) refl may
-          | inr above ↦ forbidden b w lin write Nothing (place_above_window w.blocks lin above) refl may
-        ]
-      ]
+      | inr high ↦ grind (arith, forbidden, place_above_window, place_below_window, place_in_window)
     ]
   ]
 ]

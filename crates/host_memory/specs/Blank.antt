@@ -8,7 +8,8 @@ use Rattle.client_world.specs.declared.dos_memory.DosEntry.{DosEntry}
 use Rattle.client_world.specs.declared.dos_memory.DosState.TheVariants.{Free}
 use Rattle.client_world.specs.declared.host_frames.TheConstants.{DESCRIPTORS}
 use Rattle.client_world.specs.declared.limits.TheConstants.{MAX_BLOCKS, CALLBACKS, INTERRUPT_VECTORS, EXCEPTION_VECTORS}
-use Rattle.client_world.specs.declared.memory_map.TheConstants.{DOS_SIZE, DOS_VIEW_PAGES, VECTOR_TABLE_SIZE, ROM_START, ROM_SEGMENT, ROM_BYTE, ARENA_START, ARENA_END}
+use Rattle.client_world.specs.declared.memory_map.TheConstants.{DOS_SIZE, DOS_VIEW_PAGES, VECTOR_TABLE_SIZE, ROM_START, ROM_SEGMENT}
+use Rattle.client_world.specs.declared.memory_map.TheConstants.{ROM_BYTE, ARENA_START, ARENA_END}
 use Rattle.client_world.specs.declared.selectors.TheConstants.{HOST_CODE}
 use Rattle.client_world.specs.declared.traps.TheConstants.{PROTECTED_VECTOR_TRAPS, EXCEPTION_TRAPS}
 use Rattle.client_world.specs.Selector.{selector_of}

@@ -8,7 +8,8 @@ use Rattle.guest_ram.specs.Bytes.{dword}
 use Rattle.guest_ram.specs.Count.{used, total}
 use Rattle.desc_table.specs.Rows.{row_at, row_bytes}
 use Rattle.page_tables.specs.FreeList.{ListsFree}
-use Rattle.host_memory.specs.Layout.{fixed_part, tables_part, rows_part, vectors_part, records_part, handles_part, locks_part, arena_part, taken_part, budget_part, pages_of, lock_of}
+use Rattle.host_memory.specs.Layout.{fixed_part, tables_part, rows_part, vectors_part, records_part, handles_part, locks_part, arena_part}
+use Rattle.host_memory.specs.Layout.{taken_part, budget_part, pages_of, lock_of}
 use Rattle.host_memory.specs.Vectors.{KeepsVectors, head_start}
 use Rattle.host_memory.specs.Records.{KeepsRecords}
 use Rattle.host_memory.specs.DosList.{KeepsArena}
@@ -22,13 +23,15 @@ pub record KeepsRows (rows : List ℕ) : Type 0 where
 -- the row of a block is its linear address and its pages; the row of a free handle is 0
 pub record KeepsHandles (handles : List ℕ) : Type 0 where
   pub rest : (place at : ℕ) → place < MAX_BLOCKS → 8 ≤ at → at < BLOCK_ROW_SIZE → slice_index handles (BLOCK_ROW_SIZE * place + at) ≡ 0
-  pub free : (place at : ℕ) → place < MAX_BLOCKS → pages_of handles place ≡ 0 → at < BLOCK_ROW_SIZE → slice_index handles (BLOCK_ROW_SIZE * place + at) ≡ 0
+  pub free : (place at : ℕ) → place < MAX_BLOCKS → pages_of handles place ≡ 0 → at < BLOCK_ROW_SIZE →
+      slice_index handles (BLOCK_ROW_SIZE * place + at) ≡ 0
 
 -- the pages of all blocks
 unfoldable pub all_pages : List ℕ → ℕ
 all_pages handles = total (pages_of handles) (range_with_len 0 MAX_BLOCKS)
 
--- from the head on follow exactly the frames of the budget whose taken byte is 0, each once: the first doubleword of each names the next one
+-- from the head on follow exactly the frames of the budget whose taken byte is 0, each once: the first doubleword of each names the next
+-- one
 abbrev pub ListsFreeFrames : List ℕ → List ℕ → List ℕ → ℕ → Type 0
 ListsFreeFrames vectors taken frames budget = ListsFree (dword vectors head_start) (next_frame frames) (IsIdle taken budget)
 

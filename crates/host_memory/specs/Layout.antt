@@ -7,7 +7,12 @@ use Rattle.client_world.specs.declared.registers.Regs.{Regs}
 use Rattle.client_world.specs.declared.registers.Width.{Width}
 use Rattle.client_world.specs.declared.place.Place.{Place}
 use Rattle.client_world.specs.declared.place.Place.TheVariants.{Dos, Block, Host, Nothing}
-use Rattle.client_world.specs.declared.host_frames.TheConstants.{PAGE_SIZE, PAGE_DIRECTORY, BLOCK_TABLES, BLOCK_TABLE_FRAMES, DESCRIPTOR_ROWS, DESCRIPTOR_ROW_FRAMES, VECTORS, RECORDS, BLOCK_ROWS, BLOCK_ROW_FRAMES, LOCK_COUNTS, LOCK_COUNT_FRAMES, DOS_LIST, DOS_LIST_FRAMES, TAKEN_FRAMES, TAKEN_BYTE_FRAMES, BUDGET_FRAMES, BLOCK_ROW_SIZE, FIXED_TABLE_FRAMES, LOCK_COUNT_SIZE, PAGE_ENTRY_SIZE, RECORD_FRAMES, VECTOR_FRAMES}
+use Rattle.client_world.specs.declared.host_frames.TheConstants.{PAGE_SIZE, PAGE_DIRECTORY, BLOCK_TABLES, BLOCK_TABLE_FRAMES}
+use Rattle.client_world.specs.declared.host_frames.TheConstants.{DESCRIPTOR_ROWS, DESCRIPTOR_ROW_FRAMES, VECTORS, RECORDS, BLOCK_ROWS}
+use Rattle.client_world.specs.declared.host_frames.TheConstants.{BLOCK_ROW_FRAMES, LOCK_COUNTS, LOCK_COUNT_FRAMES, DOS_LIST}
+use Rattle.client_world.specs.declared.host_frames.TheConstants.{DOS_LIST_FRAMES, TAKEN_FRAMES, TAKEN_BYTE_FRAMES, BUDGET_FRAMES}
+use Rattle.client_world.specs.declared.host_frames.TheConstants.{BLOCK_ROW_SIZE, FIXED_TABLE_FRAMES, LOCK_COUNT_SIZE, PAGE_ENTRY_SIZE}
+use Rattle.client_world.specs.declared.host_frames.TheConstants.{RECORD_FRAMES, VECTOR_FRAMES}
 use Rattle.client_world.specs.declared.limits.TheConstants.{MAX_BLOCKS}
 use Rattle.client_world.specs.declared.memory_map.TheConstants.{DOS_SIZE, BLOCK_REGION}
 use Rattle.client_world.specs.World.{World, MemoryBlock}

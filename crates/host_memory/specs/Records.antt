@@ -1,5 +1,6 @@
 -- The frame of the records of calls. Source: own.
-use Rattle.std.specs.Prelude.{◌≡◌, ℕ, zero, suc, ◌+◌, ◌*◌, ◌<◌, ◌≤◌, Bool, not, nat_eq, if◌then◌else◌, cond, List, [], ◌∷◌, ◌++◌, slice_index, false}
+use Rattle.std.specs.Prelude.{◌≡◌, ℕ, zero, suc, ◌+◌, ◌*◌, ◌<◌, ◌≤◌, Bool, not, nat_eq, if◌then◌else◌, cond, List, [], ◌∷◌, ◌++◌}
+use Rattle.std.specs.Prelude.{slice_index, false}
 use Rattle.client_world.specs.declared.registers.Regs.{Regs}
 use Rattle.client_world.specs.declared.segments.FarPtr.{FarPtr}
 use Rattle.client_world.specs.declared.calls.Call.{Call}
@@ -54,8 +55,8 @@ call_of kind number =
     if nat_eq kind 3 then Iret else
     Reflect number
 
--- the record at an address: its kind (1 to 4 a simulated call, 5 a callback, 6 an exception), its number, the virtual flag, the error code at
--- 4, the structure's pointer at 8, and the registers at 16
+-- the record at an address: its kind (1 to 4 a simulated call, 5 a callback, 6 an exception), its number, the virtual flag, the error code
+-- at 4, the structure's pointer at 8, and the registers at 16
 unfoldable pub record_at : List ℕ → ℕ → Record
 record_at part at =
     let kind = slice_index part at in

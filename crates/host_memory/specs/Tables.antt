@@ -1,6 +1,9 @@
 -- The page entries of the host, and what those of the block region must be. Source: own.
-use Rattle.std.specs.Prelude.{◌≡◌, ◌≢◌, ℕ, ◌+◌, ◌-◌, ◌*◌, ◌/◌, ◌<◌, ◌≤◌, true, false, nat_eq, nat_lt, nat_le, if◌then◌else◌, List, slice_index}
-use Rattle.client_world.specs.declared.host_frames.TheConstants.{PAGE_SIZE, DOS_FRAMES, PAGE_DIRECTORY, LOW_TABLE, WINDOW_TABLE, BLOCK_TABLES, BLOCK_TABLE_FRAMES, BUDGET_FRAMES, PAGE_ENTRY_SIZE, TABLE_ENTRIES}
+use Rattle.std.specs.Prelude.{◌≡◌, ◌≢◌, ℕ, ◌+◌, ◌-◌, ◌*◌, ◌/◌, ◌<◌, ◌≤◌, true, false, nat_eq, nat_lt, nat_le, if◌then◌else◌, List}
+use Rattle.std.specs.Prelude.{slice_index}
+use Rattle.client_world.specs.declared.host_frames.TheConstants.{PAGE_SIZE, DOS_FRAMES, PAGE_DIRECTORY, LOW_TABLE, WINDOW_TABLE}
+use Rattle.client_world.specs.declared.host_frames.TheConstants.{BLOCK_TABLES, BLOCK_TABLE_FRAMES, BUDGET_FRAMES, PAGE_ENTRY_SIZE}
+use Rattle.client_world.specs.declared.host_frames.TheConstants.{TABLE_ENTRIES}
 use Rattle.client_world.specs.declared.limits.TheConstants.{MAX_BLOCKS, MAX_PAGES}
 use Rattle.client_world.specs.declared.memory_map.TheConstants.{DOS_VIEW_PAGES, ROM_START, BLOCK_REGION_PAGES, HOST_WINDOW}
 use Rattle.guest_ram.specs.Bytes.{dword}

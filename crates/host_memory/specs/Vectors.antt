@@ -1,5 +1,6 @@
 -- The frame of the protected-mode vectors, the callbacks, the pageable pages and the head of the list of free frames. Source: own.
-use Rattle.std.specs.Prelude.{◌≡◌, ℕ, ◌+◌, ◌*◌, ◌/◌, ◌%◌, ◌<◌, ◌≤◌, Bool, nat_eq, if◌then◌else◌, List, [], ◌∷◌, ◌++◌, None, Some, slice_index}
+use Rattle.std.specs.Prelude.{◌≡◌, ℕ, ◌+◌, ◌*◌, ◌/◌, ◌%◌, ◌<◌, ◌≤◌, Bool, nat_eq, if◌then◌else◌, List, [], ◌∷◌, ◌++◌, None, Some}
+use Rattle.std.specs.Prelude.{slice_index}
 use Rattle.std.specs.declared.option.Option.{Option}
 use Rattle.client_world.specs.declared.segments.FarPtr.{FarPtr}
 use Rattle.client_world.specs.declared.host_frames.TheConstants.{PAGE_SIZE, CALLBACK_SIZE, VECTOR_FRAMES, VECTOR_SIZE}
@@ -68,6 +69,7 @@ pub record KeepsVectors (part : List ℕ) : Type 0 where
   pub vectors : (n at : ℕ) → n < INTERRUPT_VECTORS + EXCEPTION_VECTORS → at < VECTOR_SIZE →
       slice_index part (VECTOR_SIZE * n + at) ≡ slice_index (vector_bytes (pointer_at part (VECTOR_SIZE * n))) at
   pub callbacks : (slot at : ℕ) → slot < CALLBACKS → at < CALLBACK_SIZE →
-      slice_index part (callbacks_start + (CALLBACK_SIZE * slot + at)) ≡ slice_index (callback_bytes (callback_at part (callbacks_start + CALLBACK_SIZE * slot))) at
+      slice_index part (callbacks_start + (CALLBACK_SIZE * slot + at))
+      ≡ slice_index (callback_bytes (callback_at part (callbacks_start + CALLBACK_SIZE * slot))) at
   pub pageable : (page : ℕ) → page < DOS_VIEW_PAGES → slice_index part (pageable_start + page) < 2
   pub rest : (at : ℕ) → head_end ≤ at → at < PAGE_SIZE * VECTOR_FRAMES → slice_index part at ≡ 0

@@ -8,8 +8,8 @@ use guest_space::Machine;
 use mode_stack::{depth, push};
 use std::test::Fail;
 
-// AX, DS, ES, ECX and EDX of a call after which sixteen callbacks are held, and ECX and EDX after it, or EAX where it is refused. EAX is 0 before
-// it, and stays for a number that the family doesn't have.
+// AX, DS, ES, ECX and EDX of a call after which sixteen callbacks are held, and ECX and EDX after it, or EAX where it is refused. EAX is 0
+// before it, and stays for a number that the family doesn't have.
 type Called = (u16, [u16; 2], [u32; 2], Result<[u32; 2], u32>);
 
 const CALLS: [Called; 12] = [

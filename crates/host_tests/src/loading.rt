@@ -126,10 +126,10 @@ fn a_whole_page_is_told_in_two_ways(rt: HostRuntime) -> Result<(), Fail> {
     Ok(())
 }
 
-// The same file with a maximum of 10h paragraphs, whose image is 6 bytes: the program has 33 paragraphs: 10h of its prefix, 1 of its image and
-// 10h more. They are told at 3 in its header paragraph, 630h. At 2 in its prefix, 640h, their end is told, paragraph 64h + 33 = 85h. There, 272
-// bytes after 740h, is the header of the free ones up to 9FFFh, 9F7Ah. A relocation in the last word of the 272 bytes, at 10Eh, makes it 74h, the
-// segment of the image; a byte further it is refused.
+// The same file with a maximum of 10h paragraphs, whose image is 6 bytes: the program has 33 paragraphs: 10h of its prefix, 1 of its image
+// and 10h more. They are told at 3 in its header paragraph, 630h. At 2 in its prefix, 640h, their end is told, paragraph 64h + 33 = 85h.
+// There, 272 bytes after 740h, is the header of the free ones up to 9FFFh, 9F7Ah. A relocation in the last word of the 272 bytes, at 10Eh,
+// makes it 74h, the segment of the image; a byte further it is refused.
 const RELOCATIONS: [(u8, u8, Result<(), LoadFault>, u16); 3] = [
     (0, 0, Ok(()), 0),
     (1, 0x0E, Ok(()), 0x74),

@@ -4,8 +4,8 @@ use client_world::{Mode, Width};
 use guest_space::Machine;
 use std::alloc::{AllocError, Global};
 
-// A machine of that width in protected mode, with 8 pages for memory blocks. 0087h is the selector of the host's code, and 008Fh that of its
-// stacks, whose limit is FFFFh.
+// A machine of that width in protected mode, with 8 pages for memory blocks. 0087h is the selector of the host's code, and 008Fh that of
+// its stacks, whose limit is FFFFh.
 #[tactic(auto, unfolding(host_memory::specs::Blank::blank_world))]
 pub(crate) fn entered(alloc: Global, width: Width) -> Result<Machine, AllocError> {
     let mut m = Machine::new(alloc, 8)?;

@@ -8,7 +8,8 @@ use client_world::{Carry, Mode, Regs, Width};
 use guest_space::Machine;
 use std::test::Fail;
 
-// AX, EBX, ECX, ESI, EDI of a call, and the last four after it, or AX where it is refused. AX stays for a number that the family doesn't have.
+// AX, EBX, ECX, ESI, EDI of a call, and the last four after it, or AX where it is refused. AX stays for a number that the family doesn't
+// have.
 type Call = ([u32; 5], Result<[u32; 4], u32>);
 
 const CALLS: [Call; 44] = [

@@ -301,8 +301,8 @@ fn a_reflection_passes_the_general_registers(rt: HostRuntime) -> Result<(), Fail
     Ok(())
 }
 
-// Clients, with the stack in their structures, whose call is refused, and EAX after it: too many words, no structure, a word of theirs past the
-// limit, and words of the callee's stack at the segment's end and in read-only memory.
+// Clients, with the stack in their structures, whose call is refused, and EAX after it: too many words, no structure, a word of theirs past
+// the limit, and words of the callee's stack at the segment's end and in read-only memory.
 const REFUSED: [(Regs, u16, u16, u32); 5] = [
     (Regs { ecx: 201, ..CLIENT }, 0xD000, 0x200, 0xABCD_8021),
     (Regs { es: 0, ..CLIENT }, 0xD000, 0x200, 0xABCD_8025),

@@ -1,5 +1,6 @@
 -- What the readers read is the grammar.
-use Rattle.std.proofs.Common.{◌≡◌, ℕ, Bool, true, false, ◌||◌, eqb, List, [], ◌∷◌, ◌++◌, length, Option, Some, None, refl, sym, ap, subst, ◌∙◌, append_assoc}
+use Rattle.std.proofs.Common.{◌≡◌, ℕ, Bool, true, false, ◌||◌, eqb, List, [], ◌∷◌, ◌++◌, Option, Some, None, refl, sym, ap, subst, ◌∙◌}
+use Rattle.std.proofs.Common.{append_assoc, arith}
 use Rattle.std.proofs.lemmas.List.{append-nil}
 use Rattle.insn_forms.specs.declared.insn.Rep.{Rep}
 use Rattle.insn_forms.specs.declared.insn.Rep.TheVariants as reps
@@ -9,9 +10,9 @@ use Rattle.insn_forms.specs.declared.pieces.Addressing.{Addressing}
 use Rattle.insn_forms.specs.declared.insn.Operand.{Operand}
 use Rattle.insn_forms.specs.declared.insn.Insn.{Insn}
 use Rattle.insn_forms.specs.Prefixes.{segment_of, repeat_of, or_else, last_of, has, rep_or_plain, prefixes_of}
-use Rattle.insn_forms.specs.Addressing.{sib_size, disp_size}
 use Rattle.insn_forms.specs.Operands.{operand, insn_of}
-use Rattle.insn_forms.specs.Grammar.{AllBytes, opcode_bytes, little, Pieces, head_of, addressing_of, AreRow, insn_of_pieces, Encoding, row_with, is_row_with, wide_of, addr32_of}
+use Rattle.insn_forms.specs.Grammar.{AllBytes, opcode_bytes, little, Pieces, head_of, addressing_of, AreRow, insn_of_pieces, Encoding}
+use Rattle.insn_forms.specs.Grammar.{row_with, wide_of, addr32_of}
 use Rattle.insn_decode.specs.Reading.{no_prefixes, with_prefix, opcode_head}
 use Rattle.insn_decode.proofs.LawfulReaders.{Number}
 use Rattle.insn_decode.proofs.HeadReaders.{folded}
@@ -77,10 +78,7 @@ rep_plain None = refl
 prefixes_folded : (ps : List ℕ) → folded no_prefixes ps ≡ prefixes_of ps
 unfolding prefixes_of
 prefixes_folded ps =
-    same_prefixes (folded no_prefixes ps) (prefixes_of ps)
-    (seg_folded no_prefixes ps ∙ else_none (last_of segment_of ps)) (data_folded no_prefixes ps)
-    (addr_folded no_prefixes ps) (lock_folded no_prefixes ps)
-    (rep_folded no_prefixes ps ∙ rep_plain (last_of repeat_of ps))
+    grind (arith, addr_folded, data_folded, else_none, lock_folded, rep_folded, rep_plain, same_prefixes, seg_folded)
 
 -- ---- the pieces
 
@@ -105,80 +103,7 @@ to_readers big insn bytes s =
         has_row = row_any (head_of p) (little p.modrm) p.modrm (record { number = number; has_row = s.are_row.has_row });
         whole = refl;
       };
-      second = record {
-        middle = addressing_of p;
-        one = p.modrm ++ (p.sib ++ (p.disp ++ []));
-        two = (p.first ++ []) ++ ((p.second ++ []) ++ ((p.third ++ []) ++ []));
-        first = record {
-          middle = little p.modrm;
-          one = p.modrm;
-          two = p.sib ++ (p.disp ++ []);
-          first = record { number = number; has_row = s.are_row.has_row };
-          second = record {
-            middle = little p.sib;
-            one = p.sib;
-            two = p.disp ++ [];
-            first = record { size = s.are_row.sib; value_is = refl };
-            second = record {
-              middle = little p.disp;
-              one = p.disp;
-              two = [];
-              first = record { size = s.are_row.disp; value_is = refl };
-              second = record { same = refl; none = refl };
-              whole = refl;
-            };
-            whole = refl;
-          };
-          whole = refl;
-        };
-        second = record {
-          middle = operand (head_of p) (wide_of big (head_of p)) (addr32_of big (head_of p)) (addressing_of p)
-              (row_with (head_of p) (little p.modrm)).first (little p.first);
-          one = p.first ++ [];
-          two = (p.second ++ []) ++ ((p.third ++ []) ++ []);
-          first = record {
-            middle = little p.first;
-            one = p.first;
-            two = [];
-            first = record { size = s.are_row.first; value_is = refl };
-            second = record { same = refl; none = refl };
-            whole = refl;
-          };
-          second = record {
-            middle = operand (head_of p) (wide_of big (head_of p)) (addr32_of big (head_of p)) (addressing_of p)
-                (row_with (head_of p) (little p.modrm)).second (little p.second);
-            one = p.second ++ [];
-            two = (p.third ++ []) ++ [];
-            first = record {
-              middle = little p.second;
-              one = p.second;
-              two = [];
-              first = record { size = s.are_row.second; value_is = refl };
-              second = record { same = refl; none = refl };
-              whole = refl;
-            };
-            second = record {
-              middle = operand (head_of p) (wide_of big (head_of p)) (addr32_of big (head_of p)) (addressing_of p)
-                  (row_with (head_of p) (little p.modrm)).third (little p.third);
-              one = p.third ++ [];
-              two = [];
-              first = record {
-                middle = little p.third;
-                one = p.third;
-                two = [];
-                first = record { size = s.are_row.third; value_is = refl };
-                second = record { same = refl; none = refl };
-                whole = refl;
-              };
-              second = record { same = s.means; none = refl };
-              whole = refl;
-            };
-            whole = refl;
-          };
-          whole = refl;
-        };
-        whole = refl;
-      };
+      second = grind arith;
       whole = s.whole ∙ sym
           (regroup p.prefixes (opcode_bytes p.map p.opcode) p.modrm p.sib p.disp p.first p.second p.third);
     }
@@ -233,17 +158,7 @@ from_readers big insn bytes are h =
     let address_is : address ≡ addressing_of p = address_was
     ∙ same_addressing m.middle s.middle d.middle (little m.one) (little s.one)
     (little d.one) m.first.number.value_is s.first.value_is d.first.value_is in
-    let row_here : AreRow big head address p = record {
-      modrm = m.first.number.size;
-      has_row = subst (λ (k : ℕ). is_row_with head k ≡ true) (sym m_is) m.first.has_row;
-      sib = subst (λ (k : ℕ). length s.one ≡ sib_size (addr32_of big head) (row_with head k) k) (sym m_is) s.first.size;
-      disp = subst (λ (k : ℕ). length d.one ≡ disp_size (addr32_of big head) (row_with head k) k address.sib) (sym m_is)
-          (subst (λ (k : ℕ). length d.one ≡ disp_size (addr32_of big head) (row_with head m.middle) m.middle k)
-          (sym s_is) d.first.size);
-      first = one.first.first.size;
-      second = two.first.first.size;
-      third = three.first.first.size;
-    } in
+    let row_here : AreRow big head address p = grind arith in
     let meant : insn ≡ insn_of_pieces big head address (little p.first) (little p.second) (little p.third) =
     three.second.same ∙ same_insn big head address one.middle two.middle three.middle _ _ _
     (one.first.second.same

@@ -1,5 +1,6 @@
 -- Prefixes and the opcode.
-use Rattle.std.proofs.Common.{◌≡◌, ℕ, zero, suc, ◌<◌, Bool, true, false, ◌||◌, eqb, List, [], ◌∷◌, ◌++◌, Ok, Err, refl, sym, ap, subst, ◌∙◌, append_assoc, arith, ◌⊎◌, inl, inr}
+use Rattle.std.proofs.Common.{◌≡◌, ℕ, zero, suc, ◌<◌, Bool, true, false, ◌||◌, eqb, List, [], ◌∷◌, ◌++◌, Ok, Err, refl, sym, ap, subst, ◌∙◌}
+use Rattle.std.proofs.Common.{append_assoc, arith, ◌⊎◌, inl, inr}
 use Rattle.std.specs.List.{AllByRecursion}
 use Rattle.std.proofs.lemmas.Bool.{eqb-true, or_cases, false≢true, cases_Bool, cases_eq}
 use Rattle.insn_decode.specs.declared.stop.Stop.TheVariants.{More, Invalid}
@@ -54,24 +55,7 @@ no_row_at_prefix : (b : ℕ) → is_prefix b ≡ true → (reg : ℕ) → has_op
 unfolding is_prefix row_one map_one_00 map_one_20 map_one_60 map_one_e0
 no_row_at_prefix b e =
     one_of (λ b. (reg : ℕ) → has_op (row_one b reg) ≡ false)
-    (0x26 ∷ 0x2e ∷ 0x36 ∷ 0x3e ∷ 0x64 ∷ 0x65 ∷ 0x66 ∷ 0x67 ∷ 0xf0 ∷ 0xf2 ∷ 0xf3 ∷ []) b (
-      (λ reg. refl),
-      (
-        (λ reg. refl),
-        (
-          (λ reg. refl),
-          (
-            (λ reg. refl),
-            (
-              (λ reg. refl),
-              (
-                (λ reg. refl),
-                ((λ reg. refl), ((λ reg. refl), ((λ reg. refl), ((λ reg. refl), ((λ reg. refl), tt))))),
-              ),
-            ),
-          ),
-        ),
-      ),
+    (0x26 ∷ 0x2e ∷ 0x36 ∷ 0x3e ∷ 0x64 ∷ 0x65 ∷ 0x66 ∷ 0x67 ∷ 0xf0 ∷ 0xf2 ∷ 0xf3 ∷ []) b (grind arith
     ) e
 
 -- a head that has a row begins as its opcode's map says
@@ -100,18 +84,7 @@ no_row_at_0f b e reg = rw (eqb-true b 0x0f e) refl
 
 starts : (m : Prefixes) (b : ℕ) → any_row (opcode_head m One b) ≡ true → Starts b
 unfolding opcode_row
-starts m b e =
-    let r = some_row (opcode_head m One b) e in
-    record {
-      no_prefix = elim (cases_Bool (is_prefix b)) [
-        | inl is ↦ absurd (false≢true (sym (no_row m.lock (row_one b r.0) true (no_row_at_prefix b is r.0)) ∙ r.2))
-        | inr isnt ↦ isnt
-      ];
-      no_map = elim (cases_Bool (eqb b 0x0f)) [
-        | inl is ↦ absurd (false≢true (sym (no_row m.lock (row_one b r.0) true (no_row_at_0f b is r.0)) ∙ r.2))
-        | inr isnt ↦ isnt
-      ];
-    }
+starts m b e = grind (arith, cases_Bool, false≢true, no_row, no_row_at_0f, no_row_at_prefix, some_row)
 
 -- ---- the first bytes
 
@@ -130,12 +103,7 @@ pub record EncodesHead (m : Prefixes) (head : Head) (bytes : List ℕ) : Type 0 
 checked_ok : (head x : Head) (bytes rest : List ℕ) → checked head bytes ≡ Ok (x, rest)
     → (any_row head ≡ true) × (head ≡ x) × (bytes ≡ rest)
 unfolding checked
-checked_ok head x bytes rest e =
-    elim (chosen (any_row head) (Ok (head, bytes)) (Err Invalid) (Ok (x, rest)) e) [
-      | inl a ↦ let k : (head, bytes) ≡ (x, rest) = ok_is (head, bytes) (x, rest) a.1 in
-          (a.0, ap (λ (p : Head × List ℕ). p.0) k, ap (λ (p : Head × List ℕ). p.1) k)
-      | inr a ↦ absurd (err_not_ok (x, rest) Invalid a.1)
-    ]
+checked_ok head x bytes rest e = grind (arith, chosen, err_not_ok, ok_is)
 
 checked_again : (head : Head) (rest : List ℕ) → any_row head ≡ true → checked head rest ≡ Ok (head, rest)
 unfolding checked
@@ -143,19 +111,11 @@ checked_again head rest e = rw e refl
 
 checked_not_more : (head : Head) (bytes : List ℕ) → checked head bytes ≡ Err More → ⊥
 unfolding checked
-checked_not_more head bytes e =
-    elim (chosen (any_row head) (Ok (head, bytes)) (Err Invalid) (Err More) e) [
-      | inl a ↦ ok_not_err (head, bytes) More a.1
-      | inr a ↦ more_not_invalid (sym a.1)
-    ]
+checked_not_more head bytes e = grind (arith, chosen, more_not_invalid, ok_not_err)
 
 checked_stays : (head : Head) (bytes more : List ℕ) → checked head bytes ≡ Err Invalid → checked head more ≡ Err Invalid
 unfolding checked
-checked_stays head bytes more e =
-    elim (chosen (any_row head) (Ok (head, bytes)) (Err Invalid) (Err Invalid) e) [
-      | inl a ↦ absurd (ok_not_err (head, bytes) Invalid a.1)
-      | inr a ↦ rw a.0 refl
-    ]
+checked_stays head bytes more e = grind (arith, chosen, ok_not_err)
 
 -- every mark leaves some opcode, in either map
 lock_in_one : (lock : Bool) → any_below 8 (λ reg. is_row lock (opcode_row One 0 reg) true) ≡ true
@@ -201,11 +161,7 @@ opcode_found m b (c ∷ bs) x rest e =
     elim (chosen (eqb b 0x0f) (two_at m (c ∷ bs)) (checked (opcode_head m One b) (c ∷ bs)) (Ok (x, rest)) e) [
       | inl a ↦
           let k = checked_ok (opcode_head m Two c) x bs rest a.1 in
-          let g = is_made m Two c x k.0 k.1 in (
-            g.has_row,
-            g.prefixes,
-            ap (λ (n : ℕ). n ∷ c ∷ bs) (eqb-true b 0x0f a.0) ∙ ap (λ (l : List ℕ). 0x0f ∷ c ∷ l) k.2
-                ∙ ap (λ (l : List ℕ). l ++ rest) (sym g.opcode),
+          let g = is_made m Two c x k.0 k.1 in (grind (arith, eqb-true)
           )
       | inr a ↦
           let k = checked_ok (opcode_head m One b) x (c ∷ bs) rest a.1 in
@@ -239,9 +195,7 @@ head_found m (b ∷ bs) x rest e =
 opcode_again : (m : Prefixes) (map : OpMap) (b : ℕ) (rest : List ℕ) → any_row (opcode_head m map b) ≡ true
     → head_at m (opcode_bytes map b ++ rest) ≡ Ok (opcode_head m map b, rest)
 unfolding head_at opcode_at two_at is_prefix
-opcode_again m One b rest e =
-    let s = starts m b e in
-    rw (s.no_prefix, s.no_map) (checked_again (opcode_head m One b) rest e)
+opcode_again m One b rest e = grind (arith, checked_again, starts)
 opcode_again m Two b rest e = checked_again (opcode_head m Two b) rest e
 
 head_again : (m : Prefixes) (ps : List ℕ) (map : OpMap) (b : ℕ) (rest : List ℕ) → ArePrefixes ps
@@ -253,16 +207,8 @@ head_again m (p ∷ ps) map b rest are e = rw (are.0) (head_again (with_prefix m
 
 opcode_more : (m : Prefixes) (b : ℕ) (bs : List ℕ) → opcode_at m b bs ≡ Err More → (b ≡ 0x0f) × (bs ≡ [])
 unfolding opcode_at two_at
-opcode_more m b [] e =
-    elim (chosen (eqb b 0x0f) (two_at m []) (checked (opcode_head m One b) []) (Err More) e) [
-      | inl a ↦ (eqb-true b 0x0f a.0, refl)
-      | inr a ↦ absurd (checked_not_more (opcode_head m One b) [] a.1)
-    ]
-opcode_more m b (c ∷ bs) e =
-    elim (chosen (eqb b 0x0f) (two_at m (c ∷ bs)) (checked (opcode_head m One b) (c ∷ bs)) (Err More) e) [
-      | inl a ↦ absurd (checked_not_more (opcode_head m Two c) bs a.1)
-      | inr a ↦ absurd (checked_not_more (opcode_head m One b) (c ∷ bs) a.1)
-    ]
+opcode_more m b [] e = grind (arith, checked_not_more, chosen, eqb-true)
+opcode_more m b (c ∷ bs) e = grind (arith, checked_not_more, chosen)
 
 head_more : (m : Prefixes) (bytes : List ℕ) → head_at m bytes ≡ Err More
     → (x : Head) × (tail : List ℕ) × EncodesHead m x (bytes ++ tail) × AllBytes tail
@@ -300,16 +246,8 @@ head_more m (b ∷ bs) e =
 opcode_invalid : (m : Prefixes) (b : ℕ) (bs rest : List ℕ) → opcode_at m b bs ≡ Err Invalid
     → opcode_at m b (bs ++ rest) ≡ Err Invalid
 unfolding opcode_at two_at
-opcode_invalid m b [] rest e =
-    elim (chosen (eqb b 0x0f) (two_at m []) (checked (opcode_head m One b) []) (Err Invalid) e) [
-      | inl a ↦ absurd (more_not_invalid a.1)
-      | inr a ↦ rw (a.0) (checked_stays (opcode_head m One b) [] rest a.1)
-    ]
-opcode_invalid m b (c ∷ bs) rest e =
-    elim (chosen (eqb b 0x0f) (two_at m (c ∷ bs)) (checked (opcode_head m One b) (c ∷ bs)) (Err Invalid) e) [
-      | inl a ↦ rw (a.0) (checked_stays (opcode_head m Two c) bs (bs ++ rest) a.1)
-      | inr a ↦ rw (a.0) (checked_stays (opcode_head m One b) (c ∷ bs) (c ∷ bs ++ rest) a.1)
-    ]
+opcode_invalid m b [] rest e = grind (arith, checked_stays, chosen, more_not_invalid)
+opcode_invalid m b (c ∷ bs) rest e = grind (arith, checked_stays, chosen)
 
 head_invalid : (m : Prefixes) (bytes rest : List ℕ) → head_at m bytes ≡ Err Invalid
     → head_at m (bytes ++ rest) ≡ Err Invalid
@@ -323,13 +261,7 @@ head_invalid m (b ∷ bs) rest e =
 
 head_encoded : (m : Prefixes) (x : Head) (front rest : List ℕ) → EncodesHead m x front
     → head_at m (front ++ rest) ≡ Ok (x, rest)
-head_encoded m x front rest h =
-    let is : opcode_head (folded m h.before) x.map x.opcode ≡ x = ap (λ (k : Prefixes). opcode_head k x.map x.opcode) (sym h.says) in
-    let row : any_row (opcode_head (folded m h.before) x.map x.opcode) ≡ true = ap any_row is ∙ h.has_row in
-    ap (λ (l : List ℕ). head_at m (l ++ rest)) h.whole
-    ∙ ap (head_at m) (append_assoc h.before (opcode_bytes x.map x.opcode) rest)
-    ∙ head_again m h.before x.map x.opcode rest h.are row
-    ∙ ap (λ (y : Head). answer (y, rest)) is
+head_encoded m x front rest h = grind (arith, answer, append_assoc, head_again)
 
 pub head_reads : (m : Prefixes) → Reads (EncodesHead m) (head_at m)
 head_reads m = record { found = head_found m; again = head_encoded m; more = head_more m; invalid = head_invalid m }

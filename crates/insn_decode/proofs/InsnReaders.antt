@@ -1,5 +1,6 @@
 -- The readers of an instruction, one after another.
-use Rattle.std.proofs.Common.{◌≡◌, ℕ, ◌+◌, ◌*◌, ◌<◌, Bool, true, false, cond, not, ◌&&◌, ◌||◌, eqb, List, [], ◌∷◌, ◌++◌, Ok, Err, refl, sym, ap, subst, ◌∙◌, append_assoc, arith, ◌⊎◌, inl, inr}
+use Rattle.std.proofs.Common.{◌≡◌, ℕ, ◌+◌, ◌*◌, ◌<◌, Bool, true, false, cond, not, ◌&&◌, ◌||◌, eqb, List, [], ◌∷◌, ◌++◌, Ok, Err, refl, sym}
+use Rattle.std.proofs.Common.{ap, subst, ◌∙◌, append_assoc, arith, ◌⊎◌, inl, inr}
 use Rattle.std.proofs.lemmas.Bool.{eqb-true, eqb-false, false≢true, cases_Bool}
 use Rattle.std.proofs.lemmas.List.{nil_from_length}
 use Rattle.insn_decode.specs.declared.stop.Stop.TheVariants.{More, Invalid}
@@ -11,11 +12,13 @@ use Rattle.insn_forms.specs.declared.rows.Form.{Form}
 use Rattle.insn_forms.specs.declared.insn.Insn.{Insn}
 use Rattle.insn_forms.specs.declared.rows.Row.{Row}
 use Rattle.insn_forms.specs.OpcodeMap.{opcode_row}
-use Rattle.insn_forms.specs.Addressing.{has_modrm, modrm_size, sib_size, disp_size, mod_of, reg_of}
+use Rattle.insn_forms.specs.Addressing.{has_modrm, modrm_size, sib_size, disp_size}
 use Rattle.insn_forms.specs.Operands.{has_op, may_lock, is_m, is_row, imm_size, operand, insn_of}
-use Rattle.insn_forms.specs.Grammar.{AllBytes, little, wide_of, addr32_of, row_with, is_row_with}
-use Rattle.insn_decode.specs.Reading.{◌>>=◌, Read, number_at, no_prefixes, any_below, any_row, head_at, modrm_at, addressing_at, operand_at, rest_at, insn_at}
-use Rattle.insn_decode.proofs.LawfulReaders.{Reads, ok_is, ok_not_err, err_not_ok, more_not_invalid, chosen, bind_ok, bind_err, Then, then_reads, then_some, Done, done_reads, Number, number_reads, some_number}
+use Rattle.insn_forms.specs.Grammar.{AllBytes, wide_of, addr32_of, row_with, is_row_with}
+use Rattle.insn_decode.specs.Reading.{◌>>=◌, Read, number_at, no_prefixes, any_below, any_row, head_at, modrm_at, addressing_at, operand_at}
+use Rattle.insn_decode.specs.Reading.{rest_at, insn_at}
+use Rattle.insn_decode.proofs.LawfulReaders.{Reads, ok_is, ok_not_err, err_not_ok, more_not_invalid, chosen, bind_ok, bind_err, Then}
+use Rattle.insn_decode.proofs.LawfulReaders.{then_reads, then_some, Done, done_reads, Number, number_reads, some_number}
 use Rattle.insn_decode.proofs.HeadReaders.{EncodesHead, head_reads, any_found, any_from}
 
 -- ---- ModRM
@@ -38,10 +41,7 @@ size_cases map opcode = one_or_none (has_modrm (opcode_row map opcode 0).first |
 -- a ModRM byte with this reg field, and memory
 made_byte : (head : Head) (reg : ℕ) → reg < 8 → is_row head.prefixes.lock (opcode_row head.map head.opcode reg) true ≡ true
     → is_row_with head (8 * reg) ≡ true
-made_byte head reg lt e =
-    let r : reg_of (8 * reg) ≡ reg = omega arith in
-    let m : mod_of (8 * reg) ≡ 0 = omega arith in
-    rw (r, m) e
+made_byte head reg lt e = grind arith
 
 size_one : (n : ℕ) → eqb n 0 ≡ false → (n ≡ 0) ⊎ (n ≡ 1) → n ≡ 1
 size_one n e (inl z) = absurd (eqb-false n 0 e z)
@@ -82,18 +82,7 @@ row_up lock r false e = memory_too (has_op r) lock (may_lock r) (not (is_m r.fir
 -- where a ModRM byte has a row, the head has
 pub row_any : (head : Head) (m : ℕ) (bytes : List ℕ) → EncodesModrm head m bytes → any_row head ≡ true
 unfolding any_row
-row_any head m bytes h =
-    elim (cases_Bool (eqb (modrm_size head.map head.opcode) 0)) [
-      | inl none ↦
-          let nothing : bytes ≡ [] = nil_from_length bytes (h.number.size ∙ eqb-true _ 0 none) in
-          let zero_is : m ≡ 0 = h.number.value_is ∙ ap little nothing in
-          let row : is_row_with head 0 ≡ true = subst (λ (k : ℕ). is_row_with head k ≡ true) zero_is h.has_row in
-          rw none row
-      | inr one ↦
-          let row = row_up head.prefixes.lock (row_with head m) (not (eqb (mod_of m) 3)) h.has_row in
-          rw one (any_from 8 (λ reg. is_row head.prefixes.lock (opcode_row head.map head.opcode reg) true) (reg_of m)
-          (omega arith) row)
-    ]
+row_any head m bytes h = grind (arith, any_from, cases_Bool, eqb-true, nil_from_length, row_up)
 
 at_most_one : (n : ℕ) (bytes : List ℕ) → (n ≡ 0) ⊎ (n ≡ 1) → number_at n bytes ≡ Err More → bytes ≡ []
 unfolding number_at
@@ -110,13 +99,7 @@ modrm_found head bytes m rest e =
     let a = bind_ok (number_at (modrm_size head.map head.opcode) bytes)
     (λ p. cond (is_row_with head p.0) (Ok p) (Err Invalid)) (m, rest) e in
     let n = (number_reads (modrm_size head.map head.opcode)).found bytes a.0.0 a.0.1 a.1 in
-    elim (chosen (is_row_with head a.0.0) (Ok a.0) (Err Invalid) (Ok (m, rest)) a.2) [
-      | inl c ↦
-          let k : a.0 ≡ (m, rest) = ok_is a.0 (m, rest) c.1 in
-          let encoded : EncodesModrm head a.0.0 n.0 = record { number = n.1; has_row = c.0 } in
-          (n.0, subst (λ (p : ℕ × List ℕ). EncodesModrm head p.0 n.0) k encoded, n.2 ∙ ap (λ (p : ℕ × List ℕ). n.0 ++ p.1) k)
-      | inr c ↦ absurd (err_not_ok (m, rest) Invalid c.1)
-    ]
+    grind (arith, chosen, err_not_ok, ok_is)
 
 modrm_again : (head : Head) (m : ℕ) (front rest : List ℕ) → EncodesModrm head m front
     → modrm_at head (front ++ rest) ≡ Ok (m, rest)
@@ -128,19 +111,7 @@ modrm_again head m front rest h =
 modrm_more : (head : Head) → any_row head ≡ true → (bytes : List ℕ) → modrm_at head bytes ≡ Err More
     → (m : ℕ) × (tail : List ℕ) × EncodesModrm head m (bytes ++ tail) × AllBytes tail
 unfolding modrm_at
-modrm_more head any bytes e =
-    elim (bind_err (number_at (modrm_size head.map head.opcode) bytes)
-    (λ p. cond (is_row_with head p.0) (Ok p) (Err Invalid)) More e) [
-      | inl stop ↦
-          let nothing : bytes ≡ [] =
-          at_most_one (modrm_size head.map head.opcode) bytes (size_cases head.map head.opcode) stop in
-          let s = some_modrm head any in
-          (s.0, s.1, rw nothing s.2, s.3)
-      | inr a ↦ elim (chosen (is_row_with head a.0.0) (Ok a.0) (Err Invalid) (Err More) a.2) [
-        | inl c ↦ absurd (ok_not_err a.0 More c.1)
-        | inr c ↦ absurd (more_not_invalid (sym c.1))
-      ]
-    ]
+modrm_more head any bytes e = grind (arith, at_most_one, bind_err, chosen, more_not_invalid, ok_not_err, size_cases, some_modrm)
 
 modrm_invalid : (head : Head) (bytes rest : List ℕ) → modrm_at head bytes ≡ Err Invalid
     → modrm_at head (bytes ++ rest) ≡ Err Invalid
@@ -156,10 +127,7 @@ modrm_invalid head bytes rest e =
           ap (λ (l : List ℕ). number_at (modrm_size head.map head.opcode) (l ++ rest)) f.2
           ∙ ap (number_at (modrm_size head.map head.opcode)) (append_assoc f.0 a.0.1 rest)
           ∙ n.again a.0.0 f.0 (a.0.1 ++ rest) f.1 in
-          elim (chosen (is_row_with head a.0.0) (Ok a.0) (Err Invalid) (Err Invalid) a.2) [
-            | inl c ↦ absurd (ok_not_err a.0 Invalid c.1)
-            | inr c ↦ rw (again, c.0) refl
-          ]
+          grind (arith, chosen, ok_not_err)
     ]
 
 pub modrm_reads : (head : Head) → any_row head ≡ true → Reads (EncodesModrm head) (modrm_at head)

@@ -1,5 +1,6 @@
 -- Readers whose four answers are right, and how they are put together.
-use Rattle.std.proofs.Common.{◌≡◌, ℕ, zero, suc, ◌+◌, ◌*◌, Bool, true, false, cond, List, [], ◌∷◌, ◌++◌, length, Result, Ok, Err, refl, sym, ap, ◌∙◌, append_assoc, arith, ◌⊎◌, inl, inr}
+use Rattle.std.proofs.Common.{◌≡◌, ℕ, zero, suc, ◌+◌, ◌*◌, Bool, true, false, cond, List, [], ◌∷◌, ◌++◌, length, Result, Ok, Err, refl, sym}
+use Rattle.std.proofs.Common.{ap, ◌∙◌, append_assoc, arith, ◌⊎◌, inl, inr}
 use Rattle.insn_decode.specs.declared.stop.Stop.{Stop}
 use Rattle.insn_decode.specs.declared.stop.Stop.TheVariants.{More, Invalid}
 use Rattle.insn_forms.specs.Grammar.{AllBytes, little}
@@ -154,13 +155,7 @@ abbrev pub give : {A : Type 0} → A → List ℕ → Read A
 give x bytes = Ok (x, bytes)
 
 pub done_reads : {A : Type 0} (x : A) → Reads (Done x) (give x)
-done_reads {A} x = record {
-  found = λ bytes y rest e. let k : (x, bytes) ≡ (y, rest) = ok_is (x, bytes) (y, rest) e in
-      ([], record { same = sym (ap (λ (p : A × List ℕ). p.0) k); none = refl }, ap (λ (p : A × List ℕ). p.1) k);
-  again = λ y front rest h. rw (h.none, h.same) refl;
-  more = λ bytes e. absurd (ok_not_err (x, bytes) More e);
-  invalid = λ bytes rest e. absurd (ok_not_err (x, bytes) Invalid e);
-}
+done_reads {A} x = grind (arith, ok_is, ok_not_err)
 
 -- ---- a number of n bytes
 
@@ -180,11 +175,7 @@ number_found (suc n) (b ∷ bs) x rest e =
     let s = number_found n bs a.0.0 a.0.1 a.1 in
     let k : (b + 256 * a.0.0, a.0.1) ≡ (x, rest) = ok_is (b + 256 * a.0.0, a.0.1) (x, rest) a.2 in (
       b ∷ s.0,
-      record {
-        size = ap suc s.1.size;
-        value_is = sym (ap (λ (p : ℕ × List ℕ). p.0) k)
-            ∙ ap (λ (v : ℕ). b + 256 * v) s.1.value_is;
-      },
+      grind arith,
       ap (λ (l : List ℕ). b ∷ l) s.2 ∙ ap (λ (p : ℕ × List ℕ). b ∷ (s.0 ++ p.1)) k,
     )
 

@@ -1,5 +1,6 @@
 -- Code bytes that agree in the bytes of an instruction.
-use Rattle.std.proofs.Common.{◌≡◌, ℕ, zero, suc, ◌+◌, ◌-◌, ◌*◌, ◌/◌, ◌%◌, ◌^◌, ◌<◌, ◌≤◌, Bool, List, ◌++◌, length, take, drop, sym, ap, ◌∙◌, arith, lit<, IsTrue, nat_eq, subst, T}
+use Rattle.std.proofs.Common.{◌≡◌, ℕ, zero, suc, ◌+◌, ◌-◌, ◌*◌, ◌/◌, ◌%◌, ◌^◌, ◌<◌, ◌≤◌, Bool, List, ◌++◌, length, take, drop, sym, ap, ◌∙◌}
+use Rattle.std.proofs.Common.{arith, lit<, IsTrue, nat_eq, subst, T}
 use Rattle.std.proofs.Math.Arith.{mod-mul}
 use Rattle.std.proofs.Math.Facts.{eqb_yes}
 use Rattle.std.proofs.Math.Nat.{mul-div_cancel, mul-mod_left, div-add-mod, add-mul-mod_self_left, add-mul, mul-add, mul_assoc}
@@ -16,11 +17,7 @@ use Rattle.insn_forms.specs.Grammar.{AllBytes}
 -- ---- numbers that are the same after a shift
 
 shifted : (n k p : ℕ) → 0 < k → 0 < p → n * p % (k * p) ≡ n % k * p
-shifted n k p some more =
-    mod-mul (n * p) some more
-    ∙ ap (λ (x : ℕ). x % k * p + n * p % p) (mul-div_cancel n more)
-    ∙ ap (λ (x : ℕ). n % k * p + x) (mul-mod_left n p)
-    ∙ (omega arith)
+shifted n k p some more = grind (arith, mod-mul, mul-div_cancel, mul-mod_left)
 
 low_same : (a b k p : ℕ) → 0 < k → 0 < p → a * p % (k * p) ≡ b * p % (k * p) → a % k ≡ b % k
 low_same a b k p some more e =
@@ -46,11 +43,7 @@ same_after_shift a b p m small e =
 
 -- a byte is one of the low bytes
 digit : (n m c : ℕ) → 0 < m → 0 < c → n % (m * 256 * c) / c % 256 ≡ n / c % 256
-digit n m c some more =
-    ap (λ (x : ℕ). x / c % 256) (mod-mul n {m = m * 256} (omega arith) more)
-    ∙ ap (λ (x : ℕ). x % 256) (div-mul-add (n / c % (m * 256)) c (n % c) (mod_below n c more))
-    ∙ ap (λ (x : ℕ). x % 256) (mod-mul (n / c) {m = m} {c = 256} some (lit< tt))
-    ∙ mod-mul-add (n / c / 256 % m) 256 (n / c % 256) (mod_below (n / c) 256 (lit< tt))
+digit n m c some more = grind (arith, div-mul-add, lit<, mod-mul, mod-mul-add, mod_below)
 
 lowest : (n m : ℕ) → 0 < m → n % (m * 256) % 256 ≡ n % 256
 lowest n m some = ap (λ (x : ℕ). x % 256) (mod-mul n some (lit< tt)) ∙ mod-mul-add (n / 256 % m) 256 (n % 256) (mod_below n 256 (lit< tt))
@@ -67,66 +60,14 @@ pub same_start : (a b : CodeWords) (len : ℕ) → 0 < len → len ≤ 8 →
     a.low * 2 ^ (8 * (8 - len)) % 2 ^ 64 ≡ b.low * 2 ^ (8 * (8 - len)) % 2 ^ 64 → take len (code_bytes a) ≡ take len (code_bytes b)
 unfolding code_bytes
 same_start a b zero some few e = absurd (omega (arith, some))
-same_start a b (suc zero) some few e =
-    let low : a.low % 0x100 ≡ b.low % 0x100 = low_same a.low b.low 0x100 0x100000000000000 (lit< tt) (lit< tt) e in
-    let d0 : a.low % 0x100 ≡ b.low % 0x100 = lowest_same a.low b.low 0x1 (lit< tt) low in
-    cc
-same_start a b (suc (suc zero)) some few e =
-    let low : a.low % 0x10000 ≡ b.low % 0x10000 = low_same a.low b.low 0x10000 0x1000000000000 (lit< tt) (lit< tt) e in
-    let d0 : a.low % 0x100 ≡ b.low % 0x100 = lowest_same a.low b.low 0x100 (lit< tt) low in
-    let d1 : a.low / 0x100 % 0x100 ≡ b.low / 0x100 % 0x100 = digit_same a.low b.low 0x1 0x100 (lit< tt) (lit< tt) low in
-    cc
-same_start a b (suc (suc (suc zero))) some few e =
-    let low : a.low % 0x1000000 ≡ b.low % 0x1000000 = low_same a.low b.low 0x1000000 0x10000000000 (lit< tt) (lit< tt) e in
-    let d0 : a.low % 0x100 ≡ b.low % 0x100 = lowest_same a.low b.low 0x10000 (lit< tt) low in
-    let d1 : a.low / 0x100 % 0x100 ≡ b.low / 0x100 % 0x100 = digit_same a.low b.low 0x100 0x100 (lit< tt) (lit< tt) low in
-    let d2 : a.low / 0x10000 % 0x100 ≡ b.low / 0x10000 % 0x100 = digit_same a.low b.low 0x1 0x10000 (lit< tt) (lit< tt) low in
-    cc
-same_start a b (suc (suc (suc (suc zero)))) some few e =
-    let low : a.low % 0x100000000 ≡ b.low % 0x100000000 = low_same a.low b.low 0x100000000 0x100000000 (lit< tt) (lit< tt) e in
-    let d0 : a.low % 0x100 ≡ b.low % 0x100 = lowest_same a.low b.low 0x1000000 (lit< tt) low in
-    let d1 : a.low / 0x100 % 0x100 ≡ b.low / 0x100 % 0x100 = digit_same a.low b.low 0x10000 0x100 (lit< tt) (lit< tt) low in
-    let d2 : a.low / 0x10000 % 0x100 ≡ b.low / 0x10000 % 0x100 = digit_same a.low b.low 0x100 0x10000 (lit< tt) (lit< tt) low in
-    let d3 : a.low / 0x1000000 % 0x100 ≡ b.low / 0x1000000 % 0x100 = digit_same a.low b.low 0x1 0x1000000 (lit< tt) (lit< tt) low in
-    cc
-same_start a b (suc (suc (suc (suc (suc zero))))) some few e =
-    let low : a.low % 0x10000000000 ≡ b.low % 0x10000000000 = low_same a.low b.low 0x10000000000 0x1000000 (lit< tt) (lit< tt) e in
-    let d0 : a.low % 0x100 ≡ b.low % 0x100 = lowest_same a.low b.low 0x100000000 (lit< tt) low in
-    let d1 : a.low / 0x100 % 0x100 ≡ b.low / 0x100 % 0x100 = digit_same a.low b.low 0x1000000 0x100 (lit< tt) (lit< tt) low in
-    let d2 : a.low / 0x10000 % 0x100 ≡ b.low / 0x10000 % 0x100 = digit_same a.low b.low 0x10000 0x10000 (lit< tt) (lit< tt) low in
-    let d3 : a.low / 0x1000000 % 0x100 ≡ b.low / 0x1000000 % 0x100 = digit_same a.low b.low 0x100 0x1000000 (lit< tt) (lit< tt) low in
-    let d4 : a.low / 0x100000000 % 0x100 ≡ b.low / 0x100000000 % 0x100 = digit_same a.low b.low 0x1 0x100000000 (lit< tt) (lit< tt) low in
-    cc
-same_start a b (suc (suc (suc (suc (suc (suc zero)))))) some few e =
-    let low : a.low % 0x1000000000000 ≡ b.low % 0x1000000000000 = low_same a.low b.low 0x1000000000000 0x10000 (lit< tt) (lit< tt) e in
-    let d0 : a.low % 0x100 ≡ b.low % 0x100 = lowest_same a.low b.low 0x10000000000 (lit< tt) low in
-    let d1 : a.low / 0x100 % 0x100 ≡ b.low / 0x100 % 0x100 = digit_same a.low b.low 0x100000000 0x100 (lit< tt) (lit< tt) low in
-    let d2 : a.low / 0x10000 % 0x100 ≡ b.low / 0x10000 % 0x100 = digit_same a.low b.low 0x1000000 0x10000 (lit< tt) (lit< tt) low in
-    let d3 : a.low / 0x1000000 % 0x100 ≡ b.low / 0x1000000 % 0x100 = digit_same a.low b.low 0x10000 0x1000000 (lit< tt) (lit< tt) low in
-    let d4 : a.low / 0x100000000 % 0x100 ≡ b.low / 0x100000000 % 0x100 = digit_same a.low b.low 0x100 0x100000000 (lit< tt) (lit< tt) low in
-    let d5 : a.low / 0x10000000000 % 0x100 ≡ b.low / 0x10000000000 % 0x100 = digit_same a.low b.low 0x1 0x10000000000 (lit< tt) (lit< tt) low in
-    cc
-same_start a b (suc (suc (suc (suc (suc (suc (suc zero))))))) some few e =
-    let low : a.low % 0x100000000000000 ≡ b.low % 0x100000000000000 = low_same a.low b.low 0x100000000000000 0x100 (lit< tt) (lit< tt) e in
-    let d0 : a.low % 0x100 ≡ b.low % 0x100 = lowest_same a.low b.low 0x1000000000000 (lit< tt) low in
-    let d1 : a.low / 0x100 % 0x100 ≡ b.low / 0x100 % 0x100 = digit_same a.low b.low 0x10000000000 0x100 (lit< tt) (lit< tt) low in
-    let d2 : a.low / 0x10000 % 0x100 ≡ b.low / 0x10000 % 0x100 = digit_same a.low b.low 0x100000000 0x10000 (lit< tt) (lit< tt) low in
-    let d3 : a.low / 0x1000000 % 0x100 ≡ b.low / 0x1000000 % 0x100 = digit_same a.low b.low 0x1000000 0x1000000 (lit< tt) (lit< tt) low in
-    let d4 : a.low / 0x100000000 % 0x100 ≡ b.low / 0x100000000 % 0x100 = digit_same a.low b.low 0x10000 0x100000000 (lit< tt) (lit< tt) low in
-    let d5 : a.low / 0x10000000000 % 0x100 ≡ b.low / 0x10000000000 % 0x100 = digit_same a.low b.low 0x100 0x10000000000 (lit< tt) (lit< tt) low in
-    let d6 : a.low / 0x1000000000000 % 0x100 ≡ b.low / 0x1000000000000 % 0x100 = digit_same a.low b.low 0x1 0x1000000000000 (lit< tt) (lit< tt) low in
-    cc
-same_start a b (suc (suc (suc (suc (suc (suc (suc (suc zero)))))))) some few e =
-    let low : a.low % 0x10000000000000000 ≡ b.low % 0x10000000000000000 = low_same a.low b.low 0x10000000000000000 0x1 (lit< tt) (lit< tt) e in
-    let d0 : a.low % 0x100 ≡ b.low % 0x100 = lowest_same a.low b.low 0x100000000000000 (lit< tt) low in
-    let d1 : a.low / 0x100 % 0x100 ≡ b.low / 0x100 % 0x100 = digit_same a.low b.low 0x1000000000000 0x100 (lit< tt) (lit< tt) low in
-    let d2 : a.low / 0x10000 % 0x100 ≡ b.low / 0x10000 % 0x100 = digit_same a.low b.low 0x10000000000 0x10000 (lit< tt) (lit< tt) low in
-    let d3 : a.low / 0x1000000 % 0x100 ≡ b.low / 0x1000000 % 0x100 = digit_same a.low b.low 0x100000000 0x1000000 (lit< tt) (lit< tt) low in
-    let d4 : a.low / 0x100000000 % 0x100 ≡ b.low / 0x100000000 % 0x100 = digit_same a.low b.low 0x1000000 0x100000000 (lit< tt) (lit< tt) low in
-    let d5 : a.low / 0x10000000000 % 0x100 ≡ b.low / 0x10000000000 % 0x100 = digit_same a.low b.low 0x10000 0x10000000000 (lit< tt) (lit< tt) low in
-    let d6 : a.low / 0x1000000000000 % 0x100 ≡ b.low / 0x1000000000000 % 0x100 = digit_same a.low b.low 0x100 0x1000000000000 (lit< tt) (lit< tt) low in
-    let d7 : a.low / 0x100000000000000 % 0x100 ≡ b.low / 0x100000000000000 % 0x100 = digit_same a.low b.low 0x1 0x100000000000000 (lit< tt) (lit< tt) low in
-    cc
+same_start a b (suc zero) some few e = grind (arith, lit<, low_same, lowest_same)
+same_start a b (suc (suc zero)) some few e = grind (arith, digit_same, lit<, low_same, lowest_same)
+same_start a b (suc (suc (suc zero))) some few e = grind (arith, digit_same, lit<, low_same, lowest_same)
+same_start a b (suc (suc (suc (suc zero)))) some few e = grind (arith, digit_same, lit<, low_same, lowest_same)
+same_start a b (suc (suc (suc (suc (suc zero))))) some few e = grind (arith, digit_same, lit<, low_same, lowest_same)
+same_start a b (suc (suc (suc (suc (suc (suc zero)))))) some few e = grind (arith, digit_same, lit<, low_same, lowest_same)
+same_start a b (suc (suc (suc (suc (suc (suc (suc zero))))))) some few e = grind (arith, digit_same, lit<, low_same, lowest_same)
+same_start a b (suc (suc (suc (suc (suc (suc (suc (suc zero)))))))) some few e = grind (arith, digit_same, lit<, low_same, lowest_same)
 same_start a b (suc (suc (suc (suc (suc (suc (suc (suc (suc len))))))))) some few e = absurd (omega (arith, few))
 
 below : (n : ℕ) → n % 0x100 < 0x100
@@ -135,40 +76,7 @@ below n = mod_below n 0x100 (lit< tt)
 -- each of them is a byte
 pub are_code_bytes : (words : CodeWords) → AllBytes (code_bytes words)
 unfolding code_bytes
-are_code_bytes words = (
-  below _,
-  (
-    below _,
-    (
-      below _,
-      (
-        below _,
-        (
-          below _,
-          (
-            below _,
-            (
-              below _,
-              (
-                below _,
-                (
-                  below _,
-                  (
-                    below _,
-                    (
-                      below _,
-                      (below _, (below _, (below _, (below _, tt)))),
-                    ),
-                  ),
-                ),
-              ),
-            ),
-          ),
-        ),
-      ),
-    ),
-  ),
-)
+are_code_bytes words = grind (arith, below)
 
 -- bytes that agree in the first ones of others begin with the instruction that those begin with
 pub decoded_start : (big : Bool) (insn : Insn) (len : ℕ) (bytes other : List ℕ) → AllBytes bytes →

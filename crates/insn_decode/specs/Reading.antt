@@ -1,6 +1,7 @@
 -- Reading from left to right: a value and the bytes after it, or why there is none (own). It is a function of the bytes,
 -- where the grammar is a relation; the contract of `decode` says that both are the same.
-use Rattle.std.specs.Prelude.{◌≡◌, ℕ, zero, suc, ◌+◌, ◌*◌, Bool, true, false, Some, None, List, [], ◌∷◌, Result, Ok, Err, ◌==◌, ◌||◌, if◌then◌else◌}
+use Rattle.std.specs.Prelude.{◌≡◌, ℕ, zero, suc, ◌+◌, ◌*◌, Bool, true, false, Some, None, List, [], ◌∷◌, Result, Ok, Err, ◌==◌, ◌||◌}
+use Rattle.std.specs.Prelude.{if◌then◌else◌}
 use Rattle.insn_decode.specs.declared.stop.Stop.{Stop}
 use Rattle.insn_decode.specs.declared.stop.Stop.TheVariants.{More, Invalid}
 use Rattle.insn_forms.specs.declared.insn.Rep.TheVariants as reps

@@ -5,7 +5,10 @@ use Rattle.std.proofs.lemmas.Bool.{eq-eqb, ne_eqb}
 use Rattle.insn_forms.specs.declared.rows.Row.{Row}
 use Rattle.insn_forms.specs.declared.rows.Form.TheVariants.{Empty}
 use Rattle.insn_forms.specs.declared.rows.OpMap.TheVariants.{One, Two}
-use Rattle.insn_forms.specs.OpcodeMap.{no_row, pick, opcode_row, row_one, row_two, map_one_00, map_one_20, map_one_40, map_one_60, map_one_80, map_one_a0, map_one_c0, map_one_e0, map_two_00, map_two_80, map_two_a0, arithmetic, shifts, unary_group, alone, group_8c, group_8e, group_fe, group_ff, group_0f00, group_0f01, group_0fba}
+use Rattle.insn_forms.specs.OpcodeMap.{no_row, pick, opcode_row, row_one, row_two, map_one_00, map_one_20, map_one_40, map_one_60}
+use Rattle.insn_forms.specs.OpcodeMap.{map_one_80, map_one_a0, map_one_c0, map_one_e0, map_two_00, map_two_80, map_two_a0, arithmetic}
+use Rattle.insn_forms.specs.OpcodeMap.{shifts, unary_group, alone, group_8c, group_8e, group_fe, group_ff, group_0f00, group_0f01}
+use Rattle.insn_forms.specs.OpcodeMap.{group_0fba}
 use Rattle.insn_forms.specs.declared.rows.Slot.{Slot}
 use Rattle.insn_forms.specs.declared.maps.TheConstants.{ONE_BYTE_MAP, TWO_BYTE_MAP}
 use Rattle.insn_forms.specs.Slots.{row_in, has_rows}
@@ -21,11 +24,13 @@ listed_at f i (suc n) zero d lt = ap f (omega arith)
 listed_at f i (suc n) (suc k) d lt = listed_at f (suc i) n k d (omega (arith, lt)) ∙ ap f (omega arith)
 
 one_rows : map row_in ONE_BYTE_MAP ≡ listed (opcode_row One) 0 256
-unfolding opcode_row row_one row_two map_one_00 map_one_20 map_one_40 map_one_60 map_one_80 map_one_a0 map_one_c0 map_one_e0 map_two_00 map_two_80 map_two_a0 arithmetic shifts unary_group alone group_8c group_8e group_fe group_ff group_0f00 group_0f01 group_0fba
+unfolding opcode_row row_one row_two map_one_00 map_one_20 map_one_40 map_one_60 map_one_80 map_one_a0 map_one_c0 map_one_e0 map_two_00
+    map_two_80 map_two_a0 arithmetic shifts unary_group alone group_8c group_8e group_fe group_ff group_0f00 group_0f01 group_0fba
 one_rows = refl
 
 two_rows : map row_in TWO_BYTE_MAP ≡ listed (opcode_row Two) 0 256
-unfolding opcode_row row_one row_two map_one_00 map_one_20 map_one_40 map_one_60 map_one_80 map_one_a0 map_one_c0 map_one_e0 map_two_00 map_two_80 map_two_a0 arithmetic shifts unary_group alone group_8c group_8e group_fe group_ff group_0f00 group_0f01 group_0fba
+unfolding opcode_row row_one row_two map_one_00 map_one_20 map_one_40 map_one_60 map_one_80 map_one_a0 map_one_c0 map_one_e0 map_two_00
+    map_two_80 map_two_a0 arithmetic shifts unary_group alone group_8c group_8e group_fe group_ff group_0f00 group_0f01 group_0fba
 two_rows = refl
 
 pub row_one_is : (k : ℕ) (d : Slot) → k < 256 → row_in (get_or ONE_BYTE_MAP k d) ≡ opcode_row One k

@@ -5,7 +5,9 @@ use Rattle.insn_forms.specs.declared.rows.OpMap.TheVariants.{One, Two}
 use Rattle.insn_forms.specs.declared.insn.Op.{Op}
 use Rattle.insn_forms.specs.declared.insn.Op.TheVariants as ops
 use Rattle.insn_forms.specs.declared.rows.Form.{Form}
-use Rattle.insn_forms.specs.declared.rows.Form.TheVariants.{Empty, Eb, Ew, Ev, Gb, Gw, Gv, RvMw, Sw, M, Al, Ax, Cl, Dx, Const1, Ib, Iw, Iz, Is, Jb, Jz, Ip, Ob, Ov, Zb, Zv, Xb, Xv, SegEs, SegCs, SegSs, SegDs, SegFs, SegGs, ModRm}
+use Rattle.insn_forms.specs.declared.rows.Form.TheVariants.{Empty, Eb, Ew, Ev, Gb, Gw, Gv, RvMw, Sw, M, Al, Ax, Cl, Dx, Const1, Ib, Iw, Iz}
+use Rattle.insn_forms.specs.declared.rows.Form.TheVariants.{Is, Jb, Jz, Ip, Ob, Ov, Zb, Zv, Xb, Xv, SegEs, SegCs, SegSs, SegDs, SegFs}
+use Rattle.insn_forms.specs.declared.rows.Form.TheVariants.{SegGs, ModRm}
 use Rattle.insn_forms.specs.declared.rows.Row.{Row}
 
 -- ---- rows and lines

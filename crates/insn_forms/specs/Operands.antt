@@ -7,7 +7,9 @@ use Rattle.client_world.specs.declared.segments.FarPtr.{FarPtr}
 use Rattle.insn_forms.specs.declared.insn.Op.{Op}
 use Rattle.insn_forms.specs.declared.insn.Op.TheVariants as ops
 use Rattle.insn_forms.specs.declared.rows.Form.{Form}
-use Rattle.insn_forms.specs.declared.rows.Form.TheVariants.{Empty, Eb, Ew, Ev, Gb, Gw, Gv, RvMw, Sw, M, Al, Ax, Cl, Dx, Const1, Ib, Iw, Iz, Is, Jb, Jz, Ip, Ob, Ov, Zb, Zv, Xb, Xv, SegEs, SegCs, SegSs, SegDs, SegFs, SegGs, ModRm}
+use Rattle.insn_forms.specs.declared.rows.Form.TheVariants.{Empty, Eb, Ew, Ev, Gb, Gw, Gv, RvMw, Sw, M, Al, Ax, Cl, Dx, Const1, Ib, Iw, Iz}
+use Rattle.insn_forms.specs.declared.rows.Form.TheVariants.{Is, Jb, Jz, Ip, Ob, Ov, Zb, Zv, Xb, Xv, SegEs, SegCs, SegSs, SegDs, SegFs}
+use Rattle.insn_forms.specs.declared.rows.Form.TheVariants.{SegGs, ModRm}
 use Rattle.insn_forms.specs.declared.rows.Row.{Row}
 use Rattle.insn_forms.specs.declared.insn.Operand.{Operand}
 use Rattle.insn_forms.specs.declared.insn.Operand.TheVariants as operands

@@ -22,8 +22,11 @@ use Rattle.insn_decode.specs.Decode.{decoded}
 use Rattle.insn_forms.specs.declared.insn.Insn.{Insn}
 use Rattle.insn_plan.specs.Act.{Pending}
 use Rattle.insn_plan.specs.Plan.{after_plan, plan_result, after_commit, with_state}
-use Rattle.interrupts.specs.Delivery.{after_frame_push, after_handler_entry, handler_interrupts, has_real_vector, interrupt_of, interrupt_vector, after_interrupt_entry, after_iret, result_of_pop, real_delivery, software_interrupt, exit_of_fault}
-use Rattle.interrupts.specs.Worlds.{view_without_bytes, world_of_result, on_world, world_delivery, world_interrupt, world_after_iret, world_step}
+use Rattle.interrupts.specs.Delivery.{after_frame_push, after_handler_entry, handler_interrupts, has_real_vector, interrupt_of}
+use Rattle.interrupts.specs.Delivery.{interrupt_vector, after_interrupt_entry, after_iret, result_of_pop, real_delivery, software_interrupt}
+use Rattle.interrupts.specs.Delivery.{exit_of_fault}
+use Rattle.interrupts.specs.Worlds.{view_without_bytes, world_of_result, on_world, world_delivery, world_interrupt, world_after_iret}
+use Rattle.interrupts.specs.Worlds.{world_step}
 
 -- ---- writes
 
@@ -50,21 +53,24 @@ settled_where : (o : Option Fault) (x y : MachineView) → x.world ≡ y.world �
 settled_where None x y same = ap (λ (w : World). Ok w) same
 settled_where (Some f) x y same = refl
 
-settled_alone : (v : MachineView) (p : Pending) → world_of_result (after_commit v p) ≡ world_of_result (after_commit (view_without_bytes v.world) p)
+settled_alone : (v : MachineView) (p : Pending) →
+    world_of_result (after_commit v p) ≡ world_of_result (after_commit (view_without_bytes v.world) p)
 unfolding after_commit
 settled_alone v p =
     settled_where (first_write_fault v.world p.writes) (with_state p.regs p.vif (after_writes v p.writes))
     (with_state p.regs p.vif (after_writes (view_without_bytes v.world) p.writes))
     (ap (λ (w : World). record w { regs = p.regs; vif = p.vif }) (all_alone v p.writes))
 
-carried_alone : (v : MachineView) (r : Result Pending Event) → world_of_result (after_plan v r) ≡ world_of_result (after_plan (view_without_bytes v.world) r)
+carried_alone : (v : MachineView) (r : Result Pending Event) →
+    world_of_result (after_plan v r) ≡ world_of_result (after_plan (view_without_bytes v.world) r)
 unfolding after_plan
 carried_alone v (Ok p) = settled_alone v p
 carried_alone v (Err e) = refl
 
 -- ---- a step
 
-executed_alone : (v : MachineView) (insn : Insn) (len : ℕ) → world_of_result (after_instruction v insn len) ≡ world_of_result (after_instruction (view_without_bytes v.world) insn len)
+executed_alone : (v : MachineView) (insn : Insn) (len : ℕ) →
+    world_of_result (after_instruction v insn len) ≡ world_of_result (after_instruction (view_without_bytes v.world) insn len)
 unfolding after_instruction
 executed_alone v insn len = carried_alone (view_with_next_eip len v) _
 
@@ -89,29 +95,34 @@ served_where : (o : Option Fault) (x y : Result MachineView Fault) → world_of_
 served_where None x y same = same
 served_where (Some f) x y same = refl
 
-entered_alone : (v : MachineView) (p : FarPtr) → world_of_result (after_handler_entry v p) ≡ world_of_result (after_handler_entry (view_without_bytes v.world) p)
+entered_alone : (v : MachineView) (p : FarPtr) →
+    world_of_result (after_handler_entry v p) ≡ world_of_result (after_handler_entry (view_without_bytes v.world) p)
 entered_alone v p =
     let r : Regs = record v.world.regs { cs = code_selector v.world p.sel; eip = p.off } in
     served_where (transfer_fault v.world p.sel p.off false) (Ok (with_state r (handler_interrupts v.world) v))
     (Ok (with_state r (handler_interrupts v.world) (view_without_bytes v.world))) refl
 
 handler_alone : (v : MachineView) (n : ℕ) →
-    world_of_result (after_handler_entry v (interrupt_vector v.world n)) ≡ on_world (λ u. after_handler_entry u (interrupt_vector u.world n)) v.world
+    world_of_result (after_handler_entry v (interrupt_vector v.world n))
+    ≡ on_world (λ u. after_handler_entry u (interrupt_vector u.world n)) v.world
 handler_alone v n = entered_alone v (interrupt_vector v.world n)
 
 served_alone : (v : MachineView) (n : ℕ) →
     world_of_result (after_handler_entry (after_frame_push v) (interrupt_vector (after_frame_push v).world n))
-    ≡ world_of_result (after_handler_entry (after_frame_push (view_without_bytes v.world)) (interrupt_vector (after_frame_push (view_without_bytes v.world)).world n))
+    ≡ world_of_result (after_handler_entry (after_frame_push (view_without_bytes v.world))
+    (interrupt_vector (after_frame_push (view_without_bytes v.world)).world n))
 served_alone v n =
     handler_alone (after_frame_push v) n
     ∙ ap (on_world (λ u. after_handler_entry u (interrupt_vector u.world n))) (pushed_alone v)
     ∙ sym (handler_alone (after_frame_push (view_without_bytes v.world)) n)
 
-interrupted_alone : (v : MachineView) (n : ℕ) → world_of_result (after_interrupt_entry v n) ≡ world_of_result (after_interrupt_entry (view_without_bytes v.world) n)
+interrupted_alone : (v : MachineView) (n : ℕ) →
+    world_of_result (after_interrupt_entry v n) ≡ world_of_result (after_interrupt_entry (view_without_bytes v.world) n)
 interrupted_alone v n =
     served_where (first_write_fault v.world (interrupt_push v.world).writes)
     (after_handler_entry (after_frame_push v) (interrupt_vector (after_frame_push v).world n))
-    (after_handler_entry (after_frame_push (view_without_bytes v.world)) (interrupt_vector (after_frame_push (view_without_bytes v.world)).world n))
+    (after_handler_entry (after_frame_push (view_without_bytes v.world))
+    (interrupt_vector (after_frame_push (view_without_bytes v.world)).world n))
     (served_alone v n)
 
 software_alone : (v : MachineView) (n len : ℕ) →

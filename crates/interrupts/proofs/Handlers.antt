@@ -18,7 +18,8 @@ use Rattle.guest_space.specs.Transfer.{HasOtherMemory}
 use Rattle.guest_space.specs.VectorLists.{vector_at}
 use Rattle.guest_space.proofs.MemoryAlone.{other_all}
 use Rattle.host_memory.specs.View.{MachineView}
-use Rattle.interrupts.specs.Delivery.{after_frame_push, after_handler_entry, handler_fault, interrupt_vector, after_interrupt_entry, vector_fault}
+use Rattle.interrupts.specs.Delivery.{after_frame_push, after_handler_entry, handler_fault, interrupt_vector, after_interrupt_entry}
+use Rattle.interrupts.specs.Delivery.{vector_fault}
 
 -- in real mode every vector can be loaded
 real_loads : (w : World) (n : ℕ) → IsSound w → w.mode ≡ Real → vector_fault w n ≡ None
@@ -44,13 +45,15 @@ same_fault w u n protected mode rows vectors =
 
 pushed_fault : (v : MachineView) (n : ℕ) → v.world.mode ≡ Protected → vector_fault (after_frame_push v).world n ≡ vector_fault v.world n
 pushed_fault v n protected =
-    let other : HasOtherMemory v.world (after_writes v (interrupt_push v.world).writes).world = other_all v (interrupt_push v.world).writes in
+    let other : HasOtherMemory v.world (after_writes v (interrupt_push v.world).writes).world =
+    other_all v (interrupt_push v.world).writes in
     same_fault v.world (after_frame_push v).world n protected (ap (λ (w : World). w.mode) other) (ap (λ (w : World). w.descriptors) other)
     (ap (λ (w : World). w.interrupt_vectors) other)
 
 -- where the vector's load has a fault, so has the interrupt
 fault_by_mode : (v : MachineView) (n : ℕ) (f : Fault) (m : Mode) → v.world.mode ≡ m →
-    elim m as (λ _. Option Fault) [ Real ↦ None | Protected ↦ vector_fault v.world n ] ≡ Some f → vector_fault (after_frame_push v).world n ≡ Some f
+    elim m as (λ _. Option Fault) [ Real ↦ None | Protected ↦ vector_fault v.world n ] ≡ Some f →
+    vector_fault (after_frame_push v).world n ≡ Some f
 fault_by_mode v n f Real is e = absurd cc
 fault_by_mode v n f Protected is e = pushed_fault v n is ∙ e
 
@@ -73,7 +76,8 @@ refused_by_vector v n f none e =
 
 -- where it has none, the handler can be entered after the pushes
 granted_by_mode : (v : MachineView) (n : ℕ) (m : Mode) → v.world.mode ≡ m → IsSound (after_frame_push v).world →
-    elim m as (λ _. Option Fault) [ Real ↦ None | Protected ↦ vector_fault v.world n ] ≡ None → vector_fault (after_frame_push v).world n ≡ None
+    elim m as (λ _. Option Fault) [ Real ↦ None | Protected ↦ vector_fault v.world n ] ≡ None →
+    vector_fault (after_frame_push v).world n ≡ None
 granted_by_mode v n Real is s e =
     real_loads (after_frame_push v).world n s (ap (λ (w : World). w.mode) (other_all v (interrupt_push v.world).writes) ∙ is)
 granted_by_mode v n Protected is s e = pushed_fault v n is ∙ e
@@ -82,7 +86,8 @@ granted_after : (v : MachineView) (n : ℕ) → IsSound (after_frame_push v).wor
     vector_fault (after_frame_push v).world n ≡ None
 granted_after v n s e = granted_by_mode v n v.world.mode refl s e
 
-pub granted_after_pushes : (v u : MachineView) (n : ℕ) (p : FarPtr) → u ≡ after_frame_push v → IsSound u.world → handler_fault v.world n ≡ None →
+pub granted_after_pushes : (v u : MachineView) (n : ℕ) (p : FarPtr) → u ≡ after_frame_push v → IsSound u.world →
+    handler_fault v.world n ≡ None →
     p ≡ interrupt_vector u.world n → transfer_fault u.world p.sel p.off false ≡ None
 granted_after_pushes v u n p same s e at =
     ap (λ (q : FarPtr). transfer_fault u.world q.sel q.off false) at

@@ -1,4 +1,5 @@
--- A step, an interrupt, an exception and a return change registers, the virtual interrupt flag and memory alone; a return changes no memory.
+-- A step, an interrupt, an exception and a return change registers, the virtual interrupt flag and memory alone; a return changes no
+-- memory.
 use Rattle.std.proofs.Common.{◌≡◌, ◌∙◌, ℕ, List, ap, refl, Bool, false, Result, Ok, Err}
 use Rattle.client_world.specs.declared.faults.Event.{Event}
 use Rattle.client_world.specs.declared.faults.Event.TheVariants.{Fault as fault}
@@ -20,8 +21,10 @@ use Rattle.insn_decode.specs.Decode.{decoded}
 use Rattle.insn_forms.specs.declared.insn.Insn.{Insn}
 use Rattle.insn_plan.specs.Act.{Pending}
 use Rattle.insn_plan.specs.Plan.{after_plan, plan_result, after_commit, with_state}
-use Rattle.interrupts.specs.Delivery.{after_frame_push, after_handler_entry, handler_interrupts, has_real_vector, interrupt_vector, after_interrupt_entry, after_iret, real_delivery, software_interrupt}
-use Rattle.interrupts.specs.Worlds.{HasOtherRegisters, HasOtherRegistersAndMemory, HasOtherState, view_without_bytes, world_delivery, world_interrupt, world_after_iret, world_step}
+use Rattle.interrupts.specs.Delivery.{after_frame_push, after_handler_entry, handler_interrupts, has_real_vector, interrupt_vector}
+use Rattle.interrupts.specs.Delivery.{after_interrupt_entry, after_iret, real_delivery, software_interrupt}
+use Rattle.interrupts.specs.Worlds.{HasOtherRegisters, HasOtherRegistersAndMemory, HasOtherState, view_without_bytes, world_delivery}
+use Rattle.interrupts.specs.Worlds.{world_interrupt, world_after_iret, world_step}
 use Rattle.interrupts.proofs.ReturnStates.{return_state}
 use Rattle.interrupts.proofs.SoundAnswers.{delivered_was, granted_was, holds_of_answer, holds_of_world}
 
@@ -48,7 +51,8 @@ unfolding after_plan
 kept_plan v u (Ok p) e = kept_settled v u p e
 kept_plan v u (Err event) e = absurd cc
 
-kept_executed : (v u : MachineView) (insn : Insn) (len : ℕ) → after_instruction v insn len ≡ Ok u → HasOtherRegistersAndMemory v.world u.world
+kept_executed : (v u : MachineView) (insn : Insn) (len : ℕ) → after_instruction v insn len ≡ Ok u →
+    HasOtherRegistersAndMemory v.world u.world
 unfolding after_instruction
 kept_executed v u insn len e =
     let at = view_with_next_eip len v in
@@ -94,16 +98,19 @@ kept_delivery v u f e =
 
 pub kept_world_step : (w u : World) → world_step w ≡ Ok u → HasOtherRegistersAndMemory w u
 unfolding world_step
-kept_world_step w u e = holds_of_world (HasOtherRegistersAndMemory w) (client_step (view_without_bytes w)) u (kept_step (view_without_bytes w)) e
+kept_world_step w u e =
+    holds_of_world (HasOtherRegistersAndMemory w) (client_step (view_without_bytes w)) u (kept_step (view_without_bytes w)) e
 
 pub kept_world_interrupt : (w u : World) (n len : ℕ) → world_interrupt w n len ≡ Ok u → HasOtherRegistersAndMemory w u
 unfolding world_interrupt
 kept_world_interrupt w u n len e =
-    holds_of_world (HasOtherRegistersAndMemory w) (software_interrupt (view_without_bytes w) n len) u (λ v. kept_interrupt (view_without_bytes w) v n len) e
+    holds_of_world (HasOtherRegistersAndMemory w) (software_interrupt (view_without_bytes w) n len) u
+    (λ v. kept_interrupt (view_without_bytes w) v n len) e
 
 pub kept_world_delivery : (w u : World) (f : Fault) → world_delivery w f ≡ Ok u → HasOtherRegistersAndMemory w u
 unfolding world_delivery
-kept_world_delivery w u f e = holds_of_world (HasOtherRegistersAndMemory w) (real_delivery (view_without_bytes w) f) u (λ v. kept_delivery (view_without_bytes w) v f) e
+kept_world_delivery w u f e = holds_of_world (HasOtherRegistersAndMemory w) (real_delivery (view_without_bytes w) f) u
+    (λ v. kept_delivery (view_without_bytes w) v f) e
 
 pub state_of_world : (w : World) (v : MachineView) → HasOtherState (view_without_bytes w) v → HasOtherRegisters w v.world
 state_of_world w v e = ap (λ (m : MachineView). m.world) e
@@ -111,4 +118,5 @@ state_of_world w v e = ap (λ (m : MachineView). m.world) e
 pub kept_world_popped : (w u : World) → world_after_iret w ≡ Ok u → HasOtherRegisters w u
 unfolding world_after_iret
 kept_world_popped w u e =
-    holds_of_world (HasOtherRegisters w) (after_iret (view_without_bytes w)) u (λ v popped. state_of_world w v (return_state (view_without_bytes w) v popped)) e
+    holds_of_world (HasOtherRegisters w) (after_iret (view_without_bytes w)) u
+    (λ v popped. state_of_world w v (return_state (view_without_bytes w) v popped)) e

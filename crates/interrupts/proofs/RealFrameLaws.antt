@@ -1,5 +1,6 @@
 -- In real mode a frame can be popped exactly where its three words lie inside the stack segment.
-use Rattle.std.proofs.Common.{◌≡◌, ℕ, ◌+◌, ◌*◌, ◌%◌, ◌<◌, ◌^◌, Bool, true, false, ◌&&◌, List, refl, ap, ◌∙◌, sym, subst, arith, Option, Result, Ok, Err}
+use Rattle.std.proofs.Common.{◌≡◌, ℕ, ◌+◌, ◌*◌, ◌%◌, ◌<◌, ◌^◌, Bool, true, false, ◌&&◌, List, refl, ap, ◌∙◌, sym, subst, arith, Option}
+use Rattle.std.proofs.Common.{Result, Ok, Err}
 use Rattle.std.specs.Prelude.{is_ok, nat_le}
 use Rattle.std.proofs.lemmas.Bool.{leb-true, lt-ltb}
 use Rattle.std.proofs.Math.Bool.{and-true, and_assoc}
@@ -55,7 +56,8 @@ word_where w offset true s e =
     rw e (word_in_view w (w.regs.ss * PARAGRAPH_SIZE + offset) s (omega (arith, s.segments.ss, leb-true (offset + 2) SEGMENT_SIZE e)))
 word_where w offset false s e = rw e refl
 
-item_where : (w : World) (above : ℕ) → IsSound w → IsWordWhere (word_fits w.regs.esp above) (value_of (real w) (stack_item (real w) 16 above))
+item_where : (w : World) (above : ℕ) → IsSound w →
+    IsWordWhere (word_fits w.regs.esp above) (value_of (real w) (stack_item (real w) 16 above))
 unfolding stack_item has_big_stack
 item_where w above s = rw mod-add-mod (word_where w ((w.regs.esp + 2 * above) % SEGMENT_SIZE) _ s refl)
 
@@ -103,7 +105,8 @@ made_of_world (Err e) = refl
 
 popped_in_real : (w : World) → IsSound w → is_ok (world_after_iret (real w)) ≡ frame_fits w.regs.esp
 unfolding world_after_iret
-popped_in_real w s = made_of_world (after_iret (view_without_bytes (real w))) ∙ return_is_made (view_without_bytes (real w)) ∙ frame_made w s
+popped_in_real w s = made_of_world (after_iret (view_without_bytes (real w))) ∙ return_is_made (view_without_bytes (real w))
+    ∙ frame_made w s
 
 pub popped_where_it_fits : (w : World) → IsSound w → w.mode ≡ Real → is_ok (world_after_iret w) ≡ frame_fits w.regs.esp
 popped_where_it_fits w s mode =

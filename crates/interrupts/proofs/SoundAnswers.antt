@@ -1,5 +1,6 @@
 -- An interrupt, an exception and a return lead from a sound world to a sound one.
-use Rattle.std.proofs.Common.{◌≡◌, ℕ, ◌+◌, ◌*◌, ◌<◌, inl, inr, List, length, refl, subst, arith, if◌then◌else◌, Bool, true, false, Option, None, Some, Result, Ok, Err}
+use Rattle.std.proofs.Common.{◌≡◌, ℕ, ◌+◌, ◌*◌, ◌<◌, inl, inr, List, length, refl, subst, arith, if◌then◌else◌, Bool, true, false, Option}
+use Rattle.std.proofs.Common.{None, Some, Result, Ok, Err}
 use Rattle.std.specs.Prelude.{IfOk}
 use Rattle.std.proofs.lemmas.Bool.{cases_lt}
 use Rattle.std.proofs.lemmas.List.{get_or_past}
@@ -27,7 +28,9 @@ use Rattle.guest_space.specs.Pending.{after_writes, first_write_fault}
 use Rattle.host_memory.specs.View.{MachineView}
 use Rattle.insn_plan.specs.Act.{unchanged}
 use Rattle.insn_plan.specs.Plan.{plan_result, after_plan, with_state}
-use Rattle.interrupts.specs.Delivery.{after_frame_push, after_handler_entry, handler_interrupts, has_real_vector, interrupt_of, interrupt_vector, after_interrupt_entry, after_iret, result_of_pop, real_delivery, software_interrupt, exit_of_fault}
+use Rattle.interrupts.specs.Delivery.{after_frame_push, after_handler_entry, handler_interrupts, has_real_vector, interrupt_of}
+use Rattle.interrupts.specs.Delivery.{interrupt_vector, after_interrupt_entry, after_iret, result_of_pop, real_delivery, software_interrupt}
+use Rattle.interrupts.specs.Delivery.{exit_of_fault}
 use Rattle.interrupts.specs.Worlds.{view_without_bytes, world_of_result, world_delivery, world_interrupt, world_after_iret, world_step}
 
 -- ---- a selector that names a descriptor is a word
@@ -52,7 +55,8 @@ code_is_named_by_a_word rows sel offset return size e = elim (cases_lt sel 0x100
 
 -- the handler's segment, where it may be loaded, is a word: in real mode always
 handler_by_mode : (m : Mode) (w : World) (n : ℕ) → IsSound w →
-    transfer_fault (record w { mode = m }) (interrupt_vector (record w { mode = m }) n).sel (interrupt_vector (record w { mode = m }) n).off false ≡ None →
+    transfer_fault (record w { mode = m }) (interrupt_vector (record w { mode = m }) n).sel (interrupt_vector (record w { mode = m }) n).off
+    false ≡ None →
     (interrupt_vector (record w { mode = m }) n).sel < 0x10000
 handler_by_mode Real w n s e = omega (arith, s.megabyte.bytes (4 * n + 2), s.megabyte.bytes (4 * n + 2 + 1))
 handler_by_mode Protected w n s e = code_is_named_by_a_word w.descriptors _ _ false s.descriptors.indices e
@@ -164,11 +168,13 @@ sound_world_step w u s e = holds_of_world IsSound (client_step (view_without_byt
 
 pub sound_world_interrupt : (w u : World) (n len : ℕ) → IsSound w → world_interrupt w n len ≡ Ok u → IsSound u
 unfolding world_interrupt
-sound_world_interrupt w u n len s e = holds_of_world IsSound (software_interrupt (view_without_bytes w) n len) u (λ v. sound_interrupt (view_without_bytes w) v n len s) e
+sound_world_interrupt w u n len s e =
+    holds_of_world IsSound (software_interrupt (view_without_bytes w) n len) u (λ v. sound_interrupt (view_without_bytes w) v n len s) e
 
 pub sound_world_delivery : (w u : World) (f : Fault) → IsSound w → world_delivery w f ≡ Ok u → IsSound u
 unfolding world_delivery
-sound_world_delivery w u f s e = holds_of_world IsSound (real_delivery (view_without_bytes w) f) u (λ v. sound_delivery (view_without_bytes w) v f s) e
+sound_world_delivery w u f s e =
+    holds_of_world IsSound (real_delivery (view_without_bytes w) f) u (λ v. sound_delivery (view_without_bytes w) v f s) e
 
 pub sound_world_popped : (w u : World) → IsSound w → world_after_iret w ≡ Ok u → IsSound u
 unfolding world_after_iret

@@ -1,6 +1,6 @@
 -- Software interrupts, exceptions in real mode, and the return from an interrupt at a trap.
--- Source: 80386 Programmer's Reference Manual, ch. 17, INT/INTO and IRET, and ch. 9; DPMI 0.9, "Interrupts"; which exceptions the vectors of
--- real mode serve, and that all others end the client, is own.
+-- Source: 80386 Programmer's Reference Manual, ch. 17, INT/INTO and IRET, and ch. 9; DPMI 0.9, "Interrupts"; which exceptions the vectors
+-- of real mode serve, and that all others end the client, is own.
 use Rattle.std.specs.Prelude.{ℕ, Bool, false, ◌||◌, nat_eq, if◌then◌else◌, Ok, Err, Some, None}
 use Rattle.std.specs.declared.option.Option.{Option}
 use Rattle.std.specs.declared.result.Result.{Result}

@@ -8,7 +8,8 @@ ghost use Rattle.cpu_step.specs.Step.{client_step};
 ghost use Rattle.host_memory.specs.View.{MachineView};
 ghost use Rattle.interrupts.specs.Delivery.{after_iret, real_delivery, software_interrupt};
 ghost use Rattle.interrupts.specs.RealFrames.{frame_fits};
-ghost use Rattle.interrupts.specs.Worlds.{HasOtherRegisters, HasOtherRegistersAndMemory, HasOtherState, world_of_result, world_delivery, world_interrupt, world_after_iret, world_step};
+ghost use Rattle.interrupts.specs.Worlds.{HasOtherRegisters, HasOtherRegistersAndMemory, HasOtherState, world_of_result, world_delivery};
+ghost use Rattle.interrupts.specs.Worlds.{world_interrupt, world_after_iret, world_step};
 
 /// What a step, an interrupt, an exception and a return make of the world depends on the world alone, and not on the bytes that hold it.
 pub fn every_answer_depends_on_the_world_alone()

@@ -40,7 +40,8 @@ fn handler_interrupts(m: &Machine) -> bool
     }
 }
 
-// The fault of loading the handler's address into CS, if it has one. In real mode the pushes may change the vector, but every vector can be loaded.
+// The fault of loading the handler's address into CS, if it has one. In real mode the pushes may change the vector, but every vector can be
+// loaded.
 fn check_vector(m: &Machine, n: u8) -> Result<(), Fault>
     ensures { MatchResult result (λ _. handler_fault m.now.world n ≡ None)
         (λ f. handler_fault m.now.world n ≡ Some f) }
@@ -121,8 +122,8 @@ fn interrupt(m: &mut Machine, n: u8) -> Result<(), Fault>
     Ok(())
 }
 
-/// Makes the software interrupt with a number, whose instruction has that many bytes, in both modes; or gives the fault of a push or of loading
-/// the handler's address, which leaves the machine as it was.
+/// Makes the software interrupt with a number, whose instruction has that many bytes, in both modes; or gives the fault of a push or of
+/// loading the handler's address, which leaves the machine as it was.
 /// Source: 80386 Programmer's Reference Manual, ch. 17, "INT/INTO", and ch. 15; DPMI 0.9, "Interrupts".
 #[tactic(auto, unfolding(crate::specs::Delivery::software_interrupt))]
 pub fn soft_int(m: &mut Machine, n: u8, len: u8) -> Result<(), Fault>

@@ -36,6 +36,7 @@ free_after rows index row free = λ other after.
     get_or-set_other rows index other row None ne ∙ free other (omega arith)
 
 -- after the host's two all are free
-pub free_at_first : (w : World) (width : Width) → IsSound w → w.width ≡ None → AreFreeFrom (host_rows w.descriptors width) FIRST_FREE_DESCRIPTOR
+pub free_at_first : (w : World) (width : Width) → IsSound w → w.width ≡ None →
+    AreFreeFrom (host_rows w.descriptors width) FIRST_FREE_DESCRIPTOR
 free_at_first w width s e = λ index high.
     no_others w.descriptors width (before w.width w e s.width).descriptors index (omega arith) (omega arith)

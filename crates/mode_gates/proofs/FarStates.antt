@@ -34,7 +34,8 @@ with_ip w bits bytes ip = Read (stack_item w bits 1) (with_cs w bits bytes ip)
 quiet_ip : (w : World) (bits bytes ip : ℕ) → IsQuiet w (with_ip w bits bytes ip)
 quiet_ip w bits bytes ip =
     quiet_read w (stack_item w bits 1) (with_cs w bits bytes ip)
-    (λ cs. quiet_transfer w (low_half cs) ip true (with_regs (regs_after_drop w bytes (regs_after_pops w bits 2 w.regs)) (unchanged w)) refl)
+    (λ cs.
+    quiet_transfer w (low_half cs) ip true (with_regs (regs_after_drop w bytes (regs_after_pops w bits 2 w.regs)) (unchanged w)) refl)
 
 quiet_far : (w : World) (bits bytes : ℕ) → IsQuiet w (far_frame_pop w bits bytes)
 unfolding far_frame_pop
@@ -104,7 +105,8 @@ of_world w v e = ap (λ (m : MachineView). m.world) e
 pub kept_far : (w u : World) → world_after_far_return w ≡ Ok u → HasOnlyOtherRegisters w u
 unfolding world_after_far_return
 kept_far w u e =
-    holds_of_world (HasOnlyOtherRegisters w) (after_far_return (view_without_bytes w)) u (λ v popped. of_world w v (far_state (view_without_bytes w) v popped)) e
+    holds_of_world (HasOnlyOtherRegisters w) (after_far_return (view_without_bytes w)) u
+    (λ v popped. of_world w v (far_state (view_without_bytes w) v popped)) e
 
 -- ---- the entry
 

@@ -1,5 +1,6 @@
 -- A far return at a trap and the entry lead from a sound world to a sound one.
-use Rattle.std.proofs.Common.{◌≡◌, ◌≢◌, ℕ, ◌+◌, ◌/◌, ◌%◌, ◌<◌, ◌≤◌, ◌^◌, true, slice_set, refl, subst, arith, Option, None, Some, Result, Ok, Err}
+use Rattle.std.proofs.Common.{◌≡◌, ◌≢◌, ℕ, ◌+◌, ◌/◌, ◌%◌, ◌<◌, ◌≤◌, ◌^◌, true, slice_set, refl, subst, arith, Option, None, Some, Result}
+use Rattle.std.proofs.Common.{Ok, Err}
 use Rattle.client_world.specs.declared.descriptors.Desc.{Desc}
 use Rattle.client_world.specs.declared.descriptors.Origin.{Origin}
 use Rattle.client_world.specs.declared.descriptors.Origin.TheVariants.{Entry, Psp}
@@ -28,7 +29,8 @@ use Rattle.host_memory.specs.View.{MachineView}
 use Rattle.insn_plan.specs.Plan.{plan_result, after_plan}
 use Rattle.interrupts.specs.Worlds.{view_without_bytes}
 use Rattle.interrupts.proofs.SoundAnswers.{holds_of_world, return_was}
-use Rattle.mode_gates.specs.Entry.{asked_width, code_of_segment, data_of_segment, after_first_entry, entry, entry_after, entry_registers, entry_rows, entry_answer, environment_of, environment_word, host_rows, with_carry}
+use Rattle.mode_gates.specs.Entry.{asked_width, code_of_segment, data_of_segment, after_first_entry, entry, entry_after, entry_registers}
+use Rattle.mode_gates.specs.Entry.{entry_rows, entry_answer, environment_of, environment_word, host_rows, with_carry}
 use Rattle.mode_gates.specs.FarFrames.{after_far_return, world_after_far_return}
 use Rattle.mode_gates.specs.Rows.{AreFreeFrom}
 use Rattle.mode_gates.proofs.EntryRows.{free_at_first, free_after, may_put}
@@ -39,7 +41,8 @@ pub sound_far : (v u : MachineView) → IsSound v.world → after_far_return v �
 unfolding after_far_return
 sound_far v u s e =
     let act = far_frame_pop v.world (frame_bits v.world) 0 in
-    sound_by_plan v u act (plan_result v.world act) refl (far_frame_leaves v.world (frame_bits v.world) 0 (words_of v.world.regs s.segments)) s
+    sound_by_plan v u act (plan_result v.world act) refl
+    (far_frame_leaves v.world (frame_bits v.world) 0 (words_of v.world.regs s.segments)) s
     (return_was (after_plan v (plan_result v.world act)) u e)
 
 pub sound_world_far : (w u : World) → IsSound w → world_after_far_return w ≡ Ok u → IsSound u
@@ -55,7 +58,8 @@ record IsReady (w : World) (index : ℕ) : Type 0 where
   pub free : AreFreeFrom w.descriptors index
 
 next_ready : (w : World) (index : ℕ) (d : Desc) (origin : Origin) → IsReady w index → FIRST_FREE_DESCRIPTOR ≤ index → index < DESCRIPTORS →
-    FitsDescriptor d → IsPlainOrigin origin → IsReady (record w { descriptors = slice_set w.descriptors index (Some (d, origin)) }) (index + 1)
+    FitsDescriptor d → IsPlainOrigin origin →
+    IsReady (record w { descriptors = slice_set w.descriptors index (Some (d, origin)) }) (index + 1)
 next_ready w index d origin ready from to fits plain = record {
   sound = (may_put w index d origin ready.sound ready.width from to fits plain ready.free).sound;
   width = ready.width;
@@ -79,7 +83,8 @@ environment_small w s =
     let high = s.bytes (environment_word + 1) in
     omega arith
 
-sound_rows : (w : World) (width : Width) → IsSound w → w.width ≡ None → IsSound (record w { width = Some width; descriptors = entry_rows w width })
+sound_rows : (w : World) (width : Width) → IsSound w → w.width ≡ None →
+    IsSound (record w { width = Some width; descriptors = entry_rows w width })
 unfolding entry_rows
 sound_rows w width s e =
     let w0 : World = record w { width = Some width; descriptors = host_rows w.descriptors width } in
@@ -119,7 +124,8 @@ sound_entered w width s e =
     let s1 : IsSound w1 = sound_rows w width s e in
     let dos = with_word w.dos environment_word (selector_of ENTRY_ENVIRONMENT) in
     let m : SoundMegabyte dos = SoundMegabyte-set _ (environment_word + 1) (selector_of ENTRY_ENVIRONMENT / 0x100)
-    (SoundMegabyte-set w.dos environment_word (selector_of ENTRY_ENVIRONMENT % 0x100) s.megabyte (omega arith) (omega arith)) (omega arith) (omega arith) in
+    (SoundMegabyte-set w.dos environment_word (selector_of ENTRY_ENVIRONMENT % 0x100) s.megabyte (omega arith) (omega arith)) (omega arith)
+    (omega arith) in
     let w2 : World = record w1 { dos = dos } in
     let s2 : IsSound w2 = IsSound-dos w1 dos s1 m in
     let w3 : World = record w2 { mode = Protected } in

@@ -15,13 +15,16 @@ use Rattle.client_world.specs.declared.services.Carry.TheVariants.{Set}
 use Rattle.service_rows.specs.declared.refusal.Refusal.{Refusal}
 use Rattle.service_rows.specs.Reasons.{family_outcome, first_reason, unsupported}
 use Rattle.service_rows.proofs.WidthLaws.{protected_width}
-use Rattle.mode_gates.specs.Switches.{after_switch, can_switch, gate_function, gate_service, state_addresses, switch_addresses, world_after_switch_by_width, regs_after_switch, world_after_switch_to_protected, world_after_switch_to_real}
+use Rattle.mode_gates.specs.Switches.{after_switch, can_switch, gate_function, gate_service, state_addresses, switch_addresses}
+use Rattle.mode_gates.specs.Switches.{world_after_switch_by_width, regs_after_switch, world_after_switch_to_protected}
+use Rattle.mode_gates.specs.Switches.{world_after_switch_to_real}
 
 -- of the world nothing changes but the mode and the registers
 abbrev pub Switches : World → World → Type 0
 Switches w u = u ≡ record w { mode = u.mode; regs = u.regs }
 
-switched_segments : (r : Regs) (code stack_pointer instruction_pointer : ℕ) → code < 0x10000 → HasSegments (regs_after_switch r code stack_pointer instruction_pointer)
+switched_segments : (r : Regs) (code stack_pointer instruction_pointer : ℕ) → code < 0x10000 →
+    HasSegments (regs_after_switch r code stack_pointer instruction_pointer)
 switched_segments r code stack_pointer instruction_pointer small = record {
   es = omega arith;
   cs = small;

@@ -12,7 +12,8 @@ use Rattle.client_world.specs.declared.registers.Mode.TheVariants.{Protected}
 use Rattle.client_world.specs.declared.registers.Regs.{Regs}
 use Rattle.client_world.specs.declared.registers.Width.{Width}
 use Rattle.client_world.specs.declared.registers.Width.TheVariants.{Sixteen, ThirtyTwo}
-use Rattle.client_world.specs.declared.selectors.TheConstants.{HOST_CODE, HOST_STACKS, ENTRY_CODE, ENTRY_STACK, ENTRY_DATA, ENTRY_PSP, ENTRY_ENVIRONMENT}
+use Rattle.client_world.specs.declared.selectors.TheConstants.{HOST_CODE, HOST_STACKS, ENTRY_CODE, ENTRY_STACK, ENTRY_DATA, ENTRY_PSP}
+use Rattle.client_world.specs.declared.selectors.TheConstants.{ENTRY_ENVIRONMENT}
 use Rattle.client_world.specs.declared.services.Carry.TheVariants.{Clear, Set}
 use Rattle.client_world.specs.Descriptor.{plain}
 use Rattle.client_world.specs.Selector.{Row, selector_of}

@@ -1,5 +1,5 @@
--- The frame of a far call popped at a trap. Source: 80386 Programmer's Reference Manual, ch. 17, RET; DPMI 0.9, INT 2Fh function 1687h; that
--- a frame which can't be popped ends the client is own.
+-- The frame of a far call popped at a trap. Source: 80386 Programmer's Reference Manual, ch. 17, RET; DPMI 0.9, INT 2Fh function 1687h;
+-- that a frame which can't be popped ends the client is own.
 use Rattle.std.specs.declared.result.Result.{Result}
 use Rattle.client_world.specs.declared.outcome.Exit.{Exit}
 use Rattle.client_world.specs.World.{World}

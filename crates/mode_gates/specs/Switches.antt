@@ -1,5 +1,5 @@
--- The raw mode switches, and the functions that give their addresses. Source: DPMI 0.9, INT 31h functions 0305h and 0306h; the addresses and
--- the exits are own.
+-- The raw mode switches, and the functions that give their addresses. Source: DPMI 0.9, INT 31h functions 0305h and 0306h; the addresses
+-- and the exits are own.
 use Rattle.std.specs.Prelude.{ℕ, ◌-◌, Bool, false, ◌&&◌, nat_eq, if◌then◌else◌, [], None, Some, Ok, Err}
 use Rattle.std.specs.declared.option.Option.{Option}
 use Rattle.std.specs.declared.result.Result.{Result}
@@ -11,7 +11,8 @@ use Rattle.client_world.specs.declared.registers.Regs.{Regs}
 use Rattle.client_world.specs.declared.registers.Width.{Width}
 use Rattle.client_world.specs.declared.segments.SegReg.TheVariants.{Es, Cs, Ss, Ds}
 use Rattle.client_world.specs.declared.selectors.TheConstants.{HOST_CODE}
-use Rattle.client_world.specs.declared.traps.TheConstants.{PROTECTED_STATE_TRAP, REAL_STATE_TRAP, SWITCH_TO_PROTECTED_TRAP, SWITCH_TO_REAL_TRAP}
+use Rattle.client_world.specs.declared.traps.TheConstants.{PROTECTED_STATE_TRAP, REAL_STATE_TRAP, SWITCH_TO_PROTECTED_TRAP}
+use Rattle.client_world.specs.declared.traps.TheConstants.{SWITCH_TO_REAL_TRAP}
 use Rattle.client_world.specs.Loading.{is_loadable}
 use Rattle.client_world.specs.Registers.{low_half, with_low_half}
 use Rattle.client_world.specs.Selector.{client_selector, selector_of}
@@ -78,7 +79,8 @@ address_regs width r real protected = record r {
 unfoldable pub state_addresses : World → Service
 state_addresses w = record {
   reasons = [];
-  after = record w { regs = address_regs w.width (record w.regs { eax = with_low_half w.regs.eax 0 }) REAL_STATE_TRAP PROTECTED_STATE_TRAP };
+  after =
+      record w { regs = address_regs w.width (record w.regs { eax = with_low_half w.regs.eax 0 }) REAL_STATE_TRAP PROTECTED_STATE_TRAP };
 }
 
 -- 0306h: the addresses of the raw switches, to protected mode and to real mode

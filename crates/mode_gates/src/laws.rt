@@ -33,10 +33,12 @@ pub fn the_entry_keeps_the_rest()
 {}
 
 /// A switch changes the mode and registers alone, and a function that gives addresses registers alone.
-#[tactic(auto, using(crate::proofs::SwitchLaws::to_protected_switches, crate::proofs::SwitchLaws::to_real_switches, crate::proofs::SwitchLaws::kept_service))]
+#[tactic(auto, using(crate::proofs::SwitchLaws::to_protected_switches, crate::proofs::SwitchLaws::to_real_switches, //
+crate::proofs::SwitchLaws::kept_service))]
 pub fn every_switch_keeps_the_rest()
     ensures to_protected { (w u : World) → world_after_switch_to_protected w ≡ Ok u → u ≡ record w { mode = u.mode; regs = u.regs } }
-    ensures to_real { (w : World) → world_after_switch_to_real w ≡ record w { mode = (world_after_switch_to_real w).mode; regs = (world_after_switch_to_real w).regs } }
+    ensures to_real { (w : World) →
+        world_after_switch_to_real w ≡ record w { mode = (world_after_switch_to_real w).mode; regs = (world_after_switch_to_real w).regs } }
     ensures service { (ax : ℕ) (w : World) → (gate_service ax w).world ≡ record w { regs = (gate_service ax w).world.regs } }
 {}
 

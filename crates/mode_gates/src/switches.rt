@@ -87,8 +87,8 @@ pub fn to_real(m: &mut Machine) -> Result<(), Exit>
     Ok(())
 }
 
-/// Switches to protected mode: as to real mode, with (E)BX and (E)DI. `Stray` before the entry; `BadSwitch` where a selector can't be loaded,
-/// CS as by a far jump. An exit leaves the machine as it was. Source: DPMI 0.9, INT 31h function 0306h; the exits are own.
+/// Switches to protected mode: as to real mode, with (E)BX and (E)DI. `Stray` before the entry; `BadSwitch` where a selector can't be
+/// loaded, CS as by a far jump. An exit leaves the machine as it was. Source: DPMI 0.9, INT 31h function 0306h; the exits are own.
 #[tactic(auto, unfolding(crate::specs::Switches::world_after_switch_to_protected, crate::specs::Switches::after_switch))]
 pub fn to_protected(m: &mut Machine) -> Result<(), Exit>
     requires { m.old.world.mode ≡ real }
@@ -114,8 +114,8 @@ pub fn to_protected(m: &mut Machine) -> Result<(), Exit>
     Ok(())
 }
 
-/// Saves or restores the state of the other mode, at the trap of that call in either mode: there is nothing to save, so it returns to its caller
-/// and does nothing else. `BadFrame` where its return address can't be popped, which leaves the machine as it was.
+/// Saves or restores the state of the other mode, at the trap of that call in either mode: there is nothing to save, so it returns to its
+/// caller and does nothing else. `BadFrame` where its return address can't be popped, which leaves the machine as it was.
 /// Source: DPMI 0.9, INT 31h function 0305h; the exit is own.
 pub fn state_call(m: &mut Machine) -> Result<(), Exit>
     ensures machine { MatchResult result (λ _. world_after_far_return m.old.world ≡ Ok m.new.world)

@@ -1,5 +1,6 @@
 -- A record is read from its bytes.
-use Rattle.std.proofs.Common.{◌≡◌, ℕ, ◌+◌, ◌*◌, ◌/◌, ◌%◌, Bool, true, false, not, nat_eq, cond, List, ◌++◌, length, refl, ap, ◌∙◌, sym, arith}
+use Rattle.std.proofs.Common.{◌≡◌, ℕ, ◌+◌, ◌*◌, ◌/◌, ◌%◌, Bool, true, false, not, nat_eq, cond, List, ◌++◌, length, refl, ap, ◌∙◌, sym}
+use Rattle.std.proofs.Common.{arith}
 use Rattle.client_world.specs.declared.calls.Call.{Call}
 use Rattle.client_world.specs.declared.calls.Call.TheVariants.{Int, Far, Iret, Reflect}
 use Rattle.client_world.specs.declared.calls.Record.{Record}
@@ -52,12 +53,15 @@ regs_back trip kind number code vif at r rest =
     ) refl
 
 -- so is the whole record
-sim_back : FlagsTrip → (call : Call) (saved : Regs) (vif : Bool) (at : FarPtr) → record_at (record_bytes (Sim call saved vif at)) 0 ≡ Sim call saved vif at
+sim_back : FlagsTrip → (call : Call) (saved : Regs) (vif : Bool) (at : FarPtr) →
+    record_at (record_bytes (Sim call saved vif at)) 0 ≡ Sim call saved vif at
 unfolding record_at record_bytes dword
-sim_back trip (Int n) saved vif at = rw (regs_back trip 1 n 0 vif at saved (zeros 62), flag_back vif, dword_back at.off, word_back at.sel) refl
+sim_back trip (Int n) saved vif at =
+    rw (regs_back trip 1 n 0 vif at saved (zeros 62), flag_back vif, dword_back at.off, word_back at.sel) refl
 sim_back trip Far saved vif at = rw (regs_back trip 2 0 0 vif at saved (zeros 62), flag_back vif, dword_back at.off, word_back at.sel) refl
 sim_back trip Iret saved vif at = rw (regs_back trip 3 0 0 vif at saved (zeros 62), flag_back vif, dword_back at.off, word_back at.sel) refl
-sim_back trip (Reflect n) saved vif at = rw (regs_back trip 4 n 0 vif at saved (zeros 62), flag_back vif, dword_back at.off, word_back at.sel) refl
+sim_back trip (Reflect n) saved vif at =
+    rw (regs_back trip 4 n 0 vif at saved (zeros 62), flag_back vif, dword_back at.off, word_back at.sel) refl
 
 other_back : (slot : ℕ) (at : FarPtr) → record_at (record_bytes (Back slot at)) 0 ≡ Back slot at
 unfolding record_at record_bytes dword

@@ -1,7 +1,8 @@
 // The bytes of a record.
 ghost use Rattle.std.specs.Prelude.{◌≡◌, ◌≤◌, ◌+◌, length};
 ghost use Rattle.guest_ram.specs.Bytes.{put};
-ghost use Rattle.host_memory.specs.Records.{call_kind, call_number, call_of, record_at, record_bytes, record_head, record_size, regs_at, regs_bytes};
+ghost use Rattle.host_memory.specs.Records.{call_kind, call_number, call_of, record_at, record_bytes, record_head, record_size, regs_at};
+ghost use Rattle.host_memory.specs.Records.{regs_bytes};
 ghost use Rattle.host_memory.specs.Vectors.{pointer_at};
 
 use client_world::host_frames::RECORD_SIZE;

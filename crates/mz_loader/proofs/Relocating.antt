@@ -59,7 +59,8 @@ pub all_relocated_next : (file : List ℕ) (at n i : ℕ) (dos : List ℕ) → i
 unfolding after_relocations
 all_relocated_next file at n i dos h =
     ap (λ (k : ℕ). after_relocations file (at + 4 * i) k dos) (more_left n i h)
-    ∙ ap (λ (k : ℕ). after_relocations file k (n - (i + 1)) (after_relocation dos (relocation_target file (at + 4 * i)))) (next_address at i)
+    ∙ ap (λ (k : ℕ). after_relocations file k (n - (i + 1)) (after_relocation dos (relocation_target file (at + 4 * i))))
+    (next_address at i)
 
 pub all_relocated_end : (file : List ℕ) (at n i : ℕ) (dos : List ℕ) → n ≤ i → after_relocations file (at + 4 * i) (n - i) dos ≡ dos
 unfolding after_relocations

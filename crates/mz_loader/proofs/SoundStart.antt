@@ -1,10 +1,12 @@
 -- A client starts in a sound world.
-use Rattle.std.proofs.Common.{◌≡◌, ℕ, zero, suc, ◌+◌, ◌-◌, ◌*◌, ◌/◌, ◌%◌, ◌<◌, ◌≤◌, inl, inr, List, [], ◌∷◌, length, slice_index, slice_set, refl, arith, nat_eq, nat_lt, min, if◌then◌else◌, ◌&&◌, ◌||◌, Bool, true, false, Option, None, Some}
+use Rattle.std.proofs.Common.{◌≡◌, ℕ, zero, suc, ◌+◌, ◌-◌, ◌*◌, ◌/◌, ◌%◌, ◌<◌, ◌≤◌, inl, inr, List, [], ◌∷◌, length, slice_index, slice_set}
+use Rattle.std.proofs.Common.{refl, arith, nat_eq, nat_lt, min, if◌then◌else◌, ◌&&◌, ◌||◌, Bool, true, false, Option, None, Some}
 use Rattle.std.proofs.lemmas.Bool.{cases_lt, eqb-true, eqb-false, ltb-true, ltb-false, false≢true}
 use Rattle.std.proofs.lemmas.List.{get_or_past}
 use Rattle.client_world.specs.declared.dos_memory.DosEntry.{DosEntry}
 use Rattle.client_world.specs.declared.dos_memory.DosState.TheVariants.{Free, Used}
-use Rattle.client_world.specs.declared.memory_map.TheConstants.{ARENA_START, ARENA_END, PARAGRAPH_SIZE, PSP_SEGMENT, ROM_START, IMAGE_SEGMENT, IMAGE_START}
+use Rattle.client_world.specs.declared.memory_map.TheConstants.{ARENA_START, ARENA_END, PARAGRAPH_SIZE, PSP_SEGMENT, ROM_START}
+use Rattle.client_world.specs.declared.memory_map.TheConstants.{IMAGE_SEGMENT, IMAGE_START}
 use Rattle.client_world.specs.declared.outcome.LoadFault.{LoadFault}
 use Rattle.client_world.specs.DosMemory.{IsArena}
 use Rattle.client_world.specs.Soundness.{IsSound, SoundMegabyte}
@@ -17,9 +19,13 @@ use Rattle.guest_space.proofs.ArenaWrites.{IsSound-entries}
 use Rattle.host_memory.specs.Blank.{blank_arena, blank_world}
 use Rattle.host_memory.specs.Vectors.{word_bytes}
 use Rattle.host_memory.proofs.BlankSound.{blank_is_sound}
-use Rattle.mz_loader.specs.Header.{relocations, relocation_table, header_length, image_length, minimum, maximum, block_paras, most_paras, psp_paras}
-use Rattle.mz_loader.specs.Refusal.{is_short, lacks_signature, has_bad_pages, has_bad_table, has_no_room, has_bad_target, relocation_target, some_beyond, refusal}
-use Rattle.mz_loader.specs.Start.{start_blocks, environment_paras, environment, environment_segment, psp_front, psp_environment, psp_command, psp_address, with_psp, image, after_relocation, after_relocations, with_program, start_regs, world_at_start}
+use Rattle.mz_loader.specs.Header.{relocations, relocation_table, header_length, image_length, minimum, maximum, block_paras, most_paras}
+use Rattle.mz_loader.specs.Header.{psp_paras}
+use Rattle.mz_loader.specs.Refusal.{is_short, lacks_signature, has_bad_pages, has_bad_table, has_no_room, has_bad_target, relocation_target}
+use Rattle.mz_loader.specs.Refusal.{some_beyond, refusal}
+use Rattle.mz_loader.specs.Start.{start_blocks, environment_paras, environment, environment_segment, psp_front, psp_environment}
+use Rattle.mz_loader.specs.Start.{psp_command, psp_address, with_psp, image, after_relocation, after_relocations, with_program, start_regs}
+use Rattle.mz_loader.specs.Start.{world_at_start}
 
 -- ---- bytes
 
@@ -61,7 +67,8 @@ bytes_image file bytes at =
     ]
 
 -- bytes below read-only memory
-sound_put : (dos : List ℕ) (at : ℕ) (xs : List ℕ) → SoundMegabyte dos → at + length xs ≤ ROM_START → AreBytes xs → SoundMegabyte (put dos at xs)
+sound_put : (dos : List ℕ) (at : ℕ) (xs : List ℕ) → SoundMegabyte dos → at + length xs ≤ ROM_START → AreBytes xs →
+    SoundMegabyte (put dos at xs)
 sound_put dos at [] s room bytes = s
 sound_put dos at (x ∷ xs) s room bytes =
     sound_put (slice_set dos at x) (at + 1) xs (SoundMegabyte-set dos at x s (omega arith) (bytes 0)) (omega arith) (λ k. bytes (suc k))
@@ -90,7 +97,8 @@ plain_by false paras = (refl, (refl, (refl, tt)))
 used : (b : Bool) → false ≡ true → b ≡ false
 used b h = absurd (false≢true h)
 
-filled_by : (whole : Bool) (paras : ℕ) → nat_eq paras most_paras ≡ whole → paras ≤ most_paras → IsArena (with_replaced_entries blank_arena 0 1 (blocks_by whole paras))
+filled_by : (whole : Bool) (paras : ℕ) → nat_eq paras most_paras ≡ whole → paras ≤ most_paras →
+    IsArena (with_replaced_entries blank_arena 0 1 (blocks_by whole paras))
 filled_by true paras e few = record {
   fills = (refl, (refl, (let all = eqb-true paras most_paras e in omega arith)));
   joined = (used _, (used _, tt));
@@ -103,7 +111,8 @@ filled_by false paras e few = record {
 sound_blocks : (pages paras : ℕ) → paras ≤ most_paras → IsSound (with_entries (blank_world pages) 0 1 (start_blocks paras))
 unfolding blank_world
 sound_blocks pages paras few =
-    IsSound-entries (blank_world pages) 0 1 (start_blocks paras) (blank_is_sound pages) (refl, tt) (plain_by (nat_eq paras most_paras) paras)
+    IsSound-entries (blank_world pages) 0 1 (start_blocks paras) (blank_is_sound pages) (refl, tt)
+    (plain_by (nat_eq paras most_paras) paras)
     (filled_by (nat_eq paras most_paras) paras refl few)
 
 -- ---- environment and prefix
@@ -126,7 +135,8 @@ sound_psp paras dos few s =
 image_fits : (n m : ℕ) → nat_lt most_paras (psp_paras + (n + 15) / PARAGRAPH_SIZE + m) ≡ false → IMAGE_START + n ≤ ROM_START
 image_fits n m room = let within = ltb-false most_paras (psp_paras + (n + 15) / PARAGRAPH_SIZE + m) room in omega arith
 
-sound_relocated : (dos : List ℕ) (target paras : ℕ) → SoundMegabyte dos → paras ≤ most_paras → target + 2 ≤ PARAGRAPH_SIZE * (paras - psp_paras) →
+sound_relocated : (dos : List ℕ) (target paras : ℕ) → SoundMegabyte dos → paras ≤ most_paras →
+    target + 2 ≤ PARAGRAPH_SIZE * (paras - psp_paras) →
     SoundMegabyte (after_relocation dos target)
 unfolding after_relocation
 sound_relocated dos target paras s few within =
@@ -157,7 +167,8 @@ length-image : (file : List ℕ) → length (image file) ≡ image_length file
 unfolding image
 length-image file = length-listed (image_length file) (λ k. slice_index file (header_length file + k))
 
-sound_program : (file : List ℕ) (dos : List ℕ) → AreBytes file → has_no_room file ≡ false → has_bad_target file ≡ false → SoundMegabyte dos →
+sound_program : (file : List ℕ) (dos : List ℕ) → AreBytes file → has_no_room file ≡ false → has_bad_target file ≡ false →
+    SoundMegabyte dos →
     SoundMegabyte (with_program file dos)
 unfolding with_program
 sound_program file dos bytes room targets s =

@@ -2,7 +2,8 @@
 use Rattle.std.specs.Prelude.{ℕ, zero, suc, ◌+◌, ◌-◌, ◌*◌, ◌%◌, nat_eq, if◌then◌else◌, List, [], ◌∷◌, slice_index}
 use Rattle.client_world.specs.declared.dos_memory.DosEntry.{DosEntry}
 use Rattle.client_world.specs.declared.dos_memory.DosState.TheVariants.{Free, Used}
-use Rattle.client_world.specs.declared.memory_map.TheConstants.{ARENA_START, ARENA_END, PARAGRAPH_SIZE, PSP_SEGMENT, IMAGE_SEGMENT, IMAGE_START}
+use Rattle.client_world.specs.declared.memory_map.TheConstants.{ARENA_START, ARENA_END, PARAGRAPH_SIZE, PSP_SEGMENT, IMAGE_SEGMENT}
+use Rattle.client_world.specs.declared.memory_map.TheConstants.{IMAGE_START}
 use Rattle.client_world.specs.declared.registers.Regs.{Regs}
 use Rattle.client_world.specs.World.{World}
 use Rattle.guest_ram.specs.Bytes.{word_of, put}

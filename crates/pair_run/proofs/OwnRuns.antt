@@ -1,5 +1,6 @@
 -- What the laws of a client say of its own run: it stays once it has ended, its turns are counted, and its console only grows.
-use Rattle.std.proofs.Common.{arith, inl, inr, ◌⊎◌, ◌≡◌, ◌≤◌, ◌+◌, ◌-◌, ◌++◌, ℕ, zero, suc, List, [], None, Some, refl, sym, ◌∙◌, ap, subst, add-zero, add-suc, add-one, append_assoc, append-nil, length, length-append}
+use Rattle.std.proofs.Common.{arith, inl, inr, ◌⊎◌, ◌≡◌, ◌≤◌, ◌+◌, ◌-◌, ◌++◌, ℕ, zero, suc, List, [], None, Some, refl, sym, ◌∙◌, ap, subst}
+use Rattle.std.proofs.Common.{add-zero, add-suc, add-one, append_assoc, append-nil, length, length-append}
 use Rattle.std.specs.Prelude.{IsSome}
 use Rattle.std.specs.declared.option.Option.{Option}
 use Rattle.client_world.specs.declared.outcome.Exit.{Exit}
@@ -8,12 +9,14 @@ use Rattle.pair_run.specs.Run.{closed_by, run_of, turns_of}
 use Rattle.client_world.specs.WatchWorld.{WatchWorld}
 
 -- the laws of a client
-pub record Client (turn : WatchWorld → WatchWorld) (console : WatchWorld → List ℕ) (exit : WatchWorld → Option Exit) (steps : WatchWorld → ℕ) : Type 0 where
+pub record Client (turn : WatchWorld → WatchWorld) (console : WatchWorld → List ℕ) (exit : WatchWorld → Option Exit)
+    (steps : WatchWorld → ℕ) : Type 0 where
   pub stays : (w : WatchWorld) → IsSome (exit w) → turn w ≡ w
   pub counted : (w : WatchWorld) → exit w ≡ None → steps (turn w) ≡ steps w + 1
   pub extends : (w : WatchWorld) → Extends (console w) (console (turn w))
 
-pub client_of : {turn : WatchWorld → WatchWorld} {console : WatchWorld → List ℕ} {exit : WatchWorld → Option Exit} {steps : WatchWorld → ℕ} →
+pub client_of : {turn : WatchWorld → WatchWorld} {console : WatchWorld → List ℕ} {exit : WatchWorld → Option Exit}
+    {steps : WatchWorld → ℕ} →
     ((w : WatchWorld) → IsSome (exit w) → turn w ≡ w) → ((w : WatchWorld) → exit w ≡ None → steps (turn w) ≡ steps w + 1) →
     ((w : WatchWorld) → Extends (console w) (console (turn w))) → Client turn console exit steps
 client_of stays counted extends = record { stays = stays; counted = counted; extends = extends }
@@ -78,7 +81,8 @@ on_before {exit = exit} c w none = elim (either (exit w)) [
 ]
 
 -- without an exit each turn was counted
-pub counted_turns : {turn : WatchWorld → WatchWorld} {console : WatchWorld → List ℕ} {exit : WatchWorld → Option Exit} {steps : WatchWorld → ℕ}
+pub counted_turns : {turn : WatchWorld → WatchWorld} {console : WatchWorld → List ℕ} {exit : WatchWorld → Option Exit}
+    {steps : WatchWorld → ℕ}
     (c : Client turn console exit steps) (w : WatchWorld) (n : ℕ) →
     steps w ≡ 0 → exit (turns_of turn n w) ≡ None → steps (turns_of turn n w) ≡ n
 unfolding turns_of
@@ -166,7 +170,8 @@ by_exit close exit e ends w (Some x) some =
     subst (λ v. IsSome (exit v)) (sym same) (subst (λ o. IsSome o) (sym some) refl)
 
 -- a closed world has an exit, and a world that had one keeps it
-pub closed_ends : (close : WatchWorld → WatchWorld) (exit : WatchWorld → Option Exit) (e : Exit) → ((w : WatchWorld) → exit (close w) ≡ Some e) →
+pub closed_ends : (close : WatchWorld → WatchWorld) (exit : WatchWorld → Option Exit) (e : Exit) →
+    ((w : WatchWorld) → exit (close w) ≡ Some e) →
     (w : WatchWorld) → IsSome (exit (closed_by close exit w))
 closed_ends close exit e ends w = by_exit close exit e ends w (exit w) refl
 

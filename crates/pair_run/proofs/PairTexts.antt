@@ -1,5 +1,6 @@
 -- The loop over the slices: where it is in each run, and what it has written.
-use Rattle.std.proofs.Common.{arith, ◌≡◌, ◌≤◌, ◌<◌, ◌+◌, ◌-◌, ◌*◌, ◌++◌, ◌∷◌, ℕ, zero, suc, List, [], true, false, Ok, Err, refl, sym, ◌∙◌, ap, subst, add-zero, append_assoc, append-nil, length, drop}
+use Rattle.std.proofs.Common.{arith, ◌≡◌, ◌≤◌, ◌<◌, ◌+◌, ◌-◌, ◌*◌, ◌++◌, ◌∷◌, ℕ, zero, suc, List, [], true, false, Ok, Err, refl, sym, ◌∙◌}
+use Rattle.std.proofs.Common.{ap, subst, add-zero, append_assoc, append-nil, length, drop}
 use Rattle.std.specs.Prelude.{OnErr, min, max, ◌==◌}
 use Rattle.std.specs.declared.option.Option.{Option}
 use Rattle.std.specs.declared.result.Result.{Result}
@@ -10,7 +11,8 @@ use Rattle.dpmi_io.proofs.Output.{gained-none, gains_then, part_then, part_longe
 use Rattle.pair_run.specs.declared.lines.Letter.{Letter}
 use Rattle.pair_run.specs.declared.lines.Letter.TheVariants.{A, B}
 use Rattle.pair_run.specs.Run.{turns_of}
-use Rattle.pair_run.specs.Slices.{OwnRun, SliceLine, own_run, gain, slices, line_if_any, slice_line, both_lines, lines_up_to, pair_lines, slice_head, line_end, lines_text}
+use Rattle.pair_run.specs.Slices.{OwnRun, SliceLine, own_run, gain, slices, line_if_any, slice_line, both_lines, lines_up_to, pair_lines}
+use Rattle.pair_run.specs.Slices.{slice_head, line_end, lines_text}
 use Rattle.client_world.specs.WatchWorld.{WatchWorld}
 use Rattle.pair_run.proofs.OwnRuns.{Client, few_turns, turns_add}
 use Rattle.pair_run.proofs.SliceTexts.{lines_next, lines_none, next_start, no_line, not_fewer, silent, text_append}
@@ -40,7 +42,8 @@ pub record Made (turn : WatchWorld → WatchWorld) (first before after : WatchWo
 slice_gains : {turn : WatchWorld → WatchWorld} {first before after : WatchWorld} {n bound k done turns : ℕ}
     (console : WatchWorld → List ℕ) (steps : WatchWorld → ℕ) → Made turn first before after n bound k done turns →
     drop (length (console before)) (console after) ≡ gain n (own_run turn console steps bound first) k
-slice_gains {turn = turn} {first = first} {before = before} {after = after} {n = n} {bound = bound} {k = k} {done = done} {turns = turns} console steps s =
+slice_gains {turn = turn} {first = first} {before = before} {after = after} {n = n} {bound = bound} {k = k} {done = done} {turns = turns}
+    console steps s =
     let here : before ≡ turns_of turn (min (k * n) bound) first = s.was ∙ ap (λ i. turns_of turn i first) s.begins in
     let there : after ≡ turns_of turn (min ((k + 1) * n) bound) first =
     slice_ends turn first before after done turns s.was s.is ∙ ap (λ i. turns_of turn i first) s.ends in
@@ -58,10 +61,6 @@ pub line_if_any-text : (k : ℕ) (client : Letter) (bytes : List ℕ) → (lengt
     lines_text (line_if_any k client bytes) ≡ (slice_head k client (length bytes) ++ bytes) ++ line_end
 line_if_any-text k client [] some = cc
 line_if_any-text k client (x ∷ xs) some = append-nil ((slice_head k client (length (x ∷ xs)) ++ (x ∷ xs)) ++ line_end)
-
-pub no_text : (k : ℕ) (client : Letter) (bytes : List ℕ) → (length bytes == 0) ≡ true → lines_text (line_if_any k client bytes) ≡ []
-no_text k client [] none = refl
-no_text k client (x ∷ xs) none = absurd (grind (arith, none))
 
 -- nothing, before the first slice
 pub pair_none : (n : ℕ) (a b : OwnRun) (x : Shown) → Gains x x (lines_text (lines_up_to (both_lines n a b) 0))
@@ -91,7 +90,8 @@ longer f x y n (suc more) part =
     let next : lines_text (lines_up_to f (n + more)) ++ lines_text (f (n + more)) ≡ lines_text (lines_up_to f (n + suc more)) =
     sym (text_append (lines_up_to f (n + more)) (f (n + more))) ∙ ap lines_text (sym (lines_next f (n + more)))
     ∙ ap (λ i. lines_text (lines_up_to f i)) (omega arith) in
-    subst (λ l. GainsPart x y l) next (part_longer x y (lines_text (lines_up_to f (n + more))) (lines_text (f (n + more))) (longer f x y n more part))
+    subst (λ l. GainsPart x y l) next
+    (part_longer x y (lines_text (lines_up_to f (n + more))) (lines_text (f (n + more))) (longer f x y n more part))
 
 -- in slices after the last one of either nothing is written
 both_silent : {turn : WatchWorld → WatchWorld} {console : WatchWorld → List ℕ} {exit : WatchWorld → Option Exit} {steps : WatchWorld → ℕ}
@@ -162,14 +162,16 @@ pair_whole {turn = turn} {console = console} {steps = steps} c v w n bound k don
 
 -- the line of a slice as the loop makes it is that of the client's own run
 pub line_gained : {turn : WatchWorld → WatchWorld} {first before after : WatchWorld} {n bound k done turns : ℕ}
-    (console : WatchWorld → List ℕ) (steps : WatchWorld → ℕ) (client : Letter) (x y : Shown) → Made turn first before after n bound k done turns →
+    (console : WatchWorld → List ℕ) (steps : WatchWorld → ℕ) (client : Letter) (x y : Shown) →
+    Made turn first before after n bound k done turns →
     Gains x y (lines_text (line_if_any k client (drop (length (console before)) (console after)))) →
     Gains x y (lines_text (slice_line n client (own_run turn console steps bound first) k))
 line_gained {k = k} console steps client x y s gains =
     subst (λ l. Gains x y (lines_text (line_if_any k client l))) (slice_gains console steps s) gains
 
 pub line_failed : {turn : WatchWorld → WatchWorld} {first before after : WatchWorld} {n bound k done turns : ℕ}
-    (console : WatchWorld → List ℕ) (steps : WatchWorld → ℕ) (client : Letter) (x y : Shown) → Made turn first before after n bound k done turns →
+    (console : WatchWorld → List ℕ) (steps : WatchWorld → ℕ) (client : Letter) (x y : Shown) →
+    Made turn first before after n bound k done turns →
     GainsPart x y (lines_text (line_if_any k client (drop (length (console before)) (console after)))) →
     GainsPart x y (lines_text (slice_line n client (own_run turn console steps bound first) k))
 line_failed {k = k} console steps client x y s part =

@@ -1,5 +1,6 @@
 -- The slices of a run, and the lines of two clients that make theirs in turns.
-use Rattle.std.proofs.Common.{arith, inl, inr, ◌⊎◌, ◌≡◌, ◌≤◌, ◌<◌, ◌+◌, ◌-◌, ◌*◌, ◌/◌, ◌++◌, ◌∷◌, ℕ, zero, suc, List, [], None, Some, false, refl, sym, ◌∙◌, ap, subst, add-zero, add-suc, add-one, append_assoc, append-nil, length, drop}
+use Rattle.std.proofs.Common.{arith, inl, inr, ◌⊎◌, ◌≡◌, ◌≤◌, ◌<◌, ◌+◌, ◌-◌, ◌*◌, ◌/◌, ◌++◌, ◌∷◌, ℕ, zero, suc, List, [], None, Some, false}
+use Rattle.std.proofs.Common.{refl, sym, ◌∙◌, ap, subst, add-zero, add-suc, add-one, append_assoc, append-nil, length, drop}
 use Rattle.std.specs.Prelude.{IsSome, min, max}
 use Rattle.std.specs.List.{filter}
 use Rattle.std.specs.declared.option.Option.{Option}
@@ -10,7 +11,8 @@ use Rattle.client_world.specs.declared.outcome.Exit.{Exit}
 use Rattle.pair_run.specs.declared.lines.Letter.{Letter}
 use Rattle.pair_run.specs.declared.lines.Letter.TheVariants.{A, B}
 use Rattle.pair_run.specs.Run.{closed_by, run_of, turns_of}
-use Rattle.pair_run.specs.Slices.{OwnRun, SliceLine, own_run, gain, slices, line_if_any, slice_line, both_lines, lines_up_to, own_lines, pair_lines, line_text, lines_text, is_letter, is_of, all_bytes}
+use Rattle.pair_run.specs.Slices.{OwnRun, SliceLine, own_run, gain, slices, line_if_any, slice_line, both_lines, lines_up_to, own_lines}
+use Rattle.pair_run.specs.Slices.{pair_lines, line_text, lines_text, is_letter, is_of, all_bytes}
 use Rattle.client_world.specs.WatchWorld.{WatchWorld}
 use Rattle.pair_run.proofs.OwnRuns.{Client, few_turns, grown, last_turns, past, turns_add, turns_none}
 
@@ -43,7 +45,8 @@ no_gain {turn = turn} {console = console} {steps = steps} c w n bound k some fir
     let all = reached n (steps (turns_of turn bound w)) k some le in
     let few = few_turns c w bound first in
     let next = next_start k n in
-    let here : turns_of turn (min (k * n) bound) w ≡ turns_of turn bound w = last_turns c w (min (k * n) bound) bound first (omega arith) (omega arith) in
+    let here : turns_of turn (min (k * n) bound) w ≡ turns_of turn bound w =
+    last_turns c w (min (k * n) bound) bound first (omega arith) (omega arith) in
     let there : turns_of turn (min ((k + 1) * n) bound) w ≡ turns_of turn bound w =
     last_turns c w (min ((k + 1) * n) bound) bound first (omega arith) (omega arith) in
     rw (here, there) (drop-length (console (turns_of turn bound w)))
@@ -59,14 +62,16 @@ gained_between : {turn : WatchWorld → WatchWorld} {console : WatchWorld → Li
     console (turns_of turn j w) ≡ console (turns_of turn i w) ++ drop (length (console (turns_of turn i w))) (console (turns_of turn j w))
 gained_between {turn = turn} {console = console} c w i j le =
     let split : i + (j - i) ≡ j = omega arith in
-    let there : turns_of turn j w ≡ turns_of turn (j - i) (turns_of turn i w) = ap (λ k. turns_of turn k w) (sym split) ∙ turns_add turn i (j - i) w in
+    let there : turns_of turn j w ≡ turns_of turn (j - i) (turns_of turn i w) = ap (λ k. turns_of turn k w) (sym split)
+    ∙ turns_add turn i (j - i) w in
     let more = grown c (turns_of turn i w) (j - i) in
     let is : console (turns_of turn j w) ≡ console (turns_of turn i w) ++ more.0 = ap console there ∙ more.1 in
     subst (λ l. l ≡ console (turns_of turn i w) ++ drop (length (console (turns_of turn i w))) l) (sym is)
     (ap (λ l. console (turns_of turn i w) ++ l) (sym (drop-append_seam (console (turns_of turn i w)) more.0)))
 
 -- after a slice the console has what it had before it, and the gain
-pub slice_appends : {turn : WatchWorld → WatchWorld} {console : WatchWorld → List ℕ} {exit : WatchWorld → Option Exit} {steps : WatchWorld → ℕ}
+pub slice_appends : {turn : WatchWorld → WatchWorld} {console : WatchWorld → List ℕ} {exit : WatchWorld → Option Exit}
+    {steps : WatchWorld → ℕ}
     (c : Client turn console exit steps) (w : WatchWorld) (n bound k : ℕ) →
     (own_run turn console steps bound w).console ((k + 1) * n)
     ≡ (own_run turn console steps bound w).console (k * n) ++ gain n (own_run turn console steps bound w) k
@@ -88,7 +93,8 @@ silent_on : (f : ℕ → List SliceLine) (m k : ℕ) → ((i : ℕ) → m ≤ i 
 unfolding lines_up_to
 silent_on f m zero none = rw add-zero refl
 silent_on f m (suc k) none =
-    rw add-suc (ap (λ l. lines_up_to f (m + k) ++ l) (none (m + k) (omega arith)) ∙ append-nil (lines_up_to f (m + k)) ∙ silent_on f m k none)
+    rw add-suc (ap (λ l. lines_up_to f (m + k) ++ l) (none (m + k) (omega arith)) ∙ append-nil (lines_up_to f (m + k))
+    ∙ silent_on f m k none)
 
 -- slices that write nothing change nothing
 pub silent : (f : ℕ → List SliceLine) (m n : ℕ) → m ≤ n → ((i : ℕ) → m ≤ i → f i ≡ []) → lines_up_to f n ≡ lines_up_to f m
@@ -116,7 +122,8 @@ own_kept A k (x ∷ xs) = refl
 own_kept B k (x ∷ xs) = refl
 
 -- a client's lines are not the other one's
-other_left : (client other : Letter) (k : ℕ) (bytes : List ℕ) → is_letter client other ≡ false → filter (is_of client) (line_if_any k other bytes) ≡ []
+other_left : (client other : Letter) (k : ℕ) (bytes : List ℕ) → is_letter client other ≡ false →
+    filter (is_of client) (line_if_any k other bytes) ≡ []
 other_left client other k [] differ = refl
 other_left A A k (x ∷ xs) differ = cc
 other_left A B k (x ∷ xs) differ = refl
@@ -201,7 +208,8 @@ own_bytes {turn = turn} {console = console} {steps = steps} c w n bound client s
 console_closed : (close : WatchWorld → WatchWorld) (console : WatchWorld → List ℕ) (exit : WatchWorld → Option Exit) →
     ((w : WatchWorld) → console (close w) ≡ console w) → (w : WatchWorld) (o : Option Exit) → exit w ≡ o →
     console (closed_by close exit w) ≡ console w
-console_closed close console exit same w None none = ap console (let is : closed_by close exit w ≡ close w = rw (none, closed_by) refl in is) ∙ same w
+console_closed close console exit same w None none =
+    ap console (let is : closed_by close exit w ≡ close w = rw (none, closed_by) refl in is) ∙ same w
 console_closed close console exit same w (Some e) some = ap console (let is : closed_by close exit w ≡ w = rw (some, closed_by) refl in is)
 
 -- the console of a closed world is the one before
@@ -211,7 +219,8 @@ pub run_console : (turn close : WatchWorld → WatchWorld) (console : WatchWorld
 run_console turn close console exit same n w = console_closed close console exit same (turns_of turn n w) (exit (turns_of turn n w)) refl
 
 -- a client that has ended before a slice
-pub silent_slice : {turn : WatchWorld → WatchWorld} {console : WatchWorld → List ℕ} {exit : WatchWorld → Option Exit} {steps : WatchWorld → ℕ}
+pub silent_slice : {turn : WatchWorld → WatchWorld} {console : WatchWorld → List ℕ} {exit : WatchWorld → Option Exit}
+    {steps : WatchWorld → ℕ}
     (c : Client turn console exit steps) (w : WatchWorld) (n bound k m : ℕ) → m ≤ k * n → IsSome (exit (turns_of turn m w)) →
     gain n (own_run turn console steps bound w) k ≡ []
 silent_slice {turn = turn} {console = console} c w n bound k m le ended =

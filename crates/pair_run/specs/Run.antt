@@ -18,7 +18,8 @@ abbrev pub run_of : (WatchWorld → WatchWorld) → (WatchWorld → WatchWorld) 
 run_of turn close exit n w = closed_by close exit (turns_of turn n w)
 
 -- the world of a client that has made no turn
-pub record IsFirst (console : WatchWorld → List ℕ) (exit : WatchWorld → Option Exit) (steps : WatchWorld → ℕ) (w : WatchWorld) : Type 0 where
+pub record IsFirst (console : WatchWorld → List ℕ) (exit : WatchWorld → Option Exit) (steps : WatchWorld → ℕ) (w : WatchWorld)
+    : Type 0 where
   pub no_exit : exit w ≡ None
   pub no_steps : steps w ≡ 0
   pub no_bytes : console w ≡ []

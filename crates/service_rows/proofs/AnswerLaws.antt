@@ -39,11 +39,13 @@ same_low_half x = omega arith
 same_ax : (w : World) → HasOtherAx w w
 same_ax w = (low_half w.regs.eax, ap (λ (eax : ℕ). record w { regs = record w.regs { eax = eax } }) (same_low_half w.regs.eax))
 
-pub refused_answer : (o : Option Refusal) (w after : World) → (service_answer o w after).carry ≡ Set → HasOtherAx w (service_answer o w after).world
+pub refused_answer : (o : Option Refusal) (w after : World) → (service_answer o w after).carry ≡ Set →
+    HasOtherAx w (service_answer o w after).world
 refused_answer None w after e = absurd cc
 refused_answer (Some r) w after e = (refusal_number r, refl)
 
-pub refused_by_family : (o : Option Refusal) (w after : World) → (family_answer o w after).carry ≡ Set → HasOtherAx w (family_answer o w after).world
+pub refused_by_family : (o : Option Refusal) (w after : World) → (family_answer o w after).carry ≡ Set →
+    HasOtherAx w (family_answer o w after).world
 refused_by_family None w after e = absurd cc
 refused_by_family (Some Unsupported) w after e = same_ax w
 refused_by_family (Some r) w after e = (refusal_number r, refl)

@@ -1,5 +1,6 @@
 -- The first index that passes a test.
-use Rattle.std.proofs.Common.{◌≡◌, ◌≢◌, ◌≤◌, ◌<◌, ◌+◌, ◌-◌, ℕ, zero, suc, Bool, true, false, inl, inr, refl, sym, ◌∙◌, ap, arith, None, Some}
+use Rattle.std.proofs.Common.{◌≡◌, ◌≢◌, ◌≤◌, ◌<◌, ◌+◌, ◌-◌, ℕ, zero, suc, Bool, true, false, inl, inr, refl, sym, ◌∙◌, ap, arith, None}
+use Rattle.std.proofs.Common.{Some}
 use Rattle.std.proofs.lemmas.Bool.{cases_eq, cases_Bool}
 use Rattle.service_rows.specs.FirstIndex.{first_index}
 
@@ -42,7 +43,8 @@ is_first test from (suc left) first above below here none = elim (cases_eq from 
       ∙ is_first test (from + 1) left first (omega arith) (omega arith) here (λ b l u. none b (omega arith) u)
 ]
 
-pub is_missing : (test : ℕ → Bool) (from left : ℕ) → ((k : ℕ) → from ≤ k → k < from + left → test k ≡ false) → first_index test from left ≡ None
+pub is_missing : (test : ℕ → Bool) (from left : ℕ) → ((k : ℕ) → from ≤ k → k < from + left → test k ≡ false) →
+    first_index test from left ≡ None
 is_missing test from zero none = none_left test from
 is_missing test from (suc left) none = fails test from left (none from (omega arith) (omega arith))
     ∙ is_missing test (from + 1) left (λ k l u. none k (omega arith) (omega arith))
@@ -66,7 +68,8 @@ first_is test from (suc left) first e = elim (cases_Bool (test from)) [
 ]
 
 -- where none passes, each doesn't
-pub first_none : (test : ℕ → Bool) (from left : ℕ) → first_index test from left ≡ None → (k : ℕ) → from ≤ k → k < from + left → test k ≡ false
+pub first_none : (test : ℕ → Bool) (from left : ℕ) → first_index test from left ≡ None → (k : ℕ) → from ≤ k → k < from + left →
+    test k ≡ false
 first_none test from zero e k l u = absurd (omega arith)
 first_none test from (suc left) e k l u = elim (cases_Bool (test from)) [
   | inl t ↦ absurd (some_none from (sym (passes test from left t) ∙ e))
@@ -88,5 +91,6 @@ index_skipped test (suc left) index next end e within none =
     ∙ index_skipped test left (index + 1) next end (omega arith) within (λ k l u. none k (omega arith) u)
 
 -- and that leaves out all that are left
-pub index_ended : (test : ℕ → Bool) (index end : ℕ) → ((k : ℕ) → index ≤ k → k < end → test k ≡ false) → first_index test index (end - index) ≡ None
+pub index_ended : (test : ℕ → Bool) (index end : ℕ) → ((k : ℕ) → index ≤ k → k < end → test k ≡ false) →
+    first_index test index (end - index) ≡ None
 index_ended test index end none = is_missing test index (end - index) (λ k l u. none k l (omega arith))

@@ -1,7 +1,9 @@
 -- The first free run as a function is the first free run as a relation.
-use Rattle.std.proofs.Common.{◌≡◌, ◌≢◌, ◌≤◌, ◌<◌, ◌+◌, ◌-◌, ◌⊎◌, ◌↔◌, ℕ, zero, suc, true, false, inl, inr, refl, sym, ◌∙◌, ap, arith, List, Option, None, Some, IfSome, IsNone}
+use Rattle.std.proofs.Common.{◌≡◌, ◌≢◌, ◌≤◌, ◌<◌, ◌+◌, ◌-◌, ◌⊎◌, ◌↔◌, ℕ, zero, suc, true, false, inl, inr, refl, sym, ◌∙◌, ap, arith, List}
+use Rattle.std.proofs.Common.{Option, None, Some, IfSome, IsNone}
 use Rattle.std.specs.Option.{is_none}
-use Rattle.std.proofs.lemmas.Bool.{cases_eq, and_parts, and_from, le-leb, leb-true, eq-eqb, ne_eqb, cond-true, cond-false, true≢false, false_from_ne_true}
+use Rattle.std.proofs.lemmas.Bool.{cases_eq, and_parts, and_from, le-leb, leb-true, eq-eqb, ne_eqb, cond-true, cond-false, true≢false}
+use Rattle.std.proofs.lemmas.Bool.{false_from_ne_true}
 use Rattle.client_world.specs.declared.host_frames.TheConstants.{DESCRIPTORS, FIRST_FREE_DESCRIPTOR}
 use Rattle.client_world.specs.FreeRuns.{IsFreeRunOf, IsFirstFreeRunOf}
 use Rattle.client_world.specs.Selector.{Row, row_at_index}
@@ -13,7 +15,8 @@ none_of : (row : Row) → is_none row ≡ true → row ≡ None
 none_of None e = refl
 none_of (Some row) e = cc
 
-free_from : (rows : List Row) (first n : ℕ) → ((k : ℕ) → first ≤ k → k < first + n → row_at_index rows k ≡ None) → are_free rows first n ≡ true
+free_from : (rows : List Row) (first n : ℕ) → ((k : ℕ) → first ≤ k → k < first + n → row_at_index rows k ≡ None) →
+    are_free rows first n ≡ true
 unfolding are_free
 free_from rows first zero free = refl
 free_from rows first (suc n) free =
@@ -36,7 +39,8 @@ run_of_test rows first n e =
     record { within = leb-true (first + n) DESCRIPTORS both.0; free = free_at rows first n both.1 }
 
 test_of_run : (rows : List Row) (first n : ℕ) → IsFreeRunOf rows first n → is_free_run rows first n ≡ true
-test_of_run rows first n run = and_from _ (are_free rows first n) (le-leb (first + n) DESCRIPTORS run.within) (free_from rows first n run.free)
+test_of_run rows first n run =
+    and_from _ (are_free rows first n) (le-leb (first + n) DESCRIPTORS run.within) (free_from rows first n run.free)
 
 no_test : (rows : List Row) (first n : ℕ) → ¬ IsFreeRunOf rows first n → is_free_run rows first n ≡ false
 no_test rows first n none = false_from_ne_true (is_free_run rows first n) (λ e. none (run_of_test rows first n e))
@@ -63,7 +67,8 @@ run_missed rows n none = elim (cases_eq n 0) [
   | inl nothing ↦ at_zero rows n nothing
   | inr ne ↦ elim none [
     | inl nothing ↦ absurd (ne nothing)
-    | inr never ↦ at_some rows n ne ∙ is_missing (λ first. is_free_run rows first n) FIRST_FREE_DESCRIPTOR (DESCRIPTORS - FIRST_FREE_DESCRIPTOR)
+    | inr never ↦ at_some rows n ne
+        ∙ is_missing (λ first. is_free_run rows first n) FIRST_FREE_DESCRIPTOR (DESCRIPTORS - FIRST_FREE_DESCRIPTOR)
         (λ k l u. no_test rows k n (never k l))
   ]
 ]
@@ -75,7 +80,8 @@ is_first_free_run rows n None none some = sym (run_missed rows n (none.0 refl))
 is_first_free_run rows n (Some first) none some = sym (run_found rows n first (λ nothing. true≢false (none.1 (inl nothing))) some)
 
 -- and what it answers is one
-pub free_run_of : (rows : List Row) (n first : ℕ) → first_free_run rows n ≡ Some first → (FIRST_FREE_DESCRIPTOR ≤ first) × IsFreeRunOf rows first n
+pub free_run_of : (rows : List Row) (n first : ℕ) → first_free_run rows n ≡ Some first → (FIRST_FREE_DESCRIPTOR ≤ first)
+    × IsFreeRunOf rows first n
 free_run_of rows n first e = elim (cases_eq n 0) [
   | inl nothing ↦ absurd (none_some first (sym (at_zero rows n nothing) ∙ e))
   | inr ne ↦ (let is = first_is (λ (k : ℕ). is_free_run rows k n) FIRST_FREE_DESCRIPTOR (DESCRIPTORS - FIRST_FREE_DESCRIPTOR) first

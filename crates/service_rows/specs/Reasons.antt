@@ -7,7 +7,10 @@ use Rattle.client_world.specs.Services.{Served}
 use Rattle.client_world.specs.World.{World}
 use Rattle.host_memory.specs.View.{MachineView}
 use Rattle.service_rows.specs.declared.refusal.Refusal.{Refusal}
-use Rattle.service_rows.specs.declared.refusal.Refusal.TheVariants.{Unsupported, DescriptorUnavailable, LinearMemoryUnavailable, PhysicalMemoryUnavailable, CallbackUnavailable, HandleUnavailable, InvalidValue, InvalidSelector, InvalidHandle, InvalidCallback, InvalidAddress}
+use Rattle.service_rows.specs.declared.refusal.Refusal.TheVariants.{Unsupported, DescriptorUnavailable, LinearMemoryUnavailable}
+use Rattle.service_rows.specs.declared.refusal.Refusal.TheVariants.{PhysicalMemoryUnavailable, CallbackUnavailable, HandleUnavailable}
+use Rattle.service_rows.specs.declared.refusal.Refusal.TheVariants.{InvalidValue, InvalidSelector, InvalidHandle, InvalidCallback}
+use Rattle.service_rows.specs.declared.refusal.Refusal.TheVariants.{InvalidAddress}
 use Rattle.service_rows.specs.Rows.{with_ax}
 
 -- the first reason that applies

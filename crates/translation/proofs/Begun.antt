@@ -1,6 +1,6 @@
 -- A call that isn't refused, a reflection that is made: what was asked holds, and the world after it.
-use Rattle.std.proofs.Common.{◌≡◌, ℕ, ◌<◌, ◌≤◌, Bool, true, false, not, [], ◌∷◌, length, refl, Option, None, Some, Ok, Err}
-use Rattle.std.specs.Prelude.{nat_le, nat_lt, if◌then◌else◌}
+use Rattle.std.proofs.Common.{◌≡◌, ℕ, ◌<◌, ◌≤◌, Bool, true, false, not, [], ◌∷◌, length, refl, Option, None, Some, Ok, Err, arith}
+use Rattle.std.specs.Prelude.{nat_le, if◌then◌else◌}
 use Rattle.std.proofs.lemmas.Bool.{leb-false, ltb-false}
 use Rattle.client_world.specs.declared.calls.Call.{Call}
 use Rattle.client_world.specs.declared.limits.TheConstants.{GREATEST_DEPTH, MAX_CALL_WORDS}
@@ -10,10 +10,10 @@ use Rattle.client_world.specs.declared.services.Carry.TheVariants.{Clear, Set}
 use Rattle.client_world.specs.Services.{cx, es_di}
 use Rattle.client_world.specs.World.{World, depth}
 use Rattle.service_rows.specs.declared.refusal.Refusal.{Refusal}
-use Rattle.service_rows.specs.declared.refusal.Refusal.TheVariants.{InvalidAddress, InvalidValue, LinearMemoryUnavailable}
 use Rattle.service_rows.specs.Reasons.{HasOtherAx, first_reason, outcome, service_answer}
 use Rattle.service_rows.proofs.AnswerLaws.{refused_answer}
-use Rattle.translation.specs.SimulatedCall.{after_reflection, are_readable_words, begin_call, call_regs, call_service, call_words, called_world, has_stack, reflect}
+use Rattle.translation.specs.SimulatedCall.{after_reflection, are_readable_words, begin_call, call_regs, call_service, call_words}
+use Rattle.translation.specs.SimulatedCall.{called_world, has_stack, reflect}
 use Rattle.translation.specs.Structure.{has_structure, structure_bytes, structure_flags, structure_regs}
 
 none_refused : (o : Option Refusal) (w u : World) → (service_answer o w u).carry ≡ Clear → o ≡ None
@@ -47,17 +47,7 @@ pub record Runs (w : World) (call : Call) (r : Regs) (image : ℕ) : Type 0 wher
 
 runs_by : (w : World) (call : Call) (r : Regs) (image : ℕ) → first_reason (call_service w call r image).reasons ≡ None → Runs w call r image
 unfolding call_service
-runs_by w call r image e =
-    let stack = has_stack (call_regs w call r (length (call_words w call image))) (length (call_words w call image)) in
-    let none = none_of_five InvalidValue LinearMemoryUnavailable InvalidAddress InvalidAddress InvalidAddress (nat_lt MAX_CALL_WORDS (cx w))
-    (nat_le GREATEST_DEPTH (depth w)) (not (has_structure w (es_di w))) (not (are_readable_words w 0 (cx w))) (not stack) e in
-    record {
-      few = ltb-false MAX_CALL_WORDS (cx w) none.0;
-      room = leb-false GREATEST_DEPTH (depth w) none.1;
-      there = not_not (has_structure w (es_di w)) none.2;
-      readable = not_not (are_readable_words w 0 (cx w)) none.3;
-      stack = not_not stack none.4;
-    }
+runs_by w call r image e = grind (arith, leb-false, ltb-false, none_of_five, not_not)
 
 world_after : (w : World) (call : Call) (r : Regs) (image : ℕ) → (outcome (call_service w call r image) w).carry ≡ Clear →
     (outcome (call_service w call r image) w).world ≡ called_world w call r image (call_words w call image)
@@ -82,17 +72,15 @@ begun_world w call e =
 
 pub refused_world : (w : World) (call : Call) → (begin_call w call).carry ≡ Set → HasOtherAx w (begin_call w call).world
 unfolding begin_call
-refused_world w call e =
-    let s = structure_bytes w (es_di w) in
-    let service = call_service w call (structure_regs s) (structure_flags s) in
-    refused_answer (first_reason service.reasons) w service.after e
+refused_world w call e = grind (arith, refused_answer)
 
 -- a reflection that is made
 pub record IsMade (w u : World) (n : ℕ) : Type 0 where
   pub room : depth w < GREATEST_DEPTH
   pub is : u ≡ after_reflection w n
 
-made_where : (deep : Bool) (w u : World) (n : ℕ) → nat_le GREATEST_DEPTH (depth w) ≡ deep → (if deep then Err exits.Deep else Ok (after_reflection w n)) ≡ Ok u → IsMade w u n
+made_where : (deep : Bool) (w u : World) (n : ℕ) → nat_le GREATEST_DEPTH (depth w) ≡ deep →
+    (if deep then Err exits.Deep else Ok (after_reflection w n)) ≡ Ok u → IsMade w u n
 made_where true w u n is e = absurd cc
 made_where false w u n is e = record { room = leb-false GREATEST_DEPTH (depth w) is; is = cc }
 

@@ -1,19 +1,19 @@
 -- A return that is made: what was asked holds, and the record that it took away.
-use Rattle.std.proofs.Common.{◌≡◌, ℕ, ◌-◌, ◌<◌, Bool, true, false, ◌&&◌, ◌||◌, not, List, [], ◌∷◌, ◌++◌, length, take, refl, ap, ◌∙◌, sym, arith, Option, None, Some, Result, Ok, Err}
+use Rattle.std.proofs.Common.{◌≡◌, ℕ, ◌-◌, ◌<◌, Bool, true, false, ◌&&◌, ◌||◌, not, List, [], ◌∷◌, ◌++◌, length, take, refl, ap, ◌∙◌, sym}
+use Rattle.std.proofs.Common.{arith, Option, None, Some, Result, Ok, Err}
 use Rattle.std.specs.List.{slice_get}
 use Rattle.std.specs.Prelude.{if◌then◌else◌}
 use Rattle.client_world.specs.declared.calls.Call.{Call}
 use Rattle.client_world.specs.declared.calls.Record.{Record}
 use Rattle.client_world.specs.declared.calls.Record.TheVariants.{Sim, Back, Exc}
 use Rattle.client_world.specs.declared.outcome.Exit.{Exit}
-use Rattle.client_world.specs.declared.outcome.Exit.TheVariants as exits
 use Rattle.client_world.specs.declared.registers.Regs.{Regs}
 use Rattle.client_world.specs.declared.segments.FarPtr.{FarPtr}
 use Rattle.client_world.specs.declared.segments.SegReg.TheVariants.{Cs, Ss}
 use Rattle.client_world.specs.Loading.{is_loadable}
 use Rattle.client_world.specs.World.{World, depth}
 use Rattle.mode_stack.specs.Stack.{top}
-use Rattle.translation.specs.SimulatedCall.{after_return, can_go_on, end_call, end_of_record, is_reflection}
+use Rattle.translation.specs.SimulatedCall.{after_return, end_call, end_of_record, is_reflection}
 use Rattle.translation.specs.Structure.{has_structure}
 
 -- the records but for the innermost one
@@ -60,22 +60,7 @@ return_of : (w u : World) (o : Option Record) → top w ≡ o → end_of_record 
 return_of w u None is e = absurd cc
 return_of w u (Some (Back slot at)) is e = absurd cc
 return_of w u (Some (Exc number code)) is e = absurd cc
-return_of w u (Some (Sim call saved on at)) is e =
-    let there = passed (is_reflection call || has_structure w at) exits.LostStructure _ u e in
-    let goes = passed (can_go_on w saved) exits.BadFrame _ u there.1 in
-    let loads = both (is_loadable w Ss saved.ss 0 false) (is_loadable w Cs saved.cs saved.eip true) goes.0 in
-    record {
-      call = call;
-      saved = saved;
-      on = on;
-      at = at;
-      some = some_record w.calls (Sim call saved on at) is;
-      popped = split_last w.calls (Sim call saved on at) is;
-      there = there.0;
-      stack = loads.0;
-      code = loads.1;
-      is = (let same = goes.1 in cc);
-    }
+return_of w u (Some (Sim call saved on at)) is e = grind (arith, both, passed, some_record, split_last)
 
 pub is_return : (w u : World) → end_call w ≡ Ok u → IsReturn w u
 unfolding end_call

@@ -13,8 +13,9 @@ use Rattle.client_world.specs.Services.{cx, es_di}
 use Rattle.client_world.specs.Soundness.{IsSound}
 use Rattle.client_world.specs.World.{World, depth}
 use Rattle.translation.specs.HandOver.{HasBegun, HasReflected, passed_words}
-use Rattle.translation.specs.RealStack.{are_writable_words, host_real_stack, next_word, words_below}
-use Rattle.translation.specs.SimulatedCall.{after_reflection, begin_call, call_regs, call_words, callee_regs, callee_stack, callee_start, callee_world, called_world, client_words, reflect, reflection_regs, reflection_words, return_frame}
+use Rattle.translation.specs.RealStack.{are_writable_words, host_real_stack, words_below}
+use Rattle.translation.specs.SimulatedCall.{after_reflection, begin_call, call_regs, call_words, callee_world, called_world, client_words}
+use Rattle.translation.specs.SimulatedCall.{reflect, reflection_regs, reflection_words, return_frame}
 use Rattle.translation.specs.Structure.{structure_bytes, structure_flags, structure_regs}
 use Rattle.translation.proofs.Begun.{Runs, begun_world, is_made, runs}
 use Rattle.translation.proofs.ReadBytes.{client_word_small, far_are_bytes, word_small}
@@ -43,42 +44,22 @@ client_count w k zero = refl
 client_count w k (suc n) = ap suc (client_count w (k + 1) n)
 
 passed_are_words : (w : World) (call : Call) (s : List ℕ) → IsSound w → structure_flags s < 0x10000 → AreWords (passed_words w call s)
-passed_are_words w call s sound small =
-    join_words (return_frame call (structure_flags s)) (client_words w 0 (cx w)) (frame_are_words call (structure_flags s) small)
-    (client_are_words w 0 (cx w) sound)
+passed_are_words w call s sound small = grind (arith, client_are_words, frame_are_words, join_words)
 
 passed_count : (w : World) (call : Call) (s : List ℕ) → cx w ≤ MAX_CALL_WORDS → length (passed_words w call s) < 0x8000
-passed_count w call s few =
-    omega (
-      arith,
-      length-append (return_frame call (structure_flags s)) (client_words w 0 (cx w)),
-      frame_is_short call (structure_flags s),
-      client_count w 0 (cx w),
-    )
+passed_count w call s few = grind (arith, client_count, frame_is_short, length-append)
 
 -- ---- a call
 
-begun_is : (w : World) (call : Call) (s : List ℕ) → IsSound w → Runs w call (structure_regs s) (structure_flags s) → structure_flags s < 0x10000 →
+begun_is : (w : World) (call : Call) (s : List ℕ) → IsSound w → Runs w call (structure_regs s) (structure_flags s) →
+    structure_flags s < 0x10000 →
     HasBegun w (called_world w call (structure_regs s) (structure_flags s) (call_words w call (structure_flags s))) call s
 unfolding callee_world call_regs call_words
-begun_is w call s sound run small =
-    let megabyte = sound.megabyte in
-    let words = passed_words w call s in
-    let r = callee_regs (structure_regs s) (callee_start w call (structure_regs s)) (callee_stack w (structure_regs s)) (length words) in
-    record {
-      pushed = refl;
-      mode = refl;
-      regs = refl;
-      vif = refl;
-      words = words_back w.dos r.ss r.esp words megabyte.size (passed_count w call s run.few) run.stack (passed_are_words w call s sound small);
-    }
+begun_is w call s sound run small = grind (arith, passed_are_words, passed_count, words_back)
 
 pub has_begun : (w : World) (call : Call) → IsSound w → (begin_call w call).carry ≡ Clear →
     HasBegun w (begin_call w call).world call (structure_bytes w (es_di w))
-has_begun w call sound e =
-    let s = structure_bytes w (es_di w) in
-    subst (λ (v : World). HasBegun w v call s) (sym (begun_world w call e))
-    (begun_is w call s sound (runs w call e) (word_small s 0x20 (far_are_bytes w (es_di w) 0x32 sound)))
+has_begun w call sound e = grind (arith, begun_is, begun_world, far_are_bytes, runs, word_small)
 
 -- ---- a reflection
 
@@ -87,26 +68,10 @@ weight_fits true bit = omega arith
 weight_fits false bit = omega arith
 
 image_small : (f : Flags) (on : Bool) → flags_image f on < 0x10000
-image_small f on =
-    omega (
-      arith,
-      weight_fits f.cf 1,
-      weight_fits f.pf 4,
-      weight_fits f.af 16,
-      weight_fits f.zf 64,
-      weight_fits f.sf 128,
-      weight_fits on 512,
-      weight_fits f.df 1024,
-      weight_fits f.of 2048,
-    )
+image_small f on = grind (arith, weight_fits)
 
 host_fits : (w : World) → depth w < GREATEST_DEPTH → are_writable_words REAL_STACK_SEGMENT (words_below (host_real_stack w).off 3) 3 ≡ true
-host_fits w room =
-    let at = words_below (host_real_stack w).off 3 in
-    let one = low_word at (omega arith) in
-    let two = low_word (next_word at) (omega arith) in
-    let three = low_word (next_word (next_word at)) (omega arith) in
-    rw (one, two, three) refl
+host_fits w room = grind (arith, low_word)
 
 reflected_is : (w : World) (n : ℕ) → IsSound w → depth w < GREATEST_DEPTH → HasReflected w (after_reflection w n) n
 unfolding after_reflection callee_world reflection_regs reflection_words
@@ -118,7 +83,8 @@ reflected_is w n sound room =
       mode = refl;
       regs = refl;
       vif = refl;
-      words = words_back w.dos REAL_STACK_SEGMENT (words_below (host_real_stack w).off 3) (return_frame (Reflect n) image) megabyte.size (omega arith)
+      words = words_back w.dos REAL_STACK_SEGMENT (words_below (host_real_stack w).off 3) (return_frame (Reflect n) image) megabyte.size
+          (omega arith)
           (host_fits w room) (frame_are_words (Reflect n) image (image_small w.regs.flags w.vif));
     }
 

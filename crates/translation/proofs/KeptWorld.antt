@@ -13,7 +13,8 @@ use Rattle.translation.proofs.Begun.{begun_world, is_made, refused_world}
 use Rattle.translation.proofs.Ended.{is_return}
 use Rattle.translation.proofs.SoundReturns.{results_alone}
 
-callee_left : (w : World) (call : Call) (at : FarPtr) (r : Regs) (on : Bool) (words : List ℕ) → LeftForCallee w (callee_world w call at r on words)
+callee_left : (w : World) (call : Call) (at : FarPtr) (r : Regs) (on : Bool) (words : List ℕ) →
+    LeftForCallee w (callee_world w call at r on words)
 unfolding callee_world
 callee_left w call at r on words = refl
 
@@ -34,7 +35,8 @@ reflect_left w u n e = subst (λ (x : World). LeftForCallee w x) (sym (is_made w
 return_left : (w : World) (call : Call) (saved : Regs) (on : Bool) (at : FarPtr) → LeftForClient w (after_return w call saved on at)
 unfolding after_return
 return_left w call saved on at =
-    ap (λ (x : World). record x { mode = Protected; regs = client_regs w call saved; vif = on; calls = take (depth w - 1) w.calls }) (results_alone w call at)
+    ap (λ (x : World). record x { mode = Protected; regs = client_regs w call saved; vif = on; calls = take (depth w - 1) w.calls })
+    (results_alone w call at)
 
 pub end_left : (w u : World) → end_call w ≡ Ok u → LeftForClient w u
 end_left w u e =

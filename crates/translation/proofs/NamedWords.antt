@@ -1,7 +1,7 @@
 -- A selector that can be loaded is a word.
-use Rattle.std.proofs.Common.{◌≡◌, ℕ, ◌<◌, ◌≤◌, inl, inr, Bool, true, false, List, length, arith, Option, None, Some}
+use Rattle.std.proofs.Common.{◌≡◌, ℕ, ◌<◌, ◌≤◌, Bool, true, false, List, length, arith, Option, None, Some}
 use Rattle.std.specs.Prelude.{if◌then◌else◌, is_none}
-use Rattle.std.proofs.lemmas.Bool.{cases_lt, ltb-true}
+use Rattle.std.proofs.lemmas.Bool.{ltb-true}
 use Rattle.std.proofs.lemmas.List.{get_or_past}
 use Rattle.client_world.specs.declared.faults.Fault.{Fault}
 use Rattle.client_world.specs.declared.faults.TheConstants.{GENERAL_PROTECTION}
@@ -28,7 +28,8 @@ no_stack_there false true None sel none e = absurd cc
 no_stack_there false true (Some row) sel none e = absurd cc
 no_stack_there false false row sel none e = absurd cc
 
-null_there : (null local : Bool) (row : Row) (sel : ℕ) → row ≡ None → (if null then None else data_row_fault (if local then row else None) sel) ≡ None → null ≡ true
+null_there : (null local : Bool) (row : Row) (sel : ℕ) → row ≡ None →
+    (if null then None else data_row_fault (if local then row else None) sel) ≡ None → null ≡ true
 null_there true local row sel none e = cc
 null_there false true None sel none e = absurd cc
 null_there false true (Some row) sel none e = absurd cc
@@ -41,17 +42,21 @@ named : (rows : List Row) (seg : SegReg) (sel offset : ℕ) (return : Bool) → 
     load_fault rows seg sel offset return ≡ None → ⊥
 unfolding load_fault
 named rows Es sel offset return size large e =
-    let null = ltb-true sel 4 (null_there (is_null sel) (is_local sel) (row_at_index rows (index_of sel)) sel (past rows sel size large) e) in omega arith
+    let null = ltb-true sel 4
+    (null_there (is_null sel) (is_local sel) (row_at_index rows (index_of sel)) sel (past rows sel size large) e) in omega arith
 named rows Cs sel offset return size large e =
     no_code_there (is_null sel) (is_local sel) (row_at_index rows (index_of sel)) sel offset return (past rows sel size large) e
 named rows Ss sel offset return size large e =
     no_stack_there (is_null sel) (is_local sel) (row_at_index rows (index_of sel)) sel (past rows sel size large) e
 named rows Ds sel offset return size large e =
-    let null = ltb-true sel 4 (null_there (is_null sel) (is_local sel) (row_at_index rows (index_of sel)) sel (past rows sel size large) e) in omega arith
+    let null = ltb-true sel 4
+    (null_there (is_null sel) (is_local sel) (row_at_index rows (index_of sel)) sel (past rows sel size large) e) in omega arith
 named rows Fs sel offset return size large e =
-    let null = ltb-true sel 4 (null_there (is_null sel) (is_local sel) (row_at_index rows (index_of sel)) sel (past rows sel size large) e) in omega arith
+    let null = ltb-true sel 4
+    (null_there (is_null sel) (is_local sel) (row_at_index rows (index_of sel)) sel (past rows sel size large) e) in omega arith
 named rows Gs sel offset return size large e =
-    let null = ltb-true sel 4 (null_there (is_null sel) (is_local sel) (row_at_index rows (index_of sel)) sel (past rows sel size large) e) in omega arith
+    let null = ltb-true sel 4
+    (null_there (is_null sel) (is_local sel) (row_at_index rows (index_of sel)) sel (past rows sel size large) e) in omega arith
 
 none_is : (o : Option Fault) → is_none o ≡ true → o ≡ None
 none_is None e = cc
@@ -59,10 +64,7 @@ none_is (Some f) e = absurd cc
 
 pub loadable_is_word : (w : World) (seg : SegReg) (sel offset : ℕ) (return : Bool) → length w.descriptors ≡ DESCRIPTORS →
     is_loadable w seg sel offset return ≡ true → sel < 0x10000
-loadable_is_word w seg sel offset return size e = elim (cases_lt sel 0x10000) [
-  | inl small ↦ small
-  | inr large ↦ absurd (named w.descriptors seg sel offset return size large (none_is (load_fault w.descriptors seg sel offset return) e))
-]
+loadable_is_word w seg sel offset return size e = grind (arith, named, none_is)
 
 kept_word : (can : Bool) (sel : ℕ) → (can ≡ true → sel < 0x10000) → (if can then sel else 0) < 0x10000
 kept_word true sel small = small cc

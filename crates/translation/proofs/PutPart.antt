@@ -1,5 +1,6 @@
 -- What is read at a run after a part of it was written.
-use Rattle.std.proofs.Common.{◌≡◌, ℕ, ◌+◌, ◌-◌, ◌%◌, ◌<◌, ◌≤◌, ◌^◌, ◌⊎◌, inl, inr, Bool, true, false, List, [], length, get_or, refl, ap, ◌∙◌, sym, arith, slice_index_or, Result}
+use Rattle.std.proofs.Common.{◌≡◌, ℕ, ◌+◌, ◌-◌, ◌%◌, ◌<◌, ◌≤◌, ◌^◌, ◌⊎◌, inl, inr, Bool, true, false, List, [], length, get_or, refl, ap}
+use Rattle.std.proofs.Common.{◌∙◌, sym, arith, slice_index_or, Result}
 use Rattle.std.proofs.lemmas.Bool.{cases_lt}
 use Rattle.std.proofs.lemmas.Grind.{same_number_lists}
 use Rattle.client_world.specs.declared.place.Place.{Place}
@@ -34,7 +35,8 @@ bytes_read : (w : World) (p : FarPtr) (n : ℕ) → far_bytes w p n ≡ bytes_of
 unfolding far_bytes
 bytes_read w p n = refl
 
-world_put : (w : World) (p : FarPtr) (n : ℕ) (bytes : List ℕ) → world_after_far_write w p n bytes ≡ with_bytes_of w (places_of_access (far_access w p n true)) bytes
+world_put : (w : World) (p : FarPtr) (n : ℕ) (bytes : List ℕ) →
+    world_after_far_write w p n bytes ≡ with_bytes_of w (places_of_access (far_access w p n true)) bytes
 unfolding world_after_far_write
 world_put w p n bytes = refl
 
@@ -62,9 +64,7 @@ start w p n run = (run.base + p.off) % 2 ^ 32
 
 read_before : (w : World) (p : FarPtr) (n : ℕ) (run : Reached w p n true) → is_reachable w p n false ≡ true →
     places_of_access (far_access w p n false) ≡ places_from w.blocks (start w p n run) n
-read_before w p n run e =
-    let base = protected_read w.descriptors Es p.sel p.off n run.base run.is in
-    far_places w p n run.base false base (reachable_linear w p n run.base false base e)
+read_before w p n run e = grind (arith, far_places, protected_read, reachable_linear)
 
 -- the byte i of a run, before a write and after it
 byte_before : (w : World) (p : FarPtr) (n i : ℕ) (run : Reached w p n true) → is_reachable w p n false ≡ true → i < n →
@@ -75,8 +75,10 @@ byte_before w p n i run e inside =
     ∙ at_bytes_of w places i (omega (arith, length-places_from w.blocks (start w p n run) n))
     ∙ ap (byte_of w) (places_from-at w.blocks (start w p n run) n i Nothing inside)
 
-byte_after : (w : World) (q : List Place) (bytes : List ℕ) (p : FarPtr) (n i : ℕ) (run : Reached w p n true) → is_reachable w p n false ≡ true → i < n →
-    get_or (far_bytes (with_bytes_of w q bytes) p n) i 0 ≡ byte_of (with_bytes_of w q bytes) (place_in w.blocks (linear (start w p n run + i)))
+byte_after : (w : World) (q : List Place) (bytes : List ℕ) (p : FarPtr) (n i : ℕ) (run : Reached w p n true) →
+    is_reachable w p n false ≡ true → i < n →
+    get_or (far_bytes (with_bytes_of w q bytes) p n) i 0
+    ≡ byte_of (with_bytes_of w q bytes) (place_in w.blocks (linear (start w p n run + i)))
 byte_after w q bytes p n i run e inside =
     let u = with_bytes_of w q bytes in
     let places = places_from w.blocks (start w p n run) n in
@@ -91,11 +93,14 @@ part_places : (w : World) (p : FarPtr) (n k m : ℕ) (run : Reached w p n true) 
     places_of_access (far_access w (further p k) m true) ≡ places_from w.blocks ((run.base + (p.off + k)) % 2 ^ 32) m
 part_places w p n k m run e within =
     let base = protected_part w.descriptors Es p.sel p.off n k m true run.base within run.is in
-    far_places w (further p k) m run.base true base (reachable_linear w (further p k) m run.base true base (parts_reachable w p n k m true e within))
+    far_places w (further p k) m run.base true base
+    (reachable_linear w (further p k) m run.base true base (parts_reachable w p n k m true e within))
 
-apart : (w : World) (p : FarPtr) (n k m i : ℕ) (run : Reached w p n true) → n ≤ PAGE_SIZE → k + m ≤ n → i < n → (k + m ≤ i) ⊎ (i < k) → (j : ℕ) →
+apart : (w : World) (p : FarPtr) (n k m i : ℕ) (run : Reached w p n true) → n ≤ PAGE_SIZE → k + m ≤ n → i < n →
+    (k + m ≤ i) ⊎ (i < k) → (j : ℕ) →
     j < length (places_from w.blocks ((run.base + (p.off + k)) % 2 ^ 32) m) →
-    slice_index_or (places_from w.blocks ((run.base + (p.off + k)) % 2 ^ 32) m) j Nothing ≡ place_in w.blocks (linear (start w p n run + i)) → ⊥
+    slice_index_or (places_from w.blocks ((run.base + (p.off + k)) % 2 ^ 32) m) j Nothing
+    ≡ place_in w.blocks (linear (start w p n run + i)) → ⊥
 apart w p n k m i run few within inside away j less e =
     let lin = start w p n run in
     let part = (run.base + (p.off + k)) % 2 ^ 32 in
@@ -114,7 +119,8 @@ outside w p n k m i bytes open_run within inside away =
     let q = places_from w.blocks ((run.base + (p.off + k)) % 2 ^ 32) m in
     let place = place_in w.blocks (linear (start w p n run + i)) in
     ap (λ (u : World). get_or (far_bytes u p n) i 0)
-    (world_put w (further p k) m bytes ∙ ap (λ (ps : List Place). with_bytes_of w ps bytes) (part_places w p n k m run open_run.write within))
+    (world_put w (further p k) m bytes
+    ∙ ap (λ (ps : List Place). with_bytes_of w ps bytes) (part_places w p n k m run open_run.write within))
     ∙ byte_after w q bytes p n i run open_run.read inside
     ∙ bytes_kept w q bytes place (apart w p n k m i run open_run.few within inside away)
     ∙ sym (byte_before w p n i run open_run.read inside)
@@ -133,13 +139,15 @@ within_part w p n k m j bytes open_run within size less =
     let few = open_run.few in
     let back : far_bytes u (further p k) m ≡ bytes =
     ap (λ (x : World). far_bytes x (further p k) m) (sym (world_far_written (bare w) (further p k) m bytes))
-    ∙ written_is_read (bare w) (further p k) m bytes open_run.sound (omega arith) size (parts_reachable w p n k m true open_run.write within) in
+    ∙ written_is_read (bare w) (further p k) m bytes open_run.sound (omega arith) size
+    (parts_reachable w p n k m true open_run.write within) in
     let part : far_bytes u (further p k) m ≡ region (far_bytes u p n) k m =
     part_is_read u p n k m (reachable_after w (further p k) m bytes p n false ∙ open_run.read) within in
     sym (at_region (far_bytes u p n) k m j less) ∙ ap (λ (xs : List ℕ). get_or xs j 0) (sym part ∙ back)
 
 -- after a part was written, the run is the old one with the part put there
-pub part_put : (w : World) (p : FarPtr) (n k m : ℕ) (bytes : List ℕ) → IsOpen w p n → IsOpen (world_after_far_write w (further p k) m bytes) p n → k + m ≤ n →
+pub part_put : (w : World) (p : FarPtr) (n k m : ℕ) (bytes : List ℕ) → IsOpen w p n →
+    IsOpen (world_after_far_write w (further p k) m bytes) p n → k + m ≤ n →
     length bytes ≡ m → far_bytes (world_after_far_write w (further p k) m bytes) p n ≡ put (far_bytes w p n) k bytes
 part_put w p n k m bytes open_run after within size =
     let u = world_after_far_write w (further p k) m bytes in

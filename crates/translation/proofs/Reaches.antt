@@ -1,5 +1,6 @@
 -- A run that is reachable ends at 100000000h at the latest; and the parts of a structure.
-use Rattle.std.proofs.Common.{◌≡◌, ℕ, ◌+◌, ◌≤◌, ◌^◌, Bool, true, false, ◌&&◌, not, refl, inl, inr, ap, ◌∙◌, sym, arith, List, length, None, Some, Result, Ok, Err}
+use Rattle.std.proofs.Common.{◌≡◌, ℕ, ◌+◌, ◌≤◌, ◌^◌, Bool, true, false, ◌&&◌, not, refl, ap, ◌∙◌, sym, arith, List, length, None, Some}
+use Rattle.std.proofs.Common.{Result, Ok, Err}
 use Rattle.std.specs.Prelude.{IsTrue, nat_lt, nat_le, if◌then◌else◌}
 use Rattle.std.proofs.lemmas.Bool.{cases_Bool}
 use Rattle.std.proofs.lemmas.Bool.Decides.{nat_tests}
@@ -7,10 +8,10 @@ use Rattle.client_world.specs.declared.descriptors.Desc.{Desc}
 use Rattle.client_world.specs.declared.faults.Fault.{Fault}
 use Rattle.client_world.specs.declared.segments.FarPtr.{FarPtr}
 use Rattle.client_world.specs.declared.segments.SegReg.TheVariants.{Es}
-use Rattle.client_world.specs.declared.faults.TheConstants.{SEGMENT_NOT_PRESENT, GENERAL_PROTECTION}
-use Rattle.client_world.specs.Access.{base_in_row, fault_with, is_reachable, stack_or, suits_register}
-use Rattle.client_world.specs.Descriptor.{byte_limit, expands_down, greatest_offset, is_inside, is_writable}
-use Rattle.client_world.specs.Selector.{Row, is_null, row_of_selector, selector_code}
+use Rattle.client_world.specs.declared.faults.TheConstants.{GENERAL_PROTECTION}
+use Rattle.client_world.specs.Access.{base_in_row, fault_with, is_reachable}
+use Rattle.client_world.specs.Descriptor.{is_inside}
+use Rattle.client_world.specs.Selector.{Row, is_null, row_of_selector}
 use Rattle.client_world.specs.World.{World}
 use Rattle.guest_space.proofs.Fars.{parts_reachable, reached}
 use Rattle.guest_space.specs.Far.{further}
@@ -20,7 +21,8 @@ use Rattle.translation.specs.Structure.{has_structure}
 up_ends : (end limit : ℕ) → (nat_le end limit && nat_le end (2 ^ 32)) ≡ true → end ≤ 2 ^ 32
 up_ends end limit e = grind (arith, nat_tests)
 
-down_ends : (offset end limit greatest : ℕ) → greatest ≤ 0xFFFFFFFF → (nat_lt limit offset && nat_le end (greatest + 1)) ≡ true → end ≤ 2 ^ 32
+down_ends : (offset end limit greatest : ℕ) → greatest ≤ 0xFFFFFFFF → (nat_lt limit offset && nat_le end (greatest + 1)) ≡ true →
+    end ≤ 2 ^ 32
 down_ends offset end limit greatest h e = grind (arith, nat_tests)
 
 greatest_fits : (size : Bool) → (if size then 0xFFFFFFFF else 0xFFFF) ≤ 0xFFFFFFFF
@@ -28,10 +30,7 @@ greatest_fits true = omega arith
 greatest_fits false = omega arith
 
 inside_ends : (d : Desc) (offset n : ℕ) → is_inside d offset n ≡ true → offset + n ≤ 2 ^ 32
-inside_ends d offset n e = elim (cases_Bool (expands_down d.kind)) [
-  | inl down ↦ down_ends offset (offset + n) (byte_limit d) (greatest_offset d) (greatest_fits d.size) (rw down at e)
-  | inr up ↦ up_ends (offset + n) (byte_limit d + 1) (rw up at e)
-]
+inside_ends d offset n e = grind (arith, cases_Bool, down_ends, greatest_fits, up_ends)
 
 -- a test that was passed, and what came after it
 passed : (c : Bool) (f : Fault) (r : Result ℕ Fault) (base : ℕ) → (if c then Err f else r) ≡ Ok base → (c ≡ false) × (r ≡ Ok base)
@@ -44,12 +43,7 @@ not_false false e = absurd cc
 
 row_ends : (sel : ℕ) (row : Row) (offset n base : ℕ) (write : Bool) → base_in_row Es sel row offset n write ≡ Ok base → offset + n ≤ 2 ^ 32
 row_ends sel None offset n base write e = absurd cc
-row_ends sel (Some row) offset n base write e =
-    let suits = passed (not (suits_register Es row.0.kind)) (fault_with (stack_or Es GENERAL_PROTECTION) (selector_code sel)) _ base e in
-    let present = passed (not row.0.present) (fault_with (stack_or Es SEGMENT_NOT_PRESENT) (selector_code sel)) _ base suits.1 in
-    let writable = passed (write && not (is_writable row.0.kind)) (fault_with GENERAL_PROTECTION 0) _ base present.1 in
-    let inside = passed (not (is_inside row.0 offset n)) (fault_with (stack_or Es GENERAL_PROTECTION) 0) _ base writable.1 in
-    inside_ends row.0 offset n (not_false (is_inside row.0 offset n) inside.0)
+row_ends sel (Some row) offset n base write e = grind (arith, inside_ends, not_false, passed)
 
 pub run_ends : (w : World) (p : FarPtr) (n : ℕ) (write : Bool) → is_reachable w p n write ≡ true → p.off + n ≤ 2 ^ 32
 run_ends w p n write e =
@@ -72,9 +66,7 @@ pub structure_ends : (w : World) (at : FarPtr) → IsTrue (has_structure w at) �
 structure_ends w at e = run_ends w at STRUCTURE_SIZE true (structure_written w at e)
 
 pub no_further : (at : FarPtr) → further at 0 ≡ at
-no_further at =
-    let same : at.off + 0 ≡ at.off = omega arith in
-    ap (λ (off : ℕ). let p : FarPtr = record { sel = at.sel; off = off } in p) same
+no_further at = grind arith
 
 pub first_reachable : (w : World) (at : FarPtr) (bytes : List ℕ) → IsTrue (has_structure w at) → length bytes ≡ 0x0C →
     IsTrue (is_reachable w at (length bytes) true)

@@ -1,5 +1,6 @@
 -- The structure after a return: the results, and the other bytes as they were.
-use Rattle.std.proofs.Common.{◌≡◌, ℕ, Bool, true, false, ◌||◌, List, [], ◌∷◌, ◌++◌, length, slice_index, refl, ap, ◌∙◌, sym, arith, Option, Result, Ok}
+use Rattle.std.proofs.Common.{◌≡◌, ℕ, Bool, true, false, ◌||◌, List, [], ◌∷◌, ◌++◌, length, slice_index, refl, ap, ◌∙◌, sym, arith, Option}
+use Rattle.std.proofs.Common.{Result, Ok}
 use Rattle.std.specs.Prelude.{if◌then◌else◌}
 use Rattle.client_world.specs.declared.calls.Call.{Call}
 use Rattle.client_world.specs.declared.calls.Record.{Record}
@@ -36,13 +37,15 @@ same_byte w u Nothing dos blocks = refl
 same_bytes : (w u : World) (places : List Place) → u.dos ≡ w.dos → u.blocks ≡ w.blocks → bytes_of u places ≡ bytes_of w places
 same_bytes w u [] dos blocks = refl
 same_bytes w u (p ∷ places) dos blocks =
-    ap (λ (x : ℕ). x ∷ bytes_of u places) (same_byte w u p dos blocks) ∙ ap (λ (xs : List ℕ). byte_of w p ∷ xs) (same_bytes w u places dos blocks)
+    ap (λ (x : ℕ). x ∷ bytes_of u places) (same_byte w u p dos blocks)
+    ∙ ap (λ (xs : List ℕ). byte_of w p ∷ xs) (same_bytes w u places dos blocks)
 
 pub same_far : (w u : World) (p : FarPtr) (n : ℕ) → far_access u p n false ≡ far_access w p n false → u.dos ≡ w.dos → u.blocks ≡ w.blocks →
     far_bytes u p n ≡ far_bytes w p n
 unfolding far_bytes
 same_far w u p n access dos blocks =
-    ap (λ (x : Result (List Place) Fault). bytes_of u (places_of_access x)) access ∙ same_bytes w u (places_of_access (far_access w p n false)) dos blocks
+    ap (λ (x : Result (List Place) Fault). bytes_of u (places_of_access x)) access
+    ∙ same_bytes w u (places_of_access (far_access w p n false)) dos blocks
 
 -- the results are as many bytes as are written
 index_size : (r : Regs) → length (index_results r) ≡ 0x0C
@@ -54,16 +57,13 @@ unfolding other_results
 other_size r vif = refl
 
 open_structure : (w : World) (at : FarPtr) → IsSound w → has_structure w at ≡ true → IsOpen w at STRUCTURE_SIZE
-open_structure w at s there = record { sound = s; few = omega arith; read = structure_read w at there; write = structure_written w at there }
+open_structure w at s there =
+    record { sound = s; few = omega arith; read = structure_read w at there; write = structure_written w at there }
 
-open_after : (w : World) (at q : FarPtr) (m : ℕ) (bytes : List ℕ) → IsOpen w at STRUCTURE_SIZE → IsSound (world_after_far_write w q m bytes) →
+open_after : (w : World) (at q : FarPtr) (m : ℕ) (bytes : List ℕ) → IsOpen w at STRUCTURE_SIZE →
+    IsSound (world_after_far_write w q m bytes) →
     IsOpen (world_after_far_write w q m bytes) at STRUCTURE_SIZE
-open_after w at q m bytes before s = record {
-  sound = s;
-  few = before.few;
-  read = reachable_after w q m bytes at STRUCTURE_SIZE false ∙ before.read;
-  write = reachable_after w q m bytes at STRUCTURE_SIZE true ∙ before.write;
-}
+open_after w at q m bytes before s = grind (arith, reachable_after)
 
 results_back : (w : World) (at : FarPtr) → IsSound w → has_structure w at ≡ true →
     structure_bytes (with_results w at) at ≡ put (put (structure_bytes w at) 0 (index_results w.regs)) 0x10 (other_results w.regs w.vif)
@@ -76,7 +76,8 @@ results_back w at s there =
     let between = open_after w at (further at 0) 0x0C (index_results w.regs) before sound_first in
     let after = open_after first at (further at 0x10) 0x1A (other_results w.regs w.vif) between
     (sound_far_put first (further at 0x10) 0x1A (other_results w.regs w.vif) sound_first (other_bytes w.regs w.vif)) in
-    ap (λ (p : FarPtr). structure_bytes (world_after_far_write (world_after_far_write w p 0x0C (index_results w.regs)) (further at 0x10) 0x1A (other_results w.regs w.vif)) at)
+    ap (λ (p : FarPtr). structure_bytes (world_after_far_write (world_after_far_write w p 0x0C (index_results w.regs)) (further at 0x10)
+    0x1A (other_results w.regs w.vif)) at)
     (sym (no_further at))
     ∙ part_put first at STRUCTURE_SIZE 0x10 0x1A (other_results w.regs w.vif) between after (omega arith) (other_size w.regs w.vif)
     ∙ ap (λ (xs : List ℕ). put xs 0x10 (other_results w.regs w.vif))
@@ -94,7 +95,8 @@ read_on : (w : World) (call : Call) (saved : Regs) (on : Bool) (at p : FarPtr) (
 unfolding after_return far_access
 read_on w call saved on at p n = same_far (after_results w call at) (after_return w call saved on at) p n refl refl refl
 
-ended_is : (w : World) (call : Call) (saved : Regs) (on : Bool) (at : FarPtr) (u : World) → IsSound w → (is_reflection call || has_structure w at) ≡ true →
+ended_is : (w : World) (call : Call) (saved : Regs) (on : Bool) (at : FarPtr) (u : World) → IsSound w →
+    (is_reflection call || has_structure w at) ≡ true →
     w.calls ≡ but_last w.calls ++ Sim call saved on at ∷ [] → u ≡ after_return w call saved on at → HasEnded w u
 unfolding after_return
 ended_is w call saved on at u s there popped is =
@@ -108,7 +110,8 @@ ended_is w call saved on at u s there popped is =
       mode = ap (λ (x : World). x.mode) is;
       regs = ap (λ (x : World). x.regs) is;
       vif = ap (λ (x : World). x.vif) is;
-      results = λ none. ap (λ (x : World). structure_bytes x at) is ∙ read_on w call saved on at at STRUCTURE_SIZE ∙ by_kind (is_reflection call) w at s there none;
+      results = λ none. ap (λ (x : World). structure_bytes x at) is ∙ read_on w call saved on at at STRUCTURE_SIZE
+          ∙ by_kind (is_reflection call) w at s there none;
     }
 
 pub has_ended : (w u : World) → IsSound w → end_call w ≡ Ok u → HasEnded w u

@@ -1,5 +1,5 @@
 -- The client after a return: a write changes no record.
-use Rattle.std.proofs.Common.{◌≡◌, ◌-◌, ◌<◌, ap, ◌∙◌, subst, sym, take, Bool}
+use Rattle.std.proofs.Common.{◌≡◌, ◌-◌, ◌<◌, subst, sym, take, Bool, arith}
 use Rattle.client_world.specs.declared.calls.Call.{Call}
 use Rattle.client_world.specs.declared.registers.Mode.TheVariants.{Protected}
 use Rattle.client_world.specs.declared.registers.Regs.{Regs}
@@ -15,7 +15,4 @@ pub resumed : (w u v : World) (call : Call) (saved r : Regs) (vif : Bool) (at : 
     r ≡ client_regs w call saved → v ≡ record u { mode = Protected; regs = r; vif = vif; calls = take (depth u - 1) u.calls } →
     v ≡ after_return w call saved vif at
 unfolding after_return
-resumed w u v call saved r vif at is same regs e =
-    e ∙ ap (λ (x : World). record u { mode = Protected; regs = r; vif = vif; calls = take (depth x - 1) x.calls }) same
-    ∙ ap (λ (x : World). record x { mode = Protected; regs = r; vif = vif; calls = take (depth w - 1) w.calls }) is
-    ∙ ap (λ (x : Regs). record (after_results w call at) { mode = Protected; regs = x; vif = vif; calls = take (depth w - 1) w.calls }) regs
+resumed w u v call saved r vif at is same regs e = grind arith

@@ -1,5 +1,6 @@
 -- The world in which a callee starts is sound.
-use Rattle.std.proofs.Common.{◌≡◌, ◌≢◌, ℕ, ◌+◌, ◌*◌, ◌/◌, ◌%◌, ◌<◌, ◌≤◌, Bool, true, false, ◌&&◌, List, [], ◌∷◌, ◌++◌, length, slice_set, refl, arith, None}
+use Rattle.std.proofs.Common.{◌≡◌, ◌≢◌, ℕ, ◌+◌, ◌*◌, ◌/◌, ◌%◌, ◌<◌, ◌≤◌, Bool, true, false, ◌&&◌, List, [], ◌∷◌, ◌++◌, length, slice_set}
+use Rattle.std.proofs.Common.{refl, arith, None}
 use Rattle.std.specs.Prelude.{nat_eq, nat_lt, if◌then◌else◌}
 use Rattle.std.proofs.lemmas.Bool.{ltb-true}
 use Rattle.std.proofs.lemmas.List.{length-append}
@@ -35,7 +36,8 @@ sound_word dos segment offset v s =
     sound_byte (with_dos_byte dos (real_address segment offset) (v % 0x100)) (real_address segment (offset + 1)) (v / 0x100 % 0x100)
     (sound_byte dos (real_address segment offset) (v % 0x100) s (omega arith)) (omega arith)
 
-pub sound_words : (dos : List ℕ) (segment offset : ℕ) (vs : List ℕ) → SoundMegabyte dos → SoundMegabyte (with_words_at dos segment offset vs)
+pub sound_words : (dos : List ℕ) (segment offset : ℕ) (vs : List ℕ) → SoundMegabyte dos →
+    SoundMegabyte (with_words_at dos segment offset vs)
 sound_words dos segment offset [] s = s
 sound_words dos segment offset (v ∷ vs) s =
     sound_words (with_word_at dos segment offset v) segment (next_word offset) vs (sound_word dos segment offset v s)
@@ -43,14 +45,7 @@ sound_words dos segment offset (v ∷ vs) s =
 -- segment registers are words
 pub structure_segments : (s : List ℕ) → AreBytes s → HasSegments (structure_regs s)
 unfolding structure_regs
-structure_segments s small = record {
-  es = word_small s 0x22 small;
-  cs = word_small s 0x2C small;
-  ss = word_small s 0x30 small;
-  ds = word_small s 0x24 small;
-  fs = word_small s 0x26 small;
-  gs = word_small s 0x28 small;
-}
+structure_segments s small = grind (arith, word_small)
 
 pub start_is_word : (w : World) (call : Call) (r : Regs) → IsSound w → HasSegments r → (callee_start w call r).sel < 0x10000
 start_is_word w (Int n) r s h = word_small w.dos (4 * n + 2) s.megabyte.bytes

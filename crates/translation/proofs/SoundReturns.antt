@@ -1,26 +1,24 @@
 -- A return leads from a sound world to a sound one.
-use Rattle.std.proofs.Common.{◌≡◌, ◌≢◌, ℕ, suc, ◌-◌, ◌/◌, ◌%◌, ◌<◌, ◌≤◌, ◌^◌, Bool, true, false, List, [], ◌∷◌, ◌++◌, length, take, refl, ap, sym, ◌∙◌, subst, arith, Option, None, Some, Ok}
+use Rattle.std.proofs.Common.{◌≡◌, ◌≢◌, ℕ, suc, ◌<◌, Bool, true, false, List, [], ◌∷◌, ◌++◌, refl, sym, subst, arith, Option, None, Some}
+use Rattle.std.proofs.Common.{Ok}
 use Rattle.std.specs.Prelude.{if◌then◌else◌}
 use Rattle.std.proofs.lemmas.List.{length-take-le}
 use Rattle.client_world.specs.declared.calls.Call.{Call}
-use Rattle.client_world.specs.declared.limits.TheConstants.{GREATEST_DEPTH}
 use Rattle.client_world.specs.declared.registers.Mode.TheVariants.{Protected}
 use Rattle.client_world.specs.declared.registers.Regs.{Regs}
 use Rattle.client_world.specs.declared.registers.Width.{Width}
 use Rattle.client_world.specs.declared.segments.FarPtr.{FarPtr}
-use Rattle.client_world.specs.declared.segments.SegReg.TheVariants.{Es, Cs, Ss, Ds, Fs, Gs}
+use Rattle.client_world.specs.declared.segments.SegReg.TheVariants.{Cs, Ss}
 use Rattle.client_world.specs.Registers.{flags_image}
 use Rattle.client_world.specs.Soundness.{IsSound, HasSegments}
 use Rattle.client_world.specs.World.{World, depth}
-use Rattle.client_world.proofs.SoundWrites.{IsSound-mode, IsSound-regs, IsSound-vif}
+use Rattle.client_world.proofs.SoundWrites.{IsSound-mode}
 use Rattle.guest_ram.specs.Bytes.{AreBytes}
-use Rattle.guest_space.specs.Far.{world_after_far_write, further}
 use Rattle.guest_space.specs.Pending.{number_bytes}
 use Rattle.guest_space.specs.Transfer.{HasOtherMemory}
 use Rattle.guest_space.proofs.FarPuts.{other_far_put, sound_far_put}
 use Rattle.guest_space.proofs.MemoryAlone.{other_then}
 use Rattle.guest_space.proofs.RecordWrites.{has_width}
-use Rattle.guest_space.proofs.SoundLists.{IsSound-calls}
 use Rattle.translation.specs.SimulatedCall.{after_results, after_return, client_regs, end_call, is_reflection, with_place_of}
 use Rattle.translation.specs.Structure.{index_results, other_results, with_results}
 use Rattle.translation.proofs.Ended.{is_return}
@@ -33,18 +31,10 @@ pub record HasBytes (xs : List ℕ) : Type 0 where
   pub each : AreBytes xs
 
 pub word_bytes : (v : ℕ) → HasBytes (number_bytes 16 v)
-word_bytes v = record {
-  each = one_byte (v % 0x10000 % 0x100) (v % 0x10000 / 0x100 ∷ []) (omega arith) (one_byte (v % 0x10000 / 0x100) [] (omega arith) no_bytes);
-}
+word_bytes v = grind (arith, no_bytes, one_byte)
 
 pub dword_bytes : (v : ℕ) → HasBytes (number_bytes 32 v)
-dword_bytes v =
-    let x = v % 2 ^ 32 in
-    record {
-      each = one_byte (x % 0x100) (x / 0x100 % 0x100 ∷ x / 0x10000 % 0x100 ∷ x / 0x1000000 ∷ []) (omega arith)
-          (one_byte (x / 0x100 % 0x100) (x / 0x10000 % 0x100 ∷ x / 0x1000000 ∷ []) (omega arith)
-          (one_byte (x / 0x10000 % 0x100) (x / 0x1000000 ∷ []) (omega arith) (one_byte (x / 0x1000000) [] (omega arith) no_bytes)));
-    }
+dword_bytes v = grind (arith, no_bytes, one_byte)
 
 join_bytes : (xs ys : List ℕ) → AreBytes xs → AreBytes ys → AreBytes (xs ++ ys)
 join_bytes [] ys one other = other
@@ -65,16 +55,11 @@ other_bytes r vif =
 
 sound_results : (w : World) (at : FarPtr) → IsSound w → IsSound (with_results w at)
 unfolding with_results
-sound_results w at s =
-    sound_far_put (world_after_far_write w at 0x0C (index_results w.regs)) (further at 0x10) 0x1A (other_results w.regs w.vif)
-    (sound_far_put w at 0x0C (index_results w.regs) s (index_bytes w.regs)) (other_bytes w.regs w.vif)
+sound_results w at s = grind (arith, index_bytes, other_bytes, sound_far_put)
 
 other_results_alone : (w : World) (at : FarPtr) → HasOtherMemory w (with_results w at)
 unfolding with_results
-other_results_alone w at =
-    let first = world_after_far_write w at 0x0C (index_results w.regs) in
-    other_then w first (world_after_far_write first (further at 0x10) 0x1A (other_results w.regs w.vif)) (other_far_put w at 0x0C (index_results w.regs))
-    (other_far_put first (further at 0x10) 0x1A (other_results w.regs w.vif))
+other_results_alone w at = grind (arith, other_far_put, other_then)
 
 either : (reflection : Bool) (w : World) (at : FarPtr) → IsSound w → IsSound (if reflection then w else with_results w at)
 either true w at s = s
@@ -90,21 +75,16 @@ results_alone w call at = either_alone (is_reflection call) w at
 -- ---- the client's registers
 
 place_segments : (w : World) (saved r : Regs) → IsSound w → saved.ss < 0x10000 → saved.cs < 0x10000 → HasSegments (with_place_of w saved r)
-place_segments w saved r s stack code = record {
-  es = still_word w Es saved.es s.descriptors.indices;
-  cs = code;
-  ss = stack;
-  ds = still_word w Ds saved.ds s.descriptors.indices;
-  fs = still_word w Fs saved.fs s.descriptors.indices;
-  gs = still_word w Gs saved.gs s.descriptors.indices;
-}
+place_segments w saved r s stack code = grind (arith, still_word)
 
 by_kind : (reflection : Bool) (w : World) (saved : Regs) → IsSound w → saved.ss < 0x10000 → saved.cs < 0x10000 →
-    HasSegments (if reflection then with_place_of w saved w.regs else with_place_of w saved (record saved { flags = record saved.flags { cf = false } }))
+    HasSegments (if reflection then with_place_of w saved w.regs
+    else with_place_of w saved (record saved { flags = record saved.flags { cf = false } }))
 by_kind true w saved s stack code = place_segments w saved w.regs s stack code
 by_kind false w saved s stack code = place_segments w saved (record saved { flags = record saved.flags { cf = false } }) s stack code
 
-client_segments : (w : World) (call : Call) (saved : Regs) → IsSound w → saved.ss < 0x10000 → saved.cs < 0x10000 → HasSegments (client_regs w call saved)
+client_segments : (w : World) (call : Call) (saved : Regs) → IsSound w → saved.ss < 0x10000 → saved.cs < 0x10000 →
+    HasSegments (client_regs w call saved)
 client_segments w call saved s stack code = by_kind (is_reflection call) w saved s stack code
 
 -- ---- the world after it
@@ -113,20 +93,11 @@ pub some_width : (width : Option Width) (w : World) → width ≢ None → w.wid
 some_width None w some is s = absurd (some refl)
 some_width (Some width) w some is s = IsSound-mode w Protected width s is
 
-sound_after : (w : World) (call : Call) (saved : Regs) (on : Bool) (at : FarPtr) → IsSound w → 0 < depth w → HasSegments (client_regs w call saved) →
+sound_after : (w : World) (call : Call) (saved : Regs) (on : Bool) (at : FarPtr) → IsSound w → 0 < depth w →
+    HasSegments (client_regs w call saved) →
     IsSound (after_return w call saved on at)
 unfolding after_return
-sound_after w call saved on at s some segments =
-    let x = after_results w call at in
-    let r = client_regs w call saved in
-    let calls = take (depth w - 1) w.calls in
-    let depths = s.depth in
-    let few : length calls ≤ GREATEST_DEPTH = omega (arith, length-take-le (depth w - 1) w.calls (omega arith), depths) in
-    let alone : x.width ≡ w.width = ap (λ (y : World). y.width) (results_alone w call at) in
-    let wide : x.width ≢ None = λ e. has_width w s some (sym alone ∙ e) in
-    some_width x.width (record x { calls = calls; regs = r; vif = on }) wide refl
-    (IsSound-vif (record x { calls = calls; regs = r }) on
-    (IsSound-regs (record x { calls = calls }) r (IsSound-calls x calls (either (is_reflection call) w at s) wide few) segments))
+sound_after w call saved on at s some segments = grind (arith, either, has_width, length-take-le, results_alone, some_width)
 
 pub sound_end : (w u : World) → IsSound w → end_call w ≡ Ok u → IsSound u
 sound_end w u s e =

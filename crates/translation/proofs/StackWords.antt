@@ -1,24 +1,28 @@
 -- Words that were put on a real stack are read there again: different offsets of a segment lie at different bytes of the megabyte.
-use Rattle.std.proofs.Common.{◌≡◌, ◌≢◌, ℕ, ◌+◌, ◌*◌, ◌/◌, ◌%◌, ◌<◌, Bool, true, false, ◌&&◌, not, List, [], ◌∷◌, ◌++◌, length, slice_index, slice_set, refl, ap, ◌∙◌, sym, arith, get_or-set_same, get_or-set_other, length-set}
+use Rattle.std.proofs.Common.{◌≡◌, ◌≢◌, ℕ, ◌+◌, ◌*◌, ◌%◌, ◌<◌, Bool, true, false, ◌&&◌, not, List, [], ◌∷◌, ◌++◌, length, slice_index}
+use Rattle.std.proofs.Common.{slice_set, refl, ap, ◌∙◌, arith, get_or-set_same, get_or-set_other, length-set}
 use Rattle.std.specs.Prelude.{nat_eq, nat_lt, if◌then◌else◌}
 use Rattle.std.proofs.lemmas.Bool.Decides.{nat_tests}
 use Rattle.client_world.specs.declared.limits.TheConstants.{GREATEST_DEPTH}
 use Rattle.client_world.specs.declared.memory_map.TheConstants.{DOS_SIZE, REAL_STACK_SEGMENT, REAL_STACK_SIZE, ROM_START, SEGMENT_SIZE}
 use Rattle.guest_space.specs.Dos.{with_dos_byte}
-use Rattle.translation.specs.RealStack.{are_writable_words, is_writable_word, next_word, real_address, stack_word, stack_words, with_word_at, with_words_at}
+use Rattle.translation.specs.RealStack.{are_writable_words, is_writable_word, next_word, real_address, stack_word, stack_words}
+use Rattle.translation.specs.RealStack.{with_word_at, with_words_at}
 
 pub addresses_apart : (segment a b : ℕ) → a % SEGMENT_SIZE ≢ b % SEGMENT_SIZE → real_address segment a ≢ real_address segment b
 addresses_apart segment a b other = λ e. other (omega (arith, e))
 
 -- a byte of the megabyte
-set_low : (low : Bool) (dos : List ℕ) (at x other : ℕ) → other ≢ at → slice_index (if low then slice_set dos at x else dos) other ≡ slice_index dos other
+set_low : (low : Bool) (dos : List ℕ) (at x other : ℕ) → other ≢ at →
+    slice_index (if low then slice_set dos at x else dos) other ≡ slice_index dos other
 set_low true dos at x other apart = get_or-set_other dos at other x 0 apart
 set_low false dos at x other apart = refl
 
 other_byte : (dos : List ℕ) (at x other : ℕ) → other ≢ at → slice_index (with_dos_byte dos at x) other ≡ slice_index dos other
 other_byte dos at x other apart = set_low (nat_lt at ROM_START) dos at x other apart
 
-same_low : (low : Bool) (dos : List ℕ) (at x : ℕ) → low ≡ true → at < length dos → slice_index (if low then slice_set dos at x else dos) at ≡ x
+same_low : (low : Bool) (dos : List ℕ) (at x : ℕ) → low ≡ true → at < length dos →
+    slice_index (if low then slice_set dos at x else dos) at ≡ x
 same_low true dos at x e inside = get_or-set_same dos at x 0 inside
 same_low false dos at x e inside = absurd cc
 
@@ -31,22 +35,14 @@ set_size false dos at x = refl
 
 word_size : (dos : List ℕ) (segment offset v : ℕ) → length (with_word_at dos segment offset v) ≡ length dos
 unfolding with_word_at
-word_size dos segment offset v =
-    let low = real_address segment offset in
-    let high = real_address segment (offset + 1) in
-    set_size (nat_lt high ROM_START) (with_dos_byte dos low (v % 0x100)) high (v / 0x100 % 0x100)
-    ∙ set_size (nat_lt low ROM_START) dos low (v % 0x100)
+word_size dos segment offset v = grind (arith, set_size)
 
 -- a word that is put elsewhere changes no byte
-word_kept : (dos : List ℕ) (segment offset v k : ℕ) → offset % SEGMENT_SIZE ≢ k % SEGMENT_SIZE → (offset + 1) % SEGMENT_SIZE ≢ k % SEGMENT_SIZE →
+word_kept : (dos : List ℕ) (segment offset v k : ℕ) → offset % SEGMENT_SIZE ≢ k % SEGMENT_SIZE →
+    (offset + 1) % SEGMENT_SIZE ≢ k % SEGMENT_SIZE →
     slice_index (with_word_at dos segment offset v) (real_address segment k) ≡ slice_index dos (real_address segment k)
 unfolding with_word_at
-word_kept dos segment offset v k first second =
-    let at = real_address segment offset in
-    let one : real_address segment k ≢ real_address segment (offset + 1) = addresses_apart segment k (offset + 1) (λ e. second (sym e)) in
-    let other : real_address segment k ≢ at = addresses_apart segment k offset (λ e. first (sym e)) in
-    other_byte (with_dos_byte dos at (v % 0x100)) (real_address segment (offset + 1)) (v / 0x100 % 0x100) (real_address segment k) one
-    ∙ other_byte dos at (v % 0x100) (real_address segment k) other
+word_kept dos segment offset v k first second = grind (arith, addresses_apart, other_byte)
 
 pub words_kept : (dos : List ℕ) (segment offset : ℕ) (vs : List ℕ) (k : ℕ) →
     ((i : ℕ) → i < 2 * length vs → (offset + i) % SEGMENT_SIZE ≢ k % SEGMENT_SIZE) →
@@ -74,9 +70,7 @@ not_last offset e = grind (arith, nat_tests)
 
 can_put : (segment offset : ℕ) → is_writable_word segment offset ≡ true → CanPut segment offset
 unfolding is_writable_word
-can_put segment offset e =
-    let parts = three (not (nat_eq offset 0xFFFF)) (nat_lt (real_address segment offset) ROM_START) (nat_lt (real_address segment (offset + 1)) ROM_START) e in
-    record { inside = not_last offset parts.0; low = parts.1; high = parts.2 }
+can_put segment offset e = grind (arith, not_last, three)
 
 address_inside : (segment offset : ℕ) → real_address segment offset < DOS_SIZE
 address_inside segment offset = omega arith
@@ -85,17 +79,7 @@ address_inside segment offset = omega arith
 word_back : (dos : List ℕ) (segment offset v : ℕ) → length dos ≡ DOS_SIZE → CanPut segment offset → v < 0x10000 →
     stack_word (with_word_at dos segment offset v) segment offset ≡ v
 unfolding with_word_at
-word_back dos segment offset v size can small =
-    let at = real_address segment offset in
-    let next = real_address segment (offset + 1) in
-    let low_dos = with_dos_byte dos at (v % 0x100) in
-    let apart : at ≢ next = addresses_apart segment offset (offset + 1) (λ e. absurd (omega (arith, e))) in
-    let low : slice_index (with_dos_byte low_dos next (v / 0x100 % 0x100)) at ≡ v % 0x100 =
-    other_byte low_dos next (v / 0x100 % 0x100) at apart ∙ same_byte dos at (v % 0x100) can.low (omega (arith, address_inside segment offset, size)) in
-    let long : length low_dos ≡ length dos = set_size (nat_lt at ROM_START) dos at (v % 0x100) in
-    let high : slice_index (with_dos_byte low_dos next (v / 0x100 % 0x100)) next ≡ v / 0x100 % 0x100 =
-    same_byte low_dos next (v / 0x100 % 0x100) can.high (omega (arith, address_inside segment (offset + 1), size, long)) in
-    omega (arith, low, high)
+word_back dos segment offset v size can small = grind (arith, address_inside, addresses_apart, other_byte, same_byte, set_size)
 
 -- the words of a list
 abbrev pub AreWords : List ℕ → Type 0
@@ -127,7 +111,8 @@ words_back dos segment offset (v ∷ vs) size few can small =
     ∙ ap (λ (x : ℕ). slice_index first (real_address segment offset) + 0x100 * x) high
     ∙ word_back dos segment offset v size (can_put segment offset puts.0) small.0 in
     ap (λ (x : ℕ). x ∷ stack_words all segment (next_word offset) (length vs)) here
-    ∙ ap (λ (xs : List ℕ). v ∷ xs) (words_back first segment (next_word offset) vs (word_size dos segment offset v ∙ size) (omega arith) puts.1 small.1)
+    ∙ ap (λ (xs : List ℕ). v ∷ xs)
+    (words_back first segment (next_word offset) vs (word_size dos segment offset v ∙ size) (omega arith) puts.1 small.1)
 
 -- the host's stacks can be written
 pub low_word : (offset : ℕ) → offset < GREATEST_DEPTH * REAL_STACK_SIZE → is_writable_word REAL_STACK_SEGMENT offset ≡ true

@@ -1,8 +1,7 @@
 -- Calls and reflections push one record, and returns pop one, from any world.
-use Rattle.std.proofs.Common.{◌≡◌, ℕ, Bool, List, [], ◌∷◌, ◌++◌, refl, ap, ◌∙◌, sym, Ok}
+use Rattle.std.proofs.Common.{◌≡◌, ℕ, Bool, List, [], ◌∷◌, ◌++◌, refl, ap, ◌∙◌, Ok, arith}
 use Rattle.client_world.specs.declared.calls.Call.{Call}
 use Rattle.client_world.specs.declared.calls.Call.TheVariants.{Reflect}
-use Rattle.client_world.specs.declared.calls.Record.{Record}
 use Rattle.client_world.specs.declared.calls.Record.TheVariants.{Sim}
 use Rattle.client_world.specs.declared.registers.Regs.{Regs}
 use Rattle.client_world.specs.declared.segments.FarPtr.{FarPtr}
@@ -31,7 +30,8 @@ reflection_calls w n = callee_calls w (Reflect n) null_pointer _ _ _
 pub reflect_pushes : (w u : World) (n : ℕ) → reflect w n ≡ Ok u → u.calls ≡ w.calls ++ Sim (Reflect n) w.regs w.vif null_pointer ∷ []
 reflect_pushes w u n e = ap (λ (v : World). v.calls) (is_made w u n e).is ∙ reflection_calls w n
 
-return_calls : (w : World) (call : Call) (saved : Regs) (on : Bool) (at : FarPtr) → (after_return w call saved on at).calls ≡ but_last w.calls
+return_calls : (w : World) (call : Call) (saved : Regs) (on : Bool) (at : FarPtr) →
+    (after_return w call saved on at).calls ≡ but_last w.calls
 unfolding after_return
 return_calls w call saved on at = refl
 
@@ -40,11 +40,4 @@ end_pops w u e =
     let done = is_return w u e in
     let rest : u.calls ≡ but_last w.calls =
     ap (λ (v : World). v.calls) done.is ∙ return_calls w done.call done.saved done.on done.at in
-    record {
-      call = done.call;
-      saved = done.saved;
-      on = done.on;
-      at = done.at;
-      popped = done.popped ∙ ap (λ (xs : List Record). xs ++ Sim done.call done.saved done.on done.at ∷ []) (sym rest);
-      is = done.is;
-    }
+    grind arith

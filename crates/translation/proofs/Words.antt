@@ -1,5 +1,6 @@
 -- One word more of a stack.
-use Rattle.std.proofs.Common.{◌≡◌, ℕ, zero, suc, ◌+◌, ◌-◌, ◌<◌, ◌≤◌, Bool, true, ◌&&◌, List, [], ◌∷◌, ◌++◌, length, ap, sym, ◌∙◌, arith, drop, get_or, append_assoc, drop-cons, add-one}
+use Rattle.std.proofs.Common.{◌≡◌, ℕ, zero, suc, ◌+◌, ◌-◌, ◌<◌, ◌≤◌, Bool, true, ◌&&◌, List, [], ◌∷◌, ◌++◌, length, ap, ◌∙◌, arith, drop}
+use Rattle.std.proofs.Common.{get_or, append_assoc, drop-cons, add-one}
 use Rattle.std.specs.Prelude.{is_ok}
 use Rattle.std.specs.Int.{w16, from_le_bytes}
 use Rattle.client_world.specs.World.{World}
@@ -11,17 +12,17 @@ one_less : (k n : ℕ) → k < n → n - k ≡ suc (n - (k + 1))
 one_less k n h = omega arith
 
 pub writable_step : (segment offset k n : ℕ) → k < n →
-    are_writable_words segment offset (n - k) ≡ (is_writable_word segment offset && are_writable_words segment (next_word offset) (n - (k + 1)))
+    are_writable_words segment offset (n - k)
+    ≡ (is_writable_word segment offset && are_writable_words segment (next_word offset) (n - (k + 1)))
 writable_step segment offset k n h = ap (are_writable_words segment offset) (one_less k n h)
 
 pub writable_end : (segment offset k n : ℕ) → n ≤ k → are_writable_words segment offset (n - k) ≡ true
 writable_end segment offset k n h = let e : n - k ≡ zero = omega arith in ap (are_writable_words segment offset) e
 
 pub put_step : (dos : List ℕ) (segment offset i : ℕ) (xs : List ℕ) → i < length xs →
-    with_words_at dos segment offset (drop i xs) ≡ with_words_at (with_word_at dos segment offset (get_or xs i 0)) segment (next_word offset) (drop (i + 1) xs)
-put_step dos segment offset i xs h =
-    let cut : drop i xs ≡ get_or xs i 0 ∷ drop (i + 1) xs = rw add-one (drop-cons xs i 0 h) in
-    ap (with_words_at dos segment offset) cut
+    with_words_at dos segment offset (drop i xs)
+    ≡ with_words_at (with_word_at dos segment offset (get_or xs i 0)) segment (next_word offset) (drop (i + 1) xs)
+put_step dos segment offset i xs h = grind (arith, add-one, drop-cons)
 
 pub readable_step : (w : World) (k n : ℕ) → k < n →
     are_readable_words w k (n - k) ≡ (is_ok (client_word w k) && are_readable_words w (k + 1) (n - (k + 1)))
@@ -48,9 +49,7 @@ pub readable_more : (w : World) (k n : ℕ) (all : Bool) → k < n → is_ok (cl
     all ≡ are_readable_words w (k + 1) (n - (k + 1))
 readable_more w k n all h ok e = e ∙ readable_step w k n h ∙ ap (λ (b : Bool). b && are_readable_words w (k + 1) (n - (k + 1))) ok
 
-pub words_more : (w : World) (k n word : ℕ) (before after all : List ℕ) → k < n → word_read (client_word w k) ≡ word → after ≡ before ++ word ∷ [] →
+pub words_more : (w : World) (k n word : ℕ) (before after all : List ℕ) → k < n → word_read (client_word w k) ≡ word →
+    after ≡ before ++ word ∷ [] →
     before ++ client_words w k (n - k) ≡ all → after ++ client_words w (k + 1) (n - (k + 1)) ≡ all
-words_more w k n word before after all h is pushed e =
-    let rest = client_words w (k + 1) (n - (k + 1)) in
-    ap (λ (xs : List ℕ). xs ++ rest) pushed ∙ append_assoc before (word ∷ []) rest
-    ∙ ap (λ (x : ℕ). before ++ x ∷ rest) (sym is) ∙ ap (λ (xs : List ℕ). before ++ xs) (sym (words_step w k n h)) ∙ e
+words_more w k n word before after all h is pushed e = grind (arith, append_assoc, words_step)

@@ -12,7 +12,8 @@ use Rattle.client_world.specs.Services.{cx, es_di}
 use Rattle.client_world.specs.World.{World}
 use Rattle.guest_ram.specs.Bytes.{put}
 use Rattle.translation.specs.RealStack.{host_real_stack, stack_words}
-use Rattle.translation.specs.SimulatedCall.{after_return, callee_interrupts, callee_regs, callee_stack, callee_start, client_regs, client_words, is_reflection, return_frame}
+use Rattle.translation.specs.SimulatedCall.{after_return, callee_interrupts, callee_regs, callee_stack, callee_start, client_regs}
+use Rattle.translation.specs.SimulatedCall.{client_words, is_reflection, return_frame}
 use Rattle.translation.specs.Structure.{index_results, other_results, structure_bytes, structure_flags, structure_regs}
 
 -- the words on a callee's stack, from its stack pointer up
@@ -23,26 +24,28 @@ callee_words v n = stack_words v.dos v.regs.ss v.regs.esp n
 abbrev pub passed_words : World → Call → List ℕ → List ℕ
 passed_words w call s = return_frame call (structure_flags s) ++ client_words w 0 (cx w)
 
--- from w the client's call led to v, by the bytes s of its structure: one record is pushed; the callee has the registers of the structure, but
--- for where it starts and for its stack pointer; the return frame and the client's words lie on its stack in their order
+-- from w the client's call led to v, by the bytes s of its structure: one record is pushed; the callee has the registers of the structure,
+-- but for where it starts and for its stack pointer; the return frame and the client's words lie on its stack in their order
 pub record HasBegun (w v : World) (call : Call) (s : List ℕ) : Type 0 where
   pub pushed : v.calls ≡ w.calls ++ Sim call w.regs w.vif (es_di w) ∷ []
   pub mode : v.mode ≡ Real
-  pub regs : v.regs ≡ callee_regs (structure_regs s) (callee_start w call (structure_regs s)) (callee_stack w (structure_regs s)) (length (passed_words w call s))
+  pub regs : v.regs ≡ callee_regs (structure_regs s) (callee_start w call (structure_regs s)) (callee_stack w (structure_regs s))
+      (length (passed_words w call s))
   pub vif : v.vif ≡ callee_interrupts call (structure_flags s)
   pub words : callee_words v (length (passed_words w call s)) ≡ passed_words w call s
 
--- from w a reflection led to v: one record is pushed; the handler has the client's flags and general registers, and no data segments; the frame
--- of an interrupt lies on its stack
+-- from w a reflection led to v: one record is pushed; the handler has the client's flags and general registers, and no data segments; the
+-- frame of an interrupt lies on its stack
 pub record HasReflected (w v : World) (n : ℕ) : Type 0 where
   pub pushed : v.calls ≡ w.calls ++ Sim (Reflect n) w.regs w.vif null_pointer ∷ []
   pub mode : v.mode ≡ Real
-  pub regs : v.regs ≡ callee_regs (record w.regs { ds = 0; es = 0; fs = 0; gs = 0 }) (callee_start w (Reflect n) w.regs) (host_real_stack w) 3
+  pub regs : v.regs ≡ callee_regs (record w.regs { ds = 0; es = 0; fs = 0; gs = 0 }) (callee_start w (Reflect n) w.regs)
+      (host_real_stack w) 3
   pub vif : v.vif ≡ false
   pub words : callee_words v 3 ≡ return_frame (Reflect n) (flags_image w.regs.flags w.vif)
 
--- from w a return led to v: one record is popped; the client goes on with its registers; bytes 00h to 0Bh and 10h to 29h of a call's structure are
--- the callee's registers, and the others are as they were
+-- from w a return led to v: one record is popped; the client goes on with its registers; bytes 00h to 0Bh and 10h to 29h of a call's
+-- structure are the callee's registers, and the others are as they were
 pub record HasEnded (w v : World) : Type 0 where
   pub call : Call
   pub saved : Regs

@@ -1,5 +1,5 @@
--- The stack of a real-mode procedure that the host calls: where its words lie in the megabyte, and which can be written. Offsets wrap in their
--- segment, as single pushes would. Source: 80386 Programmer's Reference Manual, ch. 15; where the host's stacks lie is own.
+-- The stack of a real-mode procedure that the host calls: where its words lie in the megabyte, and which can be written. Offsets wrap in
+-- their segment, as single pushes would. Source: 80386 Programmer's Reference Manual, ch. 15; where the host's stacks lie is own.
 use Rattle.std.specs.Prelude.{ℕ, zero, suc, ◌+◌, ◌-◌, ◌*◌, ◌/◌, ◌%◌, Bool, true, ◌&&◌, not, nat_eq, nat_lt, slice_index, List, [], ◌∷◌}
 use Rattle.client_world.specs.declared.memory_map.TheConstants.{REAL_STACK_SEGMENT, REAL_STACK_SIZE, ROM_START, SEGMENT_SIZE}
 use Rattle.client_world.specs.declared.segments.FarPtr.{FarPtr}

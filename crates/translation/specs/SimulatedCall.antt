@@ -1,6 +1,7 @@
 -- Calls of real-mode procedures from protected mode: those that a client asks for, interrupts that are reflected, and the return from both.
 -- Source: DPMI 0.9, INT 31h functions 0300h to 0302h, and "Interrupts"; the host's stacks, the depth and the exits are own.
-use Rattle.std.specs.Prelude.{ℕ, zero, suc, ◌+◌, ◌-◌, ◌*◌, Bool, true, false, ◌&&◌, ◌||◌, not, nat_eq, nat_le, nat_lt, is_ok, List, [], ◌∷◌, ◌++◌, length, take, None, Some, Ok, Err, if◌then◌else◌}
+use Rattle.std.specs.Prelude.{ℕ, zero, suc, ◌+◌, ◌-◌, ◌*◌, Bool, true, false, ◌&&◌, ◌||◌, not, nat_eq, nat_le, nat_lt, is_ok, List, [], ◌∷◌}
+use Rattle.std.specs.Prelude.{◌++◌, length, take, None, Some, Ok, Err, if◌then◌else◌}
 use Rattle.std.specs.declared.option.Option.{Option}
 use Rattle.std.specs.declared.result.Result.{Result}
 use Rattle.client_world.specs.declared.calls.Call.{Call}
@@ -67,7 +68,8 @@ client_words w k (suc n) = word_read (client_word w k) ∷ client_words w (k + 1
 
 -- ---- the start of a callee
 
--- where it starts, by the registers of the structure: the procedure at CS:IP, or the handler of an interrupt, read before anything is written
+-- where it starts, by the registers of the structure: the procedure at CS:IP, or the handler of an interrupt, read before anything is
+-- written
 abbrev pub callee_start : World → Call → Regs → FarPtr
 callee_start w (Int n) r = real_vector w n
 callee_start w Far r = record { sel = r.cs; off = r.eip }
@@ -148,8 +150,8 @@ abbrev pub carry_of : Begun → Carry
 carry_of Run = Clear
 carry_of Refused = Set
 
--- functions 0300h (interrupt), 0301h (procedure with a far return) and 0302h (procedure with IRET), whose structure is at ES:(E)DI: the carry,
--- and the world after them
+-- functions 0300h (interrupt), 0301h (procedure with a far return) and 0302h (procedure with IRET), whose structure is at ES:(E)DI: the
+-- carry, and the world after them
 unfoldable pub begin_call : World → Call → Served
 begin_call w call =
     let s = structure_bytes w (es_di w) in
@@ -172,8 +174,8 @@ unfoldable pub after_reflection : World → ℕ → World
 after_reflection w n =
     callee_world w (Reflect n) null_pointer (reflection_regs w n) (callee_interrupts (Reflect n) 0) (reflection_words w n)
 
--- an interrupt of protected mode that no handler of the client takes, over the present registers: the world in which the handler of real mode
--- starts, or the exit where calls are nested too deeply
+-- an interrupt of protected mode that no handler of the client takes, over the present registers: the world in which the handler of real
+-- mode starts, or the exit where calls are nested too deeply
 unfoldable pub reflect : World → ℕ → Result World Exit
 reflect w n = if nat_le GREATEST_DEPTH (depth w) then Err exits.Deep else Ok (after_reflection w n)
 
@@ -196,8 +198,8 @@ with_place_of w saved r = record r {
   gs = still_loadable w Gs saved.gs;
 }
 
--- the client's registers after a return: after a reflection with the general registers and the flags that the handler left, after a call its
--- own with carry clear
+-- the client's registers after a return: after a reflection with the general registers and the flags that the handler left, after a call
+-- its own with carry clear
 abbrev pub client_regs : World → Call → Regs → Regs
 client_regs w call saved =
     if is_reflection call then with_place_of w saved w.regs
@@ -230,7 +232,7 @@ end_of_record w (Some (Sim call saved vif at)) =
     if not (can_go_on w saved) then Err exits.BadFrame else
     Ok (after_return w call saved vif at)
 
--- the return from the innermost record, or the exit: first that it is no call's, then that its structure can't be reached any more, then that
--- the client's code or stack can't be loaded any more
+-- the return from the innermost record, or the exit: first that it is no call's, then that its structure can't be reached any more, then
+-- that the client's code or stack can't be loaded any more
 unfoldable pub end_call : World → Result World Exit
 end_call w = end_of_record w (top w)

@@ -1,6 +1,6 @@
--- The call structure: 32h bytes with the registers of a real-mode procedure, before a call those that it starts with, and after it those that it
--- left. EDI is at 00h, ESI 04h, EBP 08h, EBX 10h, EDX 14h, ECX 18h, EAX 1Ch, the flags 20h, ES 22h, DS 24h, FS 26h, GS 28h, IP 2Ah, CS 2Ch,
--- SP 2Eh and SS 30h. Source: DPMI 0.9, INT 31h function 0300h.
+-- The call structure: 32h bytes with the registers of a real-mode procedure, before a call those that it starts with, and after it those
+-- that it left. EDI is at 00h, ESI 04h, EBP 08h, EBX 10h, EDX 14h, ECX 18h, EAX 1Ch, the flags 20h, ES 22h, DS 24h, FS 26h, GS 28h, IP 2Ah,
+-- CS 2Ch, SP 2Eh and SS 30h. Source: DPMI 0.9, INT 31h function 0300h.
 use Rattle.std.specs.Prelude.{ℕ, Bool, true, false, ◌&&◌, List, ◌++◌}
 use Rattle.client_world.specs.declared.registers.Regs.{Regs}
 use Rattle.client_world.specs.declared.segments.FarPtr.{FarPtr}
@@ -49,7 +49,8 @@ structure_regs s = record {
 unfoldable pub index_results : Regs → List ℕ
 index_results r = number_bytes 32 r.edi ++ number_bytes 32 r.esi ++ number_bytes 32 r.ebp
 
--- and at 10h EBX, EDX, ECX, EAX, the flags with the virtual interrupt flag, ES, DS, FS and GS. The doubleword at 0Ch, IP, CS, SP and SS stay
+-- and at 10h EBX, EDX, ECX, EAX, the flags with the virtual interrupt flag, ES, DS, FS and GS. The doubleword at 0Ch, IP, CS, SP and SS
+-- stay
 unfoldable pub other_results : Regs → Bool → List ℕ
 other_results r vif =
     number_bytes 32 r.ebx ++ number_bytes 32 r.edx ++ number_bytes 32 r.ecx ++ number_bytes 32 r.eax

@@ -188,9 +188,9 @@ fn call_by(m: &mut Machine, call: Call) -> Result<(), Refusal>
     Ok(())
 }
 
-/// Begins a call of a real-mode procedure or interrupt that a client asks for; the client goes on where it ends. It is refused where CX is above
-/// 200, or at the greatest depth, or where the structure at ES:(E)DI can't be read and written, one of CX words at SS:(E)SP can't be read, or a
-/// word of the real-mode stack can't be written. Then AX holds the number of the first of these, and nothing else changes.
+/// Begins a call of a real-mode procedure or interrupt that a client asks for; the client goes on where it ends. It is refused where CX is
+/// above 200, or at the greatest depth, or where the structure at ES:(E)DI can't be read and written, one of CX words at SS:(E)SP can't be
+/// read, or a word of the real-mode stack can't be written. Then AX holds the number of the first of these, and nothing else changes.
 /// Source: DPMI 0.9, INT 31h functions 0300h to 0302h; the order of the refusals and their numbers are own.
 #[tactic(auto, unfolding(crate::specs::SimulatedCall::begin_call))]
 pub fn begin(m: &mut Machine, call: Call) -> Begun

@@ -34,7 +34,8 @@ fn client_word(m: &Machine, k: u16) -> Result<u16, Refusal>
 }
 
 /// Adds the client's first n words; each must be one that can be read.
-#[tactic(auto, using(crate::proofs::Words::readable_step, crate::proofs::Words::readable_end, crate::proofs::Words::words_step, crate::proofs::Words::words_end))]
+#[tactic(auto, using(crate::proofs::Words::readable_step, crate::proofs::Words::readable_end, crate::proofs::Words::words_step, //
+crate::proofs::Words::words_end))]
 pub(crate) fn add_client_words(
     m: &Machine,
     words: &mut ArrayVec<u16, MOST_WORDS>,

@@ -25,8 +25,8 @@ pub fn every_call_is_sound()
     ensures end { (w u : World) → IsSound w → end_call w ≡ Ok u → IsSound u }
 {}
 
-/// A call and a reflection change the mode, the registers, the virtual interrupt flag, the megabyte and the records alone, and a call that is
-/// refused AX alone; a return changes the bytes of memory blocks besides.
+/// A call and a reflection change the mode, the registers, the virtual interrupt flag, the megabyte and the records alone, and a call that
+/// is refused AX alone; a return changes the bytes of memory blocks besides.
 pub fn every_call_keeps_the_rest()
     ensures begin { (w : World) (call : Call) → LeftForCallee w (begin_call w call).world }
     ensures refused { (w : World) (call : Call) → (begin_call w call).carry ≡ set → HasOtherAx w (begin_call w call).world }

@@ -3,7 +3,8 @@ ghost use Rattle.std.specs.Prelude.{◌≡◌, ◌<◌, ◌≤◌, true, false, 
 ghost use Rattle.client_world.specs.declared.limits.TheConstants.{GREATEST_DEPTH};
 ghost use Rattle.client_world.specs.declared.memory_map.TheConstants.{DOS_SIZE, SEGMENT_SIZE};
 ghost use Rattle.client_world.specs.World.{depth};
-ghost use Rattle.translation.specs.RealStack.{are_writable_words, host_real_stack, is_writable_word, next_word, real_address, with_word_at, with_words_at, words_below};
+ghost use Rattle.translation.specs.RealStack.{are_writable_words, host_real_stack, is_writable_word, next_word, real_address, with_word_at};
+ghost use Rattle.translation.specs.RealStack.{with_words_at, words_below};
 
 use client_world::FarPtr;
 use client_world::memory_map::{

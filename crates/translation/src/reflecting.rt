@@ -44,8 +44,8 @@ fn enter_handler(m: &mut Machine, n: u8)
     enter(m, call, FarPtr::NULL, r, false, &words);
 }
 
-/// Reflects an interrupt of protected mode to the handler of real mode, over the present registers: the flags and the general registers but ESP
-/// are passed, on a stack of the host. `Deep` at the greatest depth, which leaves the machine as it was.
+/// Reflects an interrupt of protected mode to the handler of real mode, over the present registers: the flags and the general registers but
+/// ESP are passed, on a stack of the host. `Deep` at the greatest depth, which leaves the machine as it was.
 /// Source: DPMI 0.9, "Interrupts"; the exit is own.
 #[tactic(auto, unfolding(crate::specs::SimulatedCall::reflect))]
 pub fn reflect(m: &mut Machine, n: u8) -> Result<(), Exit>

@@ -3,7 +3,8 @@ ghost use Rattle.std.specs.Prelude.{◌≡◌, ◌≢◌, ◌<◌, ◌-◌, ◌|
 ghost use Rattle.client_world.specs.declared.registers.Mode.TheVariants.{Protected as protected};
 ghost use Rattle.client_world.specs.World.{depth};
 ghost use Rattle.guest_space.specs.Transfer.{HasOtherMemory};
-ghost use Rattle.translation.specs.SimulatedCall.{after_results, after_return, can_go_on, client_regs, end_call, is_reflection, still_loadable, with_place_of};
+ghost use Rattle.translation.specs.SimulatedCall.{after_results, after_return, can_go_on, client_regs, end_call, is_reflection};
+ghost use Rattle.translation.specs.SimulatedCall.{still_loadable, with_place_of};
 ghost use Rattle.translation.specs.Structure.{has_structure};
 
 use crate::structure::{has_structure, write_results};
@@ -108,7 +109,8 @@ fn go_on(m: &mut Machine, r: Regs, vif: bool)
 }
 
 // Gives the results of a call, and goes on with the client of the innermost record.
-#[tactic(auto, unfolding(crate::specs::SimulatedCall::after_return), using(crate::proofs::Resumed::same_depth, crate::proofs::Resumed::resumed))]
+#[tactic(auto, unfolding(crate::specs::SimulatedCall::after_return), using(crate::proofs::Resumed::same_depth, //
+crate::proofs::Resumed::resumed))]
 fn resume(m: &mut Machine, call: Call, saved: &Regs, vif: bool, at: FarPtr)
     requires structure { IsTrue (is_reflection call || has_structure m.old.world at) }
     requires depth { 0 < depth m.old.world }
@@ -119,9 +121,9 @@ fn resume(m: &mut Machine, call: Call, saved: &Regs, vif: bool, at: FarPtr)
     go_on(m, r, vif);
 }
 
-/// Ends the innermost simulated call or reflection, at the trap to which its procedure returns, and goes on with the client. `Stray` where the
-/// innermost record is of no such call, else `LostStructure` where its structure can't be read and written any more, else `BadFrame` where the
-/// client's SS or CS can't be loaded any more; an exit leaves the machine as it was.
+/// Ends the innermost simulated call or reflection, at the trap to which its procedure returns, and goes on with the client. `Stray` where
+/// the innermost record is of no such call, else `LostStructure` where its structure can't be read and written any more, else `BadFrame`
+/// where the client's SS or CS can't be loaded any more; an exit leaves the machine as it was.
 /// Source: DPMI 0.9, INT 31h functions 0300h to 0302h; the exits are own.
 #[tactic(auto, unfolding(crate::specs::SimulatedCall::end_call))]
 pub fn end(m: &mut Machine) -> Result<(), Exit>

@@ -3,7 +3,8 @@ ghost use Rattle.std.specs.Prelude.{◌≡◌, ◌+◌, ◌≤◌, IsTrue, false
 ghost use Rattle.client_world.specs.Access.{is_reachable};
 ghost use Rattle.guest_space.specs.Transfer.{HasOtherMemory};
 ghost use Rattle.translation.specs.declared.structure.TheConstants.{STRUCTURE_SIZE};
-ghost use Rattle.translation.specs.Structure.{has_structure, index_results, other_results, structure_bytes, structure_flags, structure_regs, with_results};
+ghost use Rattle.translation.specs.Structure.{has_structure, index_results, other_results, structure_bytes, structure_flags};
+ghost use Rattle.translation.specs.Structure.{structure_regs, with_results};
 
 use client_world::{FarPtr, Flags, Regs};
 use guest_ram::{doubleword, word};
@@ -112,7 +113,8 @@ fn second_part(at: FarPtr, m: &Machine) -> FarPtr
 }
 
 /// Writes the results of a call into the structure at a pointer.
-#[tactic(auto, unfolding(crate::specs::Structure::with_results, guest_space::specs::Far::world_after_far_write, guest_space::specs::Far::after_far_write, guest_space::specs::Transfer::with_places))]
+#[tactic(auto, unfolding(crate::specs::Structure::with_results, guest_space::specs::Far::world_after_far_write, //
+guest_space::specs::Far::after_far_write, guest_space::specs::Transfer::with_places))]
 pub(crate) fn write_results(m: &mut Machine, at: FarPtr)
     requires { IsTrue (has_structure m.old.world at) }
     ensures results { m.new.world ≡ with_results m.old.world at }

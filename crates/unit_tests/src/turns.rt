@@ -2,7 +2,8 @@
 ghost use Rattle.std.specs.Prelude.{◌≡◌, ◌≤◌, ◌<◌, ◌+◌, ◌-◌, [], None, length, drop};
 ghost use Rattle.client_world.specs.declared.limits.TheConstants.{MAX_STEPS};
 ghost use Rattle.pair_run.specs.Run.{turns_of};
-ghost use Rattle.unit_tests.specs.Scripted.{scripted_close, scripted_counts, scripted_extends, scripted_stays, scripted_turn, scripted_world};
+ghost use Rattle.unit_tests.specs.Scripted.{scripted_close, scripted_counts, scripted_extends, scripted_stays, scripted_turn};
+ghost use Rattle.unit_tests.specs.Scripted.{scripted_world};
 
 use crate::compare::same;
 use arrayvec::ArrayVec;
@@ -39,7 +40,8 @@ impl<'a> Scripted<'a> {
         requires { self.old.exit ≡ None → self.old.steps < MAX_STEPS }
         ensures few { self.new.steps ≤ self.old.steps + 1 }
         ensures was_on { self.new.exit ≡ None → self.old.exit ≡ None }
-        ensures world { (scripted_world self.new.script.now self.new.console.items self.new.steps self.new.exit) ≡ scripted_turn (scripted_world self.old.script.now self.old.console.items self.old.steps self.old.exit) }
+        ensures world { (scripted_world self.new.script.now self.new.console.items self.new.steps self.new.exit)
+            ≡ scripted_turn (scripted_world self.old.script.now self.old.console.items self.old.steps self.old.exit) }
     {
         if self.exit.is_some() {
             return;

@@ -3,7 +3,9 @@ use Rattle.std.proofs.Common.{ℕ}
 use Rattle.client_world.specs.World.{World}
 use Rattle.service_rows.specs.Reasons.{Service, unsupported}
 use Rattle.service_rows.proofs.AnswerLaws.{if_has}
-use Rattle.vector_services.specs.Rows.{vector_function, disable_interrupts, enable_interrupts, get_exception_vector, get_protected_vector, get_real_vector, interrupt_state, set_exception_vector, set_protected_vector, set_real_vector, dpmi_version}
+use Rattle.vector_services.specs.Rows.{vector_function, disable_interrupts, enable_interrupts, get_exception_vector, get_protected_vector}
+use Rattle.vector_services.specs.Rows.{get_real_vector, interrupt_state, set_exception_vector, set_protected_vector, set_real_vector}
+use Rattle.vector_services.specs.Rows.{dpmi_version}
 
 pub record Each (P : Service → Type 0) (w : World) : Type 0 where
   pub f200 : P (get_real_vector w)

@@ -10,7 +10,9 @@ use Rattle.guest_ram.specs.Bytes.{with_word}
 use Rattle.guest_space.proofs.SoundLists.{IsSound-vectors}
 use Rattle.service_rows.specs.Reasons.{Service, first_reason, unsupported}
 use Rattle.service_rows.proofs.AnswerLaws.{of_answer, sound_ax}
-use Rattle.vector_services.specs.Rows.{vector_function, bl, cx_dx, disable_interrupts, enable_interrupts, get_exception_vector, get_protected_vector, get_real_vector, interrupt_state, real_vector_address, vector_service, set_exception_vector, set_protected_vector, set_real_vector, dpmi_version}
+use Rattle.vector_services.specs.Rows.{vector_function, bl, cx_dx, disable_interrupts, enable_interrupts, get_exception_vector}
+use Rattle.vector_services.specs.Rows.{get_protected_vector, get_real_vector, interrupt_state, real_vector_address, vector_service}
+use Rattle.vector_services.specs.Rows.{set_exception_vector, set_protected_vector, set_real_vector, dpmi_version}
 use Rattle.vector_services.proofs.EachService.{of_each_service}
 
 -- general registers hold anything
@@ -26,23 +28,28 @@ sound_general w a b c d s = IsSound-regs w (record w.regs { eax = a; ebx = b; ec
 
 sound_word : (dos : List ℕ) (at v : ℕ) → SoundMegabyte dos → at + 1 < ROM_START → v < 0x10000 → SoundMegabyte (with_word dos at v)
 sound_word dos at v s below fits =
-    SoundMegabyte-set (slice_set dos at (v % 0x100)) (at + 1) (v / 0x100) (SoundMegabyte-set dos at (v % 0x100) s (omega arith) (omega arith)) below (omega arith)
+    SoundMegabyte-set (slice_set dos at (v % 0x100)) (at + 1) (v / 0x100)
+    (SoundMegabyte-set dos at (v % 0x100) s (omega arith) (omega arith)) below (omega arith)
 
-sound_real : (w : World) → IsSound w → IsSound (record w { dos = with_word (with_word w.dos (real_vector_address w) (dx w)) (real_vector_address w + 2) (cx w) })
+sound_real : (w : World) → IsSound w →
+    IsSound (record w { dos = with_word (with_word w.dos (real_vector_address w) (dx w)) (real_vector_address w + 2) (cx w) })
 sound_real w s = IsSound-dos w (with_word (with_word w.dos (real_vector_address w) (dx w)) (real_vector_address w + 2) (cx w)) s
     (sound_word (with_word w.dos (real_vector_address w) (dx w)) (real_vector_address w + 2) (cx w)
     (sound_word w.dos (real_vector_address w) (dx w) s.megabyte (omega arith) (omega arith)) (omega arith) (omega arith))
 
-sound_exception : (w : World) (n : ℕ) (p : FarPtr) → IsSound w → IsSound (record w { exception_vectors = slice_set w.exception_vectors n p })
+sound_exception : (w : World) (n : ℕ) (p : FarPtr) → IsSound w →
+    IsSound (record w { exception_vectors = slice_set w.exception_vectors n p })
 sound_exception w n p s = IsSound-vectors w w.interrupt_vectors (slice_set w.exception_vectors n p) w.pageable s
     s.interrupt_vectors (length-set w.exception_vectors n p ∙ s.exception_vectors) s.pageable
 
-sound_interrupt : (w : World) (n : ℕ) (p : FarPtr) → IsSound w → IsSound (record w { interrupt_vectors = slice_set w.interrupt_vectors n p })
+sound_interrupt : (w : World) (n : ℕ) (p : FarPtr) → IsSound w →
+    IsSound (record w { interrupt_vectors = slice_set w.interrupt_vectors n p })
 sound_interrupt w n p s = IsSound-vectors w (slice_set w.interrupt_vectors n p) w.exception_vectors w.pageable s
     (length-set w.interrupt_vectors n p ∙ s.interrupt_vectors) s.exception_vectors s.pageable
 
 sound_after : (ax : ℕ) (w : World) → IsSound w → IsSound (vector_function ax w).after
-unfolding disable_interrupts enable_interrupts get_exception_vector get_protected_vector get_real_vector interrupt_state set_exception_vector set_protected_vector set_real_vector dpmi_version unsupported
+unfolding disable_interrupts enable_interrupts get_exception_vector get_protected_vector get_real_vector interrupt_state
+    set_exception_vector set_protected_vector set_real_vector dpmi_version unsupported
 sound_after ax w s = of_each_service (λ (a : Service). IsSound a.after) w (record {
   f200 = sound_general w w.regs.eax w.regs.ebx _ _ s;
   f201 = sound_real w s;
@@ -60,4 +67,5 @@ sound_after ax w s = of_each_service (λ (a : Service). IsSound a.after) w (reco
 pub sound_service : (ax : ℕ) (w : World) → IsSound w → IsSound (vector_service ax w).world
 unfolding vector_service
 sound_service ax w s =
-    of_answer IsSound (first_reason (vector_function ax w).reasons) w (vector_function ax w).after s (λ n. sound_ax w n s) (λ e. sound_after ax w s)
+    of_answer IsSound (first_reason (vector_function ax w).reasons) w (vector_function ax w).after s (λ n. sound_ax w n s)
+    (λ e. sound_after ax w s)

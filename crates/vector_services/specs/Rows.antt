@@ -1,5 +1,5 @@
--- The services of INT 31h on vectors, on the version and on virtual interrupts. Source: DPMI 0.9, INT 31h functions 0200h to 0205h, 0400h and
--- 0900h to 0902h; the reasons of refusal are own.
+-- The services of INT 31h on vectors, on the version and on virtual interrupts. Source: DPMI 0.9, INT 31h functions 0200h to 0205h, 0400h
+-- and 0900h to 0902h; the reasons of refusal are own.
 use Rattle.std.specs.Prelude.{ℕ, ◌+◌, ◌*◌, Bool, true, false, [], ◌∷◌, nat_eq, nat_lt, not, cond, if◌then◌else◌, slice_set}
 use Rattle.client_world.specs.declared.segments.FarPtr.{FarPtr}
 use Rattle.client_world.specs.Registers.{low_byte, with_low_byte, with_low_half}
@@ -81,8 +81,8 @@ set_protected_vector w = record {
   after = record w { interrupt_vectors = slice_set w.interrupt_vectors (bl w) (cx_dx w) };
 }
 
--- 0400h: AX is the version 0.90, BX says a 32-bit host without virtual memory, CL an 80386, and DH and DL are the base interrupts of the two
--- interrupt controllers
+-- 0400h: AX is the version 0.90, BX says a 32-bit host without virtual memory, CL an 80386, and DH and DL are the base interrupts of the
+-- two interrupt controllers
 unfoldable pub dpmi_version : World → Service
 dpmi_version w = record {
   reasons = [];

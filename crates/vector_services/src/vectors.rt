@@ -4,7 +4,8 @@ ghost use Rattle.client_world.specs.declared.memory_map.TheConstants.{ROM_START}
 ghost use Rattle.client_world.specs.Registers.{low_byte};
 ghost use Rattle.guest_ram.specs.Bytes.{with_word};
 ghost use Rattle.service_rows.specs.Reasons.{Does};
-ghost use Rattle.vector_services.specs.Rows.{bl, cx_dx, get_exception_vector, get_protected_vector, get_real_vector, set_exception_vector, set_protected_vector, set_real_vector, with_cx_dx};
+ghost use Rattle.vector_services.specs.Rows.{bl, cx_dx, get_exception_vector, get_protected_vector, get_real_vector, set_exception_vector};
+ghost use Rattle.vector_services.specs.Rows.{set_protected_vector, set_real_vector, with_cx_dx};
 
 use client_world::{FarPtr, by_width, low_byte, low_half, with_low_half};
 use guest_space::Machine;

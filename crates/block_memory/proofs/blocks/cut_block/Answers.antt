@@ -13,7 +13,8 @@ pub drop_page-requires : goal.drop_page-requires
 drop_page-requires c =
     let less = c.loop-gone-test.true in
     let next : c.args.from - c.loop-gone.gone ≡ c.args.from - 1 - c.loop-gone.gone + 1 = omega arith in
-    let so_far = cutting_in c.args.ram.now c.loop-gone.ram c.args.place c.args.base (c.args.from - c.loop-gone.gone) c.loop-gone.invariant in
+    let so_far =
+    cutting_in c.args.ram.now c.loop-gone.ram c.args.place c.args.base (c.args.from - c.loop-gone.gone) c.loop-gone.invariant in
     record { pages = subst (HasPagesIn c.loop-gone.ram c.args.place c.args.base) next so_far }
 
 pub loop-gone-preserved : goal.loop-gone-preserved

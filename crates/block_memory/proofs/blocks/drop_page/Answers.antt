@@ -10,26 +10,32 @@ unmap-frame-requires-clause-mapped c = is_mapped c.args.ram.now c.args.place c.a
 
 pub give_frame-requires-clause-list : goal.give_frame-requires-clause-list
 give_frame-requires-clause-list c =
-    (can_give c.args.ram.now c.args.place c.args.base c.args.n c.requires.pages c.unmap-frame.new.ram c.unmap-frame.ensures.bytes c.unmap-frame.result
+    (can_give c.args.ram.now c.args.place c.args.base c.args.n c.requires.pages c.unmap-frame.new.ram c.unmap-frame.ensures.bytes
+    c.unmap-frame.result
     c.unmap-frame.ensures.frame).list
 
 pub give_frame-requires-clause-budget : goal.give_frame-requires-clause-budget
 give_frame-requires-clause-budget c =
-    (can_give c.args.ram.now c.args.place c.args.base c.args.n c.requires.pages c.unmap-frame.new.ram c.unmap-frame.ensures.bytes c.unmap-frame.result
+    (can_give c.args.ram.now c.args.place c.args.base c.args.n c.requires.pages c.unmap-frame.new.ram c.unmap-frame.ensures.bytes
+    c.unmap-frame.result
     c.unmap-frame.ensures.frame).is
 
 pub give_frame-requires-clause-taken : goal.give_frame-requires-clause-taken
 give_frame-requires-clause-taken c =
-    (can_give c.args.ram.now c.args.place c.args.base c.args.n c.requires.pages c.unmap-frame.new.ram c.unmap-frame.ensures.bytes c.unmap-frame.result
+    (can_give c.args.ram.now c.args.place c.args.base c.args.n c.requires.pages c.unmap-frame.new.ram c.unmap-frame.ensures.bytes
+    c.unmap-frame.result
     c.unmap-frame.ensures.frame).taken
 
 pub give_frame-requires-clause-unmapped : goal.give_frame-requires-clause-unmapped
 give_frame-requires-clause-unmapped c =
-    (can_give c.args.ram.now c.args.place c.args.base c.args.n c.requires.pages c.unmap-frame.new.ram c.unmap-frame.ensures.bytes c.unmap-frame.result
+    (can_give c.args.ram.now c.args.place c.args.base c.args.n c.requires.pages c.unmap-frame.new.ram c.unmap-frame.ensures.bytes
+    c.unmap-frame.result
     c.unmap-frame.ensures.frame).nowhere
 
 pub returns : goal.returns
 returns c =
-    page_removed c.args.ram.now c.unmap-frame.new.ram c.give_frame.new.ram c.set16.new.self c.set_block_row.new.ram c.args.place c.args.base c.args.n
-    c.unmap-frame.result c.base_of_pages.result c.requires.pages c.unmap-frame.ensures.bytes c.give_frame.ensures.bytes c.unmap-frame.ensures.frame
+    page_removed c.args.ram.now c.unmap-frame.new.ram c.give_frame.new.ram c.set16.new.self c.set_block_row.new.ram c.args.place
+    c.args.base c.args.n
+    c.unmap-frame.result c.base_of_pages.result c.requires.pages c.unmap-frame.ensures.bytes c.give_frame.ensures.bytes
+    c.unmap-frame.ensures.frame
     c.set16.ensures.bytes c.set_block_row.ensures c.base_of_pages.ensures

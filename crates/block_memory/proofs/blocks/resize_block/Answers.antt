@@ -15,7 +15,8 @@ move_block-requires c =
     let s = sizing b c.args.place c.block_row-from.result.0 c.block_row-from.result.1 c.args.base c.args.pages c.min-kept.result c.requires
     (c.block_row-from.ensures c.requires.budget c.requires.holds.holds) c.min-kept.ensures in
     record {
-      room = moves_after b c.cut_block.new.ram c.args.place c.block_row-from.result.0 c.block_row-from.result.1 c.args.base c.args.pages c.min-kept.result c.requires s
+      room = moves_after b c.cut_block.new.ram c.args.place c.block_row-from.result.0 c.block_row-from.result.1 c.args.base c.args.pages
+          c.min-kept.result c.requires s
           c.cut_block.ensures.block c.cut_block.ensures.pages;
     }
 
@@ -24,7 +25,8 @@ extend_block-requires-clause-room c =
     let b = c.args.ram.now in
     let s = sizing b c.args.place c.block_row-from.result.0 c.block_row-from.result.1 c.args.base c.args.pages c.min-kept.result c.requires
     (c.block_row-from.ensures c.requires.budget c.requires.holds.holds) c.min-kept.ensures in
-    grows_after b c.cut_block.new.ram c.move_block.new.ram c.args.place c.block_row-from.result.0 c.block_row-from.result.1 c.args.base c.args.pages c.min-kept.result
+    grows_after b c.cut_block.new.ram c.move_block.new.ram c.args.place c.block_row-from.result.0 c.block_row-from.result.1 c.args.base
+    c.args.pages c.min-kept.result
     c.requires s c.cut_block.ensures.block c.cut_block.ensures.pages c.move_block.ensures
 
 pub returns : goal.returns
@@ -32,5 +34,6 @@ returns c =
     let b = c.args.ram.now in
     let s = sizing b c.args.place c.block_row-from.result.0 c.block_row-from.result.1 c.args.base c.args.pages c.min-kept.result c.requires
     (c.block_row-from.ensures c.requires.budget c.requires.holds.holds) c.min-kept.ensures in
-    block_resized b c.cut_block.new.ram c.move_block.new.ram c.extend_block.new.ram c.args.place c.block_row-from.result.0 c.block_row-from.result.1 c.args.base
+    block_resized b c.cut_block.new.ram c.move_block.new.ram c.extend_block.new.ram c.args.place c.block_row-from.result.0
+    c.block_row-from.result.1 c.args.base
     c.args.pages c.min-kept.result c.requires s c.cut_block.ensures.block c.move_block.ensures c.extend_block.ensures

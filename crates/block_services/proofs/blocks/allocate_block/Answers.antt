@@ -11,4 +11,5 @@ block_make-requires-clause-room c =
     let size = c.if-size-eq0.false in
     let pages = c.pages_for-pages.ensures in
     subst (λ (base : ℕ). CanMake w.blocks w.budget base c.pages_for-pages.result) (sym c.page_address-base.ensures)
-    (can_make w.blocks w.budget c.in_ok-page.page c.pages_for-pages.result c.soundness.ensures.blocks (first_gap_is w.blocks c.pages_for-pages.result c.in_ok-page.page c.in_ok-page.ensures.0) (omega arith) (omega arith))
+    (can_make w.blocks w.budget c.in_ok-page.page c.pages_for-pages.result c.soundness.ensures.blocks
+    (first_gap_is w.blocks c.pages_for-pages.result c.in_ok-page.page c.in_ok-page.ensures.0) (omega arith) (omega arith))

@@ -7,7 +7,8 @@ down-preserved c =
     let below = c.down.invariant.below in
     record {
       below = omega arith;
-      same = sym (largest_next c.args.m.now.world.blocks c.down.pages (omega (arith, c.down-test.true)) c.in-Err.ensures.0) ∙ c.down.invariant.same;
+      same = sym (largest_next c.args.m.now.world.blocks c.down.pages (omega (arith, c.down-test.true)) c.in-Err.ensures.0)
+          ∙ c.down.invariant.same;
     }
 
 pub returns-in-Ok-clause-pages : goal.returns-in-Ok-clause-pages

@@ -24,9 +24,12 @@ pub returns-in-None : goal.returns-in-None
 unfolding first_gap
 returns-in-None c =
     let w = c.args.m.now.world in
-    let free = ap (λ (base : ℕ). block_in_way w.blocks 0 base c.args.pages) (sym c.page_address.ensures) ∙ sym c.block_in_way.ensures ∙ c.in-None.is in
-    let here = gap_here w.blocks 0 (page_address c.pages.page) c.args.pages (omega (arith, c.pages-test.true)) free in
-    (sym c.pages.invariant.same ∙ gap_found w.blocks c.pages.page c.args.pages (omega (arith, c.pages-test.true)) here, omega (arith, c.pages-test.true))
+    let free = ap (λ (base : ℕ). block_in_way w.blocks 0 base c.args.pages) (sym c.page_address.ensures) ∙ sym c.block_in_way.ensures
+    ∙ c.in-None.is in
+    let here = gap_here w.blocks 0 (page_address c.pages.page) c.args.pages (omega (arith, c.pages-test.true)) free in (
+      sym c.pages.invariant.same ∙ gap_found w.blocks c.pages.page c.args.pages (omega (arith, c.pages-test.true)) here,
+      omega (arith, c.pages-test.true),
+    )
 
 pub returns : goal.returns
 unfolding first_gap

@@ -14,7 +14,8 @@ returns-then-is_none c =
     let free : is_free c.args.m.now.world.blocks c.loop-handle.handle ≡ true =
     sym (seen_none (block_at c.args.m.now.world.blocks c.loop-handle.handle)) ∙ ap is_none (sym c.block.ensures) ∙ search rules in
     let from = c.loop-handle.auto.handle in (
-      sym c.loop-handle.invariant ∙ index_found (is_free c.args.m.now.world.blocks) c.loop-handle.handle (1 + MAX_BLOCKS) c.loop-handle-test.true free,
+      sym c.loop-handle.invariant
+          ∙ index_found (is_free c.args.m.now.world.blocks) c.loop-handle.handle (1 + MAX_BLOCKS) c.loop-handle-test.true free,
       omega arith,
       omega (arith, c.loop-handle-test.true),
       none_of (block_at c.args.m.now.world.blocks c.loop-handle.handle) free,
@@ -30,6 +31,7 @@ loop-handle-preserved c =
 pub returns : goal.returns
 unfolding lowest_handle
 returns c = (
-  sym c.loop-handle.invariant ∙ index_missed (is_free c.args.m.now.world.blocks) c.loop-handle.handle (1 + MAX_BLOCKS) c.loop-handle-test.false,
+  sym c.loop-handle.invariant
+      ∙ index_missed (is_free c.args.m.now.world.blocks) c.loop-handle.handle (1 + MAX_BLOCKS) c.loop-handle-test.false,
   refl,
 )

@@ -9,7 +9,8 @@ loop-page-preserved c =
     let end = c.args.first + c.args.n in
     let blocks = ap (λ (w : World). w.blocks) c.change_page.ensures in
     record {
-      kept = only_blocks c.args.m.now.world c.loop-page.m.world c.change_page.new.m.world _ c.loop-page.invariant.kept c.change_page.ensures;
+      kept = only_blocks c.args.m.now.world c.loop-page.m.world c.change_page.new.m.world _ c.loop-page.invariant.kept
+          c.change_page.ensures;
       made = ap (λ (bs : List (Option MemoryBlock)). changed c.args.change bs (c.loop-page.page + 1) (end - (c.loop-page.page + 1))) blocks
           ∙ sym (changed_next c.args.change c.loop-page.m.world.blocks c.loop-page.page end c.loop-page-test.true)
           ∙ c.loop-page.invariant.made;

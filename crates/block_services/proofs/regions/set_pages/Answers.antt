@@ -9,7 +9,8 @@ loop-page-preserved c =
     let end = c.args.first + c.args.n in
     let pages = ap (λ (w : World). w.pageable) c.set_pageable.ensures.world in
     record {
-      kept = only_pageable c.args.m.now.world c.loop-page.m.world c.set_pageable.new.self.world _ c.loop-page.invariant.kept c.set_pageable.ensures.world;
+      kept = only_pageable c.args.m.now.world c.loop-page.m.world c.set_pageable.new.self.world _ c.loop-page.invariant.kept
+          c.set_pageable.ensures.world;
       made = ap (λ (ps : List Bool). with_pages c.args.on ps (c.loop-page.page + 1) (end - (c.loop-page.page + 1))) pages
           ∙ sym (set_next c.args.on c.loop-page.m.world.pageable c.loop-page.page end c.loop-page-test.true)
           ∙ c.loop-page.invariant.made;

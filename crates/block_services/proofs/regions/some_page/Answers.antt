@@ -20,5 +20,6 @@ loop-page-preserved c =
 pub returns : goal.returns
 unfolding some_page
 returns c =
-    ap is_some (sym (index_missed (page_answer c.args.question c.args.m.now.world) c.loop-page.page (c.args.first + c.args.n) c.loop-page-test.false)
+    ap is_some (sym
+    (index_missed (page_answer c.args.question c.args.m.now.world) c.loop-page.page (c.args.first + c.args.n) c.loop-page-test.false)
     ∙ c.loop-page.invariant)

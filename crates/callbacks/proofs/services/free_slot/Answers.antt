@@ -10,7 +10,8 @@ pub returns-then-is_none-clause-lowest : goal.returns-then-is_none-clause-lowest
 unfolding free_slot
 returns-then-is_none-clause-lowest c =
     let free : is_free c.args.m.now.world.callbacks c.loop-slot.slot ≡ true = ap is_none (sym c.back.ensures) ∙ search rules in
-    sym (sym c.loop-slot.invariant ∙ index_found (is_free c.args.m.now.world.callbacks) c.loop-slot.slot CALLBACKS c.loop-slot-test.true free)
+    sym (sym c.loop-slot.invariant
+    ∙ index_found (is_free c.args.m.now.world.callbacks) c.loop-slot.slot CALLBACKS c.loop-slot-test.true free)
 
 pub loop-slot-preserved : goal.loop-slot-preserved
 loop-slot-preserved c =

@@ -4,8 +4,8 @@ use crate::insns::*;
 use client_world::{Event, Regs, SegReg};
 use insn_forms::{Insn, Op, Rep};
 
-// An instruction, the registers before it and after it, its event, bytes that are put at DS:0100h before it, and bytes that are at a place after
-// it.
+// An instruction, the registers before it and after it, its event, bytes that are put at DS:0100h before it, and bytes that are at a place
+// after it.
 pub(crate) struct Step {
     pub(crate) insn: Insn,
     pub(crate) before: Regs,

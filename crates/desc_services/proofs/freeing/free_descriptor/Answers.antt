@@ -5,5 +5,6 @@ use Rattle.desc_services.proofs.freeing.free_descriptor.Goals as goal
 
 pub put-requires : goal.put-requires
 put-requires c = subst (λ (i : ℕ). MayPut c.args.m.now.world i None) (sym c.index_of.ensures.value)
-    (may_free c.args.m.now.world c.low_half-sel.result (c.in-Some.field-0-0, c.in-Some.origin) c.soundness.ensures (sym c.in-Some.ensures.row)
+    (may_free c.args.m.now.world c.low_half-sel.result (c.in-Some.field-0-0, c.in-Some.origin) c.soundness.ensures
+    (sym c.in-Some.ensures.row)
     (sym c.is_freeable_origin.ensures ∙ c.if-is_freeable_origin.true))

@@ -12,5 +12,6 @@ loop-place-preserved c =
 
 pub returns : goal.returns
 returns c =
-    sym (largest_none c.args.m.now.world.arena c.loop-place.best c.loop-place.place (omega (arith, c.arena_len-place-end.ensures.count, c.loop-place-test.false)))
+    sym (largest_none c.args.m.now.world.arena c.loop-place.best c.loop-place.place
+    (omega (arith, c.arena_len-place-end.ensures.count, c.loop-place-test.false)))
     ∙ c.loop-place.invariant

@@ -17,7 +17,8 @@ overflow_add-run c =
     omega (arith, within.ends, ap (λ (e : DosEntry). e.at) (c.arena-entry.ensures missing_entry))
 
 pub free_entries_after-requires : goal.free_entries_after-requires
-free_entries_after-requires c = (found_block c.args.for_dpmi c.args.m.now.world.arena c.args.seg c.in-Some.place c.in-Some.ensures.found).small
+free_entries_after-requires c =
+    (found_block c.args.for_dpmi c.args.m.now.world.arena c.args.seg c.in-Some.place c.in-Some.ensures.found).small
 
 pub joined_entry-requires : goal.joined_entry-requires
 joined_entry-requires c = (found_block c.args.for_dpmi c.args.m.now.world.arena c.args.seg c.in-Some.place c.in-Some.ensures.found).small
@@ -28,11 +29,13 @@ put_block-requires c =
     let es = w.arena in
     let place = c.in-Some.place in
     can_put c.args.for_dpmi w (place - free_before es place) (place - c.free_before-before.result)
-    (free_before es place + (1 + free_entries_after es place)) (c.free_before-before.result + (1 + c.free_entries_after.result)) (joined_entry es place ∷ [])
+    (free_before es place + (1 + free_entries_after es place)) (c.free_before-before.result + (1 + c.free_entries_after.result))
+    (joined_entry es place ∷ [])
     c.one-entries.result.items _ _
     (can_free_block w c.args.for_dpmi c.args.seg place c.soundness.ensures c.requires c.in-Some.ensures.found)
     (ap (λ (n : ℕ). place - n) c.free_before-before.ensures)
     (rw (c.free_before-before.ensures, c.free_entries_after.ensures) refl)
     (c.one-entries.ensures ∙ ap (λ (e : DosEntry). e ∷ []) c.joined_entry.ensures)
     (ap (λ (first : ℕ). run_of_block c.arena-entry.result first c.arena-entry.result.paras 0) c.first_descriptor.ensures
-    ∙ ap (λ (e : DosEntry). run_of_block e (first_descriptor c.args.for_dpmi w.descriptors c.args.seg) e.paras 0) (c.arena-entry.ensures missing_entry))
+    ∙ ap (λ (e : DosEntry). run_of_block e (first_descriptor c.args.for_dpmi w.descriptors c.args.seg) e.paras 0)
+    (c.arena-entry.ensures missing_entry))

@@ -7,5 +7,6 @@ use Rattle.dos_blocks.proofs.neighbours.entry_of_place.Goals as goal
 pub returns-then-place-arena_len-clause-small : goal.returns-then-place-arena_len-clause-small
 returns-then-place-arena_len-clause-small c =
     let paras = ap (λ (e : DosEntry). e.paras) (c.arena.ensures missing_entry) in
-    let within = entry_within c.args.m.now.world.arena c.args.place c.arena_len.ensures.sound (omega (arith, c.if-place-arena_len.true, c.arena_len.ensures.count)) in
+    let within = entry_within c.args.m.now.world.arena c.args.place c.arena_len.ensures.sound
+    (omega (arith, c.if-place-arena_len.true, c.arena_len.ensures.count)) in
     omega (arith, paras, within.ends)

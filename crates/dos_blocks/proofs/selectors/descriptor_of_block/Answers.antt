@@ -20,5 +20,6 @@ loop-index-preserved c =
 pub returns : goal.returns
 unfolding descriptor_of_block
 returns c =
-    sym (sym c.loop-index.invariant ∙ index_missed (is_of_block c.args.m.now.world.descriptors c.args.segment) c.loop-index.index DESCRIPTORS
+    sym (sym c.loop-index.invariant
+    ∙ index_missed (is_of_block c.args.m.now.world.descriptors c.args.segment) c.loop-index.index DESCRIPTORS
     c.loop-index-test.false)

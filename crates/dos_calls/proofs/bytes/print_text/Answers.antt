@@ -9,25 +9,29 @@ loop-n-init c = nothing_added _ _ _ (text_all c.args.m.now.world.dos c.args.segm
 pub returns-then-byte-eq36 : goal.returns-then-byte-eq36
 returns-then-byte-eq36 c =
     let end = all_added c.args.console.now _ c.loop-n.console _
-    (text_end c.args.m.now.world.dos c.args.segment c.args.offset SEGMENT_SIZE c.loop-n.n _ c.loop-n-test.true c.byte_at-byte.ensures c.if-byte-eq36.true)
+    (text_end c.args.m.now.world.dos c.args.segment c.args.offset SEGMENT_SIZE c.loop-n.n _ c.loop-n-test.true c.byte_at-byte.ensures
+    c.if-byte-eq36.true)
     c.loop-n.invariant c.limit.ensures in
     record { room = end.0; bytes = end.1 }
 
 pub returns-then-not-add : goal.returns-then-not-add
 returns-then-not-add c =
     let end = byte_refused c.args.console.now _ c.loop-n.console _ _ c.add.new.self _ c.add.result
-    (text_next c.args.m.now.world.dos c.args.segment c.args.offset SEGMENT_SIZE c.loop-n.n _ c.loop-n-test.true c.byte_at-byte.ensures c.if-byte-eq36.false)
+    (text_next c.args.m.now.world.dos c.args.segment c.args.offset SEGMENT_SIZE c.loop-n.n _ c.loop-n-test.true c.byte_at-byte.ensures
+    c.if-byte-eq36.false)
     c.loop-n.invariant c.add.ensures.room c.add.ensures.bytes c.if-not-add.true in
     record { room = end.0; bytes = end.1 }
 
 pub loop-n-preserved : goal.loop-n-preserved
 loop-n-preserved c =
     byte_added c.args.console.now _ c.loop-n.console _ _ c.add.new.self _ c.add.result
-    (text_next c.args.m.now.world.dos c.args.segment c.args.offset SEGMENT_SIZE c.loop-n.n _ c.loop-n-test.true c.byte_at-byte.ensures c.if-byte-eq36.false)
+    (text_next c.args.m.now.world.dos c.args.segment c.args.offset SEGMENT_SIZE c.loop-n.n _ c.loop-n-test.true c.byte_at-byte.ensures
+    c.if-byte-eq36.false)
     c.loop-n.invariant c.add.ensures.room c.add.ensures.bytes c.if-not-add.false
 
 pub returns : goal.returns
 returns c =
     let end = all_added c.args.console.now _ c.loop-n.console _
-    (text_none c.args.m.now.world.dos c.args.segment c.args.offset SEGMENT_SIZE c.loop-n.n c.loop-n-test.false) c.loop-n.invariant c.limit-2.ensures in
+    (text_none c.args.m.now.world.dos c.args.segment c.args.offset SEGMENT_SIZE c.loop-n.n c.loop-n-test.false) c.loop-n.invariant
+    c.limit-2.ensures in
     record { room = end.0; bytes = end.1 }

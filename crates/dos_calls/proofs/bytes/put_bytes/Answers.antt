@@ -9,7 +9,8 @@ loop-byte-preserved c = record {
   place = omega (arith, c.loop-byte.invariant.place);
   kept = only_bytes c.args.m.now.world c.loop-byte.m.world c.set_byte_at.new.m.world _ c.loop-byte.invariant.kept c.set_byte_at.ensures;
   written =
-      ap (λ (w : World). with_dos_bytes_at w.dos c.args.segment (c.loop-byte.at + 1) (drop (c.loop-byte.byte-index + 1) c.args.bytes.now)) c.set_byte_at.ensures
+      ap (λ (w : World). with_dos_bytes_at w.dos c.args.segment (c.loop-byte.at + 1) (drop (c.loop-byte.byte-index + 1) c.args.bytes.now))
+      c.set_byte_at.ensures
       ∙ sym (put_next c.loop-byte.m.world.dos c.args.segment c.loop-byte.at c.args.bytes.now c.loop-byte.byte-index c.loop-byte-test.true)
       ∙ c.loop-byte.invariant.written;
 }

@@ -7,11 +7,13 @@ pub returns-then-not-print_line-clause-call : goal.returns-then-not-print_line-c
 returns-then-not-print_line-clause-call c =
     let s : CallState = record { world = c.args.m.now.world; keys = c.args.keys.now; console = c.args.console.now } in
     line_goes s c.args.room c.args.count c.first-line.result.now c.skip_line.new.self c.print_line.new.console false
-    c.requires.line (c.first-line.ensures ∙ ap (λ (xs : List ℕ). take (c.args.room - 1) xs) c.first.ensures) (sym c.if-not-print_line.true ∙ c.print_line.ensures.room) c.print_line.ensures.bytes c.skip_line.ensures
+    c.requires.line (c.first-line.ensures ∙ ap (λ (xs : List ℕ). take (c.args.room - 1) xs) c.first.ensures)
+    (sym c.if-not-print_line.true ∙ c.print_line.ensures.room) c.print_line.ensures.bytes c.skip_line.ensures
 
 pub returns-clause-call : goal.returns-clause-call
 returns-clause-call c =
     let s : CallState = record { world = c.args.m.now.world; keys = c.args.keys.now; console = c.args.console.now } in
     line_goes s c.args.room c.args.count c.first-line.result.now c.skip_line-2.new.self c.print_line.new.console true
-    c.requires.line (c.first-line.ensures ∙ ap (λ (xs : List ℕ). take (c.args.room - 1) xs) c.first.ensures) (sym c.if-not-print_line.false ∙ c.print_line.ensures.room) c.print_line.ensures.bytes c.skip_line-2.ensures
+    c.requires.line (c.first-line.ensures ∙ ap (λ (xs : List ℕ). take (c.args.room - 1) xs) c.first.ensures)
+    (sym c.if-not-print_line.false ∙ c.print_line.ensures.room) c.print_line.ensures.bytes c.skip_line-2.ensures
     ∙ cc

@@ -7,4 +7,5 @@ pub returns-clause-bytes : goal.returns-clause-bytes
 returns-clause-bytes c =
     let bytes = c.args.bytes.now in
     let at = c.args.at.now in
-    given_rest bytes c.args.buf.now c.copy_from_slice.new.self at c.min-count.result (grind (arith, common_steps)) (grind (arith, common_steps, c.copy_from_slice.ensures.after))
+    given_rest bytes c.args.buf.now c.copy_from_slice.new.self at c.min-count.result (grind (arith, common_steps))
+    (grind (arith, common_steps, c.copy_from_slice.ensures.after))

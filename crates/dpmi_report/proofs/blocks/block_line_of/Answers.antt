@@ -4,5 +4,6 @@ use Rattle.dpmi_report.proofs.blocks.block_line_of.Goals as goal
 
 pub block_digest-digest-requires-clause-few : goal.block_digest-digest-requires-clause-few
 block_digest-digest-requires-clause-few c =
-    let below = page_below c.args.machine.now.world.blocks c.args.machine.now.world.budget c.args.handle c.args.row.base c.args.row.pages c.soundness.ensures.blocks c.requires in
+    let below = page_below c.args.machine.now.world.blocks c.args.machine.now.world.budget c.args.handle c.args.row.base c.args.row.pages
+    c.soundness.ensures.blocks c.requires in
     omega arith

@@ -16,5 +16,6 @@ loop-place-preserved g c = (
 
 pub returns-in_err-put_block : goal.returns-in_err-put_block
 returns-in_err-put_block g c =
-    row_cut (block_row c.args.machine.now.world.blocks) c.loop-place.place MAX_BLOCKS _ c.from_residual.ensures.0 c.loop-place-test.true c.loop-place.invariant.0
+    row_cut (block_row c.args.machine.now.world.blocks) c.loop-place.place MAX_BLOCKS _ c.from_residual.ensures.0 c.loop-place-test.true
+    c.loop-place.invariant.0
     c.loop-place.invariant.1 c.in_err-put_block.ensures

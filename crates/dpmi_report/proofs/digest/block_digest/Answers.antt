@@ -11,7 +11,8 @@ pub loop-i-preserved : goal.loop-i-preserved
 loop-i-preserved c =
     let ys = bytes_of_block (block_at c.args.machine.now.world.blocks c.args.handle) in
     let i = c.loop-i.i in
-    subst (λ m. Holds256 c.update.new.self m) (ap (λ l. take (i * 64) ys ++ l) c.block_piece.ensures ∙ piece_more ys i) (c.update.ensures (take (i * 64) ys) c.loop-i.invariant)
+    subst (λ m. Holds256 c.update.new.self m) (ap (λ l. take (i * 64) ys ++ l) c.block_piece.ensures ∙ piece_more ys i)
+    (c.update.ensures (take (i * 64) ys) c.loop-i.invariant)
 
 pub returns : goal.returns
 returns c =

@@ -7,7 +7,8 @@ use Rattle.dpmi_report.proofs.Pieces.{byte_more, piece_is}
 use Rattle.dpmi_report.proofs.digest.block_piece.Goals as goal
 
 pub block8-requires : goal.block8-requires
-block8-requires c = has_byte (block_at c.args.machine.now.world.blocks c.args.handle) (c.args.at + c.loop-i.i) (omega (arith, c.requires.inside))
+block8-requires c =
+    has_byte (block_at c.args.machine.now.world.blocks c.args.handle) (c.args.at + c.loop-i.i) (omega (arith, c.requires.inside))
 
 pub loop-i-preserved : goal.loop-i-preserved
 loop-i-preserved c = (
@@ -18,5 +19,6 @@ loop-i-preserved c = (
 
 pub returns : goal.returns
 returns c =
-    piece_is c.loop-i.piece (bytes_of_block (block_at c.args.machine.now.world.blocks c.args.handle)) c.args.at c.loop-i.invariant.1 c.requires.inside
+    piece_is c.loop-i.piece (bytes_of_block (block_at c.args.machine.now.world.blocks c.args.handle)) c.args.at c.loop-i.invariant.1
+    c.requires.inside
     (λ k lt. c.loop-i.invariant.0 k (omega arith))

@@ -9,7 +9,8 @@ pub loop-i-preserved : goal.loop-i-preserved
 loop-i-preserved c =
     let ys = c.args.machine.now.world.dos in
     let i = c.loop-i.i in
-    subst (λ m. Holds256 c.update.new.self m) (ap (λ l. take (i * 64) ys ++ l) c.dos_piece.ensures ∙ piece_more ys i) (c.update.ensures (take (i * 64) ys) c.loop-i.invariant)
+    subst (λ m. Holds256 c.update.new.self m) (ap (λ l. take (i * 64) ys ++ l) c.dos_piece.ensures ∙ piece_more ys i)
+    (c.update.ensures (take (i * 64) ys) c.loop-i.invariant)
 
 pub returns : goal.returns
 returns c =

@@ -15,5 +15,6 @@ loop-i-preserved g c = (
 
 pub returns-in_err-put_event : goal.returns-in_err-put_event
 returns-in_err-put_event g c =
-    row_cut (trace_row c.args.host.now.world.kept) c.loop-i.i c.args.kept _ c.from_residual.ensures.0 c.loop-i-test.true c.loop-i.invariant.0
+    row_cut (trace_row c.args.host.now.world.kept) c.loop-i.i c.args.kept _ c.from_residual.ensures.0 c.loop-i-test.true
+    c.loop-i.invariant.0
     c.loop-i.invariant.1 c.in_err-put_event.ensures

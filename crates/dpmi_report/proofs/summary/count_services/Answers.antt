@@ -5,7 +5,8 @@ use Rattle.dpmi_report.proofs.summary.count_services.Goals as goal
 
 pub loop-i-preserved : goal.loop-i-preserved
 loop-i-preserved c = (
-  counted is_service c.args.host.now.world.kept c.loop-i.i c.service_at-count.result c.loop-i.count (omega (arith, c.loop-i-test.true, c.kept-i-end.ensures))
+  counted is_service c.args.host.now.world.kept c.loop-i.i c.service_at-count.result c.loop-i.count
+      (omega (arith, c.loop-i-test.true, c.kept-i-end.ensures))
       c.service_at-count.ensures.value c.loop-i.invariant.0,
   omega (arith, c.service_at-count.ensures.most, c.loop-i.invariant.1),
 )

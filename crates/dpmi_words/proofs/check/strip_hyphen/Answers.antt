@@ -6,5 +6,6 @@ use Rattle.dpmi_words.proofs.check.strip_hyphen.Goals as goal
 
 pub returns : goal.returns
 returns c =
-    strip_byte-from 45 c.args.text.now c.strip_prefix.result (strip_prefix_char 45 c.args.text.now c.strip_prefix.result c.strip_prefix.ensures.cases (omega arith))
+    strip_byte-from 45 c.args.text.now c.strip_prefix.result
+    (strip_prefix_char 45 c.args.text.now c.strip_prefix.result c.strip_prefix.ensures.cases (omega arith))
     ∙ strip_is c.args.text.now

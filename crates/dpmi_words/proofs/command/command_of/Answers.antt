@@ -12,4 +12,5 @@ loop-row-preserved c =
 pub loop-operand_name-preserved : goal.loop-operand_name-preserved
 loop-operand_name-preserved c =
     step_folded with_operand (λ s. s.now) c.args.operands.now c.loop-operand_name.operand_name-index _ _ _ _ c.loop-operand_name-test.true
-    (c.in_ok-command-2.ensures ∙ ap (with_rule (app_of c.loop-operand_name.command)) c.positional.ensures.rule) c.loop-operand_name.invariant
+    (c.in_ok-command-2.ensures ∙ ap (with_rule (app_of c.loop-operand_name.command)) c.positional.ensures.rule)
+    c.loop-operand_name.invariant

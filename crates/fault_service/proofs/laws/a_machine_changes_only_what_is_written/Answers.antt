@@ -3,7 +3,8 @@ use Rattle.fault_service.proofs.laws.a_machine_changes_only_what_is_written.Goal
 
 pub returns : goal.returns
 returns c =
-    let m : IsMachineView c.args.m.now = record { sound = c.ram-ram.ensures.sound; holds = c.ram-ram.ensures.holds; places = c.ram-ram.ensures.places } in
+    let m : IsMachineView c.args.m.now =
+    record { sound = c.ram-ram.ensures.sound; holds = c.ram-ram.ensures.holds; places = c.ram-ram.ensures.places } in
     record {
       step = c.every_step_changes_only_what_it_writes.ensures.step c.args.m.now m;
       interrupt = c.every_step_changes_only_what_it_writes.ensures.interrupt c.args.m.now m;

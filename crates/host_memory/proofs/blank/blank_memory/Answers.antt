@@ -6,7 +6,8 @@ use Rattle.host_memory.proofs.blank.blank_memory.Goals as goal
 
 -- the memory that the writes leave
 left : (c : goal.After-fill_protected_vectors) → IsBlank c.fill_protected_vectors.new.ram c.args.pages
-left c = is_blank c.args.pages c.header.result c.listed_entry.result c.link_frames.new.ram c.fill.new.self c.fill_real_vectors.new.ram c.write.new.self
+left c = is_blank c.args.pages c.header.result c.listed_entry.result c.link_frames.new.ram c.fill.new.self c.fill_real_vectors.new.ram
+    c.write.new.self
     c.fill_directory.new.ram c.fill_low_table.new.ram c.fill_window_table.new.ram c.write-2.new.self c.fill_protected_vectors.new.ram
     (record {
       header_is = c.header.ensures;

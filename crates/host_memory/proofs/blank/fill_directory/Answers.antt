@@ -14,5 +14,6 @@ pub loop-index-preserved : goal.loop-index-preserved
 loop-index-preserved c =
     let size = c.loop-index.invariant.size in
     rw c.set32.ensures.bytes
-    (one_written directory_entry_at (PAGE_SIZE * PAGE_DIRECTORY) c.loop-index.index c.directory_entry.result _ c.args.ram.now c.loop-index.ram
+    (one_written directory_entry_at (PAGE_SIZE * PAGE_DIRECTORY) c.loop-index.index c.directory_entry.result _ c.args.ram.now
+    c.loop-index.ram
     c.loop-index.invariant (omega arith) (omega arith) c.directory_entry.ensures)

@@ -1,4 +1,5 @@
-use Rattle.interrupts.proofs.SoundAnswers.{sound_delivery, sound_interrupt, sound_popped, sound_world_delivery, sound_world_interrupt, sound_world_popped, sound_world_step}
+use Rattle.interrupts.proofs.SoundAnswers.{sound_delivery, sound_interrupt, sound_popped, sound_world_delivery, sound_world_interrupt}
+use Rattle.interrupts.proofs.SoundAnswers.{sound_world_popped, sound_world_step}
 use Rattle.interrupts.proofs.laws.every_answer_is_sound.Goals as goal
 
 pub returns-clause-interrupt : goal.returns-clause-interrupt

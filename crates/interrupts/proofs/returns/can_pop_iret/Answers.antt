@@ -8,4 +8,5 @@ use Rattle.interrupts.proofs.returns.can_pop_iret.Goals as goal
 pub returns : goal.returns
 returns c =
     let w = c.args.m.now.world in
-    c.can_pop_frame.ensures ∙ ap (λ (bits : ℕ). is_ok (plan_result w (interrupt_frame_pop w bits))) c.frame_bits.ensures ∙ sym (return_is_made c.args.m.now)
+    c.can_pop_frame.ensures ∙ ap (λ (bits : ℕ). is_ok (plan_result w (interrupt_frame_pop w bits))) c.frame_bits.ensures
+    ∙ sym (return_is_made c.args.m.now)

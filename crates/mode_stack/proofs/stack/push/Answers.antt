@@ -5,7 +5,8 @@ use Rattle.mode_stack.proofs.Trips.{exact_bytes, read_bytes}
 use Rattle.mode_stack.proofs.stack.push.Goals as goal
 
 pub put_record-requires-clause-exact : goal.put_record-requires-clause-exact
-put_record-requires-clause-exact c = exact_bytes c.a_flags_image_gives_its_flags_back.ensures.flags c.args.r.now c.pack.result c.pack.ensures
+put_record-requires-clause-exact c =
+    exact_bytes c.a_flags_image_gives_its_flags_back.ensures.flags c.args.r.now c.pack.result c.pack.ensures
 
 pub returns : goal.returns
 returns c = (

@@ -21,7 +21,8 @@ loop-i-preserved c =
       dos = ap (λ (w : World). w.dos) c.set_dos8.ensures.world
           ∙ below_rom c.loop-i.m.world.dos at byte (omega (arith, c.loop-i-test.true, c.requires.room))
           ∙ ap (λ (dos : List ℕ). set dos at byte) c.loop-i.invariant.dos
-          ∙ ap (λ (v : ℕ). set (put c.args.m.now.world.dos IMAGE_START (listed c.loop-i.i (λ k. get_or file (c.args.from + k) 0))) at v) c.byte_of-byte.ensures
+          ∙ ap (λ (v : ℕ). set (put c.args.m.now.world.dos IMAGE_START (listed c.loop-i.i (λ k. get_or file (c.args.from + k) 0))) at v)
+          c.byte_of-byte.ensures
           ∙ sym (put_more c.args.m.now.world.dos IMAGE_START c.loop-i.i (λ k. get_or file (c.args.from + k) 0));
       kept = dos_only c.args.m.now.world c.loop-i.m.world c.set_dos8.new.self.world _ c.loop-i.invariant.kept c.set_dos8.ensures.world;
     }

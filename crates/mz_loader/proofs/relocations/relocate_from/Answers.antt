@@ -18,7 +18,8 @@ loop-i-preserved c =
     record {
       within = sym (some_beyond_next file c.args.limit c.args.at c.args.n i c.loop-i-test.true within) ∙ c.loop-i.invariant.within;
       dos = ap (λ (w : World). after_relocations file (c.args.at + 4 * (i + 1)) (c.args.n - (i + 1)) w.dos) c.relocate_word.ensures
-          ∙ ap (λ (target : ℕ). after_relocations file (c.args.at + 4 * (i + 1)) (c.args.n - (i + 1)) (after_relocation c.loop-i.m.world.dos target)) c.relocation_target-target.ensures.target
+          ∙ ap (λ (target : ℕ). after_relocations file (c.args.at + 4 * (i + 1)) (c.args.n - (i + 1))
+          (after_relocation c.loop-i.m.world.dos target)) c.relocation_target-target.ensures.target
           ∙ sym (all_relocated_next file c.args.at c.args.n i c.loop-i.m.world.dos c.loop-i-test.true)
           ∙ c.loop-i.invariant.dos;
       kept = dos_only c.args.m.now.world c.loop-i.m.world c.relocate_word.new.m.world _ c.loop-i.invariant.kept c.relocate_word.ensures;
@@ -26,5 +27,6 @@ loop-i-preserved c =
 
 pub returns : goal.returns
 returns c =
-    let made = sym (all_relocated_end c.args.file.now c.args.at c.args.n c.loop-i.i c.loop-i.m.world.dos c.loop-i-test.false) ∙ c.loop-i.invariant.dos in
+    let made = sym (all_relocated_end c.args.file.now c.args.at c.args.n c.loop-i.i c.loop-i.m.world.dos c.loop-i-test.false)
+    ∙ c.loop-i.invariant.dos in
     c.loop-i.invariant.kept ∙ ap (λ (dos : List ℕ). record c.args.m.now.world { dos = dos }) made

@@ -37,12 +37,14 @@ end_run-requires-2 g c none =
 
 pub returns-clause-end_a : goal.returns-clause-end_a
 returns-clause-end_a g c =
-    run_ends g.T.Turns.turn g.T.Turns.closed g.T.Turns.exit_of c.args.bound (g.T.Turns.world c.args.a.now) (g.T.Turns.world c.run_slices.new.a) _
+    run_ends g.T.Turns.turn g.T.Turns.closed g.T.Turns.exit_of c.args.bound (g.T.Turns.world c.args.a.now)
+    (g.T.Turns.world c.run_slices.new.a) _
     c.in_ok-run_slices.ensures.ran_a c.end_run.ensures
 
 pub returns-clause-end_b : goal.returns-clause-end_b
 returns-clause-end_b g c =
-    run_ends g.T.Turns.turn g.T.Turns.closed g.T.Turns.exit_of c.args.bound (g.T.Turns.world c.args.b.now) (g.T.Turns.world c.run_slices.new.b) _
+    run_ends g.T.Turns.turn g.T.Turns.closed g.T.Turns.exit_of c.args.bound (g.T.Turns.world c.args.b.now)
+    (g.T.Turns.world c.run_slices.new.b) _
     c.in_ok-run_slices.ensures.ran_b c.end_run-2.ensures
 
 pub returns-clause-exits : goal.returns-clause-exits

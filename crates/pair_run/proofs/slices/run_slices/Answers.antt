@@ -3,7 +3,8 @@ use Rattle.pair_run.specs.declared.lines.Letter.TheVariants.{A, B}
 use Rattle.pair_run.specs.Run.{turns_of}
 use Rattle.pair_run.specs.Slices.{own_run}
 use Rattle.pair_run.proofs.OwnRuns.{client_of, over, room, turns_none}
-use Rattle.pair_run.proofs.PairTexts.{Made, a_failed, b_failed, line_failed, line_gained, next_begins, pair_more, pair_none, pair_whole, slice_ends, when_err}
+use Rattle.pair_run.proofs.PairTexts.{Made, a_failed, b_failed, line_failed, line_gained, next_begins, pair_more, pair_none, pair_whole}
+use Rattle.pair_run.proofs.PairTexts.{slice_ends, when_err}
 use Rattle.pair_run.proofs.slices.run_slices.Goals as goal
 use Rattle.pair_run.proofs.slices.run_slices.Goals.{then-a_ended, else-a_ended}
 
@@ -17,7 +18,8 @@ loop-done-init g c =
       b = sym (turns_none g.T.Turns.turn (g.T.Turns.world c.args.b.now));
       a_ended = λ e. cc;
       b_ended = λ e. cc;
-      text = pair_none c.args.slice (run (g.T.Turns.world c.args.a.now)) (run (g.T.Turns.world c.args.b.now)) (g.O.Sink.taken c.args.out.now);
+      text = pair_none c.args.slice (run (g.T.Turns.world c.args.a.now)) (run (g.T.Turns.world c.args.b.now))
+          (g.O.Sink.taken c.args.out.now);
       quiet = refl;
     }
 
@@ -77,7 +79,8 @@ returns-in_err-b_ended-clause-some_b g c =
     when_err c.from_residual-in_err-b_ended.result (
       c.loop-done.done + c.min-turns.result,
       omega (arith, c.min-turns.ensures),
-      slice_ends g.T.Turns.turn (g.T.Turns.world c.args.b.now) (g.T.Turns.world c.loop-done.b) (g.T.Turns.world c.make_slice-in-loop-done.new.client)
+      slice_ends g.T.Turns.turn (g.T.Turns.world c.args.b.now) (g.T.Turns.world c.loop-done.b)
+          (g.T.Turns.world c.make_slice-in-loop-done.new.client)
           c.loop-done.done c.min-turns.result c.loop-done.invariant.b c.in_err-b_ended.ensures.world,
     )
 
@@ -85,16 +88,19 @@ pub returns-in_err-b_ended-clause-part : goal.returns-in_err-b_ended-clause-part
 returns-in_err-b_ended-clause-part g c =
     let ends = next_begins c.args.slice c.args.bound c.loop-done.number c.loop-done.done c.min-turns.result
     c.loop-done.invariant.begins c.loop-done-test.true c.min-turns.ensures in
-    let made_a : Made g.T.Turns.turn (g.T.Turns.world c.args.a.now) (g.T.Turns.world c.loop-done.a) (g.T.Turns.world c.make_slice.new.client)
+    let made_a : Made g.T.Turns.turn (g.T.Turns.world c.args.a.now) (g.T.Turns.world c.loop-done.a)
+    (g.T.Turns.world c.make_slice.new.client)
     c.args.slice c.args.bound c.loop-done.number c.loop-done.done c.min-turns.result =
     record { begins = c.loop-done.invariant.begins; ends = ends; was = c.loop-done.invariant.a; is = c.in_ok-a_ended.ensures.world } in
-    let made_b : Made g.T.Turns.turn (g.T.Turns.world c.args.b.now) (g.T.Turns.world c.loop-done.b) (g.T.Turns.world c.make_slice-in-loop-done.new.client)
+    let made_b : Made g.T.Turns.turn (g.T.Turns.world c.args.b.now) (g.T.Turns.world c.loop-done.b)
+    (g.T.Turns.world c.make_slice-in-loop-done.new.client)
     c.args.slice c.args.bound c.loop-done.number c.loop-done.done c.min-turns.result =
     record { begins = c.loop-done.invariant.begins; ends = ends; was = c.loop-done.invariant.b; is = c.in_err-b_ended.ensures.world } in
     when_err c.from_residual-in_err-b_ended.result
     (b_failed (client_of g.met.T.Turns.ended_stays g.met.T.Turns.turn_is_counted g.met.T.Turns.console_extends)
     (g.T.Turns.world c.args.a.now) (g.T.Turns.world c.args.b.now) c.args.slice c.args.bound c.loop-done.number
-    (g.O.Sink.taken c.args.out.now) (g.O.Sink.taken c.loop-done.out) (g.O.Sink.taken c.make_slice.new.out) (g.O.Sink.taken c.make_slice-in-loop-done.new.out)
+    (g.O.Sink.taken c.args.out.now) (g.O.Sink.taken c.loop-done.out) (g.O.Sink.taken c.make_slice.new.out)
+    (g.O.Sink.taken c.make_slice-in-loop-done.new.out)
     c.requires.some_turns c.requires.first_a.no_steps c.requires.first_b.no_steps c.loop-done.invariant.text
     (line_gained g.T.Turns.console_of g.T.Turns.steps_of A _ _ made_a c.in_ok-a_ended.ensures.whole)
     (line_failed g.T.Turns.console_of g.T.Turns.steps_of B _ _ made_b c.in_err-b_ended.ensures.part))
@@ -104,10 +110,12 @@ loop-done-preserved g c =
     let run = own_run g.T.Turns.turn g.T.Turns.console_of g.T.Turns.steps_of c.args.bound in
     let ends = next_begins c.args.slice c.args.bound c.loop-done.number c.loop-done.done c.min-turns.result
     c.loop-done.invariant.begins c.loop-done-test.true c.min-turns.ensures in
-    let made_a : Made g.T.Turns.turn (g.T.Turns.world c.args.a.now) (g.T.Turns.world c.loop-done.a) (g.T.Turns.world c.make_slice.new.client)
+    let made_a : Made g.T.Turns.turn (g.T.Turns.world c.args.a.now) (g.T.Turns.world c.loop-done.a)
+    (g.T.Turns.world c.make_slice.new.client)
     c.args.slice c.args.bound c.loop-done.number c.loop-done.done c.min-turns.result =
     record { begins = c.loop-done.invariant.begins; ends = ends; was = c.loop-done.invariant.a; is = c.in_ok-a_ended.ensures.world } in
-    let made_b : Made g.T.Turns.turn (g.T.Turns.world c.args.b.now) (g.T.Turns.world c.loop-done.b) (g.T.Turns.world c.make_slice-in-loop-done.new.client)
+    let made_b : Made g.T.Turns.turn (g.T.Turns.world c.args.b.now) (g.T.Turns.world c.loop-done.b)
+    (g.T.Turns.world c.make_slice-in-loop-done.new.client)
     c.args.slice c.args.bound c.loop-done.number c.loop-done.done c.min-turns.result =
     record { begins = c.loop-done.invariant.begins; ends = ends; was = c.loop-done.invariant.b; is = c.in_ok-b_ended.ensures.world } in
     record {
@@ -115,7 +123,8 @@ loop-done-preserved g c =
       few = omega (arith, c.min-turns.ensures);
       a = slice_ends g.T.Turns.turn (g.T.Turns.world c.args.a.now) (g.T.Turns.world c.loop-done.a) (g.T.Turns.world c.make_slice.new.client)
           c.loop-done.done c.min-turns.result c.loop-done.invariant.a c.in_ok-a_ended.ensures.world;
-      b = slice_ends g.T.Turns.turn (g.T.Turns.world c.args.b.now) (g.T.Turns.world c.loop-done.b) (g.T.Turns.world c.make_slice-in-loop-done.new.client)
+      b = slice_ends g.T.Turns.turn (g.T.Turns.world c.args.b.now) (g.T.Turns.world c.loop-done.b)
+          (g.T.Turns.world c.make_slice-in-loop-done.new.client)
           c.loop-done.done c.min-turns.result c.loop-done.invariant.b c.in_ok-b_ended.ensures.world;
       a_ended = λ ended. elim c.if-a_ended.branch [
         | then-a_ended w ↦ (let is = w.if-a_ended.true in cc c.in_ok-a_ended.ensures.ended)
@@ -126,7 +135,8 @@ loop-done-preserved g c =
         | else-a_ended w ↦ (let is = w.ended-is in cc)
       ];
       text = pair_more c.args.slice (run (g.T.Turns.world c.args.a.now)) (run (g.T.Turns.world c.args.b.now)) c.loop-done.number
-          (g.O.Sink.taken c.args.out.now) (g.O.Sink.taken c.loop-done.out) (g.O.Sink.taken c.make_slice.new.out) (g.O.Sink.taken c.make_slice-in-loop-done.new.out)
+          (g.O.Sink.taken c.args.out.now) (g.O.Sink.taken c.loop-done.out) (g.O.Sink.taken c.make_slice.new.out)
+          (g.O.Sink.taken c.make_slice-in-loop-done.new.out)
           c.loop-done.invariant.text
           (line_gained g.T.Turns.console_of g.T.Turns.steps_of A _ _ made_a c.in_ok-a_ended.ensures.whole)
           (line_gained g.T.Turns.console_of g.T.Turns.steps_of B _ _ made_b c.in_ok-b_ended.ensures.whole);
@@ -152,12 +162,16 @@ returns-else-not-ended-clause-ran_b g c =
 pub returns-else-not-ended-clause-whole : goal.returns-else-not-ended-clause-whole
 returns-else-not-ended-clause-whole g c =
     let client = client_of g.met.T.Turns.ended_stays g.met.T.Turns.turn_is_counted g.met.T.Turns.console_extends in
-    let a_over = over client (g.T.Turns.world c.args.a.now) (g.T.Turns.world c.loop-done.a) c.loop-done.done c.args.bound c.loop-done.invariant.a
+    let a_over =
+    over client (g.T.Turns.world c.args.a.now) (g.T.Turns.world c.loop-done.a) c.loop-done.done c.args.bound c.loop-done.invariant.a
     (omega arith) (c.loop-done.invariant.a_ended c.if-not-ended.false) in
-    let b_over = over client (g.T.Turns.world c.args.b.now) (g.T.Turns.world c.loop-done.b) c.loop-done.done c.args.bound c.loop-done.invariant.b
+    let b_over =
+    over client (g.T.Turns.world c.args.b.now) (g.T.Turns.world c.loop-done.b) c.loop-done.done c.args.bound c.loop-done.invariant.b
     (omega arith) (c.loop-done.invariant.b_ended c.if-not-ended.false) in
-    pair_whole client (g.T.Turns.world c.args.a.now) (g.T.Turns.world c.args.b.now) c.args.slice c.args.bound c.loop-done.number c.loop-done.done
-    (g.O.Sink.taken c.args.out.now) (g.O.Sink.taken c.loop-done.out) c.requires.some_turns c.requires.first_a.no_steps c.requires.first_b.no_steps
+    pair_whole client (g.T.Turns.world c.args.a.now) (g.T.Turns.world c.args.b.now) c.args.slice c.args.bound c.loop-done.number
+    c.loop-done.done
+    (g.O.Sink.taken c.args.out.now) (g.O.Sink.taken c.loop-done.out) c.requires.some_turns c.requires.first_a.no_steps
+    c.requires.first_b.no_steps
     c.loop-done.invariant.begins a_over b_over c.loop-done.invariant.text
 
 -- both have made all of their turns
@@ -167,7 +181,8 @@ returns-after-loop-done-clause-whole g c =
     let all : c.args.bound ≡ c.loop-done.done = omega (arith, c.loop-done.invariant.begins, c.loop-done-test.false) in
     pair_whole (client_of g.met.T.Turns.ended_stays g.met.T.Turns.turn_is_counted g.met.T.Turns.console_extends)
     (g.T.Turns.world c.args.a.now) (g.T.Turns.world c.args.b.now) c.args.slice c.args.bound c.loop-done.number c.loop-done.done
-    (g.O.Sink.taken c.args.out.now) (g.O.Sink.taken c.loop-done.out) c.requires.some_turns c.requires.first_a.no_steps c.requires.first_b.no_steps
+    (g.O.Sink.taken c.args.out.now) (g.O.Sink.taken c.loop-done.out) c.requires.some_turns c.requires.first_a.no_steps
+    c.requires.first_b.no_steps
     c.loop-done.invariant.begins
     (ap (λ n. turns_of g.T.Turns.turn n (g.T.Turns.world c.args.a.now)) all)
     (ap (λ n. turns_of g.T.Turns.turn n (g.T.Turns.world c.args.b.now)) all)

@@ -10,5 +10,6 @@ loop-k-preserved c =
     record {
       room = omega (arith, c.push.ensures.len);
       readable = readable_more w c.loop-k.k c.args.n _ inside read.0 c.loop-k.invariant.readable;
-      words = words_more w c.loop-k.k c.args.n _ c.loop-k.words.items c.push.new.self.items _ inside read.1 c.push.ensures.items c.loop-k.invariant.words;
+      words = words_more w c.loop-k.k c.args.n _ c.loop-k.words.items c.push.new.self.items _ inside read.1 c.push.ensures.items
+          c.loop-k.invariant.words;
     }

@@ -8,7 +8,8 @@ use Rattle.dpmi_io.proofs.memory_shelf.MemShelf.add.Goals as goal
 
 -- the shelf as it is stored, but for its files
 abbrev with_files : Inside → FileMap → MemShelfState
-with_files s files = record { files = files; current = option_map open_at s.current; blamed = option_map string_bytes s.blamed; plan = s.plan }
+with_files s files =
+    record { files = files; current = option_map open_at s.current; blamed = option_map string_bytes s.blamed; plan = s.plan }
 
 pub returns-clause-ok : goal.returns-clause-ok
 returns-clause-ok c =

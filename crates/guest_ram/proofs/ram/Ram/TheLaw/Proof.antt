@@ -21,10 +21,13 @@ use mir.Syntax.{ty_array}
 use mir.Raw.{raw as bare}
 
 pub shares : statement
-shares = of_Lends C.struct (C.the_codes (GC.the_row).coded) C.the_heap C.the_lent (λ d p. lent_at_shr_laws (Array u8 (4096 * d.frames)) (Array-row_laws u8 (uint_row_laws w8) (4096 * d.frames)) d.block d.bytes)
+shares = of_Lends C.struct (C.the_codes (GC.the_row).coded) C.the_heap C.the_lent
+    (λ d p. lent_at_shr_laws (Array u8 (4096 * d.frames)) (Array-row_laws u8 (uint_row_laws w8) (4096 * d.frames)) d.block d.bytes)
     (copy_shared RawPtr-field RawPtr-copy, (copy_shared u32-field u32-copy, (G.the_field_shared, tt)))
     (λ M 𝓤 𝓛 d p.
     let l = (C.the_row).lives in
     let n = 4096 * d.frames in
-    Lends-first 𝓛 (lies_at (Array u8 n) full_share d.block d.bytes) (ghosts.dealloc_token d.alloc (bare (ty_array (lone (u8).mir) n)) d.block) (lent_at (Array u8 n) d.block d.bytes) l
-    (Lends-lies 𝓛 (Array u8 n) l d.block d.bytes (Shares-Array 𝓛 u8 tt n l (Shares-less 𝓛 u8 (u8).lives l (λ a m. m) ((copy_shared u8-field u8-copy).shares M 𝓤 𝓛)) d.bytes)))
+    Lends-first 𝓛 (lies_at (Array u8 n) full_share d.block d.bytes)
+    (ghosts.dealloc_token d.alloc (bare (ty_array (lone (u8).mir) n)) d.block) (lent_at (Array u8 n) d.block d.bytes) l
+    (Lends-lies 𝓛 (Array u8 n) l d.block d.bytes
+    (Shares-Array 𝓛 u8 tt n l (Shares-less 𝓛 u8 (u8).lives l (λ a m. m) ((copy_shared u8-field u8-copy).shares M 𝓤 𝓛)) d.bytes)))

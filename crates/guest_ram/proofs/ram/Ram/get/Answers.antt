@@ -6,7 +6,8 @@ use Rattle.guest_ram.proofs.RunLaws.{no_bytes, region_more}
 use Rattle.guest_ram.proofs.ram.Ram.get.Goals as goal
 
 -- one more byte of the run
-taken : (b run : List ℕ) (at i v : ℕ) → take i run ≡ region b at i → v ≡ get_or b (at + i) 0 → i < length run → at + i < length b → take (i + 1) (set run i v) ≡ region b at (i + 1)
+taken : (b run : List ℕ) (at i v : ℕ) → take i run ≡ region b at i → v ≡ get_or b (at + i) 0 → i < length run → at + i < length b →
+    take (i + 1) (set run i v) ≡ region b at (i + 1)
 taken b run at i v e r within room =
     ap (λ (k : ℕ). take k (set run i v)) (add-one i) ∙ take-suc-set run i v within
     ∙ ap (λ (xs : List ℕ). xs ++ v ∷ []) e ∙ ap (λ (x : ℕ). region b at i ++ x ∷ []) r ∙ sym (region_more b at i room)
@@ -21,7 +22,8 @@ loop-i-init g c = (length-replicate g.row.N 0, sym (no_bytes c.args.self.now c.a
 pub loop-i-preserved : goal.loop-i-preserved
 loop-i-preserved g c = (
   length-set c.loop-i.run c.loop-i.i c.byte_at.result ∙ c.loop-i.invariant.0,
-  taken c.args.self.now c.loop-i.run c.args.at c.loop-i.i c.byte_at.result c.loop-i.invariant.1 c.byte_at.ensures (omega (arith, c.loop-i.invariant.0)) (omega arith),
+  taken c.args.self.now c.loop-i.run c.args.at c.loop-i.i c.byte_at.result c.loop-i.invariant.1 c.byte_at.ensures
+      (omega (arith, c.loop-i.invariant.0)) (omega arith),
 )
 
 pub returns : goal.returns

@@ -1,5 +1,11 @@
 -- `set16` writes two bytes through one pointer, least byte first.
-use Rattle.guest_ram.proofs.Steps.{◌≡◌, ℕ, List, [], ◌∷◌, refl, sym, ap, ◌∙◌, w8, proved, lit<, full_share, id⊢, ftrue, fat, flft, named, vunit, vint, fact, tables, ‵, raw, ◌⊛◌, at_ret, ◌$◌, ◌∵◌, !, qed, done, move, keep, use1, use2, split, join, fsplit, fsplit3, fjoin, fpick, fpack, feq_i, rewrite, suffices, frame, group, enter, of_opd, un, bin, unit_lit, lit, load, store, stop, fld, assigns, assigns_last, first, blocks, exec, returns, alloc_all, pass_all, free_all, look_at, get, through, sets, env, u8, yes, shows, uint_vals, uint_Tells, Ptr, lies_at, in_a_block, MutRef, mut_vals, mut_Tells, plain, nothing, opens, closes, heard, peeks, Stays, walk_of, stay_ref, stay_dropped, Goes-ref, Goes-dropped, ends_at}
+use Rattle.guest_ram.proofs.Steps.{◌≡◌, ℕ, List, [], ◌∷◌, refl, sym, ap, ◌∙◌, w8, proved, lit<, full_share, id⊢, ftrue, fat, flft, named}
+use Rattle.guest_ram.proofs.Steps.{vunit, vint, fact, tables, ‵, raw, ◌⊛◌, at_ret, ◌$◌, ◌∵◌, !, qed, done, move, keep, use1, use2, split}
+use Rattle.guest_ram.proofs.Steps.{join, fsplit, fsplit3, fjoin, fpick, fpack, feq_i, rewrite, suffices, frame, group, enter, of_opd, un}
+use Rattle.guest_ram.proofs.Steps.{bin, unit_lit, lit, load, store, stop, fld, assigns, assigns_last, first, blocks, exec, returns}
+use Rattle.guest_ram.proofs.Steps.{alloc_all, pass_all, free_all, look_at, get, through, sets, env, u8, yes, shows, uint_vals, uint_Tells}
+use Rattle.guest_ram.proofs.Steps.{Ptr, lies_at, in_a_block, MutRef, mut_vals, mut_Tells, plain, nothing, opens, closes, heard, peeks}
+use Rattle.guest_ram.proofs.Steps.{Stays, walk_of, stay_ref, stay_dropped, Goes-ref, Goes-dropped, ends_at}
 use Rattle.std.proofs.Common.{subst, length, get_or, set, length-set, ◌<◌, ◌+◌, ◌*◌, ◌^◌, ◌/◌, ◌%◌, w16, w32, arith}
 use mir.Syntax.{ty_int}
 use mir.Val.{Val}
@@ -26,25 +32,34 @@ stayed = (stay_ref (0 ∷ []) tt (plain (λ _. R)), (stay_dropped (plain (λ _. 
 pub set16_spec : {M : Type 1} → statement M
 set16_spec 𝓤 𝓛 𝓜 𝓡 wired =
     let c = f.clauses 𝓛 𝓜.mem 𝓡.returns in let W = walk_of 𝓛 f.ended stayed c in let 𝓣 = tables 𝓤 𝓛.H 𝓜 𝓡 𝓡.env in
-    proved 𝓛 f.ended stayed c 𝓜 𝓡 (Goes-ref 𝓛 1 0 tt (plain (λ _. R)), (Goes-dropped 𝓛 1 (plain (λ _. u32)) yes (λ κs x w. refl), (Goes-dropped 𝓛 1 (plain (λ _. u16)) yes (λ κs x w. refl), tt)))
+    proved 𝓛 f.ended stayed c 𝓜 𝓡 (
+      Goes-ref 𝓛 1 0 tt (plain (λ _. R)),
+      (Goes-dropped 𝓛 1 (plain (λ _. u32)) yes (λ κs x w. refl), (Goes-dropped 𝓛 1 (plain (λ _. u16)) yes (λ κs x w. refl), tt)),
+    )
     f.Key.name code.function (code.unfolded 𝓤 𝓛.H 𝓜 𝓡 wired)
-    (λ κs. (mut_vals, (uint_vals w32, (uint_vals w16, tt)))) (λ κs. (mut_Tells (named 0) κs.0 R, (uint_Tells w32, (uint_Tells w16, tt)))) (λ κs qs bounds a _ are.
-    let b = a.0.ref_ptr.0 in let o = a.0.ref_ptr.1 in let h : List ℕ = a.0.now in let i : ℕ = a.1.0 in let v : ℕ = a.1.1.0 in let vs = mut_vals a.0 in
+    (λ κs. (mut_vals, (uint_vals w32, (uint_vals w16, tt)))) (λ κs. (mut_Tells (named 0) κs.0 R, (uint_Tells w32, (uint_Tells w16, tt))))
+    (λ κs qs bounds a _ are.
+    let b = a.0.ref_ptr.0 in let o = a.0.ref_ptr.1 in let h : List ℕ = a.0.now in let i : ℕ = a.1.0 in let v : ℕ = a.1.1.0 in
+    let vs = mut_vals a.0 in
     let y : W.Ghost = ((κs, qs, bounds, a, (vs, (uint_vals w32 i, (uint_vals w16 v, tt)))), tt) in
-    qed 𝓛 (((‵ (flft κs.0 qs.0) ⊛ ‵ ftrue) ⊛ ‵ ((MutRef (named 0) κs.0 R).own_val a.0 vs) ⊛ ‵ ((u32).own_val i (uint_vals w32 i)) ⊛ ‵ ((u16).own_val v (uint_vals w16 v)) ⊛ ‵ ftrue) ∷ raw (fact 𝓤 (i + 1 < length h)) ∷ []) ∵
+    qed 𝓛 (((‵ (flft κs.0 qs.0) ⊛ ‵ ftrue) ⊛ ‵ ((MutRef (named 0) κs.0 R).own_val a.0 vs) ⊛ ‵ ((u32).own_val i (uint_vals w32 i))
+    ⊛ ‵ ((u16).own_val v (uint_vals w16 v)) ⊛ ‵ ftrue) ∷ raw (fact 𝓤 (i + 1 < length h)) ∷ []) ∵
     split ! $ split ! $ move ! (3 ∷ []) $ heard ! _ (λ inside. move ! (2 ∷ []) $ split ! $ keep ! (0 ∷ 2 ∷ []) $
-    enter ! _ _ _ _ _ $ alloc_all ! (λ l. pass_all ! refl ((tt, tt), ((tt, record { fits = are.1.0.1 }), ((tt, record { fits = are.1.1.0.1 }), tt))) $
+    enter ! _ _ _ _ _ $
+    alloc_all ! (λ l. pass_all ! refl ((tt, tt), ((tt, record { fits = are.1.0.1 }), ((tt, record { fits = are.1.1.0.1 }), tt))) $
     fsplit3 ! $ move ! (1 ∷ 2 ∷ 3 ∷ []) $ opens ! tt R b o (λ us.
     move ! (1 ∷ []) $ fpick ! (λ x. fsplit ! $ peeks ! F _ (shows 𝓛 F) x.0 us (λ is. fsplit ! $ move ! (1 ∷ []) $ fsplit ! $
     let xs : List ℕ = x.0.bytes in let n = 4096 * x.0.frames in
     let room : i + 1 < length xs = subst (λ (k : List ℕ). i + 1 < length k) (sym x.1.0) inside in let low : i < length xs = omega arith in
     in_a_block ! x.0.block (λ p. lies_at (Array u8 n) full_share p xs) (id⊢ 𝓤 _) (λ b' o' e.
-    use1 𝓛 (‵ (fat full_share (ty_int w8) b' (i + o') (vint w8 (get_or xs i 0))) ⊛ ‵ (rest 𝓛 n xs b' o' i)) (byte_out 𝓛 n xs b' o' i x.0.long low) $ split ! $
+    use1 𝓛 (‵ (fat full_share (ty_int w8) b' (i + o') (vint w8 (get_or xs i 0))) ⊛ ‵ (rest 𝓛 n xs b' o' i))
+    (byte_out 𝓛 n xs b' o' i x.0.long low) $ split ! $
     let word = lowers.val_is x.0 us is ∙ ap (λ (p : Ptr). lowers.lowered (record x.0 { block = p }) ∷ []) e in
     let Cell = λ (ws : List Val). ‵ (cell_at full_share (F).mir ws b o) in
     rewrite ! 5 Cell word refl $
     -- [the byte; the others; the token; what the fields own; nothing; the struct's cell; the open borrow, in three entries]
-    let fv : v < 2 ^ 16 = are.1.1.0.1 in let lo = v % 256 in let hi = v / 256 in let flo : lo < 2 ^ 8 = omega arith in let fhi : hi < 2 ^ 8 = omega arith in let flo' : lo < 2 ^ 16 = omega arith in let fhi' : hi < 2 ^ 16 = omega arith in
+    let fv : v < 2 ^ 16 = are.1.1.0.1 in let lo = v % 256 in let hi = v / 256 in let flo : lo < 2 ^ 8 = omega arith in
+    let fhi : hi < 2 ^ 8 = omega arith in let flo' : lo < 2 ^ 16 = omega arith in let fhi' : hi < 2 ^ 16 = omega arith in
     sets ! (bin ! (get ! refl) (lit ! tt) (lit< tt)) refl (tt, record { fits = flo' }) $
     sets ! (un ! (get ! refl) (record { fits = flo })) refl (tt, record { fits = flo }) $
     sets ! (bin ! (get ! refl) (lit ! tt) (lit< tt)) refl (tt, record { fits = fhi' }) $
@@ -56,9 +71,11 @@ set16_spec 𝓤 𝓛 𝓜 𝓡 wired =
     sets ! (bin ! (get ! refl) (get ! refl) tt) refl (tt, tt) $
     assigns ! (of_opd ! (get ! refl)) (through ! refl (stop !)) (store ! 0 refl (tt, record { fits = flo })) $
     sets ! (bin ! (get ! refl) (lit ! tt) tt) refl (tt, tt) $
-    let x1 : List ℕ = set xs i lo in let long1 : length x1 ≡ n = length-set xs i lo ∙ x.0.long in let low1 : i + 1 < length x1 = subst (λ (k : ℕ). i + 1 < k) (sym (length-set xs i lo)) (omega arith) in
+    let x1 : List ℕ = set xs i lo in let long1 : length x1 ≡ n = length-set xs i lo ∙ x.0.long in let low1 : i + 1 < length x1 =
+    subst (λ (k : ℕ). i + 1 < k) (sym (length-set xs i lo)) (omega arith) in
     use2 𝓛 (‵ (part_at (Array u8 n) full_share x1 b' o')) (byte_in 𝓛 n xs b' o' i lo x.0.long low) $
-    use1 𝓛 (‵ (fat full_share (ty_int w8) b' (i + 1 + o') (vint w8 (get_or x1 (i + 1) 0))) ⊛ ‵ (rest 𝓛 n x1 b' o' (i + 1))) (byte_out 𝓛 n x1 b' o' (i + 1) long1 low1) $ split ! $
+    use1 𝓛 (‵ (fat full_share (ty_int w8) b' (i + 1 + o') (vint w8 (get_or x1 (i + 1) 0))) ⊛ ‵ (rest 𝓛 n x1 b' o' (i + 1)))
+    (byte_out 𝓛 n x1 b' o' (i + 1) long1 low1) $ split ! $
     let there : i + 1 + o' ≡ 1 + (i + o') = omega arith in
     rewrite ! 0 (λ (k : ℕ). ‵ (fat full_share (ty_int w8) b' k (vint w8 (get_or x1 (i + 1) 0)))) there refl $
     assigns_last ! (of_opd ! (get ! refl)) (through ! refl (stop !)) (store ! 0 refl (tt, record { fits = fhi })) $
@@ -71,11 +88,13 @@ set16_spec 𝓤 𝓛 𝓜 𝓡 wired =
     use2 𝓛 (‵ (part_at (Array u8 n) full_share ys b' o')) (byte_in 𝓛 n x1 b' o' (i + 1) hi long1 low1) $
     rewrite ! 0 (λ (p : Ptr). ‵ (lies_at (Array u8 n) full_share p ys)) (sym e) refl $ rewrite ! 4 Cell (sym word) refl $
     fjoin ! $ move ! (1 ∷ []) $ fjoin ! $ fjoin ! $
-    fpack ! (Held new) (λ z. fsep ((F).own_val z.0 us) ftrue) (x', held_set (set h i lo) (with_byte x.0 i lo flo) (i + 1) hi (held_set h x.0 i lo x.1)) $
+    fpack ! (Held new) (λ z. fsep ((F).own_val z.0 us) ftrue)
+    (x', held_set (set h i lo) (with_byte x.0 i lo flo) (i + 1) hi (held_set h x.0 i lo x.1)) $
     move ! (1 ∷ []) $ closes ! tt R new us b o $
     -- [two parts of self; the token; self's first part]
     returns ! (look_at ! 0 refl) $ free_all ! refl $ move ! (3 ∷ []) $
-    suffices ! _ (ends_at 𝓛 f.ended stayed c y vunit tt (new, (tt, (tt, tt))) (tt, (tt, (tt, tt)))) $ says2 ! refl (length-set (set h i lo) (i + 1) hi ∙ length-set h i lo) $
+    suffices ! _ (ends_at 𝓛 f.ended stayed c y vunit tt (new, (tt, (tt, tt))) (tt, (tt, (tt, tt)))) $
+    says2 ! refl (length-set (set h i lo) (i + 1) hi ∙ length-set h i lo) $
     group ! 3 $ nothing ! $ nothing ! $ join ! $ nothing ! $ join ! $ move ! (1 ∷ 0 ∷ []) $ join ! $
     nothing ! $ move ! (2 ∷ 0 ∷ []) $ join ! $ frame ! $ frame ! $
     feq_i ! _ (vunit ∷ []) _ refl $ done !)))))))

@@ -1,5 +1,11 @@
 -- `set8` takes the cell of one byte out of the block, writes it and puts it back.
-use Rattle.guest_ram.proofs.Steps.{ℕ, List, [], ◌∷◌, refl, sym, ap, ◌∙◌, w8, proved, full_share, id⊢, ftrue, fat, flft, named, vunit, vint, fact, tables, ‵, raw, ◌⊛◌, at_ret, ◌$◌, ◌∵◌, !, qed, done, move, keep, use1, use2, split, join, fsplit, fsplit3, fjoin, fpick, fpack, feq_i, rewrite, suffices, frame, group, enter, of_opd, un, bin, unit_lit, load, store, stop, fld, assigns_last, first, blocks, exec, returns, alloc_all, pass_all, free_all, look_at, get, through, sets, env, u8, yes, shows, uint_vals, uint_Tells, Ptr, lies_at, in_a_block, MutRef, mut_vals, mut_Tells, plain, nothing, opens, closes, heard, peeks, Stays, walk_of, stay_ref, stay_dropped, Goes-ref, Goes-dropped, ends_at}
+use Rattle.guest_ram.proofs.Steps.{ℕ, List, [], ◌∷◌, refl, sym, ap, ◌∙◌, w8, proved, full_share, id⊢, ftrue, fat, flft, named, vunit, vint}
+use Rattle.guest_ram.proofs.Steps.{fact, tables, ‵, raw, ◌⊛◌, at_ret, ◌$◌, ◌∵◌, !, qed, done, move, keep, use1, use2, split, join, fsplit}
+use Rattle.guest_ram.proofs.Steps.{fsplit3, fjoin, fpick, fpack, feq_i, rewrite, suffices, frame, group, enter, of_opd, un, bin, unit_lit}
+use Rattle.guest_ram.proofs.Steps.{load, store, stop, fld, assigns_last, first, blocks, exec, returns, alloc_all, pass_all, free_all}
+use Rattle.guest_ram.proofs.Steps.{look_at, get, through, sets, env, u8, yes, shows, uint_vals, uint_Tells, Ptr, lies_at, in_a_block}
+use Rattle.guest_ram.proofs.Steps.{MutRef, mut_vals, mut_Tells, plain, nothing, opens, closes, heard, peeks, Stays, walk_of, stay_ref}
+use Rattle.guest_ram.proofs.Steps.{stay_dropped, Goes-ref, Goes-dropped, ends_at}
 use Rattle.std.proofs.Common.{subst, length, get_or, set, length-set, ◌<◌, ◌+◌, ◌*◌, ◌^◌, w32, arith}
 use mir.Syntax.{ty_int}
 use mir.Val.{Val}
@@ -26,20 +32,28 @@ stayed = (stay_ref (0 ∷ []) tt (plain (λ _. R)), (stay_dropped (plain (λ _. 
 pub set8_spec : {M : Type 1} → statement M
 set8_spec 𝓤 𝓛 𝓜 𝓡 wired =
     let c = f.clauses 𝓛 𝓜.mem 𝓡.returns in let W = walk_of 𝓛 f.ended stayed c in let 𝓣 = tables 𝓤 𝓛.H 𝓜 𝓡 𝓡.env in
-    proved 𝓛 f.ended stayed c 𝓜 𝓡 (Goes-ref 𝓛 1 0 tt (plain (λ _. R)), (Goes-dropped 𝓛 1 (plain (λ _. u32)) yes (λ κs x w. refl), (Goes-dropped 𝓛 1 (plain (λ _. u8)) yes (λ κs x w. refl), tt)))
+    proved 𝓛 f.ended stayed c 𝓜 𝓡 (
+      Goes-ref 𝓛 1 0 tt (plain (λ _. R)),
+      (Goes-dropped 𝓛 1 (plain (λ _. u32)) yes (λ κs x w. refl), (Goes-dropped 𝓛 1 (plain (λ _. u8)) yes (λ κs x w. refl), tt)),
+    )
     f.Key.name code.function (code.unfolded 𝓤 𝓛.H 𝓜 𝓡 wired)
-    (λ κs. (mut_vals, (uint_vals w32, (uint_vals w8, tt)))) (λ κs. (mut_Tells (named 0) κs.0 R, (uint_Tells w32, (uint_Tells w8, tt)))) (λ κs qs bounds a _ are.
-    let b = a.0.ref_ptr.0 in let o = a.0.ref_ptr.1 in let h : List ℕ = a.0.now in let i : ℕ = a.1.0 in let v : ℕ = a.1.1.0 in let vs = mut_vals a.0 in
+    (λ κs. (mut_vals, (uint_vals w32, (uint_vals w8, tt)))) (λ κs. (mut_Tells (named 0) κs.0 R, (uint_Tells w32, (uint_Tells w8, tt))))
+    (λ κs qs bounds a _ are.
+    let b = a.0.ref_ptr.0 in let o = a.0.ref_ptr.1 in let h : List ℕ = a.0.now in let i : ℕ = a.1.0 in let v : ℕ = a.1.1.0 in
+    let vs = mut_vals a.0 in
     let y : W.Ghost = ((κs, qs, bounds, a, (vs, (uint_vals w32 i, (uint_vals w8 v, tt)))), tt) in
-    qed 𝓛 (((‵ (flft κs.0 qs.0) ⊛ ‵ ftrue) ⊛ ‵ ((MutRef (named 0) κs.0 R).own_val a.0 vs) ⊛ ‵ ((u32).own_val i (uint_vals w32 i)) ⊛ ‵ ((u8).own_val v (uint_vals w8 v)) ⊛ ‵ ftrue) ∷ raw (fact 𝓤 (i < length h)) ∷ []) ∵
+    qed 𝓛 (((‵ (flft κs.0 qs.0) ⊛ ‵ ftrue) ⊛ ‵ ((MutRef (named 0) κs.0 R).own_val a.0 vs) ⊛ ‵ ((u32).own_val i (uint_vals w32 i))
+    ⊛ ‵ ((u8).own_val v (uint_vals w8 v)) ⊛ ‵ ftrue) ∷ raw (fact 𝓤 (i < length h)) ∷ []) ∵
     split ! $ split ! $ move ! (3 ∷ []) $ heard ! _ (λ inside. move ! (2 ∷ []) $ split ! $ keep ! (0 ∷ 2 ∷ []) $
-    enter ! _ _ _ _ _ $ alloc_all ! (λ l. pass_all ! refl ((tt, tt), ((tt, record { fits = are.1.0.1 }), ((tt, record { fits = are.1.1.0.1 }), tt))) $
+    enter ! _ _ _ _ _ $
+    alloc_all ! (λ l. pass_all ! refl ((tt, tt), ((tt, record { fits = are.1.0.1 }), ((tt, record { fits = are.1.1.0.1 }), tt))) $
     fsplit3 ! $ move ! (1 ∷ 2 ∷ 3 ∷ []) $ opens ! tt R b o (λ us.
     move ! (1 ∷ []) $ fpick ! (λ x. fsplit ! $ peeks ! F _ (shows 𝓛 F) x.0 us (λ is. fsplit ! $ move ! (1 ∷ []) $ fsplit ! $
     let xs : List ℕ = x.0.bytes in let n = 4096 * x.0.frames in
     let low : i < length xs = subst (λ (k : List ℕ). i < length k) (sym x.1.0) inside in
     in_a_block ! x.0.block (λ p. lies_at (Array u8 n) full_share p xs) (id⊢ 𝓤 _) (λ b' o' e.
-    use1 𝓛 (‵ (fat full_share (ty_int w8) b' (i + o') (vint w8 (get_or xs i 0))) ⊛ ‵ (rest 𝓛 n xs b' o' i)) (byte_out 𝓛 n xs b' o' i x.0.long low) $ split ! $
+    use1 𝓛 (‵ (fat full_share (ty_int w8) b' (i + o') (vint w8 (get_or xs i 0))) ⊛ ‵ (rest 𝓛 n xs b' o' i))
+    (byte_out 𝓛 n xs b' o' i x.0.long low) $ split ! $
     let word = lowers.val_is x.0 us is ∙ ap (λ (p : Ptr). lowers.lowered (record x.0 { block = p }) ∷ []) e in
     let Cell = λ (ws : List Val). ‵ (cell_at full_share (F).mir ws b o) in
     rewrite ! 5 Cell word refl $

@@ -10,4 +10,5 @@ returns-then-self-big c = λ same.
     let e = c.args.self.now in
     let size : c.args.big ≡ e.big = grind (arith, common_steps) in
     ap (λ (big : Bool). decoded big (code_bytes c.args.words)) size
-    ∙ decoded_start e.big e.insn e.len (code_bytes e.words) (code_bytes c.args.words) (are_code_bytes e.words) (c.has_same_start.ensures same) e.decoded
+    ∙ decoded_start e.big e.insn e.len (code_bytes e.words) (code_bytes c.args.words) (are_code_bytes e.words)
+    (c.has_same_start.ensures same) e.decoded
