@@ -1,5 +1,5 @@
-/* A flat client of 32 bits: an MZ header of 32 bytes, and the image. A program is loaded at segment 0074h, so that with descriptors of base 0
-   its code is at its linear address, from 740h on. The stack of 16 KB is after the image and its zeros. */
+/* A flat client of 32 bits: an MZ header of 32 bytes, and the image. A program is loaded at segment 0074h, so that with descriptors of base
+   0 its code is at its linear address, from 740h on. The stack of 16 KB is after the image and its zeros. */
 OUTPUT_FORMAT("binary")
 ENTRY(start)
 size = 32 + image_end - image_start;

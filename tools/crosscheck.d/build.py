@@ -7,7 +7,9 @@ from pathlib import Path
 HERE = Path(__file__).resolve().parent
 START = HERE.parent.parent / "clients" / "c"
 C_FLAGS = ("-m32 -march=i386 -Os -ffreestanding -fno-pic -fno-pie -fno-stack-protector -fno-asynchronous-unwind-tables -mno-80387 "
-           "-nostdlib -fno-tree-loop-distribute-patterns -Wall -Werror").split()
+           "-nostdlib -fno-tree-loop-distribute-patterns -Wall -Werror "
+           # where Debian has the kernel's headers, which serve programs of 32 bits too
+           "-idirafter /usr/include/x86_64-linux-gnu").split()
 
 ENTER_WIDE, ENTER_NARROW = "mov     ax, 1 ", "xor     ax, ax"
 

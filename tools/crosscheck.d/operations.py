@@ -1,8 +1,8 @@
 """The instructions that both kinds of cases share.
 
 Each family is a function of a case, which chooses operands: `case.operand(width)` is a register or a place in memory, and
-`case.register(width)` a register. `case.set(register, number)` makes a register hold a number before the instruction. A family returns the text of one instruction
-in GNU's Intel syntax and the flags that the instruction leaves undefined.
+`case.register(width)` a register. `case.set(register, number)` makes a register hold a number before the instruction. A family returns the
+text of one instruction in GNU's Intel syntax and the flags that the instruction leaves undefined.
 """
 
 CF, PF, AF, ZF, SF, DF, OF = 0x001, 0x004, 0x010, 0x040, 0x080, 0x400, 0x800

@@ -1,9 +1,10 @@
 ;@ block-between-16 -DW=16
 ;@ block-between-32 -DW=32
 ; Three blocks of a page each, of which the middle one is locked, in a budget with room for all.
-; Expected: the middle one grows; it can't do so where it is, so it moves to the first run of free pages after the last one, where its own page would
-; count as held, and its lock moves with it. Then the first grows where it is, since the middle one's page is free. The last one, now between
-; the two, grows and moves; it shrinks where it is, and its former place goes to a new block. Each check that fails gives the exit code.
+; Expected: the middle one grows; it can't do so where it is, so it moves to the first run of free pages after the last one, where its own
+; page would count as held, and its lock moves with it. Then the first grows where it is, since the middle one's page is free. The last one,
+; now between the two, grows and moves; it shrinks where it is, and its former place goes to a new block. Each check that fails gives the
+; exit code.
 %include "refuse.inc"
 %macro REGION 2                 ; linear address, bytes: BX:CX and SI:DI
         mov bx, (%1) >> 16

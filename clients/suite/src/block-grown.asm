@@ -1,6 +1,6 @@
 ;@ block-grown
-; With a budget of 8 pages: two blocks of 4 pages each, at 00400000h and 00404000h. The first is freed; the second shrinks to one page and grows to
-; 8 where it is.
+; With a budget of 8 pages: two blocks of 4 pages each, at 00400000h and 00404000h. The first is freed; the second shrinks to one page and
+; grows to 8 where it is.
 ; Expected: 11223344h was written to its first page, which it kept: ESI. The second page was written too and given back, so it is 0 when it
 ; comes again: EDI; so is the eighth: EBP. One block is left: handle 2 at 00404000h with 8 pages. Words: --pages=8.
 %include "plain.inc"

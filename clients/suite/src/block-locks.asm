@@ -3,10 +3,10 @@
 ;@ block-locks-refused-16 -DW=16 -DCASE=2
 ;@ block-locks-refused-32 -DW=32 -DCASE=2
 ; Locks at the borders of two blocks that lie side by side: one of two pages at 00400000h and one of a page at 00402000h.
-; block-locks. Expected: two bytes at the border touch the last page of the one and the page of the other, and lock both. Half a page is locked as
-; the whole of it, and its neighbour isn't. 0 bytes lock nothing, and may be anywhere.
-; block-locks-refused. Expected: a range that wraps past FFFFFFFFh or ends a byte past the block, or past 10FFFFh, is refused with 8025h; and then
-; nothing of it is locked, so that an unlock is refused with 8021h.
+; block-locks. Expected: two bytes at the border touch the last page of the one and the page of the other, and lock both. Half a page is
+; locked as the whole of it, and its neighbour isn't. 0 bytes lock nothing, and may be anywhere.
+; block-locks-refused. Expected: a range that wraps past FFFFFFFFh or ends a byte past the block, or past 10FFFFh, is refused with 8025h;
+; and then nothing of it is locked, so that an unlock is refused with 8021h.
 %include "refuse.inc"
 %macro REGION 2                 ; linear address, bytes: BX:CX and SI:DI
         mov bx, (%1) >> 16

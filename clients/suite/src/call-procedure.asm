@@ -2,17 +2,18 @@
 ;@ call-segments -DCASE=2
 ;@ call-endless -DCASE=3
 ;@ switch-inside-call -DCASE=4
-; Function 0301h, and what the procedure of real mode does. IP and CS are at 2Ah and 2Ch of the structure, the flags at 20h, ES and DS at 22h and 24h.
+; Function 0301h, and what the procedure of real mode does. IP and CS are at 2Ah and 2Ch of the structure, the flags at 20h, ES and DS at
+; 22h and 24h.
 ; 1: it calls the entry to protected mode again: that is refused, with carry. Expected: `entry refused` before `leave 0 far`; the exit code
 ;    is the low byte of the flags in the structure, 3: carry and bit 1, which is always set.
-; 2: it changes every segment register and the stack. Expected: ES = 1234h and DS = 1233h in the structure, so that the exit code, the difference
-;    of their low bytes, is 1; enter 0 far, leave 0 far, and the client's own segment registers are as before.
+; 2: it changes every segment register and the stack. Expected: ES = 1234h and DS = 1233h in the structure, so that the exit code, the
+;    difference of their low bytes, is 1; enter 0 far, leave 0 far, and the client's own segment registers are as before.
 ; 3: it never returns. Expected: exit bound after 100 turns (words: --bound 100), enter 0 far alone, depth 1, mode real.
-; 4: it switches to protected mode and back, and returns: the call ends as without the switches. Before it returns it loads the seven general
-;    registers but ESP. Then the 25 words of the structure are compared with `wanted`: the registers and the flags as the procedure left
-;    them (0002h: all are clear, and virtual interrupts are disabled), ES, DS, FS and GS that the switch left (0), and the doubleword at 0Ch,
-;    IP, CS, SP and SS as they were. Expected: exit 0, or n where the nth word is another; enter 0 far, switch protected, switch real,
-;    leave 0 far; EBX = 1, EDX = 5Ah and EBP = FCh, the client's own registers, as the entry left them.
+; 4: it switches to protected mode and back, and returns: the call ends as without the switches. Before it returns it loads the seven
+;    general registers but ESP. Then the 25 words of the structure are compared with `wanted`: the registers and the flags as the procedure
+;    left them (0002h: all are clear, and virtual interrupts are disabled), ES, DS, FS and GS that the switch left (0), and the doubleword
+;    at 0Ch, IP, CS, SP and SS as they were. Expected: exit 0, or n where the nth word is another; enter 0 far, switch protected, switch
+;    real, leave 0 far; EBX = 1, EDX = 5Ah and EBP = FCh, the client's own registers, as the entry left them.
 %include "plain.inc"
 START
 ENTER

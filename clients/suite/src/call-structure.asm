@@ -4,8 +4,8 @@
 ;@ call-stack-wraps -DCASE=4
 ;@ call-stack-over-structure -DCASE=5
 ;@ call-stack-over-eax -DCASE=6
-; Function 0300h for INT 21h, AX = 3000h, which only answers, with structures and stacks of real mode at the ends of what may be used. The client
-; ends with 0 where the call is served and with FFh (255) where it is refused.
+; Function 0300h for INT 21h, AX = 3000h, which only answers, with structures and stacks of real mode at the ends of what may be used. The
+; client ends with 0 where the call is served and with FFh (255) where it is refused.
 ; Expected: 1, 3, 4, 5 and 6 are served: exit 0, with the lines enter 0 int 21 and leave 0 int 21. 2 is refused: exit 255, with neither.
 ; 6 has the procedure's stack inside the structure: the frame, at 0164h:001Ch, overwrites EAX and the flags. All values are read before the
 ; first write, so that the enter line shows what was there before: eax=00003000, fl=0002, and esp=0000001c. The frame is popped as it

@@ -2,18 +2,19 @@
 ;@ callback-freed-inside -DCASE=2
 ;@ callback-short-structure -DCASE=3
 ;@ callback-structures -DCASE=4
-; A handler of INT 60h in real mode far-calls a callback; the client calls INT 60h by function 0300h. The procedure resumes real mode after the far
-; call: it takes the return address from the real stack, DS:SI, into the structure at ES:DI (IP at 2Ah, CS at 2Ch, SP at 2Eh).
+; A handler of INT 60h in real mode far-calls a callback; the client calls INT 60h by function 0300h. The procedure resumes real mode after
+; the far call: it takes the return address from the real stack, DS:SI, into the structure at ES:DI (IP at 2Ah, CS at 2Ch, SP at 2Eh).
 ; 1: the procedure also prints C, by a call of its own. Expected: console `C`, exit 0, and in this order enter 0 int 60, enter 1 back 0,
 ;    enter 2 int 21, leave 2 int 21, leave 1 back 0, leave 0 int 60.
-; 2: it frees the callback that runs. Expected: it returns all the same; exit 0, enter 0 int 60, enter 1 back 0, leave 1 back 0, leave 0 int 60.
+; 2: it frees the callback that runs. Expected: it returns all the same; exit 0, enter 0 int 60, enter 1 back 0, leave 1 back 0, leave 0 int
+;    60.
 ; 3: the structure is in the last 32h bytes of a segment of 132h bytes; then the limit is made one byte less. Expected: the callback can't
 ;    start: exit loststructure, with the line enter 0 int 60 alone, depth 1.
-; 4: as 1, and each of the three structures holds the registers of its own level. The handler far-calls with EAX = A0A0A0A0h and EBX = A1A1A1A1h, which
-;    are what the callback's structure gets, and hands them back, since the procedure leaves them. After the far call the handler sets EAX =
-;    B0B0B0B0h and EBX = B1B1B1B1h, which are what its return writes to the structure of INT 60h. The procedure's own call has EAX = 0C0C0200h
-;    and EBX = C1C1C1C1h in its structure, and function 02h leaves them. Expected: exit 0, console `C`; EBX, ECX and EDX are the three EAX,
-;    b0b0b0b0 a0a0a0a0 0c0c0200; ESI, EDI and EBP the three EBX, b1b1b1b1 a1a1a1a1 c1c1c1c1.
+; 4: as 1, and each of the three structures holds the registers of its own level. The handler far-calls with EAX = A0A0A0A0h and EBX =
+;    A1A1A1A1h, which are what the callback's structure gets, and hands them back, since the procedure leaves them. After the far call the
+;    handler sets EAX = B0B0B0B0h and EBX = B1B1B1B1h, which are what its return writes to the structure of INT 60h. The procedure's own
+;    call has EAX = 0C0C0200h and EBX = C1C1C1C1h in its structure, and function 02h leaves them. Expected: exit 0, console `C`; EBX, ECX
+;    and EDX are the three EAX, b0b0b0b0 a0a0a0a0 0c0c0200; ESI, EDI and EBP the three EBX, b1b1b1b1 a1a1a1a1 c1c1c1c1.
 %include "plain.inc"
 structure equ 1000h             ; of the call of INT 60h, in DS, as are the next two
 back    equ 1100h               ; of the callback

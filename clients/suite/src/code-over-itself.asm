@@ -1,7 +1,8 @@
 ;@ code-over-itself
-; An instruction runs, one of its bytes changes, and it runs again: each byte of MOV EAX,imm32, and six of the 13 bytes of MOV [EAX+EBX*4+disp32],imm32.
-; So it does where it lies across the end of a page, at linear 1000h; where the bytes are written through the alias above 1 MB; and where it runs
-; in the alias. A second run after each change, and one after the change is undone, are those of an instruction that was met before.
+; An instruction runs, one of its bytes changes, and it runs again: each byte of MOV EAX,imm32, and six of the 13 bytes of MOV
+; [EAX+EBX*4+disp32],imm32. So it does where it lies across the end of a page, at linear 1000h; where the bytes are written through the
+; alias above 1 MB; and where it runs in the alias. A second run after each change, and one after the change is undone, are those of an
+; instruction that was met before.
 ; Expected: exit 0. A wrong number ends the client with that of its check, counted from 1 in the order of the source.
 %include "plain.inc"
 ALIAS   equ 0750h               ; FFFFh:0750h is 0074h:0000h, 1 MB higher

@@ -1,10 +1,10 @@
 ;@ descriptors-all -DCASE=1
 ;@ limit-in-pages -DCASE=2
 ; Functions 0000h and 0008h at their ends.
-; 1: none is asked for; then all 8,123 that are free, indices 69 to 8191; then one more. Expected: EBX = 8021h, ESI = 022Fh (index 69), EDI = 8011h;
-;    the lines of function 0000h are carry, ok, carry; 8,130 descriptors, the last one FFFFh.
-; 2: the limit FFFFFh, the greatest that counts bytes; 100000h, above it and not the last byte of a page; 100FFFh, 257 pages. Expected: the lines
-;    of function 0008h are ok, carry, ok; ESI = 8021h; desc 022f has limit=00100fff and flags=8, that is G.
+; 1: none is asked for; then all 8,123 that are free, indices 69 to 8191; then one more. Expected: EBX = 8021h, ESI = 022Fh (index 69), EDI
+;    = 8011h; the lines of function 0000h are carry, ok, carry; 8,130 descriptors, the last one FFFFh.
+; 2: the limit FFFFFh, the greatest that counts bytes; 100000h, above it and not the last byte of a page; 100FFFh, 257 pages. Expected: the
+;    lines of function 0008h are ok, carry, ok; ESI = 8021h; desc 022f has limit=00100fff and flags=8, that is G.
 %include "plain.inc"
 START
 ENTER

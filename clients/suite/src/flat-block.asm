@@ -1,10 +1,10 @@
 ;@ flat-block
-; What a usual client of 32 bits does: it shrinks its program to 1000h paragraphs, enters, takes a block of 256 KB, fills it through a descriptor
-; of all memory, and prints by two calls of function 0300h.
+; What a usual client of 32 bits does: it shrinks its program to 1000h paragraphs, enters, takes a block of 256 KB, fills it through a
+; descriptor of all memory, and prints by two calls of function 0300h.
 ; Expected: each of these holds, so that it ends with 0. 1 and 2: function 0501h answers BX:CX = 0040h:0000h, the first address of the block
-; region; 3 and 4: SI:DI = 0000h:0001h, the lowest handle; 5: function 0000h answers 022Fh, index 69, the first one after the entry's; 6: REP STOSD
-; ends at 00440000h. Console `OK`; desc 022f has base 0, limit=ffffffff, flags=8 and origin=own; block 1 is at 00400000h with 64 pages, and its
-; digest is that of 65,536 times the bytes 04h 03h 02h 01h.
+; region; 3 and 4: SI:DI = 0000h:0001h, the lowest handle; 5: function 0000h answers 022Fh, index 69, the first one after the entry's; 6:
+; REP STOSD ends at 00440000h. Console `OK`; desc 022f has base 0, limit=ffffffff, flags=8 and origin=own; block 1 is at 00400000h with 64
+; pages, and its digest is that of 65,536 times the bytes 04h 03h 02h 01h.
 %define W 32
 %include "plain.inc"
 START

@@ -7,9 +7,10 @@
 ;@ page-mirror -DCASE=4
 ;@ page-freed -DCASE=5
 ; Memory through a descriptor of all memory (022Fh in DS).
-; Expected: a read at C0000000h, in the host's window, which is there for the host alone: exception 0Eh with code 5 (4: by the client; 1: the
-; page is there); a read at 00200000h, where nothing is: code 4; a write at 000F0000h, which can be read only: code 7 (2: a write). Nothing
-; handles them: exit fault 0e, depth 1. Functions 0000h and 0008h and then the exception leave a line each after the two of the entry.
+; Expected: a read at C0000000h, in the host's window, which is there for the host alone: exception 0Eh with code 5 (4: by the client; 1:
+; the page is there); a read at 00200000h, where nothing is: code 4; a write at 000F0000h, which can be read only: code 7 (2: a write).
+; Nothing handles them: exit fault 0e, depth 1. Functions 0000h and 0008h and then the exception leave a line each after the two of the
+; entry.
 %include "plain.inc"
 START
 ENTER

@@ -4,9 +4,10 @@
 ; Returns of procedures of real mode that mean harm. The run ends at the trap of the return, F000h:0103h, with CS:EIP there.
 ; 1: the procedure switches to protected mode, frees the descriptor of its own structure, switches back and returns. Expected: exit
 ;    loststructure, depth 1.
-; 2: it switches to protected mode and raises an exception; the handler switches back, and the procedure returns within it. Expected: the top
-;    record isn't that of the call: exit stray, depth 2.
-; 3: the call returns, and then the client comes to the trap of the return again, by a raw switch to real mode. Expected: exit stray, depth 0.
+; 2: it switches to protected mode and raises an exception; the handler switches back, and the procedure returns within it. Expected: the
+;    top record isn't that of the call: exit stray, depth 2.
+; 3: the call returns, and then the client comes to the trap of the return again, by a raw switch to real mode. Expected: exit stray, depth
+;    0.
 %include "plain.inc"
 %macro TO_PROTECTED 1
         mov ax, 0217h

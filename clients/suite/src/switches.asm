@@ -9,13 +9,13 @@
 ;@ switch-after-last -DCASE=9
 ; Raw switches: DS, ES, SS:SP and CS:IP of the other mode are in AX, CX, DX:BX and SI:DI; the jump is to 0087h:0320h, and from real mode to
 ; F000h:0101h.
-; 1: prints R in real mode and switches back, to the selector 0204h, which is loaded as 0207h. Expected: console `R`; exit 7, the low byte of
-;    CS; `switch real`, `int21 02`, `switch protected`; DS = ES = 0217h, FS = GS = 0.
+; 1: prints R in real mode and switches back, to the selector 0204h, which is loaded as 0207h. Expected: console `R`; exit 7, the low byte
+;    of CS; `switch real`, `int21 02`, `switch protected`; DS = ES = 0217h, FS = GS = 0.
 ; 2 to 7: back with a selector that isn't held in DS or in ES, with null or privilege level 0 in SS, null or data in CS. Expected: exit
 ;    badswitch; the machine is left at the trap, F000h:0101h with SS = 8000h, and `switch real` is the last of 3 lines.
 ; 8: to the last byte of the first megabyte, FFFFh:000Fh, which is HLT: exit fault 0d code=00000000 at turn 18, CS:EIP = FFFFh:000Fh.
-; 9: to the byte after it, FFFFh:0010h, which is the first byte of memory: ADD [BX+SI],AL of two bytes is turn 18. Expected (words: --bound 18):
-;    exit bound, CS:EIP = FFFFh:0012h.
+; 9: to the byte after it, FFFFh:0010h, which is the first byte of memory: ADD [BX+SI],AL of two bytes is turn 18. Expected (words: --bound
+;    18): exit bound, CS:EIP = FFFFh:0012h.
 %include "plain.inc"
 %if CASE == 2
  %define NEW_DS 022Fh
