@@ -65,6 +65,8 @@ static void on_signal(int number, void *information, struct frame *frame)
     struct sigcontext *c = &frame->context;
     struct state s = {c->edi, c->esi, c->ebp, c->esp, c->ebx, c->edx, c->ecx, c->eax, c->eip, c->eflags,
                       c->cs, c->ss, c->ds, c->es, c->fs, c->gs};
+    /* A case may leave NT, with which IRET is a return from a task; a signal's return keeps that flag as it is here. */
+    __asm__ volatile("pushfl; andl $~0x4000, (%%esp); popfl" ::: "cc", "memory");
     trapped(&s, c->trapno, c->err);
     c->edi = s.edi, c->esi = s.esi, c->ebp = s.ebp, c->esp = s.esp;
     c->ebx = s.ebx, c->edx = s.edx, c->ecx = s.ecx, c->eax = s.eax;
