@@ -4,7 +4,7 @@ ghost use Rattle.exec_core.specs.Stacks.{push, pop, pusha, popa};
 ghost use Rattle.insn_plan.specs.Act.{done, unchanged, value_of, with_regs};
 ghost use Rattle.insn_plan.specs.Operands.{put_operand};
 ghost use Rattle.insn_plan.specs.Plan.{CarriesOut, Follows, after_commit, after_plan, plan_result};
-ghost use Rattle.insn_plan.specs.Stack.{has_big_stack, pending_of_pushes, regs_after_pops, stack_item};
+ghost use Rattle.insn_plan.specs.Stack.{has_big_stack, pending_of_pushes, stack_item};
 ghost use Rattle.insn_forms.specs.declared.insn.Insn.{Insn};
 ghost use Rattle.insn_forms.specs.declared.insn.Operand.TheVariants.{Mem};
 
@@ -13,9 +13,9 @@ use client_world::{Regs, SegReg};
 use guest_space::{Machine, Write, byte_count};
 use insn_forms::{Insn, MemForm, Operand};
 use insn_plan::{
-    Raised, eight_items, esp_up, has_big_stack, item_pushed, offset_of, push_item, push_quickly,
-    put_register, register, register_number, settle_pushes, settle_quickly, shown, shown_top_item,
-    source, stack_item, top_item, write_number,
+    Raised, eight_items, esp_up, has_big_stack, item_pushed, offset_of, popped_esp, push_item,
+    push_quickly, put_register, register, register_number, settle_pushes, settle_quickly, shown,
+    shown_top_item, source, stack_item, top_item, write_number,
 };
 
 // PUSH, where the tables may have to be asked.
@@ -71,19 +71,6 @@ fn pop_into_memory(m: &mut Machine, i: &Insn, f: &MemForm, esp: u32, v: u32) -> 
     Ok(())
 }
 
-// ESP after an item of a width is popped.
-#[inline(always)]
-#[tactic(auto, unfolding(insn_plan::specs::Stack::regs_after_pops))]
-fn popped_esp(m: &Machine, width: u8) -> u32
-    ensures { result ≡ (regs_after_pops m.now.world width 1 m.now.world.regs).esp }
-{
-    esp_up(
-        has_big_stack(m),
-        u32::from(byte_count(width)),
-        m.registers().esp,
-    )
-}
-
 // POP, where the tables may have to be asked.
 #[cold]
 #[inline(never)]
@@ -94,7 +81,7 @@ fn pop_by_tables(m: &mut Machine, i: &Insn) -> Result<(), Raised>
     ensures { CarriesOut m.old m.new result (pop m.old.world i.now) }
 {
     let v = top_item(m, i.width)?;
-    let esp = popped_esp(m, i.width);
+    let esp = popped_esp(m, i.width, 1);
     match &i.first {
         Operand::Reg { width, number } => {
             m.set_general(ESP, esp);
@@ -121,7 +108,7 @@ fn pop_quickly<const W: u8>(m: &mut Machine, i: &Insn) -> Option<()>
 {
     let number = register_number::<W>(&i.first)?;
     let v = shown_top_item(m, W)?;
-    m.set_general(ESP, popped_esp(m, W));
+    m.set_general(ESP, popped_esp(m, W, 1));
     put_register(m, W, number, v);
     Some(())
 }

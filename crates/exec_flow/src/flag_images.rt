@@ -4,12 +4,11 @@ ghost use Rattle.client_world.specs.Registers.{flags_of_image, low_half};
 ghost use Rattle.exec_flow.specs.FlagImages.{cli, popf, vif_after_pop, pushf, visible_interrupt_flag, sti};
 ghost use Rattle.insn_plan.specs.Plan.{CarriesOut, with_state};
 
-use crate::stack_tops::popped_esp;
 use client_world::general::ESP;
 use client_world::{Flags, Mode, is_interrupt_set, low_half};
 use guest_space::Machine;
 use insn_forms::Insn;
-use insn_plan::{Raised, push_item, top_item};
+use insn_plan::{Raised, popped_esp, push_item, top_item};
 
 // IF as PUSHF shows it.
 #[inline(always)]

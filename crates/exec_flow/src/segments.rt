@@ -15,12 +15,11 @@ ghost use Rattle.guest_space.specs.Registers.{with_registers};
 ghost use Rattle.insn_plan.specs.Plan.{CarriesOut};
 
 use crate::pointers::{pointer, pointer_offset, pointer_selector};
-use crate::stack_tops::popped_esp;
 use client_world::general::ESP;
 use client_world::{Fault, Mode, SegReg, low_half};
 use guest_space::Machine;
 use insn_forms::{Insn, Operand};
-use insn_plan::{Raised, push_item, put_operand, source, top_item};
+use insn_plan::{Raised, popped_esp, push_item, put_operand, source, top_item};
 
 /// Whether a selector may be loaded into a segment register; in real mode every word may.
 #[inline(always)]

@@ -1,20 +1,10 @@
-// The stack pointer after items are popped.
+// The stack pointer after items are popped and bytes are dropped.
 ghost use Rattle.std.specs.Prelude.{◌≡◌};
 ghost use Rattle.exec_flow.specs.Transfers.{regs_after_drop};
 ghost use Rattle.insn_plan.specs.Stack.{regs_after_pops};
 
-use guest_space::{Machine, byte_count};
-use insn_plan::{esp_up, has_big_stack};
-
-/// ESP after n items of a width are popped.
-#[inline(always)]
-#[tactic(auto, unfolding(insn_plan::specs::Stack::regs_after_pops))]
-pub(crate) fn popped_esp(m: &Machine, width: u8, n: u8) -> u32
-    ensures { result ≡ (regs_after_pops m.now.world width n m.now.world.regs).esp }
-{
-    let count = u32::from(byte_count(width)) * u32::from(n);
-    esp_up(has_big_stack(m), count, m.registers().esp)
-}
+use guest_space::Machine;
+use insn_plan::{esp_up, has_big_stack, popped_esp};
 
 /// ESP after n items of a width are popped, and then a number of bytes is dropped.
 #[inline(always)]

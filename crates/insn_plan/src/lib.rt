@@ -27,6 +27,7 @@ pub use raised::Raised;
 pub use read::{number_at, number_there, read_number, read_quickly, read_width};
 pub use registers::{cut_address, offset_of, register, set_register};
 pub use stack::{
-    eight_items, esp_up, has_big_stack, item_pushed, push_item, push_quickly, settle_pushes,
-    settle_quickly, shown_top_item, stack_item, stack_pointer, top_item, with_pointer,
+    eight_items, esp_up, has_big_stack, item_pushed, popped_esp, push_item, push_quickly,
+    settle_pushes, settle_quickly, shown_top_item, stack_item, stack_pointer, top_item,
+    with_pointer,
 };

@@ -1,5 +1,5 @@
 // Operands, read and written at once.
-ghost use Rattle.std.specs.Prelude.{◌≡◌, OnOk, IfErr, IfSome, IfNone, IsTrue, IsFalse, Ok};
+ghost use Rattle.std.specs.Prelude.{◌≡◌, ◌≢◌, ℕ, OnOk, IfErr, IfSome, IfNone, Ok};
 ghost use Rattle.guest_space.specs.Pending.{byte_count};
 ghost use Rattle.insn_forms.specs.declared.insn.Operand.TheVariants.{Reg};
 ghost use Rattle.guest_space.specs.Registers.{with_registers};
@@ -55,7 +55,8 @@ pub(crate) fn given(r: &Regs, operand: &Operand) -> u32
 /// The number of a register operand of W bits; `None` for any other operand.
 #[inline(always)]
 pub fn register_number<const W: u8>(operand: &Operand) -> Option<u8>
-    ensures { IfSome result (λ n. operand.now ≡ Reg W n) }
+    ensures some { IfSome result (λ n. operand.now ≡ Reg W n) }
+    ensures none { IfNone result ((n : ℕ) → operand.now ≢ Reg W n) }
 {
     match operand {
         Operand::Reg { width, number } if *width == W => Some(*number),

@@ -12,6 +12,7 @@ ghost use Rattle.insn_plan.specs.Stack.{
   pending_of_pushes,
   esp_up,
   with_pushed_number,
+  regs_after_pops,
   stack_item,
 };
 ghost use Rattle.insn_plan.specs.declared.next.TheConstants.{MAX_WRITES};
@@ -58,6 +59,16 @@ pub fn esp_up(big: bool, n: u32, esp: u32) -> u32
         u64::from(cut_address(big, u64::from(esp))) + u64::from(n),
     );
     with_pointer(big, esp, sp)
+}
+
+/// ESP after n items of a width are popped.
+#[inline(always)]
+#[tactic(auto, unfolding(crate::specs::Stack::regs_after_pops))]
+pub fn popped_esp(m: &Machine, width: u8, n: u8) -> u32
+    ensures { result ≡ (regs_after_pops m.now.world width n m.now.world.regs).esp }
+{
+    let count = u32::from(byte_count(width)) * u32::from(n);
+    esp_up(has_big_stack(m), count, m.registers().esp)
 }
 
 // The stack pointer of an item that is pushed, n bytes further down.
@@ -112,6 +123,18 @@ pub fn top_item(m: &mut Machine, width: u8) -> Result<u32, Raised>
     read_width(m, SegReg::Ss, sp, width)
 }
 
+// A push, with the way to write: one that looks quickly, or one that asks the tables.
+macro_rules! push_by {
+    ($write:ident, $done:ident, $m:ident, $width:ident, $v:ident) => {{
+        let big = has_big_stack($m);
+        let esp = $m.registers().esp;
+        let sp = pointer_down(big, byte_count($width), esp);
+        $write($m, SegReg::Ss, sp, $width, $v)?;
+        $m.set_general(ESP, with_pointer(big, esp, sp));
+        $done(())
+    }};
+}
+
 /// Pushes a number of a width where a quick look shows that the write has no fault; `None` says nothing, and changes nothing.
 #[inline(always)]
 #[tactic(auto, unfolding(crate::specs::Stack::with_pushed_number, crate::specs::Plan::after_commit, //
@@ -120,12 +143,18 @@ pub fn push_quickly(m: &mut Machine, width: u8, v: u32) -> Option<()>
     ensures made { IfSome result (λ _. after_commit m.old (with_pushed_number m.old.world width v (unchanged m.old.world)) ≡ Ok m.new) }
     ensures kept { IfNone result (m.new ≡ m.old) }
 {
-    let big = has_big_stack(m);
-    let esp = m.registers().esp;
-    let sp = pointer_down(big, byte_count(width), esp);
-    write_quickly(m, SegReg::Ss, sp, width, v)?;
-    m.set_general(ESP, with_pointer(big, esp, sp));
-    Some(())
+    push_by!(write_quickly, Some, m, width, v)
+}
+
+// The same, where the tables have to be asked.
+#[cold]
+#[inline(never)]
+#[tactic(auto, unfolding(crate::specs::Stack::with_pushed_number, crate::specs::Plan::after_commit, //
+client_world::specs::General::with_general))]
+fn push_by_tables(m: &mut Machine, width: u8, v: u32) -> Result<(), Raised>
+    ensures { Follows m.old m.new result (after_commit m.old (with_pushed_number m.old.world width v (unchanged m.old.world))) }
+{
+    push_by!(write_number, Ok, m, width, v)
 }
 
 /// Pushes a number of a width, or gives the fault of the write, which changes nothing.
@@ -138,22 +167,6 @@ pub fn push_item(m: &mut Machine, width: u8, v: u32) -> Result<(), Raised>
         Some(()) => Ok(()),
         None => push_by_tables(m, width, v),
     }
-}
-
-// The same, where the tables have to be asked.
-#[cold]
-#[inline(never)]
-#[tactic(auto, unfolding(crate::specs::Stack::with_pushed_number, crate::specs::Plan::after_commit, //
-client_world::specs::General::with_general))]
-fn push_by_tables(m: &mut Machine, width: u8, v: u32) -> Result<(), Raised>
-    ensures { Follows m.old m.new result (after_commit m.old (with_pushed_number m.old.world width v (unchanged m.old.world))) }
-{
-    let big = has_big_stack(m);
-    let esp = m.registers().esp;
-    let sp = pointer_down(big, byte_count(width), esp);
-    write_number(m, SegReg::Ss, sp, width, v)?;
-    m.set_general(ESP, with_pointer(big, esp, sp));
-    Ok(())
 }
 
 /// The write of a number of a width that is pushed at an ESP, and ESP after it, where it is known whether the stack pointer is ESP or SP.
