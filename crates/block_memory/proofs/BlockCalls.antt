@@ -8,7 +8,7 @@ use Rattle.client_world.specs.declared.host_frames.TheConstants.{PAGE_SIZE, BLOC
 use Rattle.client_world.specs.declared.host_frames.TheConstants.{LOCK_COUNT_SIZE, PAGE_ENTRY_SIZE}
 use Rattle.client_world.specs.Access.{HasByte, bytes_of_block}
 use Rattle.client_world.specs.Soundness.{SoundBlocks, pages_of_block}
-use Rattle.client_world.specs.World.{MemoryBlock}
+use Rattle.client_world.specs.World.{MemoryBlock, base_of_block}
 use Rattle.guest_ram.specs.Bytes.{dword}
 use Rattle.guest_ram.proofs.ListedLaws.{length-zeros}
 use Rattle.host_memory.specs.Holds.{Holds}
@@ -16,7 +16,7 @@ use Rattle.host_memory.specs.Layout.{handles_part, pages_of}
 use Rattle.host_memory.proofs.BlockRows.{row_there, held_base}
 use Rattle.host_memory.proofs.Parts.{parts_of}
 use Rattle.block_memory.specs.BlockChanges.{blocks_held, CanHoldIn, CanMoveIn, CanSizeIn, HasBlockIn, HasPagesIn, ReplacesBlock, with_at}
-use Rattle.block_memory.specs.BlockSizes.{CanHold, CanMove, HasPages, at_base, base_of_held, block_with_zero_pages, sized_block, shorter}
+use Rattle.block_memory.specs.BlockSizes.{CanHold, CanMove, HasPages, at_base, block_with_zero_pages, sized_block, shorter}
 use Rattle.block_memory.specs.BlockSizes.{after_slide}
 use Rattle.block_memory.proofs.BlockSteps.{becomes, for_budget, held_still, held_there, one_budget, ranges_held, replaced_at, same_blocks}
 use Rattle.block_memory.proofs.MoveWrites.{moved, moved_changes}
@@ -58,7 +58,7 @@ row_read b place base pages h e f other holds =
       handles = h.holds.sound.handles;
       within = h.within;
       count = count ∙ sym second;
-      based = λ more. ap base_of_held (block_reads s place h.within ∙ row_there s.handles s.tables s.locks s.frames place some)
+      based = λ more. ap base_of_block (block_reads s place h.within ∙ row_there s.handles s.tables s.locks s.frames place some)
           ∙ held_base s.handles s.tables s.locks s.frames place ∙ sym first;
       above = omega arith;
       below = omega arith;
@@ -92,7 +92,7 @@ block_moved b b1 b2 b3 place old base n g e1 e2 e3 =
     (moved_sound blocks g.budget place base n g.holds.sound g.can) (moved_fits blocks place base n g.holds.fits g.can)
 
 -- its own linear address
-own_base : (o : Option MemoryBlock) (base : ℕ) → base_of_held o ≡ base → at_base base o ≡ o
+own_base : (o : Option MemoryBlock) (base : ℕ) → base_of_block o ≡ base → at_base base o ≡ o
 own_base None base e = refl
 own_base (Some block) base e = ap (λ (at : ℕ). Some (record { base = at; bytes = block.bytes; locks = block.locks })) (sym e)
 

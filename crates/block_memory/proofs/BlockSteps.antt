@@ -7,7 +7,7 @@ use Rattle.client_world.specs.declared.host_frames.TheConstants.{PAGE_SIZE, BUDG
 use Rattle.client_world.specs.declared.memory_map.TheConstants.{BLOCK_REGION_PAGES}
 use Rattle.client_world.specs.declared.place.Place.{Place}
 use Rattle.client_world.specs.declared.place.Place.TheVariants.{Dos, Block, Host, Nothing}
-use Rattle.client_world.specs.Access.{HasByte}
+use Rattle.client_world.specs.Access.{HasByte, IsHeldIn}
 use Rattle.client_world.specs.Soundness.{SoundBlocks, HoldBytes}
 use Rattle.client_world.specs.World.{MemoryBlock}
 use Rattle.guest_ram.specs.Bytes.{put, dword_bytes}
@@ -24,7 +24,7 @@ use Rattle.host_memory.proofs.BlockRows.{HasRanges, IsRange, ranges}
 use Rattle.host_memory.proofs.FreeParts.{list_of_parts}
 use Rattle.host_memory.proofs.HostTables.{has_tables}
 use Rattle.host_memory.proofs.Parts.{MemoryParts, parts_of, holds_parts}
-use Rattle.block_memory.specs.BlockChanges.{blocks_held, CanHoldIn, HasPagesIn, HoldsSoundBlocks, IsHeldIn, ReplacesBlock, ReplacesBlocks}
+use Rattle.block_memory.specs.BlockChanges.{blocks_held, CanHoldIn, HasPagesIn, HoldsSoundBlocks, ReplacesBlock, ReplacesBlocks}
 use Rattle.block_memory.specs.BlockChanges.{with_at}
 use Rattle.block_memory.specs.BlockSizes.{longer, shorter}
 use Rattle.block_memory.proofs.PageChanges.{ChangesBlocks, HasLast, HasLastFrame, last_frame, last_range, has_last_frame, may_shrink}

@@ -8,6 +8,7 @@ use Rattle.client_world.specs.declared.host_frames.TheConstants.{LOCK_COUNT_FRAM
 use Rattle.client_world.specs.declared.limits.TheConstants.{MAX_BLOCKS}
 use Rattle.client_world.specs.declared.place.Place.{Place}
 use Rattle.client_world.specs.declared.place.Place.TheVariants.{Dos, Block, Host, Nothing}
+use Rattle.client_world.specs.Access.{IsHeldIn}
 use Rattle.client_world.specs.World.{MemoryBlock}
 use Rattle.guest_ram.specs.Bytes.{put, region}
 use Rattle.guest_ram.specs.Listed.{copies}
@@ -19,7 +20,7 @@ use Rattle.host_memory.specs.Layout.{world_of, address_of, handles_part, tables_
 use Rattle.block_memory.proofs.BlockMore.{blocks_of}
 use Rattle.block_memory.proofs.BlockMoves.{MayMove, HasMoved, moved_entries, moved_locks, moved_blocks, moved_place, byte_place}
 use Rattle.host_memory.proofs.BlockRows.{HasRanges, IsRange, held_base, length-held_bytes, row_there}
-use Rattle.block_memory.specs.BlockChanges.{blocks_held, IsHeldIn}
+use Rattle.block_memory.specs.BlockChanges.{blocks_held}
 use Rattle.block_memory.proofs.PageChanges.{ChangesBlocks, block_reads, pages_read, base_read, world_after, held_byte}
 use Rattle.block_memory.proofs.PageCounts.{same_pages}
 use Rattle.block_memory.proofs.PageMore.{BlockParts, first_page}

@@ -8,17 +8,17 @@ use Rattle.client_world.specs.declared.place.Place.TheVariants.{Dos, Block, Host
 use Rattle.client_world.specs.declared.registers.Mode.{Mode}
 use Rattle.client_world.specs.declared.registers.Regs.{Regs}
 use Rattle.client_world.specs.declared.registers.Width.{Width}
-use Rattle.client_world.specs.Access.{HasByte, IsHeld}
+use Rattle.client_world.specs.Access.{HasByte, IsHeld, IsHeldIn}
 use Rattle.client_world.specs.Soundness.{pages_of_block}
-use Rattle.client_world.specs.World.{World, MemoryBlock, block_at}
+use Rattle.client_world.specs.World.{World, MemoryBlock, block_at, base_of_block}
 use Rattle.guest_ram.specs.Bytes.{dword}
 use Rattle.guest_ram.proofs.ListedLaws.{at_listed}
 use Rattle.page_tables.specs.Budget.{IsBudgetFrame, IsFree, AllTaken, taken_place}
 use Rattle.page_tables.specs.Entry.{page_entry}
 use Rattle.page_tables.specs.FreeList.{first_free}
 use Rattle.page_tables.specs.Walk.{table_entry, frame_of}
-use Rattle.block_memory.specs.BlockChanges.{blocks_held, IsHeldIn}
-use Rattle.block_memory.specs.BlockSizes.{CanHold, longer, shorter, base_of_held}
+use Rattle.block_memory.specs.BlockChanges.{blocks_held}
+use Rattle.block_memory.specs.BlockSizes.{CanHold, longer, shorter}
 use Rattle.host_memory.specs.Holds.{Holds}
 use Rattle.host_memory.specs.Layout.{world_of, address_of, rows_part, vectors_part, handles_part, tables_part, taken_part, base_of}
 use Rattle.host_memory.specs.Layout.{pages_of, first_page_of, entry_of, held_block}
@@ -39,16 +39,10 @@ use Rattle.host_memory.proofs.VectorWrites.{head_lists, same_lists}
 use Rattle.block_memory.proofs.RegionPages.{region_entry, taken_byte}
 
 pub held_in : (w : World) (blocks : List (Option MemoryBlock)) (p : Place) → w.blocks ≡ blocks → IsHeld w p → IsHeldIn blocks p
-held_in w blocks (Dos at) e held = tt
-held_in w blocks (Block number at) e held = rw (← e) held
-held_in w blocks Host e held = held
-held_in w blocks Nothing e held = held
+held_in w blocks p e held = subst (λ (bs : List (Option MemoryBlock)). IsHeldIn bs p) e held
 
 pub is_held : (w : World) (blocks : List (Option MemoryBlock)) (p : Place) → w.blocks ≡ blocks → IsHeldIn blocks p → IsHeld w p
-is_held w blocks (Dos at) e held = tt
-is_held w blocks (Block number at) e held = rw e held
-is_held w blocks Host e held = held
-is_held w blocks Nothing e held = held
+is_held w blocks p e held = subst (λ (bs : List (Option MemoryBlock)). IsHeldIn bs p) (sym e) held
 
 -- the blocks changed, and nothing else: the rows of the descriptors stay, and each place that is held before and after keeps its address
 pub record ChangesBlocks (b c : List ℕ) (budget : ℕ) (blocks : List (Option MemoryBlock)) : Type 0 where
@@ -129,7 +123,7 @@ pages_read s place n within pages =
     sym (pages_of_row s.handles s.tables s.locks s.frames place) ∙ ap pages_of_block (sym (block_reads s place within)) ∙ pages
 
 pub base_read : (s : BlockParts) (place base : ℕ) → place < MAX_BLOCKS → pages_of s.handles place ≢ 0 →
-    base_of_held (slice_index_or (blocks_of s) place None) ≡ base → base_of s.handles place ≡ base
+    base_of_block (slice_index_or (blocks_of s) place None) ≡ base → base_of s.handles place ≡ base
 base_read s place base within some based = grind (arith, block_reads, held_base, row_there)
 
 pub room_of : (s : BlockParts) (budget place base n to : ℕ) → HasRanges s.handles → CanHold (blocks_of s) budget place base n to → n < to →
@@ -225,7 +219,7 @@ last_frame b base n = frame_of (table_entry b PAGE_DIRECTORY (base + PAGE_SIZE *
 pub record HasLast (blocks : List (Option MemoryBlock)) (place base n : ℕ) : Type 0 where
   pub within : place < MAX_BLOCKS
   pub pages : pages_of_block (slice_index_or blocks place None) ≡ n + 1
-  pub based : base_of_held (slice_index_or blocks place None) ≡ base
+  pub based : base_of_block (slice_index_or blocks place None) ≡ base
 
 pub last_range : (b : List ℕ) (budget place base n : ℕ) → HasRanges (handles_part b) → HasLast (blocks_held b budget) place base n →
     IsRange base (n + 1)

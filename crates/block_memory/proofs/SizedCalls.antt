@@ -4,9 +4,8 @@ use Rattle.std.proofs.Common.{arith, Option, None, Some, get_or-set_same, get_or
 use Rattle.std.specs.Prelude.{min}
 use Rattle.std.proofs.lemmas.List.{set-set}
 use Rattle.client_world.specs.Soundness.{SoundBlocks, pages_of_block, pages_of_blocks}
-use Rattle.client_world.specs.World.{MemoryBlock}
+use Rattle.client_world.specs.World.{MemoryBlock, base_of_block}
 use Rattle.block_memory.specs.BlockSizes.{CanHold, CanMove, CanSize, HasPages, shorter, block_with_zero_pages, at_base, sized_block}
-use Rattle.block_memory.specs.BlockSizes.{base_of_held}
 use Rattle.block_memory.proofs.SizedBlocks.{resized_is}
 use Rattle.block_memory.proofs.SizedSound.{pages_put}
 
@@ -46,7 +45,7 @@ can_move blocks budget place from old base pages kept s has =
           ];
     }
 
-based_at : (base : ℕ) (o : Option MemoryBlock) → pages_of_block (at_base base o) ≢ 0 → base_of_held (at_base base o) ≡ base
+based_at : (base : ℕ) (o : Option MemoryBlock) → pages_of_block (at_base base o) ≢ 0 → base_of_block (at_base base o) ≡ base
 based_at base None some = absurd (some refl)
 based_at base (Some block) some = refl
 
@@ -78,7 +77,7 @@ can_extend blocks budget place from old base pages kept s has =
       handles = length-set cut place x ∙ has.handles;
       within = has.within;
       pages = ap pages_of_block here ∙ now;
-      based = λ any. ap base_of_held here ∙ based_at base (held cut place) (λ none. any (sym now ∙ none));
+      based = λ any. ap base_of_block here ∙ based_at base (held cut place) (λ none. any (sym now ∙ none));
       whole = s.can.whole;
       above = s.can.above;
       below = s.can.below;

@@ -10,13 +10,13 @@ use Rattle.client_world.specs.declared.place.Place.TheVariants.{Block}
 use Rattle.client_world.specs.declared.registers.Width.{Width}
 use Rattle.client_world.specs.Access.{bytes_of_block}
 use Rattle.client_world.specs.Soundness.{IsSound, SoundBlocks, IsBlock, AreApart, HoldBytes, SoundWidth, pages_of_block, pages_of_blocks}
-use Rattle.client_world.specs.World.{World, MemoryBlock, block_at}
+use Rattle.client_world.specs.World.{World, MemoryBlock, block_at, base_of_block}
 use Rattle.guest_ram.specs.Bytes.{put}
 use Rattle.guest_ram.specs.Listed.{zeros, copies}
 use Rattle.guest_ram.proofs.ListedLaws.{length-zeros, at_zeros, length-copies, at_copies}
 use Rattle.guest_ram.proofs.PutLaws.{length-put}
 use Rattle.block_memory.specs.BlockSizes.{CanHold, CanMove, HasPages, longer, shorter, at_base, with_lock, with_page_lock}
-use Rattle.block_memory.specs.BlockSizes.{blocks_with_zero_page, with_zero_page, base_of_held, locks_of_block}
+use Rattle.block_memory.specs.BlockSizes.{blocks_with_zero_page, with_zero_page, locks_of_block}
 use Rattle.block_memory.proofs.PageChanges.{HasLast}
 
 -- the pages of all blocks
@@ -217,7 +217,7 @@ pub shorter_pages : (o : Option MemoryBlock) (n : ℕ) → n ≤ pages_of_block 
 shorter_pages None n few = omega arith
 shorter_pages (Some block) n few = grind (arith, eq-eqb, length-take-le, ne_eqb)
 
-shorter_base : (o : Option MemoryBlock) (n : ℕ) → n ≢ 0 → base_of_held (shorter o n) ≡ base_of_held o
+shorter_base : (o : Option MemoryBlock) (n : ℕ) → n ≢ 0 → base_of_block (shorter o n) ≡ base_of_block o
 shorter_base None n some = refl
 shorter_base (Some block) n some = rw (ne_eqb n 0 some) refl
 

@@ -2,14 +2,13 @@
 use Rattle.std.specs.Prelude.{◌≡◌, ◌≢◌, ◌<◌, ℕ, suc, Bool, List, None, slice_index_or, slice_set}
 use Rattle.std.specs.declared.option.Option.{Option}
 use Rattle.client_world.specs.declared.place.Place.{Place}
-use Rattle.client_world.specs.declared.place.Place.TheVariants.{Dos, Block, Host, Nothing}
 use Rattle.client_world.specs.declared.registers.Mode.{Mode}
 use Rattle.client_world.specs.declared.registers.Regs.{Regs}
 use Rattle.client_world.specs.declared.registers.Width.{Width}
-use Rattle.client_world.specs.Access.{HasByte}
+use Rattle.client_world.specs.Access.{IsHeldIn}
 use Rattle.client_world.specs.Soundness.{SoundBlocks, HoldBytes}
 use Rattle.client_world.specs.declared.limits.TheConstants.{MAX_BLOCKS}
-use Rattle.client_world.specs.World.{MemoryBlock, block_at}
+use Rattle.client_world.specs.World.{MemoryBlock}
 use Rattle.host_memory.specs.Holds.{Holds}
 use Rattle.host_memory.specs.Layout.{world_of, address_of, rows_part, handles_part, tables_part, locks_part, budget_part, blocks_in}
 use Rattle.block_memory.specs.BlockSizes.{CanHold, CanMove, CanSize, HasPages}
@@ -17,13 +16,6 @@ use Rattle.block_memory.specs.BlockSizes.{CanHold, CanMove, CanSize, HasPages}
 -- the blocks that a memory holds, for a page budget
 abbrev pub blocks_held : List ℕ → ℕ → List (Option MemoryBlock)
 blocks_held b budget = blocks_in (handles_part b) (tables_part b) (locks_part b) (budget_part b budget)
-
--- the client holds the place, where these are the blocks
-abbrev pub IsHeldIn : List (Option MemoryBlock) → Place → Type 0
-IsHeldIn blocks (Dos at) = Unit {0}
-IsHeldIn blocks (Block number at) = HasByte (block_at blocks number) at
-IsHeldIn blocks Host = ⊥
-IsHeldIn blocks Nothing = ⊥
 
 -- the memory holds sound blocks
 pub record HoldsSoundBlocks (b : List ℕ) (budget : ℕ) : Type 0 where

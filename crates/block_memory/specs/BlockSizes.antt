@@ -11,7 +11,7 @@ use Rattle.client_world.specs.declared.place.Place.{Place}
 use Rattle.client_world.specs.declared.place.Place.TheVariants.{Dos, Block, Host, Nothing}
 use Rattle.client_world.specs.Access.{bytes_of_block}
 use Rattle.client_world.specs.Soundness.{pages_of_block, pages_of_blocks}
-use Rattle.client_world.specs.World.{MemoryBlock, block_at, with_block_at}
+use Rattle.client_world.specs.World.{MemoryBlock, base_of_block, block_at, with_block_at}
 use Rattle.guest_ram.specs.Count.{used, total}
 use Rattle.guest_ram.specs.Listed.{zeros, copies, listed}
 use Rattle.host_memory.specs.Layout.{pages_of, first_page_of, lock_of}
@@ -41,18 +41,13 @@ shorter (Some block) pages =
     if nat_eq pages 0 then None
     else Some (record { base = block.base; bytes = take (PAGE_SIZE * pages) block.bytes; locks = take pages block.locks })
 
--- the linear address of a block, 0 where there is none
-abbrev pub base_of_held : Option MemoryBlock → ℕ
-base_of_held None = 0
-base_of_held (Some block) = block.base
-
 -- at index `place`, the handle less 1, there is a block of `from` pages at a linear address, or none and `from` is 0; with `to` pages there
 -- the blocks would be sound
 pub record CanHold (blocks : List (Option MemoryBlock)) (budget place base from to : ℕ) : Type 0 where
   pub handles : length blocks ≡ MAX_BLOCKS
   pub within : place < MAX_BLOCKS
   pub pages : pages_of_block (slice_index_or blocks place None) ≡ from
-  pub based : from ≢ 0 → base_of_held (slice_index_or blocks place None) ≡ base
+  pub based : from ≢ 0 → base_of_block (slice_index_or blocks place None) ≡ base
   pub whole : base % PAGE_SIZE ≡ 0
   pub above : BLOCK_REGION ≤ base
   pub below : base + PAGE_SIZE * to ≤ BLOCK_REGION_END
@@ -66,7 +61,7 @@ pub record HasPages (blocks : List (Option MemoryBlock)) (place base pages : ℕ
   pub handles : length blocks ≡ MAX_BLOCKS
   pub within : place < MAX_BLOCKS
   pub count : pages_of_block (slice_index_or blocks place None) ≡ pages
-  pub based : pages ≢ 0 → base_of_held (slice_index_or blocks place None) ≡ base
+  pub based : pages ≢ 0 → base_of_block (slice_index_or blocks place None) ≡ base
   pub above : BLOCK_REGION ≤ base
   pub below : base + PAGE_SIZE * pages ≤ BLOCK_REGION_END
 

@@ -8,8 +8,8 @@ use Rattle.client_world.specs.declared.host_frames.TheConstants.{PAGE_SIZE}
 use Rattle.client_world.specs.declared.limits.TheConstants.{MAX_BLOCKS}
 use Rattle.client_world.specs.declared.memory_map.TheConstants.{BLOCK_REGION, BLOCK_REGION_END, BLOCK_REGION_PAGES}
 use Rattle.client_world.specs.Soundness.{SoundBlocks, pages_of_block}
-use Rattle.client_world.specs.World.{MemoryBlock, block_at}
-use Rattle.block_memory.specs.BlockSizes.{base_of_held, row_seen}
+use Rattle.client_world.specs.World.{MemoryBlock, block_at, base_of_block}
+use Rattle.block_memory.specs.BlockSizes.{row_seen}
 use Rattle.service_rows.specs.FirstIndex.{first_index}
 use Rattle.service_rows.proofs.IndexLaws.{first_is, first_none, index_ended, index_found, index_skipped}
 use Rattle.block_services.specs.Gaps.{block_in_way, is_gap, is_in_way, overlaps, page_address, page_after}
@@ -33,7 +33,7 @@ pub row_fits : (blocks : List (Option MemoryBlock)) (budget handle : ℕ) → So
 row_fits blocks budget handle sound o e = subst RowFits (sym e) (fits_of_block blocks budget handle sound (block_at blocks handle) refl)
 
 abbrev pub SeenAs : Option MemoryBlock → Option BlockRow → Type 0
-SeenAs b o = IfSome o (λ (row : BlockRow). row.base ≡ base_of_held b) × IfSome o (λ (row : BlockRow). row.pages ≡ pages_of_block b)
+SeenAs b o = IfSome o (λ (row : BlockRow). row.base ≡ base_of_block b) × IfSome o (λ (row : BlockRow). row.pages ≡ pages_of_block b)
 
 seen_as : (b : Option MemoryBlock) → SeenAs b (row_seen b)
 seen_as None = (_, _)

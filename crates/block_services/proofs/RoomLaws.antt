@@ -8,8 +8,8 @@ use Rattle.client_world.specs.declared.host_frames.TheConstants.{PAGE_SIZE}
 use Rattle.client_world.specs.declared.limits.TheConstants.{MAX_BLOCKS}
 use Rattle.client_world.specs.declared.memory_map.TheConstants.{BLOCK_REGION, BLOCK_REGION_END}
 use Rattle.client_world.specs.Soundness.{SoundBlocks, pages_of_block, pages_of_blocks}
-use Rattle.client_world.specs.World.{MemoryBlock, block_at}
-use Rattle.block_memory.specs.BlockSizes.{CanMake, CanSize, base_of_held, row_seen}
+use Rattle.client_world.specs.World.{MemoryBlock, block_at, base_of_block}
+use Rattle.block_memory.specs.BlockSizes.{CanMake, CanSize, row_seen}
 use Rattle.service_rows.specs.FirstIndex.{first_index}
 use Rattle.service_rows.proofs.IndexLaws.{first_is, first_none}
 use Rattle.block_services.specs.Gaps.{block_in_way, first_gap, is_gap, is_in_way, page_address}
@@ -86,12 +86,12 @@ new_place : (blocks : List (Option MemoryBlock)) (budget handle base pages : ℕ
 unfolding new_base
 new_place blocks budget handle base pages sound None there held e = absurd (held refl)
 new_place blocks budget handle base pages sound (Some block) there held e =
-    elim (cases_Bool (is_gap blocks handle (base_of_held (block_at blocks handle)) pages)) [
+    elim (cases_Bool (is_gap blocks handle (base_of_block (block_at blocks handle)) pages)) [
       | inl stays ↦ (
-          let same : block.base ≡ base = cc (rw stays at e, ap base_of_held there) in
+          let same : block.base ≡ base = cc (rw stays at e, ap base_of_block there) in
           let is = sound.each handle block there in
-          let room = gap_is_room blocks budget handle (base_of_held (block_at blocks handle)) pages sound stays in
-          let here = ap base_of_held there ∙ same in
+          let room = gap_is_room blocks budget handle (base_of_block (block_at blocks handle)) pages sound stays in
+          let here = ap base_of_block there ∙ same in
           grind arith)
       | inr goes ↦ place_at_gap blocks budget handle pages sound (first_gap blocks pages) refl base (rw goes at e)
     ]

@@ -7,8 +7,8 @@ use Rattle.client_world.specs.declared.host_frames.TheConstants.{PAGE_SIZE}
 use Rattle.client_world.specs.declared.limits.TheConstants.{MAX_BLOCKS}
 use Rattle.client_world.specs.declared.memory_map.TheConstants.{BLOCK_REGION_END}
 use Rattle.client_world.specs.Soundness.{IsSound, SoundBlocks}
-use Rattle.client_world.specs.World.{World, MemoryBlock, block_at}
-use Rattle.block_memory.specs.BlockSizes.{base_of_held, row_seen}
+use Rattle.client_world.specs.World.{World, MemoryBlock, block_at, base_of_block}
+use Rattle.block_memory.specs.BlockSizes.{row_seen}
 use Rattle.service_rows.proofs.IndexLaws.{is_missing}
 use Rattle.block_services.specs.Free.{IsLargest, largest_new_block}
 use Rattle.block_services.specs.Gaps.{block_in_way, is_gap, is_in_way, overlaps}
@@ -48,7 +48,7 @@ pub stays : (w : World) (handle pages : ℕ) (own : MemoryBlock) → IsSound w �
     new_base w.blocks handle pages ≡ Some own.base
 unfolding new_base
 stays w handle pages own s there few =
-    rw (ap base_of_held there, own_gap w.blocks w.budget handle pages own s.blocks there few) refl
+    rw (ap base_of_block there, own_gap w.blocks w.budget handle pages own s.blocks there few) refl
 
 -- the largest run
 

@@ -22,12 +22,13 @@ use Rattle.block_services.specs.declared.regions.Change.TheVariants.{Lock, Unloc
 abbrev pub touched_pages : ℕ → ℕ → ℕ
 touched_pages start size = if nat_eq size 0 then 0 else (start + (size - 1)) / PAGE_SIZE - start / PAGE_SIZE + 1
 
--- the first page wholly inside a run of bytes, and the number of such pages
-abbrev pub first_whole_page : ℕ → ℕ
-first_whole_page start = (start + (PAGE_SIZE - 1)) / PAGE_SIZE
+-- a number of bytes in pages, rounded up; of an address, the first page that begins there or above
+abbrev pub pages_rounded_up : ℕ → ℕ
+pages_rounded_up bytes = (bytes + (PAGE_SIZE - 1)) / PAGE_SIZE
 
+-- the number of pages wholly inside a run of bytes; the first of them is its start in pages, rounded up
 abbrev pub whole_pages : ℕ → ℕ → ℕ
-whole_pages start size = (start + size) / PAGE_SIZE - first_whole_page start
+whole_pages start size = (start + size) / PAGE_SIZE - pages_rounded_up start
 
 -- the place of a page's first byte; the view of the DOS megabyte and the blocks are whole pages, so all its bytes lie in the same one
 abbrev pub page_place : List (Option MemoryBlock) → ℕ → Place

@@ -1,6 +1,6 @@
 -- The services of INT 31h on memory blocks and their pages. Source: DPMI 0.9, INT 31h functions 0500h to 0503h, 0600h to 0604h, 0702h and
 -- 0703h; the handles, the addresses and the reasons of refusal are own.
-use Rattle.std.specs.Prelude.{ℕ, ◌+◌, ◌-◌, ◌/◌, ◌%◌, Bool, true, false, [], ◌∷◌, List, None, Some, is_none, nat_eq, nat_lt, not}
+use Rattle.std.specs.Prelude.{ℕ, ◌-◌, ◌/◌, ◌%◌, Bool, true, false, [], ◌∷◌, List, None, Some, is_none, nat_eq, nat_lt, not}
 use Rattle.std.specs.Prelude.{if◌then◌else◌}
 use Rattle.std.specs.declared.option.Option.{Option}
 use Rattle.client_world.specs.declared.host_frames.TheConstants.{PAGE_SIZE}
@@ -8,8 +8,8 @@ use Rattle.client_world.specs.Access.{is_reachable}
 use Rattle.client_world.specs.Registers.{low_half, with_low_half}
 use Rattle.client_world.specs.Services.{Served, bx, cx, es_di, two_words}
 use Rattle.client_world.specs.Soundness.{pages_of_block, pages_of_blocks}
-use Rattle.client_world.specs.World.{World, MemoryBlock, block_at, with_block_at}
-use Rattle.block_memory.specs.BlockSizes.{base_of_held, fresh_block, sized_block}
+use Rattle.client_world.specs.World.{World, MemoryBlock, block_at, with_block_at, base_of_block}
+use Rattle.block_memory.specs.BlockSizes.{fresh_block, sized_block}
 use Rattle.service_rows.specs.declared.refusal.Refusal.TheVariants.{InvalidAddress, InvalidValue, InvalidHandle, PhysicalMemoryUnavailable}
 use Rattle.service_rows.specs.declared.refusal.Refusal.TheVariants.{LinearMemoryUnavailable, HandleUnavailable}
 use Rattle.guest_space.specs.Far.{world_after_far_write}
@@ -20,7 +20,7 @@ use Rattle.block_services.specs.declared.regions.Question.TheVariants.{IsOutside
 use Rattle.block_services.specs.declared.regions.Question.TheVariants.{IsPageable, IsRelocked}
 use Rattle.block_services.specs.Free.{free_table, largest_new_block}
 use Rattle.block_services.specs.Gaps.{first_gap, is_gap, lowest_handle, page_address}
-use Rattle.block_services.specs.Pages.{changed, first_whole_page, some_page, touched_pages, whole_pages, with_pages}
+use Rattle.block_services.specs.Pages.{changed, pages_rounded_up, some_page, touched_pages, whole_pages, with_pages}
 
 -- 16-bit registers
 abbrev pub si : World → ℕ
@@ -36,13 +36,9 @@ si_di w = two_words (si w) (di w)
 abbrev pub bx_cx : World → ℕ
 bx_cx w = two_words (bx w) (cx w)
 
--- the number of pages that a number of bytes takes
-abbrev pub pages_for : ℕ → ℕ
-pages_for bytes = (bytes + (PAGE_SIZE - 1)) / PAGE_SIZE
-
 -- the number of pages that the client asks for, and the number that the budget has left
 abbrev pub asked_pages : World → ℕ
-asked_pages w = pages_for (bx_cx w)
+asked_pages w = pages_rounded_up (bx_cx w)
 
 abbrev pub free_pages : World → ℕ
 free_pages w = w.budget - pages_of_blocks w.blocks
@@ -104,7 +100,7 @@ gap_address (Some page) = Some (page_address page)
 -- shrinks, else the address that a new block would get
 unfoldable pub new_base : List (Option MemoryBlock) → ℕ → ℕ → Option ℕ
 new_base blocks handle pages =
-    if is_gap blocks handle (base_of_held (block_at blocks handle)) pages then Some (base_of_held (block_at blocks handle))
+    if is_gap blocks handle (base_of_block (block_at blocks handle)) pages then Some (base_of_block (block_at blocks handle))
     else gap_address (first_gap blocks pages)
 
 abbrev pub with_resized_block : Option ℕ → World → World
@@ -194,7 +190,7 @@ mark_paging_candidates w = record { reasons = (InvalidAddress, of_some_page IsNo
 unfoldable pub discard_pages : World → Service
 discard_pages w = record {
   reasons = (InvalidAddress, of_some_page IsNoBlock w) ∷ [];
-  after = with_blocks (changed Discard w.blocks (first_whole_page (bx_cx w)) (whole_pages (bx_cx w) (si_di w))) w;
+  after = with_blocks (changed Discard w.blocks (pages_rounded_up (bx_cx w)) (whole_pages (bx_cx w) (si_di w))) w;
 }
 
 -- the service of a function number

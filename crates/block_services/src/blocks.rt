@@ -3,15 +3,15 @@ ghost use Rattle.std.specs.Prelude.{◌≡◌, ◌≢◌, ◌≤◌, ◌<◌, �
 ghost use Rattle.client_world.specs.declared.host_frames.TheConstants.{PAGE_SIZE};
 ghost use Rattle.client_world.specs.declared.limits.TheConstants.{MAX_BLOCKS, MAX_PAGES};
 ghost use Rattle.client_world.specs.declared.memory_map.TheConstants.{BLOCK_REGION, BLOCK_REGION_END, BLOCK_REGION_PAGES};
-ghost use Rattle.client_world.specs.World.{block_at};
-ghost use Rattle.block_memory.specs.BlockSizes.{base_of_held, row_seen};
+ghost use Rattle.client_world.specs.World.{block_at, base_of_block};
+ghost use Rattle.block_memory.specs.BlockSizes.{row_seen};
 ghost use Rattle.service_rows.specs.declared.refusal.Refusal.TheVariants.{LinearMemoryUnavailable as no_gap};
 ghost use Rattle.service_rows.specs.Reasons.{Does};
 ghost use Rattle.block_services.specs.Rows.{allocate_block, with_block_outputs, asked_pages, free_block, free_pages, si_di, new_base};
-ghost use Rattle.block_services.specs.Rows.{pages_for, resize_block, bx_cx};
+ghost use Rattle.block_services.specs.Rows.{resize_block, bx_cx};
 
 use crate::gaps::{first_gap, is_gap, lowest_handle, page_address, row_of};
-use client_world::host_frames::PAGE_SIZE;
+use crate::regions::pages_rounded_up;
 use client_world::{high_half, low_half, two_words, with_low_half};
 use guest_space::Machine;
 use service_rows::Refusal;
@@ -30,13 +30,6 @@ pub(crate) fn bx_cx(m: &Machine) -> u32
 {
     let r = m.regs();
     two_words(low_half(r.ebx), low_half(r.ecx))
-}
-
-// The number of pages that a number of bytes takes.
-fn pages_for(bytes: u32) -> u32
-    ensures { result ≡ pages_for bytes }
-{
-    bytes.div_ceil(PAGE_SIZE)
 }
 
 /// The number of pages that the budget has left.
@@ -70,7 +63,7 @@ pub(crate) fn allocate_block(m: &mut Machine) -> Result<(), Refusal>
     if size == 0 {
         return Err(Refusal::InvalidValue);
     }
-    let pages = pages_for(size);
+    let pages = pages_rounded_up(size);
     if free_pages(m) < pages {
         return Err(Refusal::PhysicalMemoryUnavailable);
     }
@@ -86,7 +79,7 @@ pub(crate) fn allocate_block(m: &mut Machine) -> Result<(), Refusal>
 // The address of the block of a handle once it has that many pages.
 #[tactic(auto, unfolding(crate::specs::Rows::new_base))]
 fn new_base(m: &Machine, handle: u32, at: u32, pages: u32) -> Result<u32, Refusal>
-    requires at { at ≡ base_of_held (block_at m.now.world.blocks handle) }
+    requires at { at ≡ base_of_block (block_at m.now.world.blocks handle) }
     requires run { at + PAGE_SIZE * pages < 2 ^ 32 }
     requires some { 0 < pages }
     requires few { pages ≤ BLOCK_REGION_PAGES + MAX_PAGES }
@@ -128,7 +121,7 @@ pub(crate) fn resize_block(m: &mut Machine) -> Result<(), Refusal>
             if size == 0 {
                 return Err(Refusal::InvalidValue);
             }
-            let pages = pages_for(size);
+            let pages = pages_rounded_up(size);
             if free_pages(m) < pages.saturating_sub(row.pages) {
                 return Err(Refusal::PhysicalMemoryUnavailable);
             }

@@ -4,8 +4,8 @@ ghost use Rattle.client_world.specs.declared.host_frames.TheConstants.{PAGE_SIZE
 ghost use Rattle.client_world.specs.declared.limits.TheConstants.{MAX_BLOCKS, MAX_PAGES};
 ghost use Rattle.client_world.specs.declared.memory_map.TheConstants.{BLOCK_REGION, BLOCK_REGION_END, BLOCK_REGION_PAGES};
 ghost use Rattle.client_world.specs.Soundness.{pages_of_block};
-ghost use Rattle.client_world.specs.World.{block_at};
-ghost use Rattle.block_memory.specs.BlockSizes.{base_of_held, row_seen};
+ghost use Rattle.client_world.specs.World.{block_at, base_of_block};
+ghost use Rattle.block_memory.specs.BlockSizes.{row_seen};
 ghost use Rattle.service_rows.specs.declared.refusal.Refusal.TheVariants.{LinearMemoryUnavailable as no_gap};
 ghost use Rattle.service_rows.specs.declared.refusal.Refusal.TheVariants.{HandleUnavailable as no_handle};
 ghost use Rattle.block_services.specs.Gaps.{block_in_way, first_gap, is_gap, is_in_way, lowest_handle, overlaps, page_address, page_after};
@@ -24,7 +24,7 @@ pub(crate) fn row_of(m: &Machine, handle: u32) -> Option<BlockRow>
     ensures whole { IfSome result (λ row. row.base % PAGE_SIZE ≡ 0) }
     ensures to { IfSome result (λ row. row.base + PAGE_SIZE * row.pages ≤ BLOCK_REGION_END) }
     ensures handle { IfSome result (λ row. handle ≤ MAX_BLOCKS) }
-    ensures base { IfSome result (λ row. row.base ≡ base_of_held (block_at m.now.world.blocks handle)) }
+    ensures base { IfSome result (λ row. row.base ≡ base_of_block (block_at m.now.world.blocks handle)) }
     ensures pages { IfSome result (λ row. row.pages ≡ pages_of_block (block_at m.now.world.blocks handle)) }
 {
     m.soundness();

@@ -6,7 +6,7 @@ ghost use Rattle.block_services.specs.Rows.{of_some_page, page_count, page_size,
 
 use crate::blocks::{bx_cx, si_di};
 use crate::regions::{
-    Change, Question, change_pages, first_whole_page, set_pages, some_page, touched_pages,
+    Change, Question, change_pages, pages_rounded_up, set_pages, some_page, touched_pages,
     whole_pages,
 };
 use client_world::host_frames::PAGE_SIZE;
@@ -132,7 +132,7 @@ pub(crate) fn discard_pages(m: &mut Machine) -> Result<(), Refusal>
     change_pages(
         m,
         Change::Discard,
-        first_whole_page(start),
+        pages_rounded_up(start),
         whole_pages(start, size),
     );
     Ok(())

@@ -4,7 +4,7 @@ ghost use Rattle.std.specs.Bool.{OnTrue};
 ghost use Rattle.client_world.specs.declared.host_frames.TheConstants.{PAGE_SIZE};
 ghost use Rattle.client_world.specs.declared.memory_map.TheConstants.{BLOCK_REGION_END, DOS_VIEW_PAGES};
 ghost use Rattle.guest_space.specs.VectorLists.{is_pageable};
-ghost use Rattle.block_services.specs.Pages.{changed, changed_page, first_whole_page, page_answer, is_blocks, is_in_view, lock_of_page};
+ghost use Rattle.block_services.specs.Pages.{changed, changed_page, page_answer, pages_rounded_up, is_blocks, is_in_view, lock_of_page};
 ghost use Rattle.block_services.specs.Pages.{page_place, some_page, touched_pages, whole_pages, with_pages};
 
 use crate::gaps::block_in_way;
@@ -55,12 +55,12 @@ pub(crate) fn touched_pages(start: u32, size: u32) -> u32
     last as u32 - start / PAGE_SIZE + 1
 }
 
-/// The first page wholly inside a run of bytes from that one.
-pub(crate) fn first_whole_page(start: u32) -> u32
-    ensures page { result ≡ first_whole_page start }
+/// A number of bytes in pages, rounded up; of an address, the first page that begins there or above.
+pub(crate) fn pages_rounded_up(bytes: u32) -> u32
+    ensures pages { result ≡ pages_rounded_up bytes }
     ensures few { result < 2 ^ 22 }
 {
-    start.div_ceil(PAGE_SIZE)
+    bytes.div_ceil(PAGE_SIZE)
 }
 
 /// The number of pages wholly inside a run of bytes.
@@ -69,7 +69,7 @@ pub(crate) fn whole_pages(start: u32, size: u32) -> u32
     ensures few { result < 2 ^ 22 }
 {
     let end = (u64::from(start) + u64::from(size)) / u64::from(PAGE_SIZE);
-    (end as u32).saturating_sub(first_whole_page(start))
+    (end as u32).saturating_sub(pages_rounded_up(start))
 }
 
 // Whether a page is a block's.

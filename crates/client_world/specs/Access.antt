@@ -59,11 +59,14 @@ HasByte None at = ⊥
 HasByte (Some block) at = at < length block.bytes
 
 -- the place is the client's: it lies in the DOS megabyte, or in a memory block that the client holds
+abbrev pub IsHeldIn : List (Option MemoryBlock) → Place → Type 0
+IsHeldIn blocks (Dos at) = ⊤
+IsHeldIn blocks (Block number at) = HasByte (block_at blocks number) at
+IsHeldIn blocks Host = ⊥
+IsHeldIn blocks Nothing = ⊥
+
 abbrev pub IsHeld : World → Place → Type 0
-IsHeld w (Dos at) = ⊤
-IsHeld w (Block number at) = HasByte (block_at w.blocks number) at
-IsHeld w Host = ⊥
-IsHeld w Nothing = ⊥
+IsHeld w place = IsHeldIn w.blocks place
 
 -- the client may read, or write, what is there
 abbrev pub may_touch : Place → Bool → Bool

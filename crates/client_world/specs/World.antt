@@ -1,5 +1,5 @@
 -- The state of a run, as the definitions see it. Source: own.
-use Rattle.std.specs.Prelude.{ℕ, zero, suc, List, Bool, length, slice_index_or, slice_set, None}
+use Rattle.std.specs.Prelude.{ℕ, zero, suc, List, Bool, length, slice_index_or, slice_set, None, Some}
 use Rattle.std.specs.declared.option.Option.{Option}
 use Rattle.client_world.specs.declared.registers.Mode.{Mode}
 use Rattle.client_world.specs.declared.registers.Regs.{Regs}
@@ -74,6 +74,11 @@ depth w = length w.calls
 abbrev pub block_at : List (Option MemoryBlock) → ℕ → Option MemoryBlock
 block_at blocks zero = None
 block_at blocks (suc place) = slice_index_or blocks place None
+
+-- the linear address of a block, 0 where there is none
+abbrev pub base_of_block : Option MemoryBlock → ℕ
+base_of_block None = 0
+base_of_block (Some block) = block.base
 
 -- the blocks with another one, or none, at a handle
 abbrev pub with_block_at : List (Option MemoryBlock) → ℕ → Option MemoryBlock → List (Option MemoryBlock)

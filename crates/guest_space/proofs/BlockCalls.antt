@@ -4,13 +4,13 @@ use Rattle.std.proofs.Common.{refl, ap, ◌∙◌, sym, subst, arith, Option, No
 use Rattle.std.proofs.lemmas.List.{set-set, set-get_or}
 use Rattle.client_world.specs.declared.limits.TheConstants.{MAX_BLOCKS}
 use Rattle.client_world.specs.declared.place.Place.{Place}
-use Rattle.client_world.specs.Access.{HasByte, IsHeld}
+use Rattle.client_world.specs.Access.{HasByte, IsHeld, IsHeldIn}
 use Rattle.client_world.specs.Soundness.{IsSound, pages_of_block}
 use Rattle.client_world.specs.World.{World, MemoryBlock, block_at, with_block_at}
 use Rattle.host_memory.specs.Holds.{Holds}
 use Rattle.host_memory.specs.Layout.{address_of}
 use Rattle.host_memory.specs.View.{MachineView}
-use Rattle.block_memory.specs.BlockChanges.{blocks_held, CanHoldIn, CanSizeIn, HasBlockIn, IsHeldIn, ReplacesBlock, with_at}
+use Rattle.block_memory.specs.BlockChanges.{blocks_held, CanHoldIn, CanSizeIn, HasBlockIn, ReplacesBlock, with_at}
 use Rattle.block_memory.specs.BlockSizes.{CanHold, CanMake, CanSize, block_with_zero_pages, fresh_block}
 use Rattle.block_memory.proofs.BlockSteps.{becomes, held_still}
 use Rattle.block_memory.proofs.PageChanges.{held_in, is_held}

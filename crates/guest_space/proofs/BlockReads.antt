@@ -9,10 +9,10 @@ use Rattle.client_world.specs.declared.limits.TheConstants.{MAX_BLOCKS}
 use Rattle.client_world.specs.declared.memory_map.TheConstants.{BLOCK_REGION, BLOCK_REGION_END, BLOCK_REGION_PAGES}
 use Rattle.client_world.specs.Access.{HasByte, bytes_of_block}
 use Rattle.client_world.specs.Soundness.{IsSound, pages_of_block}
-use Rattle.client_world.specs.World.{World, MemoryBlock, block_at}
+use Rattle.client_world.specs.World.{World, MemoryBlock, block_at, base_of_block}
 use Rattle.guest_ram.specs.Bytes.{dword}
 use Rattle.block_memory.specs.BlockChanges.{blocks_held, HasBlockIn}
-use Rattle.block_memory.specs.BlockSizes.{HasPages, base_of_held, row_seen}
+use Rattle.block_memory.specs.BlockSizes.{HasPages, row_seen}
 use Rattle.host_memory.specs.Holds.{Holds}
 use Rattle.host_memory.specs.HoldsWorld.{block_page, block_entry}
 use Rattle.host_memory.specs.Layout.{handles_part, tables_part, locks_part, budget_part, pages_of, base_of, held_block}
@@ -91,7 +91,7 @@ reads_of k b holds sound handle base pages at (Some block) e has some row =
     let long = is.pages in
     let here : slice_index_or w.blocks (handle - 1) None ≡ Some block = at_handle w.blocks handle some ∙ e in
     let count : length block.locks ≡ pages = sym (ap pages_of_block here) ∙ row.count in
-    let based : block.base ≡ base = sym (ap base_of_held here) ∙ row.based (omega arith) in
+    let based : block.base ≡ base = sym (ap base_of_block here) ∙ row.based (omega arith) in
     let above = row.above in let below = row.below in
     let ranges = memory_ranges k b sound in
     let has_blocks : HasBlocks b k.budget w = held_blocks k b in

@@ -6,11 +6,11 @@ use Rattle.client_world.specs.declared.host_frames.TheConstants.{PAGE_SIZE, BLOC
 use Rattle.client_world.specs.declared.host_frames.TheConstants.{BLOCK_ROW_SIZE, LOCK_COUNT_FRAMES, LOCK_COUNT_SIZE}
 use Rattle.client_world.specs.declared.limits.TheConstants.{MAX_BLOCKS}
 use Rattle.client_world.specs.Soundness.{pages_of_block}
-use Rattle.client_world.specs.World.{World, MemoryBlock, block_at}
+use Rattle.client_world.specs.World.{World, MemoryBlock, block_at, base_of_block}
 use Rattle.guest_ram.specs.Bytes.{dword, word_of}
 use Rattle.guest_ram.proofs.PutLaws.{at_region}
 use Rattle.host_memory.specs.Holds.{Holds}
-use Rattle.host_memory.specs.HoldsWorld.{base_of_block, HoldsBlocks, IsBlockRow, block_entry, block_page, frame_place}
+use Rattle.host_memory.specs.HoldsWorld.{HoldsBlocks, IsBlockRow, block_entry, block_page, frame_place}
 use Rattle.host_memory.specs.Layout.{tables_part, handles_part, locks_part, budget_part, base_of, pages_of, first_page_of, entry_of}
 use Rattle.host_memory.specs.Layout.{blocks_in}
 use Rattle.host_memory.proofs.BlockBytes.{IsBlockByte, page_inside, page_small, byte_frame, spot_small}

@@ -11,11 +11,11 @@ use Rattle.client_world.specs.declared.limits.TheConstants.{MAX_BLOCKS}
 use Rattle.client_world.specs.declared.memory_map.TheConstants.{DOS_SIZE, DOS_VIEW_END, BLOCK_REGION, BLOCK_REGION_END, BLOCK_REGION_PAGES}
 use Rattle.client_world.specs.Access.{place_of, dos_address, may_touch, bytes_of_block, covers}
 use Rattle.client_world.specs.Soundness.{IsBlock, SoundBlocks}
-use Rattle.client_world.specs.World.{World, MemoryBlock, block_at}
+use Rattle.client_world.specs.World.{World, MemoryBlock, block_at, base_of_block}
 use Rattle.guest_ram.specs.Bytes.{dword}
 use Rattle.page_tables.specs.Entry.{page_entry}
 use Rattle.page_tables.specs.Walk.{walked, walk_end}
-use Rattle.host_memory.specs.HoldsWorld.{HoldsWorld, HoldsTables, HoldsBlocks, IsNoBlocks, base_of_block, block_entry, block_page}
+use Rattle.host_memory.specs.HoldsWorld.{HoldsWorld, HoldsTables, HoldsBlocks, IsNoBlocks, block_entry, block_page}
 use Rattle.host_memory.specs.HoldsWorld.{frame_place}
 use Rattle.host_memory.specs.Law.{walk_result, StandsAt}
 use Rattle.host_memory.specs.Layout.{address_of, fixed_part, tables_part, handles_part, base_of, entry_of}

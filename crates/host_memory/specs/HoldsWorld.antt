@@ -15,7 +15,7 @@ use Rattle.client_world.specs.declared.limits.TheConstants.{MAX_BLOCKS, MAX_PAGE
 use Rattle.client_world.specs.declared.memory_map.TheConstants.{DOS_SIZE, DOS_VIEW_PAGES, BLOCK_REGION, BLOCK_REGION_PAGES}
 use Rattle.client_world.specs.Selector.{row_at_index}
 use Rattle.client_world.specs.Soundness.{pages_of_block}
-use Rattle.client_world.specs.World.{World, MemoryBlock, block_at}
+use Rattle.client_world.specs.World.{World, MemoryBlock, base_of_block, block_at}
 use Rattle.guest_ram.specs.Bytes.{dword, word_of}
 use Rattle.desc_table.specs.Rows.{row_bytes}
 use Rattle.page_tables.specs.Entry.{page_entry}
@@ -41,11 +41,6 @@ block_page block page = (block.base - BLOCK_REGION) / PAGE_SIZE + page
 abbrev pub IsNoBlocks : World → ℕ → Type 0
 IsNoBlocks w page = (handle offset : ℕ) (block : MemoryBlock) → block_at w.blocks handle ≡ Some block →
     offset < length block.locks → page ≢ block_page block offset
-
--- the linear address of a block, 0 where there is none
-abbrev pub base_of_block : Option MemoryBlock → ℕ
-base_of_block None = 0
-base_of_block (Some block) = block.base
 
 -- the row of a handle: its block's linear address and pages as doublewords, and zeros; all are 0 where it is free
 pub record IsBlockRow (b : List ℕ) (at : ℕ) (block : Option MemoryBlock) : Type 0 where

@@ -9,7 +9,7 @@ block_make-requires-clause-room c =
     let free = c.free_pages.ensures.free in
     let enough = c.if-free_pages-pages.false in
     let size = c.if-size-eq0.false in
-    let pages = c.pages_for-pages.ensures in
-    subst (λ (base : ℕ). CanMake w.blocks w.budget base c.pages_for-pages.result) (sym c.page_address-base.ensures)
-    (can_make w.blocks w.budget c.in_ok-page.page c.pages_for-pages.result c.soundness.ensures.blocks
-    (first_gap_is w.blocks c.pages_for-pages.result c.in_ok-page.page c.in_ok-page.ensures.0) (omega arith) (omega arith))
+    let pages = c.pages_rounded_up-pages.ensures.pages in
+    subst (λ (base : ℕ). CanMake w.blocks w.budget base c.pages_rounded_up-pages.result) (sym c.page_address-base.ensures)
+    (can_make w.blocks w.budget c.in_ok-page.page c.pages_rounded_up-pages.result c.soundness.ensures.blocks
+    (first_gap_is w.blocks c.pages_rounded_up-pages.result c.in_ok-page.page c.in_ok-page.ensures.0) (omega arith) (omega arith))
