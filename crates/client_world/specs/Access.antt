@@ -31,6 +31,10 @@ linear_address segment offset = segment * PARAGRAPH_SIZE + offset
 abbrev pub dos_address : ℕ → ℕ
 dos_address linear = linear % DOS_SIZE
 
+-- where the byte at an offset of a real-mode segment lies in it; the offset wraps in its segment (own)
+abbrev pub real_address : ℕ → ℕ → ℕ
+real_address segment offset = dos_address (linear_address segment (offset % SEGMENT_SIZE))
+
 -- the block covers the linear address
 abbrev pub covers : MemoryBlock → ℕ → Bool
 covers block linear = nat_le block.base linear && nat_lt linear (block.base + length block.bytes)

@@ -4,16 +4,17 @@ use Rattle.std.proofs.Common.{sym, arith}
 use Rattle.std.specs.Prelude.{nat_eq}
 use Rattle.std.proofs.lemmas.Bool.Decides.{nat_tests}
 use Rattle.std.proofs.lemmas.List.{drop_all}
+use Rattle.client_world.specs.Access.{real_address}
 use Rattle.client_world.specs.World.{World}
 use Rattle.guest_space.specs.Dos.{with_dos_byte}
-use Rattle.dos_calls.specs.DosBytes.{address_at, byte_at, with_dos_bytes_at, bytes_from, text_from}
+use Rattle.dos_calls.specs.DosBytes.{byte_at, with_dos_bytes_at, bytes_from, text_from}
 use Rattle.dos_calls.proofs.LineLaws.{rest_is}
 
 -- ---- bytes written
 
 pub put_next : (dos : List ℕ) (segment at : ℕ) (bytes : List ℕ) (n : ℕ) → n < length bytes →
     with_dos_bytes_at dos segment at (drop n bytes)
-    ≡ with_dos_bytes_at (with_dos_byte dos (address_at segment at) (get_or bytes n 0)) segment (at + 1) (drop (n + 1) bytes)
+    ≡ with_dos_bytes_at (with_dos_byte dos (real_address segment at) (get_or bytes n 0)) segment (at + 1) (drop (n + 1) bytes)
 unfolding with_dos_bytes_at
 put_next dos segment at bytes n small = ap (λ (xs : List ℕ). with_dos_bytes_at dos segment at xs) (rest_is bytes n small)
 
@@ -35,8 +36,8 @@ pub put_append : (dos : List ℕ) (segment at : ℕ) (xs ys : List ℕ) →
 unfolding with_dos_bytes_at
 put_append dos segment at [] ys = ap (λ (k : ℕ). with_dos_bytes_at dos segment k ys) (let same : at ≡ at + 0 = omega arith in same)
 put_append dos segment at (x ∷ xs) ys =
-    put_append (with_dos_byte dos (address_at segment at) x) segment (at + 1) xs ys
-    ∙ ap (λ (k : ℕ). with_dos_bytes_at (with_dos_bytes_at (with_dos_byte dos (address_at segment at) x) segment (at + 1) xs) segment k ys)
+    put_append (with_dos_byte dos (real_address segment at) x) segment (at + 1) xs ys
+    ∙ ap (λ (k : ℕ). with_dos_bytes_at (with_dos_bytes_at (with_dos_byte dos (real_address segment at) x) segment (at + 1) xs) segment k ys)
     (let same : at + 1 + length xs ≡ at + suc (length xs) = omega arith in same)
 
 -- a line, its return, and its length

@@ -1,11 +1,12 @@
 -- Lists of bytes: their parts, and those that are read from the megabyte.
 use Rattle.std.proofs.Common.{ℕ, zero, suc, ◌+◌, ◌/◌, ◌%◌, ◌<◌, ◌≤◌, List, [], ◌∷◌, ◌++◌, length, take, drop, arith, nat_eq, if◌then◌else◌}
 use Rattle.std.proofs.Common.{Bool, true, false, Option, None, Some}
+use Rattle.client_world.specs.Access.{real_address}
 use Rattle.client_world.specs.Soundness.{SoundMegabyte}
 use Rattle.host_memory.specs.Vectors.{word_bytes}
 use Rattle.dos_calls.specs.Calls.{line_of}
 use Rattle.guest_ram.specs.Bytes.{AreBytes}
-use Rattle.dos_calls.specs.DosBytes.{byte_at, bytes_from, address_at, text_from}
+use Rattle.dos_calls.specs.DosBytes.{byte_at, bytes_from, text_from}
 
 -- ---- parts
 
@@ -53,7 +54,7 @@ pub bytes_read : (dos : List ℕ) (segment offset n : ℕ) → SoundMegabyte dos
 unfolding bytes_from
 bytes_read dos segment offset zero s = no_bytes
 bytes_read dos segment offset (suc n) s =
-    more_bytes (byte_at dos segment offset) (bytes_from dos segment (offset + 1) n) (s.bytes (address_at segment offset))
+    more_bytes (byte_at dos segment offset) (bytes_from dos segment (offset + 1) n) (s.bytes (real_address segment offset))
     (bytes_read dos segment (offset + 1) n s)
 
 pub bytes_text : (dos : List ℕ) (segment offset n : ℕ) → SoundMegabyte dos → AreBytes (text_from dos segment offset n)
@@ -61,7 +62,7 @@ unfolding text_from
 bytes_text dos segment offset zero s = no_bytes
 bytes_text dos segment offset (suc n) s =
     bytes_if (nat_eq (byte_at dos segment offset) 0x24) [] (byte_at dos segment offset ∷ text_from dos segment (offset + 1) n) no_bytes
-    (more_bytes (byte_at dos segment offset) (text_from dos segment (offset + 1) n) (s.bytes (address_at segment offset))
+    (more_bytes (byte_at dos segment offset) (text_from dos segment (offset + 1) n) (s.bytes (real_address segment offset))
     (bytes_text dos segment (offset + 1) n s))
 
 -- ---- a line and the keys after it

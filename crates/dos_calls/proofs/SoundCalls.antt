@@ -7,6 +7,7 @@ use Rattle.client_world.specs.declared.limits.TheConstants.{CONSOLE_ROOM}
 use Rattle.client_world.specs.declared.memory_map.TheConstants.{PSP_SEGMENT, SEGMENT_SIZE}
 use Rattle.client_world.specs.declared.outcome.Exit.{Exit}
 use Rattle.client_world.specs.declared.outcome.Exit.TheVariants.{NoKeys}
+use Rattle.client_world.specs.Access.{real_address}
 use Rattle.client_world.specs.Registers.{low_byte, high_byte, low_half}
 use Rattle.client_world.specs.Soundness.{IsSound}
 use Rattle.client_world.specs.World.{World}
@@ -21,7 +22,7 @@ use Rattle.dos_calls.specs.Calls as calls
 use Rattle.dos_calls.specs.Calls.{CallResult, CallState, served_call, ended_call, print_result, with_al, with_error, without_carry}
 use Rattle.dos_calls.specs.Calls.{poll_key, with_line, line_result, line_of, keys_result, bad_handle, with_memory_error}
 use Rattle.dos_calls.specs.Calls.{after_allocate_call, after_block_call, no_memory, wrong_block, bad_function, dos_call}
-use Rattle.dos_calls.specs.DosBytes.{byte_at, address_at, with_dos_bytes_at}
+use Rattle.dos_calls.specs.DosBytes.{byte_at, with_dos_bytes_at}
 use Rattle.dos_calls.specs.Multiplex.{with_entry, multiplex_call}
 use Rattle.dos_calls.proofs.ByteLists.{no_bytes, more_bytes, bytes_behind, bytes_append, bytes_take, bytes_drop, length-taken, bytes_word}
 use Rattle.dos_calls.proofs.ByteLists.{bytes_read, bytes_text, LineOfBytes, bytes_line}
@@ -134,7 +135,7 @@ keeps_read_line s seen =
     let n = byte_at s.world.dos s.world.regs.ds (low_half s.world.regs.edx) in
     keeps_if s (nat_eq n 0) (served_call s s.world s.keys) (line_result s n (line_of s.keys))
     (keeps_served s s.world s.keys seen.world seen.keys)
-    (keeps_line s n (line_of s.keys) (seen.world.megabyte.bytes (address_at s.world.regs.ds (low_half s.world.regs.edx))) seen
+    (keeps_line s n (line_of s.keys) (seen.world.megabyte.bytes (real_address s.world.regs.ds (low_half s.world.regs.edx))) seen
     (bytes_line s.keys seen.keys))
 
 keeps_ask_key : (s : CallState) → Seen s → Keeps s (calls.ask_key s)

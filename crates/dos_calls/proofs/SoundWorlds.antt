@@ -4,6 +4,7 @@ use Rattle.std.proofs.Common.{slice_index}
 use Rattle.std.proofs.lemmas.Bool.{ltb-true}
 use Rattle.client_world.specs.declared.memory_map.TheConstants.{ROM_START}
 use Rattle.client_world.specs.declared.registers.TheConstants.{CARRY_BIT, ZERO_BIT}
+use Rattle.client_world.specs.Access.{real_address}
 use Rattle.client_world.specs.Soundness.{IsSound, SoundMegabyte}
 use Rattle.client_world.specs.World.{World}
 use Rattle.client_world.proofs.SoundWrites.{IsSound-dos, IsSound-regs, SoundMegabyte-set}
@@ -12,7 +13,7 @@ use Rattle.service_rows.specs.Rows.{with_ax}
 use Rattle.dos_blocks.specs.Services.{with_bx}
 use Rattle.dos_calls.specs.Calls.{with_al, with_error}
 use Rattle.guest_ram.specs.Bytes.{AreBytes}
-use Rattle.dos_calls.specs.DosBytes.{address_at, with_bit, with_dos_bytes_at, with_stacked}
+use Rattle.dos_calls.specs.DosBytes.{with_bit, with_dos_bytes_at, with_stacked}
 use Rattle.dos_calls.proofs.ByteLists.{bytes_behind}
 
 -- ---- bytes
@@ -30,8 +31,8 @@ pub sound_bytes : (dos : List ℕ) (segment offset : ℕ) (xs : List ℕ) → So
 unfolding with_dos_bytes_at
 sound_bytes dos segment offset [] s bytes = s
 sound_bytes dos segment offset (x ∷ xs) s bytes =
-    sound_bytes (with_dos_byte dos (address_at segment offset) x) segment (offset + 1) xs
-    (sound_byte dos (address_at segment offset) x s (bytes 0)) (bytes_behind x xs bytes)
+    sound_bytes (with_dos_byte dos (real_address segment offset) x) segment (offset + 1) xs
+    (sound_byte dos (real_address segment offset) x s (bytes 0)) (bytes_behind x xs bytes)
 
 -- ---- a flag
 
@@ -46,7 +47,7 @@ zero_fits false byte small = omega arith
 sound_stacked : (w : World) (bit : ℕ) (on : Bool) → ((byte : ℕ) → byte < 0x100 → with_bit byte bit on < 0x100) → IsSound w →
     IsSound (with_stacked bit on w)
 sound_stacked w bit on fits s =
-    let at = address_at w.regs.ss (w.regs.esp + 4) in
+    let at = real_address w.regs.ss (w.regs.esp + 4) in
     IsSound-dos w (with_dos_byte w.dos at (with_bit (slice_index w.dos at) bit on)) s
     (sound_byte w.dos at (with_bit (slice_index w.dos at) bit on) s.megabyte (fits (slice_index w.dos at) (s.megabyte.bytes at)))
 

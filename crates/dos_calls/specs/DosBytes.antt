@@ -1,22 +1,18 @@
 -- Bytes of the DOS megabyte as DOS calls see them: at a segment and an offset, which wraps in its segment. Source: own.
 use Rattle.std.specs.Prelude.{ℕ, ◌+◌, ◌*◌, ◌/◌, ◌%◌, Bool, zero, suc, List, [], ◌∷◌, cond, nat_eq, if◌then◌else◌, slice_index}
-use Rattle.client_world.specs.declared.memory_map.TheConstants.{SEGMENT_SIZE}
-use Rattle.client_world.specs.Access.{dos_address, linear_address}
+use Rattle.client_world.specs.Access.{real_address}
 use Rattle.client_world.specs.World.{World}
 use Rattle.guest_space.specs.Dos.{with_dos_byte}
 
--- where the byte at segment:offset is
-abbrev pub address_at : ℕ → ℕ → ℕ
-address_at segment offset = dos_address (linear_address segment (offset % SEGMENT_SIZE))
-
+-- the byte at segment:offset
 abbrev pub byte_at : List ℕ → ℕ → ℕ → ℕ
-byte_at dos segment offset = slice_index dos (address_at segment offset)
+byte_at dos segment offset = slice_index dos (real_address segment offset)
 
 -- the megabyte with other bytes from there on; those of read-only memory stay
 unfoldable pub with_dos_bytes_at : List ℕ → ℕ → ℕ → List ℕ → List ℕ
 with_dos_bytes_at dos segment offset [] = dos
 with_dos_bytes_at dos segment offset (byte ∷ bytes) =
-    with_dos_bytes_at (with_dos_byte dos (address_at segment offset) byte) segment (offset + 1) bytes
+    with_dos_bytes_at (with_dos_byte dos (real_address segment offset) byte) segment (offset + 1) bytes
 
 -- n bytes from there on
 unfoldable pub bytes_from : List ℕ → ℕ → ℕ → ℕ → List ℕ
@@ -37,5 +33,5 @@ with_bit byte bit on = byte / (2 * bit) * (2 * bit) + cond on bit 0 + byte % bit
 -- the world with a flag changed in the flags image that the interrupt pushed: CF and ZF lie in its low byte, at SS:SP+4
 abbrev pub with_stacked : ℕ → Bool → World → World
 with_stacked bit on w =
-    let at = address_at w.regs.ss (w.regs.esp + 4) in
+    let at = real_address w.regs.ss (w.regs.esp + 4) in
     record w { dos = with_dos_byte w.dos at (with_bit (slice_index w.dos at) bit on) }

@@ -1,44 +1,37 @@
 // Bytes of the DOS megabyte at a segment and an offset, which wraps in its segment.
 ghost use Rattle.std.specs.Prelude.{◌≡◌, ◌≤◌, ◌<◌, ◌+◌, length};
 ghost use Rattle.client_world.specs.declared.memory_map.TheConstants.{DOS_SIZE};
+ghost use Rattle.client_world.specs.Access.{real_address};
 ghost use Rattle.guest_space.specs.Dos.{with_dos_byte};
-ghost use Rattle.dos_calls.specs.DosBytes.{address_at, byte_at, with_dos_bytes_at, bytes_from, text_from};
+ghost use Rattle.dos_calls.specs.DosBytes.{byte_at, with_dos_bytes_at, bytes_from, text_from};
 ghost use Rattle.dos_calls.specs.Answering.{console_with};
 ghost use Rattle.dos_calls.specs.Calls.{has_room};
 
 use crate::console::Console;
-use client_world::memory_map::{DOS_SIZE, PARAGRAPH_SIZE, SEGMENT_SIZE};
-use guest_space::Machine;
-
-// Where the byte at segment:offset is.
-fn address_at(segment: u16, offset: u32) -> u32
-    ensures at { result ≡ address_at segment offset }
-    ensures within { result < DOS_SIZE }
-{
-    (u32::from(segment) * PARAGRAPH_SIZE + offset % SEGMENT_SIZE) % DOS_SIZE
-}
+use client_world::memory_map::SEGMENT_SIZE;
+use guest_space::{Machine, real_address};
 
 /// Where the low byte of the flags image is that the interrupt pushed.
 pub(crate) fn stacked_flags(m: &Machine) -> u32
-    ensures at { result ≡ address_at m.now.world.regs.ss (m.now.world.regs.esp + 4) }
+    ensures at { result ≡ real_address m.now.world.regs.ss (m.now.world.regs.esp + 4) }
     ensures within { result < DOS_SIZE }
 {
     let r = m.regs();
-    address_at(r.ss, r.esp % SEGMENT_SIZE + 4)
+    real_address(r.ss, r.esp % SEGMENT_SIZE + 4)
 }
 
 /// The byte at segment:offset.
 pub(crate) fn byte_at(m: &Machine, segment: u16, offset: u32) -> u8
     ensures { result ≡ byte_at m.now.world.dos segment offset }
 {
-    m.dos8(address_at(segment, offset))
+    m.dos8(real_address(segment, offset))
 }
 
 // Puts a byte at segment:offset.
 fn set_byte_at(m: &mut Machine, segment: u16, offset: u32, v: u8)
-    ensures { m.new.world ≡ record m.old.world { dos = with_dos_byte m.old.world.dos (address_at segment offset) v } }
+    ensures { m.new.world ≡ record m.old.world { dos = with_dos_byte m.old.world.dos (real_address segment offset) v } }
 {
-    m.set_dos8(address_at(segment, offset), v);
+    m.set_dos8(real_address(segment, offset), v);
 }
 
 /// Puts bytes at segment:offset; those of read-only memory stay.

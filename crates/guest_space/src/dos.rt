@@ -7,6 +7,7 @@ ghost use Rattle.client_world.specs.declared.host_frames.TheConstants.{PAGE_SIZE
 ghost use Rattle.client_world.specs.declared.place.Place.{Place};
 ghost use Rattle.guest_ram.specs.Bytes.{word_of, put};
 ghost use Rattle.guest_space.specs.Dos.{real_vector, with_dos_byte};
+ghost use Rattle.client_world.specs.Access.{real_address};
 ghost use Rattle.client_world.specs.DosMemory.{IsArena};
 ghost use Rattle.host_memory.specs.DosList.{state_of, entry_at, entry_count, entry_room, entry_size, arena_in, KeepsArena};
 ghost use Rattle.host_memory.specs.Headers.{with_headers};
@@ -22,11 +23,19 @@ use crate::hidden_parts::all_parts;
 use crate::machine::Machine;
 use arrayvec::ArrayVec;
 use client_world::host_frames::{DOS_ENTRY_SIZE, DOS_LIST, DOS_LIST_FRAMES, PAGE_SIZE};
-use client_world::memory_map::{PARAGRAPH_SIZE, ROM_START};
+use client_world::memory_map::{DOS_SIZE, PARAGRAPH_SIZE, ROM_START, SEGMENT_SIZE};
 use client_world::{Desc, DosEntry, DosRun, DosState, FarPtr, Kind, Origin};
 use desc_table::set;
 use guest_ram::Ram;
 use host_memory::{header, listed_entry};
+
+/// Where the byte at an offset of a real-mode segment lies in the DOS megabyte; the offset wraps in its segment.
+pub fn real_address(segment: u16, offset: u32) -> u32
+    ensures at { result ≡ real_address segment offset }
+    ensures within { result < DOS_SIZE }
+{
+    (u32::from(segment) * PARAGRAPH_SIZE + offset % SEGMENT_SIZE) % DOS_SIZE
+}
 
 impl Machine {
     /// The byte of the DOS megabyte at an address below 100000h.

@@ -8,11 +8,11 @@ use Rattle.client_world.specs.declared.place.Place.{Place}
 use Rattle.client_world.specs.declared.place.Place.TheVariants.{Dos}
 use Rattle.client_world.specs.declared.registers.Mode.TheVariants.{Real}
 use Rattle.client_world.specs.declared.segments.SegReg.TheVariants.{Ss}
-use Rattle.client_world.specs.Access.{access, linear, may_touch, place_in, places_from, segment_base, touched_places}
+use Rattle.client_world.specs.Access.{access, linear, may_touch, place_in, places_from, segment_base, touched_places, real_address}
 use Rattle.client_world.specs.World.{World, MemoryBlock}
 use Rattle.client_world.proofs.PlaceLaws.{place-dos}
 use Rattle.guest_space.specs.Transfer.{access_fault, fault_of}
-use Rattle.translation.specs.RealStack.{is_writable_word, real_address}
+use Rattle.translation.specs.RealStack.{is_writable_word}
 
 -- two places, asked one after the other
 two_places : (p q : Place) → is_none (fault_of (touched_places (p ∷ q ∷ []) true)) ≡ (may_touch p true && may_touch q true)

@@ -11,13 +11,14 @@ use Rattle.client_world.specs.declared.limits.TheConstants.{GREATEST_DEPTH}
 use Rattle.client_world.specs.declared.memory_map.TheConstants.{ROM_START}
 use Rattle.client_world.specs.declared.registers.Regs.{Regs}
 use Rattle.client_world.specs.declared.segments.FarPtr.{FarPtr}
+use Rattle.client_world.specs.Access.{real_address}
 use Rattle.client_world.specs.Soundness.{IsSound, HasSegments, SoundMegabyte}
 use Rattle.client_world.specs.World.{World, depth}
 use Rattle.client_world.proofs.SoundWrites.{IsSound-dos, IsSound-real, IsSound-regs, IsSound-vif, SoundMegabyte-set}
 use Rattle.guest_ram.specs.Bytes.{AreBytes}
 use Rattle.guest_space.specs.Dos.{with_dos_byte}
 use Rattle.guest_space.proofs.SoundLists.{IsSound-calls}
-use Rattle.translation.specs.RealStack.{host_real_stack, next_word, real_address, with_word_at, with_words_at}
+use Rattle.translation.specs.RealStack.{host_real_stack, next_word, with_word_at, with_words_at}
 use Rattle.translation.specs.SimulatedCall.{callee_regs, callee_stack, callee_start, callee_world}
 use Rattle.translation.specs.Structure.{structure_regs}
 use Rattle.translation.proofs.ReadBytes.{word_small}

@@ -5,8 +5,9 @@ use Rattle.std.specs.Prelude.{nat_eq, nat_lt, if◌then◌else◌}
 use Rattle.std.proofs.lemmas.Bool.Decides.{nat_tests}
 use Rattle.client_world.specs.declared.limits.TheConstants.{GREATEST_DEPTH}
 use Rattle.client_world.specs.declared.memory_map.TheConstants.{DOS_SIZE, REAL_STACK_SEGMENT, REAL_STACK_SIZE, ROM_START, SEGMENT_SIZE}
+use Rattle.client_world.specs.Access.{real_address}
 use Rattle.guest_space.specs.Dos.{with_dos_byte}
-use Rattle.translation.specs.RealStack.{are_writable_words, is_writable_word, next_word, real_address, stack_word, stack_words}
+use Rattle.translation.specs.RealStack.{are_writable_words, is_writable_word, next_word, stack_word, stack_words}
 use Rattle.translation.specs.RealStack.{with_word_at, with_words_at}
 
 pub addresses_apart : (segment a b : ℕ) → a % SEGMENT_SIZE ≢ b % SEGMENT_SIZE → real_address segment a ≢ real_address segment b

@@ -3,13 +3,9 @@
 use Rattle.std.specs.Prelude.{ℕ, zero, suc, ◌+◌, ◌-◌, ◌*◌, ◌/◌, ◌%◌, Bool, true, ◌&&◌, not, nat_eq, nat_lt, slice_index, List, [], ◌∷◌}
 use Rattle.client_world.specs.declared.memory_map.TheConstants.{REAL_STACK_SEGMENT, REAL_STACK_SIZE, ROM_START, SEGMENT_SIZE}
 use Rattle.client_world.specs.declared.segments.FarPtr.{FarPtr}
-use Rattle.client_world.specs.Access.{dos_address, linear_address}
+use Rattle.client_world.specs.Access.{real_address}
 use Rattle.client_world.specs.World.{World, depth}
 use Rattle.guest_space.specs.Dos.{with_dos_byte}
-
--- where the byte at an offset of a real segment lies
-abbrev pub real_address : ℕ → ℕ → ℕ
-real_address segment offset = dos_address (linear_address segment (offset % SEGMENT_SIZE))
 
 -- the offset of the next word, and the offset n words below
 abbrev pub next_word : ℕ → ℕ

@@ -7,6 +7,7 @@ ghost use Rattle.client_world.specs.declared.memory_map.TheConstants.{SEGMENT_SI
 ghost use Rattle.client_world.specs.declared.registers.Mode.TheVariants.{Protected as protected, Real as real};
 ghost use Rattle.client_world.specs.declared.segments.SegReg.TheVariants.{Ss};
 ghost use Rattle.client_world.specs.declared.services.Carry.TheVariants.{Clear as clear, Set as set};
+ghost use Rattle.client_world.specs.Access.{real_address};
 ghost use Rattle.client_world.specs.Segments.{null_pointer};
 ghost use Rattle.client_world.specs.Services.{es_di};
 ghost use Rattle.client_world.specs.Soundness.{IsSound};
@@ -14,7 +15,7 @@ ghost use Rattle.client_world.specs.World.{World};
 ghost use Rattle.guest_space.specs.Transfer.{access_fault};
 ghost use Rattle.service_rows.specs.Reasons.{HasOtherAx};
 ghost use Rattle.translation.specs.HandOver.{HasBegun, HasEnded, HasReflected, IsPopped, LeftForCallee, LeftForClient};
-ghost use Rattle.translation.specs.RealStack.{is_writable_word, real_address};
+ghost use Rattle.translation.specs.RealStack.{is_writable_word};
 ghost use Rattle.translation.specs.SimulatedCall.{begin_call, end_call, reflect};
 ghost use Rattle.translation.specs.Structure.{structure_bytes};
 

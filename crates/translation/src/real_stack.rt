@@ -1,26 +1,16 @@
 // The stack of a real-mode procedure that the host calls.
 ghost use Rattle.std.specs.Prelude.{◌≡◌, ◌<◌, ◌≤◌, true, false, length, MatchResult, Ok, Err};
 ghost use Rattle.client_world.specs.declared.limits.TheConstants.{GREATEST_DEPTH};
-ghost use Rattle.client_world.specs.declared.memory_map.TheConstants.{DOS_SIZE, SEGMENT_SIZE};
+ghost use Rattle.client_world.specs.declared.memory_map.TheConstants.{SEGMENT_SIZE};
 ghost use Rattle.client_world.specs.World.{depth};
-ghost use Rattle.translation.specs.RealStack.{are_writable_words, host_real_stack, is_writable_word, next_word, real_address, with_word_at};
+ghost use Rattle.translation.specs.RealStack.{are_writable_words, host_real_stack, is_writable_word, next_word, with_word_at};
 ghost use Rattle.translation.specs.RealStack.{with_words_at, words_below};
 
 use client_world::FarPtr;
-use client_world::memory_map::{
-    DOS_SIZE, PARAGRAPH_SIZE, REAL_STACK_SEGMENT, REAL_STACK_SIZE, ROM_START, SEGMENT_SIZE,
-};
-use guest_space::Machine;
+use client_world::memory_map::{REAL_STACK_SEGMENT, REAL_STACK_SIZE, ROM_START, SEGMENT_SIZE};
+use guest_space::{Machine, real_address};
 use mode_stack::depth;
 use service_rows::Refusal;
-
-// Where the byte at an offset of a real segment lies.
-fn real_address(segment: u16, offset: u32) -> u32
-    ensures at { result ≡ real_address segment offset }
-    ensures within { result < DOS_SIZE }
-{
-    (u32::from(segment) * PARAGRAPH_SIZE + offset % SEGMENT_SIZE) % DOS_SIZE
-}
 
 // The offset of the next word.
 fn next_word(offset: u32) -> u32
