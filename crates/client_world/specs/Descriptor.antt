@@ -50,23 +50,26 @@ expands_down (Data writable down) = down
 expands_down Code = false
 
 -- the greatest offset of an expand-down segment, by B
-abbrev pub greatest_offset : Desc → ℕ
-greatest_offset d = if d.size then 0xFFFFFFFF else 0xFFFF
+abbrev pub greatest_offset : Bool → ℕ
+greatest_offset size = if size then 0xFFFFFFFF else 0xFFFF
 
 -- the limit allows the offset
 abbrev pub Allows : Desc → ℕ → Type 0
 Allows d offset =
-    MatchBool (expands_down d.kind) ((byte_limit d < offset) × (offset ≤ greatest_offset d)) (offset ≤ byte_limit d)
+    MatchBool (expands_down d.kind) ((byte_limit d < offset) × (offset ≤ greatest_offset d.size)) (offset ≤ byte_limit d)
 
 -- each of n bytes from an offset on lies inside the segment, and none past FFFFFFFFh
 abbrev pub IsInside : Desc → ℕ → ℕ → Type 0
 IsInside d offset n = (at : ℕ) → offset ≤ at → at < offset + n → (at < 2 ^ 32) × Allows d at
 
--- the same in numbers, for a run that isn't empty
+-- the same in numbers, for a run that isn't empty: by whether the segment expands down, by B, and by the last byte that the limit names
+abbrev pub is_within : Bool → Bool → ℕ → ℕ → ℕ → Bool
+is_within down size limit offset n =
+    if down then nat_lt limit offset && nat_le (offset + n) (greatest_offset size + 1)
+    else nat_le (offset + n) (limit + 1) && nat_le (offset + n) (2 ^ 32)
+
 abbrev pub is_inside : Desc → ℕ → ℕ → Bool
-is_inside d offset n =
-    if expands_down d.kind then nat_lt (byte_limit d) offset && nat_le (offset + n) (greatest_offset d + 1)
-    else nat_le (offset + n) (byte_limit d + 1) && nat_le (offset + n) (2 ^ 32)
+is_inside d offset n = is_within (expands_down d.kind) d.size (byte_limit d) offset n
 
 -- what the segment holds is code, or data that may be written
 abbrev pub is_code : Kind → Bool

@@ -14,6 +14,7 @@ use Rattle.client_world.specs.Services.{Served, bx, cx, dx, desc_of, es_di, is_c
 use Rattle.client_world.specs.World.{World}
 use Rattle.desc_table.specs.Unpacked.{is_access_byte, is_packed, kind_of, unpacked}
 use Rattle.guest_space.specs.Far.{far_bytes, world_after_far_write}
+use Rattle.guest_space.specs.SegmentRows.{base_of_row}
 use Rattle.service_rows.specs.declared.refusal.Refusal.TheVariants.{InvalidSelector, InvalidValue, InvalidAddress, DescriptorUnavailable}
 use Rattle.service_rows.specs.FirstIndex.{first_index}
 use Rattle.service_rows.specs.FreeRun.{first_free_run}
@@ -109,11 +110,6 @@ segment_to_descriptor w = record {
 unfoldable pub selector_increment : World → Service
 selector_increment w = record { reasons = []; after = with_ax 8 w }
 
--- the base of a row's descriptor, 0 where there is none
-abbrev pub row_base : Row → ℕ
-row_base None = 0
-row_base (Some row) = row.0.base
-
 -- the row with another descriptor
 abbrev pub row_with_desc : Row → Option Desc → Row
 row_with_desc None d = None
@@ -130,8 +126,8 @@ get_segment_base w = record {
   reasons = (InvalidSelector, not (is_held w (bx w))) ∷ [];
   after = record w {
     regs = record w.regs {
-      ecx = with_low_half w.regs.ecx (row_base (desc_of w (bx w)) / 0x10000);
-      edx = with_low_half w.regs.edx (row_base (desc_of w (bx w)) % 0x10000);
+      ecx = with_low_half w.regs.ecx (base_of_row (desc_of w (bx w)) / 0x10000);
+      edx = with_low_half w.regs.edx (base_of_row (desc_of w (bx w)) % 0x10000);
     };
   };
 }

@@ -34,7 +34,7 @@ down_part offset n k m limit other h e = grind (arith, nat_tests)
 
 pub inside_part : (d : Desc) (offset n k m : ℕ) → k + m ≤ n → is_inside d offset n ≡ true → is_inside d (offset + k) m ≡ true
 inside_part d offset n k m h e = elim (cases_Bool (expands_down d.kind)) [
-  | inl down ↦ rw down (down_part offset n k m (byte_limit d) (greatest_offset d + 1) h (rw down at e))
+  | inl down ↦ rw down (down_part offset n k m (byte_limit d) (greatest_offset d.size + 1) h (rw down at e))
   | inr up ↦ rw up (ups_part offset n k m (byte_limit d + 1) (2 ^ 32) h (rw up at e))
 ]
 

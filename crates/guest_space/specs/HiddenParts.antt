@@ -1,7 +1,7 @@
 -- The hidden parts of the segment registers, from which accesses are decided.
 -- Source: 80386 Programmer's Reference Manual, ch. 5, "Segment Registers", figure 5-7, and figure 5-3 for the bits; own where there is
 -- none.
-use Rattle.std.specs.Prelude.{ℕ, ◌+◌, ◌*◌, ◌^◌, Bool, false, ◌&&◌, not, nat_lt, nat_le, if◌then◌else◌, List, [], ◌∷◌, None, Some, Ok, Err}
+use Rattle.std.specs.Prelude.{ℕ, ◌*◌, Bool, false, ◌&&◌, not, if◌then◌else◌, List, [], ◌∷◌, None, Some, Ok, Err}
 use Rattle.std.specs.declared.option.Option.{Option}
 use Rattle.std.specs.declared.result.Result.{Result}
 use Rattle.client_world.specs.declared.faults.Fault.{Fault}
@@ -13,7 +13,7 @@ use Rattle.client_world.specs.declared.registers.Regs.{Regs}
 use Rattle.client_world.specs.declared.segments.SegReg.{SegReg}
 use Rattle.client_world.specs.declared.segments.SegReg.TheVariants.{Es, Cs, Ss, Ds, Fs, Gs}
 use Rattle.client_world.specs.Access.{fault_with, stack_or, suits_register}
-use Rattle.client_world.specs.Descriptor.{access_byte, byte_limit}
+use Rattle.client_world.specs.Descriptor.{access_byte, byte_limit, is_within}
 use Rattle.client_world.specs.Registers.{has_bit}
 use Rattle.client_world.specs.Segments.{selector}
 use Rattle.client_world.specs.Selector.{Row, is_null, row_of_selector}
@@ -59,16 +59,10 @@ number Gs = 5
 abbrev pub is_data_with : ℕ → ℕ → Bool
 is_data_with access bit = not (has_bit access 8) && has_bit access bit
 
--- each of n bytes from an offset on lies inside the segment
-abbrev pub lies_within : Hidden → ℕ → ℕ → Bool
-lies_within part offset n =
-    if is_data_with part.access 4
-    then nat_lt part.limit offset && nat_le (offset + n) ((if part.size then 0xFFFFFFFF else 0xFFFF) + 1)
-    else nat_le (offset + n) (part.limit + 1) && nat_le (offset + n) (2 ^ 32)
-
 -- an access decided from a part: the linear address of the segment's first byte, or the fault
 abbrev pub base_within : Hidden → SegReg → ℕ → ℕ → Bool → Result ℕ Fault
 base_within part seg offset n write =
     if write && not (is_data_with part.access 2) then Err (fault_with GENERAL_PROTECTION 0) else
-    if not (lies_within part offset n) then Err (fault_with (stack_or seg GENERAL_PROTECTION) 0) else
+    if not (is_within (is_data_with part.access 4) part.size part.limit offset n)
+    then Err (fault_with (stack_or seg GENERAL_PROTECTION) 0) else
     Ok part.base

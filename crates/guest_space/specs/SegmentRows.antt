@@ -17,7 +17,7 @@ abbrev pub is_big : Mode → List Row → ℕ → Bool
 is_big Real rows sel = false
 is_big Protected rows sel = has_size_bit (row_of_selector rows sel)
 
--- the base in a row
+-- the base of a row's descriptor, 0 where there is none
 abbrev pub base_of_row : Row → ℕ
 base_of_row None = 0
 base_of_row (Some row) = row.0.base

@@ -2,11 +2,11 @@
 ghost use Rattle.std.specs.Prelude.{◌≡◌, ◌<◌, ◌^◌, IsTrue, Ok};
 ghost use Rattle.client_world.specs.declared.registers.Mode.TheVariants.{Protected as protected};
 ghost use Rattle.client_world.specs.declared.segments.SegReg.{SegReg};
-ghost use Rattle.client_world.specs.Descriptor.{access_byte};
+ghost use Rattle.client_world.specs.Descriptor.{access_byte, is_within};
 ghost use Rattle.client_world.specs.Segments.{selector};
 ghost use Rattle.client_world.specs.Selector.{FitsRow};
 ghost use Rattle.desc_table.specs.Rows.{HasRows, rows_from, rows_start};
-ghost use Rattle.guest_space.specs.HiddenParts.{all_found, base_within, found, is_data_with, lies_within, number, part_in_row};
+ghost use Rattle.guest_space.specs.HiddenParts.{all_found, base_within, found, is_data_with, number, part_in_row};
 ghost use Rattle.guest_space.specs.HiddenParts.{part_of_selector};
 
 use crate::segments::{fault_with, stack_or, suits_register};
@@ -67,7 +67,7 @@ impl Hidden {
 
     // Whether n bytes at an offset lie inside the segment.
     fn contains(&self, off: u32, n: u32) -> bool
-        ensures { result ≡ lies_within self.now off n }
+        ensures { result ≡ is_within (is_data_with self.now.access 4) self.now.size self.now.limit off n }
     {
         let end = u64::from(off) + u64::from(n);
         if is_data_with(self.access, EXPAND_DOWN) {
