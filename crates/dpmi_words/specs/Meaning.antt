@@ -69,11 +69,11 @@ optional_number_by (kind.OptionalNumber least most) text = number_if_given least
 optional_number_by other text = None
 
 -- the number of an option, by the value of each name
-abbrev pub number_of : OptionRow → (Text → Option Text) → Option ℕ
-number_of row value = number_by row.kind (value row.name)
+abbrev pub number_of_option : OptionRow → (Text → Option Text) → Option ℕ
+number_of_option row value = number_by row.kind (value row.name)
 
-abbrev pub optional_number_of : OptionRow → (Text → Option Text) → Option (Option ℕ)
-optional_number_of row value = optional_number_by row.kind (value row.name)
+abbrev pub optional_number_of_option : OptionRow → (Text → Option Text) → Option (Option ℕ)
+optional_number_of_option row value = optional_number_by row.kind (value row.name)
 
 -- the run of these values
 abbrev pub run_with : Option Text → Option Keys → Option ℕ → Option ℕ → Option ℕ → Option (Option ℕ) → Option RunMeaning
@@ -86,8 +86,8 @@ run_with file keys bound pages trace timer =
 -- the run of a file and keystrokes, with the numbers of its options
 abbrev pub run_of_numbers : Option Text → Option Keys → (Text → Option Text) → Option RunMeaning
 run_of_numbers file keys value =
-    run_with file keys (number_of option.bound value) (number_of option.pages value) (number_of option.trace value)
-    (optional_number_of option.timer value)
+    run_with file keys (number_of_option option.bound value) (number_of_option option.pages value) (number_of_option option.trace value)
+    (optional_number_of_option option.timer value)
 
 -- the run of the value of each name
 abbrev pub run_of_values : (Text → Option Text) → Option RunMeaning
@@ -109,10 +109,10 @@ abbrev pub pair_of_values : (Text → Option Text) → Option PairMeaning
 pair_of_values value = pair_with
     (value first_name)
     (value second_name)
-    (number_of option.slice value)
-    (number_of option.bound value)
-    (number_of option.pages_a value)
-    (number_of option.pages_b value)
+    (number_of_option option.slice value)
+    (number_of_option option.bound value)
+    (number_of_option option.pages_a value)
+    (number_of_option option.pages_b value)
 
 -- the words after `run`, after `soak` and after `pair`
 abbrev pub run_meaning : List Text → Option RunMeaning

@@ -5,8 +5,8 @@ ghost use Rattle.clap.specs.Matches.{found_of, first_value};
 ghost use Rattle.dpmi_words.specs.Meaning.{
   keys_of,
   keys_in,
-  number_of,
-  optional_number_of,
+  number_of_option,
+  optional_number_of_option,
   run_of_numbers,
   run_of_values,
   soak_of_values,
@@ -108,8 +108,8 @@ fn read_keys<'a>(
 }
 
 // The number of an option, by the values that were assigned.
-fn number_of(values: &ArgMatches<'_>, option: CommandOption) -> Option<u32>
-    ensures { result ≡ number_of (row_of option) (first_value (found_of values.now)) }
+fn number_of_option(values: &ArgMatches<'_>, option: CommandOption) -> Option<u32>
+    ensures { result ≡ number_of_option (row_of option) (first_value (found_of values.now)) }
 {
     let text = values.get_str(option.name);
     match option.kind {
@@ -119,8 +119,8 @@ fn number_of(values: &ArgMatches<'_>, option: CommandOption) -> Option<u32>
 }
 
 // The number of an option that may be left out.
-fn optional_number_of(values: &ArgMatches<'_>, option: CommandOption) -> Option<Option<u32>>
-    ensures { result ≡ optional_number_of (row_of option) (first_value (found_of values.now)) }
+fn optional_number_of_option(values: &ArgMatches<'_>, option: CommandOption) -> Option<Option<u32>>
+    ensures { result ≡ optional_number_of_option (row_of option) (first_value (found_of values.now)) }
 {
     let text = values.get_str(option.name);
     match option.kind {
@@ -136,10 +136,10 @@ fn run_with<'a>(values: &ArgMatches<'a>, file: &'a str, keys: KeySource<'a>) -> 
     Some(Run {
         file,
         keys,
-        bound: number_of(values, BOUND)?,
-        pages: number_of(values, PAGES)?,
-        trace: number_of(values, TRACE)?,
-        timer: optional_number_of(values, TIMER)?,
+        bound: number_of_option(values, BOUND)?,
+        pages: number_of_option(values, PAGES)?,
+        trace: number_of_option(values, TRACE)?,
+        timer: optional_number_of_option(values, TIMER)?,
     })
 }
 
@@ -175,10 +175,10 @@ fn pair_of<'a>(values: &ArgMatches<'a>) -> Option<Pair<'a>>
     Some(Pair {
         first: values.get_str(first_name)?,
         second: values.get_str(second_name)?,
-        slice: number_of(values, SLICE)?,
-        bound: number_of(values, BOUND)?,
-        pages_a: number_of(values, PAGES_A)?,
-        pages_b: number_of(values, PAGES_B)?,
+        slice: number_of_option(values, SLICE)?,
+        bound: number_of_option(values, BOUND)?,
+        pages_a: number_of_option(values, PAGES_A)?,
+        pages_b: number_of_option(values, PAGES_B)?,
     })
 }
 

@@ -23,7 +23,8 @@ use Rattle.guest_space.proofs.FarLaws.{part_is_read}
 use Rattle.guest_space.proofs.HostStacks.{stacks_at, stacks_loaded, stacks_reachable}
 use Rattle.guest_space.proofs.WriteRuns.{count_some}
 use Rattle.host_memory.specs.View.{MachineView}
-use Rattle.insn_plan.specs.Act.{Act, Input, Pending, Read, done, number_of, number_read, unless_fault, value_of}
+use Rattle.insn_forms.specs.Grammar.{little_endian}
+use Rattle.insn_plan.specs.Act.{Act, Input, Pending, Read, done, number_read, unless_fault, value_of}
 use Rattle.insn_plan.proofs.Settled.{carried_by}
 use Rattle.insn_plan.specs.Plan.{after_plan, plan_result, with_state}
 use Rattle.insn_plan.specs.Registers.{cut_address}
@@ -51,14 +52,14 @@ pointer_is : (w : World) (n esp : ℕ) → w.regs.esp ≡ esp → esp + n < 0x10
 pointer_is w n esp e small = grind (arith, cut_small)
 
 value_is : (w : World) (bits place off : ℕ) (bytes : List ℕ) → stack_pointer_up w (byte_count bits * place) w.regs ≡ off →
-    read_result w Ss off (byte_count bits) ≡ Ok bytes → value_of w (stack_item w bits place) ≡ Ok (number_of bytes)
+    read_result w Ss off (byte_count bits) ≡ Ok bytes → value_of w (stack_item w bits place) ≡ Ok (little_endian bytes)
 unfolding value_of stack_item
 value_is w bits place off bytes pointer e =
     ap (λ (a : ℕ). number_read (read_result w Ss a (byte_count bits))) pointer ∙ ap number_read e
 
 item_is : (w : World) (bits offset : ℕ) (frame : List ℕ) (place at : ℕ) → AtFrame w bits offset frame →
     offset + 2 * byte_count bits + byte_count bits * place ≡ offset + at → at + byte_count bits ≤ 8 * byte_count bits →
-    value_of w (stack_item w bits place) ≡ Ok (number_of (region frame at (byte_count bits)))
+    value_of w (stack_item w bits place) ≡ Ok (little_endian (region frame at (byte_count bits)))
 item_is w bits offset frame place at h e within =
     grind (arith, count_some, part_is_read, pointer_is, stacks_loaded, stacks_reachable, value_is)
 
@@ -128,7 +129,7 @@ popped_is y bits ip cs image sp ss h code stack =
 
 -- the number of an item, of either width
 item_value : (bits : ℕ) → (bits ≡ 16) ⊎ (bits ≡ 32) → (items : List ℕ) (k : ℕ) → k < length items →
-    number_of (region (items_bytes bits items) (byte_count bits * k) (byte_count bits)) ≡ cut_item bits (get_or items k 0)
+    little_endian (region (items_bytes bits items) (byte_count bits * k) (byte_count bits)) ≡ cut_item bits (get_or items k 0)
 unfolding region
 item_value bits width [] k less = absurd (omega arith)
 item_value bits width (x ∷ xs) zero less = elim width [ inl short ↦ rw short (omega arith) | inr long ↦ rw long (omega arith) ]

@@ -11,7 +11,8 @@ use Rattle.insn_forms.specs.declared.insn.Operand.{Operand}
 use Rattle.insn_forms.specs.declared.insn.Insn.{Insn}
 use Rattle.insn_forms.specs.Prefixes.{segment_of, repeat_of, or_else, last_of, has, rep_or_plain, prefixes_of}
 use Rattle.insn_forms.specs.Operands.{operand, insn_of}
-use Rattle.insn_forms.specs.Grammar.{AllBytes, opcode_bytes, little, Pieces, head_of, addressing_of, AreRow, insn_of_pieces, Encoding}
+use Rattle.insn_forms.specs.Grammar.{AllBytes, opcode_bytes, little_endian, Pieces, head_of, addressing_of, AreRow, insn_of_pieces}
+use Rattle.insn_forms.specs.Grammar.{Encoding}
 use Rattle.insn_forms.specs.Grammar.{row_with, wide_of, addr32_of}
 use Rattle.insn_decode.specs.Reading.{no_prefixes, with_prefix, opcode_head}
 use Rattle.insn_decode.proofs.LawfulReaders.{Number}
@@ -91,7 +92,7 @@ regroup a b c d e f g h = simp (append-nil, append_assoc) refl
 pub to_readers : (big : Bool) (insn : Insn) (bytes : List ℕ) → Encoding big insn bytes → EncodesInsn big insn bytes
 to_readers big insn bytes s =
     let p = s.pieces in
-    let number : Number _ (little p.modrm) p.modrm = record { size = s.are_row.modrm; value_is = refl } in
+    let number : Number _ (little_endian p.modrm) p.modrm = record { size = s.are_row.modrm; value_is = refl } in
     record {
       middle = head_of p;
       one = p.prefixes ++ opcode_bytes p.map p.opcode;
@@ -100,7 +101,7 @@ to_readers big insn bytes s =
         before = p.prefixes;
         are = s.prefixes;
         says = sym (prefixes_folded p.prefixes);
-        has_row = row_any (head_of p) (little p.modrm) p.modrm (record { number = number; has_row = s.are_row.has_row });
+        has_row = row_any (head_of p) (little_endian p.modrm) p.modrm (record { number = number; has_row = s.are_row.has_row });
         whole = refl;
       };
       second = grind arith;
@@ -156,10 +157,10 @@ from_readers big insn bytes are h =
     let m_is : address.modrm ≡ m.middle = ap (λ (q : Addressing). q.modrm) address_was in
     let s_is : address.sib ≡ s.middle = ap (λ (q : Addressing). q.sib) address_was in
     let address_is : address ≡ addressing_of p = address_was
-    ∙ same_addressing m.middle s.middle d.middle (little m.one) (little s.one)
-    (little d.one) m.first.number.value_is s.first.value_is d.first.value_is in
+    ∙ same_addressing m.middle s.middle d.middle (little_endian m.one) (little_endian s.one)
+    (little_endian d.one) m.first.number.value_is s.first.value_is d.first.value_is in
     let row_here : AreRow big head address p = grind arith in
-    let meant : insn ≡ insn_of_pieces big head address (little p.first) (little p.second) (little p.third) =
+    let meant : insn ≡ insn_of_pieces big head address (little_endian p.first) (little_endian p.second) (little_endian p.third) =
     three.second.same ∙ same_insn big head address one.middle two.middle three.middle _ _ _
     (one.first.second.same
     ∙ ap (λ (n : ℕ). operand head (wide_of big head) (addr32_of big head) address (row_with head address.modrm).first n)
@@ -180,8 +181,9 @@ from_readers big insn bytes are h =
       are_row = subst (λ (q : Head). AreRow big q (addressing_of p) p) head_is
           (subst (λ (q : Addressing). AreRow big head q p) address_is row_here);
       means = subst (λ (q : Head). insn
-          ≡ insn_of_pieces big q (addressing_of p) (little p.first) (little p.second) (little p.third)) head_is
-          (subst (λ (q : Addressing). insn ≡ insn_of_pieces big head q (little p.first) (little p.second) (little p.third))
+          ≡ insn_of_pieces big q (addressing_of p) (little_endian p.first) (little_endian p.second) (little_endian p.third)) head_is
+          (subst (λ (q : Addressing).
+          insn ≡ insn_of_pieces big head q (little_endian p.first) (little_endian p.second) (little_endian p.third))
           address_is meant);
       are_bytes = are;
     }

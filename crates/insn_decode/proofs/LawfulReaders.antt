@@ -3,7 +3,7 @@ use Rattle.std.proofs.Common.{◌≡◌, ℕ, zero, suc, ◌+◌, ◌*◌, Bool,
 use Rattle.std.proofs.Common.{ap, ◌∙◌, append_assoc, arith, ◌⊎◌, inl, inr}
 use Rattle.insn_decode.specs.declared.stop.Stop.{Stop}
 use Rattle.insn_decode.specs.declared.stop.Stop.TheVariants.{More, Invalid}
-use Rattle.insn_forms.specs.Grammar.{AllBytes, little}
+use Rattle.insn_forms.specs.Grammar.{AllBytes, little_endian}
 use Rattle.insn_decode.specs.Reading.{◌>>=◌, Read, number_at}
 
 -- What a reader gives is what the bytes encode; what they encode it gives; at More the bytes can be completed; and Invalid stays.
@@ -161,7 +161,7 @@ done_reads {A} x = grind (arith, ok_is, ok_not_err)
 
 pub record Number (n value : ℕ) (bytes : List ℕ) : Type 0 where
   pub size : length bytes ≡ n
-  pub value_is : value ≡ little bytes
+  pub value_is : value ≡ little_endian bytes
 
 pub number_found : (n : ℕ) (bytes : List ℕ) (x : ℕ) (rest : List ℕ) → number_at n bytes ≡ Ok (x, rest)
     → (front : List ℕ) × Number n x front × (bytes ≡ front ++ rest)
@@ -179,15 +179,15 @@ number_found (suc n) (b ∷ bs) x rest e =
       ap (λ (l : List ℕ). b ∷ l) s.2 ∙ ap (λ (p : ℕ × List ℕ). b ∷ (s.0 ++ p.1)) k,
     )
 
-number_of : (n : ℕ) (front rest : List ℕ) → length front ≡ n → number_at n (front ++ rest) ≡ Ok (little front, rest)
+number_again : (n : ℕ) (front rest : List ℕ) → length front ≡ n → number_at n (front ++ rest) ≡ Ok (little_endian front, rest)
 unfolding number_at
-number_of zero [] rest e = refl
-number_of zero (b ∷ bs) rest e = absurd (omega (arith, e))
-number_of (suc n) [] rest e = absurd (omega (arith, e))
-number_of (suc n) (b ∷ bs) rest e =
-    ap (λ (r : Read ℕ). r >>= λ p. Ok (b + 256 * p.0, p.1)) (number_of n bs rest (omega (arith, e)))
+number_again zero [] rest e = refl
+number_again zero (b ∷ bs) rest e = absurd (omega (arith, e))
+number_again (suc n) [] rest e = absurd (omega (arith, e))
+number_again (suc n) (b ∷ bs) rest e =
+    ap (λ (r : Read ℕ). r >>= λ p. Ok (b + 256 * p.0, p.1)) (number_again n bs rest (omega (arith, e)))
 
-zeros : (n : ℕ) → (front : List ℕ) × Number n (little front) front × AllBytes front
+zeros : (n : ℕ) → (front : List ℕ) × Number n (little_endian front) front × AllBytes front
 zeros zero = ([], record { size = refl; value_is = refl }, tt)
 zeros (suc n) = let z = zeros n in (0 ∷ z.0, record { size = ap suc z.1.size; value_is = refl }, (omega arith, z.2))
 
@@ -215,14 +215,14 @@ number_invalid (suc n) (b ∷ bs) e =
 pub number_reads : (n : ℕ) → Reads (Number n) (number_at n)
 number_reads n = record {
   found = number_found n;
-  again = λ x front rest h. number_of n front rest h.size ∙ ap (λ (v : ℕ). answer (v, rest)) (sym h.value_is);
+  again = λ x front rest h. number_again n front rest h.size ∙ ap (λ (v : ℕ). answer (v, rest)) (sym h.value_is);
   more = λ bytes e. let s = number_more n bytes e in
-      (little (bytes ++ s.0), s.0, record { size = s.1; value_is = refl }, s.2);
+      (little_endian (bytes ++ s.0), s.0, record { size = s.1; value_is = refl }, s.2);
   invalid = λ bytes rest e. absurd (number_invalid n bytes e);
 }
 
 pub some_number : (n : ℕ) → (v : ℕ) × (g : List ℕ) × Number n v g × AllBytes g
-some_number n = let z = zeros n in (little z.0, z.0, z.1, z.2)
+some_number n = let z = zeros n in (little_endian z.0, z.0, z.1, z.2)
 
 -- ---- some way on
 

@@ -17,7 +17,8 @@ use Rattle.insn_forms.specs.Addressing.{mod_of, reg_of, rm_of, in_memory, base16
 use Rattle.insn_forms.specs.Addressing.{memory}
 use Rattle.insn_forms.specs.Operands.{has_op, may_lock, is_e, is_m, is_row, op_of, operand, register_or_memory, width_of, form_width}
 use Rattle.insn_forms.specs.Operands.{row_width, insn_of}
-use Rattle.insn_forms.specs.Grammar.{little, head_of, addressing_of, row_with, is_row_with, wide_of, addr32_of, insn_of_pieces, IsInsn}
+use Rattle.insn_forms.specs.Grammar.{little_endian, head_of, addressing_of, row_with, is_row_with, wide_of, addr32_of, insn_of_pieces}
+use Rattle.insn_forms.specs.Grammar.{IsInsn}
 use Rattle.insn_forms.specs.Kinds.{Kind, operand_kind, is_memory, is_width, is_number, is_place_in_memory, is_good, suits, has_good_number}
 use Rattle.insn_forms.specs.Kinds.{is_wide_only, takes_lock, IsWellFormed}
 use Rattle.insn_forms.proofs.RowsSuit.{kinds, all_of, row_suits, every_row_suits}
@@ -329,5 +330,5 @@ well_formed insn i =
     let s = i.2 in
     let p = s.pieces in
     subst IsWellFormed (sym s.means)
-    (meaning_well_formed i.0 (head_of p) (addressing_of p) (little p.first) (little p.second)
-    (little p.third) s.are_row.has_row)
+    (meaning_well_formed i.0 (head_of p) (addressing_of p) (little_endian p.first) (little_endian p.second)
+    (little_endian p.third) s.are_row.has_row)

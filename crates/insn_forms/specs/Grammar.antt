@@ -25,9 +25,9 @@ abbrev pub ArePrefixes : List ℕ → Type 0
 ArePrefixes bytes = AllByRecursion (λ b. is_prefix b ≡ true) bytes
 
 -- the number of these bytes, least byte first; of none it is 0
-abbrev pub little : List ℕ → ℕ
-little [] = 0
-little (b ∷ bs) = b + 256 * little bs
+abbrev pub little_endian : List ℕ → ℕ
+little_endian [] = 0
+little_endian (b ∷ bs) = b + 256 * little_endian bs
 
 -- the bytes of an opcode
 abbrev pub opcode_bytes : OpMap → ℕ → List ℕ
@@ -78,7 +78,7 @@ head_of p = record { prefixes = prefixes_of p.prefixes; map = p.map; opcode = p.
 
 -- the numbers of ModRM, SIB and displacement
 abbrev pub addressing_of : Pieces → Addressing
-addressing_of p = record { modrm = little p.modrm; sib = little p.sib; disp = little p.disp }
+addressing_of p = record { modrm = little_endian p.modrm; sib = little_endian p.sib; disp = little_endian p.disp }
 
 -- there is a row, and the pieces are those that it has, each of its size
 pub record AreRow (big : Bool) (head : Head) (address : Addressing) (p : Pieces) : Type 0 where
@@ -106,7 +106,7 @@ pub record Encoding (big : Bool) (insn : Insn) (bytes : List ℕ) : Type 0 where
   pub prefixes : ArePrefixes pieces.prefixes
   pub are_row : AreRow big (head_of pieces) (addressing_of pieces) pieces
   pub means : insn ≡ insn_of_pieces big (head_of pieces) (addressing_of pieces)
-      (little pieces.first) (little pieces.second) (little pieces.third)
+      (little_endian pieces.first) (little_endian pieces.second) (little_endian pieces.third)
   pub are_bytes : AllBytes bytes
 
 -- some bytes encode the instruction

@@ -6,7 +6,8 @@ use Rattle.client_world.specs.declared.segments.SegReg.TheVariants.{Ss}
 use Rattle.client_world.specs.World.{World}
 use Rattle.guest_space.specs.Pending.{byte_count}
 use Rattle.guest_space.specs.Transfer.{read_result}
-use Rattle.insn_plan.specs.Act.{number_of, number_read, value_of}
+use Rattle.insn_forms.specs.Grammar.{little_endian}
+use Rattle.insn_plan.specs.Act.{number_read, value_of}
 use Rattle.insn_plan.specs.Registers.{cut_address}
 use Rattle.insn_plan.specs.Stack.{has_big_stack, stack_item}
 
@@ -18,7 +19,7 @@ place_in_run false esp n k sp is inside less = omega arith
 
 pub item_of_run : (w : World) (width n k sp : ℕ) (bytes : List ℕ) → byte_count width ≡ n → 0 < n →
     sp ≡ cut_address (has_big_stack w) w.regs.esp →
-    sp + n * 8 ≤ 0x10000 → k < 8 → read_result w Ss (sp + n * k) n ≡ Ok bytes → value_of w (stack_item w width k) ≡ Ok (number_of bytes)
+    sp + n * 8 ≤ 0x10000 → k < 8 → read_result w Ss (sp + n * k) n ≡ Ok bytes → value_of w (stack_item w width k) ≡ Ok (little_endian bytes)
 unfolding stack_item value_of
 item_of_run w width n k sp bytes count some is inside less read =
     let big = has_big_stack w in
@@ -33,9 +34,11 @@ pub eight_numbers : (w : World) (width n sp : ℕ) (items : List (List ℕ)) (d 
     byte_count width ≡ n → 0 < n →
     sp ≡ cut_address (has_big_stack w) w.regs.esp → sp + n * 8 ≤ 0x10000 →
     ((k : ℕ) (other : List ℕ) → k < 8 → read_result w Ss (sp + n * k) n ≡ Ok (slice_index_or items k other)) →
-    v0 ≡ number_of (slice_index_or items 0 d) → v1 ≡ number_of (slice_index_or items 1 d) → v2 ≡ number_of (slice_index_or items 2 d) →
-    v3 ≡ number_of (slice_index_or items 3 d) → v4 ≡ number_of (slice_index_or items 4 d) → v5 ≡ number_of (slice_index_or items 5 d) →
-    v6 ≡ number_of (slice_index_or items 6 d) → v7 ≡ number_of (slice_index_or items 7 d) →
+    v0 ≡ little_endian (slice_index_or items 0 d) → v1 ≡ little_endian (slice_index_or items 1 d) →
+    v2 ≡ little_endian (slice_index_or items 2 d) →
+    v3 ≡ little_endian (slice_index_or items 3 d) → v4 ≡ little_endian (slice_index_or items 4 d) →
+    v5 ≡ little_endian (slice_index_or items 5 d) →
+    v6 ≡ little_endian (slice_index_or items 6 d) → v7 ≡ little_endian (slice_index_or items 7 d) →
     (k : ℕ) → k < 8 → value_of w (stack_item w width k) ≡ Ok (slice_index (v0 ∷ v1 ∷ v2 ∷ v3 ∷ v4 ∷ v5 ∷ v6 ∷ v7 ∷ []) k)
 eight_numbers w width n sp items d v0 v1 v2 v3 v4 v5 v6 v7 count some is inside read e0 e1 e2 e3 e4 e5 e6 e7 zero less =
     item_of_run w width n 0 sp (slice_index_or items 0 d) count some is inside less (read 0 d less) ∙ ap (λ (v : ℕ). Ok v) (sym e0)

@@ -1,6 +1,6 @@
 -- An instruction as data: what it reads, one after another, and then one outcome of the values that it read. A row of the instruction
 -- table is written in `do` notation: `v ← input` reads, and the last line says how the instruction ends. Source: own.
-use Rattle.std.specs.Prelude.{◌≡◌, ◌⊎◌, ℕ, ◌+◌, ◌*◌, Bool, List, [], ◌∷◌, Ok, Err, Option, None, Some}
+use Rattle.std.specs.Prelude.{◌≡◌, ◌⊎◌, ℕ, Bool, List, [], Ok, Err, Option, None, Some}
 use Rattle.std.specs.declared.result.Result.{Result}
 use Rattle.client_world.specs.declared.registers.Flags.{Flags}
 use Rattle.client_world.specs.declared.registers.Regs.{Regs}
@@ -11,6 +11,7 @@ use Rattle.client_world.specs.declared.faults.Event.TheVariants.{Fault as fault}
 use Rattle.client_world.specs.World.{World}
 use Rattle.guest_space.specs.declared.pending.Write.{Write}
 use Rattle.guest_space.specs.Transfer.{read_result}
+use Rattle.insn_forms.specs.Grammar.{little_endian}
 
 -- what an instruction reads: a number that is known, or the number of n bytes at an offset of a segment register
 pub data Input : Type 0 where
@@ -61,18 +62,13 @@ with_regs r p = record p { regs = r }
 abbrev pub with_flags : Flags → World → Pending
 with_flags f w = record (unchanged w) { regs = record w.regs { flags = f } }
 
--- the number of some bytes, least byte first
-abbrev pub number_of : List ℕ → ℕ
-number_of [] = 0
-number_of (byte ∷ bytes) = byte + 0x100 * number_of bytes
-
 -- the counts of bytes of which numbers are read
 abbrev pub IsCount : ℕ → Type 0
 IsCount n = (n ≡ 1) ⊎ (n ≡ 2) ⊎ (n ≡ 4) ⊎ (n ≡ 6) ⊎ (n ≡ 8)
 
 -- the number that a read of bytes gives, or its fault
 abbrev pub number_read : Result (List ℕ) Fault → Result ℕ Event
-number_read (Ok bytes) = Ok (number_of bytes)
+number_read (Ok bytes) = Ok (little_endian bytes)
 number_read (Err f) = Err (fault f)
 
 -- the number that an input denotes, or the fault of its read

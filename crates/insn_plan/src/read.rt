@@ -2,7 +2,8 @@
 ghost use Rattle.std.specs.Prelude.{◌≡◌, IfSome, Ok};
 ghost use Rattle.guest_space.specs.Pending.{IsCountOfWidth, byte_count};
 ghost use Rattle.guest_space.specs.WriteRuns.{IsRun};
-ghost use Rattle.insn_plan.specs.Act.{From, IsCount, value_of, number_of};
+ghost use Rattle.insn_forms.specs.Grammar.{little_endian};
+ghost use Rattle.insn_plan.specs.Act.{From, IsCount, value_of};
 
 use crate::raised::Raised;
 use client_world::SegReg;
@@ -11,7 +12,7 @@ use guest_space::{Machine, byte_count};
 // The number of one byte.
 #[tactic(auto, using(crate::proofs::Numbers::number_of_one))]
 fn byte(bytes: [u8; 1]) -> u32
-    ensures { result ≡ number_of bytes }
+    ensures { result ≡ little_endian bytes }
 {
     u32::from(bytes[0])
 }
@@ -20,7 +21,7 @@ fn byte(bytes: [u8; 1]) -> u32
 #[inline(always)]
 #[tactic(auto, using(crate::proofs::Numbers::number_of_two))]
 pub(crate) fn word(bytes: [u8; 2]) -> u32
-    ensures { result ≡ number_of bytes }
+    ensures { result ≡ little_endian bytes }
 {
     u32::from(u16::from_le_bytes(bytes))
 }
@@ -29,7 +30,7 @@ pub(crate) fn word(bytes: [u8; 2]) -> u32
 #[inline(always)]
 #[tactic(auto, using(crate::proofs::Numbers::number_of_four))]
 pub(crate) fn doubleword(bytes: [u8; 4]) -> u32
-    ensures { result ≡ number_of bytes }
+    ensures { result ≡ little_endian bytes }
 {
     u32::from_le_bytes(bytes)
 }
@@ -37,7 +38,7 @@ pub(crate) fn doubleword(bytes: [u8; 4]) -> u32
 // The number of six bytes, least byte first.
 #[tactic(auto, using(crate::proofs::Numbers::number_of_six))]
 fn three_words(bytes: [u8; 6]) -> u64
-    ensures { result ≡ number_of bytes }
+    ensures { result ≡ little_endian bytes }
 {
     u64::from_le_bytes([
         bytes[0], bytes[1], bytes[2], bytes[3], bytes[4], bytes[5], 0, 0,
@@ -47,7 +48,7 @@ fn three_words(bytes: [u8; 6]) -> u64
 // The number of eight bytes, least byte first.
 #[tactic(auto, using(crate::proofs::Numbers::number_of_eight))]
 fn quadword(bytes: [u8; 8]) -> u64
-    ensures { result ≡ number_of bytes }
+    ensures { result ≡ little_endian bytes }
 {
     u64::from_le_bytes(bytes)
 }
