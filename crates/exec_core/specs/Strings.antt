@@ -15,8 +15,8 @@ use Rattle.insn_forms.specs.declared.insn.Rep.{Rep}
 use Rattle.insn_forms.specs.declared.insn.Rep.TheVariants as reps
 use Rattle.insn_plan.specs.Act.{Act, ◌>>=◌, From, Input, done, unchanged, with_regs}
 use Rattle.insn_plan.specs.Operands.{and_write}
-use Rattle.insn_plan.specs.Counter.{counter, with_address}
-use Rattle.insn_plan.specs.Registers.{register, with_register, cut_address}
+use Rattle.insn_plan.specs.Counter.{counter}
+use Rattle.insn_plan.specs.Registers.{register, with_register, cut_address, with_address}
 
 -- the instruction has a repeat prefix
 abbrev pub is_repeated : Rep → Bool

@@ -10,9 +10,9 @@ use Rattle.insn_forms.specs.declared.insn.Operand.{Operand}
 use Rattle.insn_forms.specs.declared.insn.Operand.TheVariants.{Empty, Reg, Seg, Mem, Imm, Far}
 use Rattle.insn_plan.specs.Act.{Act, ◌>>=◌, Given, Input, Pending, done, unchanged, unless_fault, with_regs}
 use Rattle.insn_plan.specs.Conditions.{condition}
-use Rattle.insn_plan.specs.Counter.{counter, with_address}
+use Rattle.insn_plan.specs.Counter.{counter}
 use Rattle.insn_plan.specs.Operands.{source}
-use Rattle.insn_plan.specs.Registers.{cut_address}
+use Rattle.insn_plan.specs.Registers.{cut_address, with_address}
 use Rattle.insn_plan.specs.Stack.{with_pushed_number, stack_item, regs_after_pops, stack_pointer_up, with_stack_pointer}
 
 -- the target of a near transfer, before it is cut: a distance from the next instruction, or the number of an operand

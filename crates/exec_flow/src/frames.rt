@@ -28,7 +28,7 @@ use guest_space::{Machine, byte_count};
 use insn_forms::Insn;
 use insn_plan::{
     Next, Raised, cut_address, esp_up, has_big_stack, number_at, put_register, read_width,
-    register, set_register, source, stack_pointer, with_pointer,
+    register, set_register, source, stack_pointer, with_address,
 };
 
 /// Where the frame pointer of a level was saved: that many items below (E)BP.
@@ -75,7 +75,7 @@ fn make_frame(m: &Machine, i: &Insn, frame: u32, next: &mut Next)
     let room = u64::from(immediate(&i.first) % 0x1_0000);
     let top = u64::from(stack_pointer(m, &r)) + 0x1_0000_0000 - room;
     let big = has_big_stack(m);
-    r.esp = with_pointer(big, r.esp, cut_address(big, top));
+    r.esp = with_address(big, r.esp, cut_address(big, top));
     set_register(&mut r, i.width, EBP, frame);
     next.set_regs(r);
 }
@@ -120,7 +120,7 @@ pub(crate) fn leave(m: &mut Machine, i: &Insn) -> Result<(), Raised>
     let frame = cut_address(big, u64::from(m.registers().ebp));
     let count = byte_count(i.width);
     let bp = read_width(m, SegReg::Ss, frame, i.width)?;
-    let at_frame = with_pointer(big, m.registers().esp, frame);
+    let at_frame = with_address(big, m.registers().esp, frame);
     m.set_general(ESP, esp_up(big, u32::from(count), at_frame));
     put_register(m, i.width, EBP, bp);
     Ok(())

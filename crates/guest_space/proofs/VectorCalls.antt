@@ -17,7 +17,7 @@ use Rattle.host_memory.specs.View.{MachineView}
 use Rattle.host_memory.proofs.PartBytes.{part_byte, part_dword, part_word}
 use Rattle.host_memory.proofs.VectorParts.{same_parts}
 use Rattle.host_memory.proofs.VectorWrites.{ChangesVectors, callback_changes, exception_changes, interrupt_changes, pageable_changes}
-use Rattle.host_memory.proofs.VectorWrites.{with_callback, with_pageable, with_pointer, with_vectors}
+use Rattle.host_memory.proofs.VectorWrites.{with_callback, with_pageable, with_vector, with_vectors}
 use Rattle.host_memory.proofs.WorldParts.{callbacks_is, exception_vectors_is, interrupt_vectors_is, pageable_is}
 use Rattle.guest_space.specs.Machines.{Processor, held_world}
 use Rattle.guest_space.specs.VectorLists.{callback_of_slot, is_pageable, vector_at}
@@ -96,7 +96,7 @@ vectors_after m whole c interrupts exceptions callbacks pageable ch sound = grin
 
 pub set_interrupt : (m : Inside) (v : MachineView) → view_of m ≡ v → IsWhole m → (n : ℕ) (p : FarPtr) → n < INTERRUPT_VECTORS →
     (c : List ℕ) →
-    c ≡ with_pointer m.ram (VECTOR_SIZE * n) p →
+    c ≡ with_vector m.ram (VECTOR_SIZE * n) p →
     IsAfter m v c (record v.world { interrupt_vectors = slice_set v.world.interrupt_vectors n p })
 set_interrupt m v is whole n p within c e =
     let k = processor_of m in let w = (view_of m).world in let s = whole.1 in
@@ -110,7 +110,7 @@ set_interrupt m v is whole n p within c e =
 
 pub set_exception : (m : Inside) (v : MachineView) → view_of m ≡ v → IsWhole m → (n : ℕ) (p : FarPtr) → n < EXCEPTION_VECTORS →
     (c : List ℕ) →
-    c ≡ with_pointer m.ram (exceptions_start + VECTOR_SIZE * n) p →
+    c ≡ with_vector m.ram (exceptions_start + VECTOR_SIZE * n) p →
     IsAfter m v c (record v.world { exception_vectors = slice_set v.world.exception_vectors n p })
 set_exception m v is whole n p within c e =
     let k = processor_of m in let w = (view_of m).world in let s = whole.1 in

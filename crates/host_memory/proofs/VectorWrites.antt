@@ -70,16 +70,16 @@ vectors_size b budget size = length-region b (PAGE_SIZE * VECTORS) (PAGE_SIZE * 
 
 -- ---- a vector
 
-abbrev pub with_pointer : List ℕ → ℕ → FarPtr → List ℕ
-with_pointer b at p = put (put b (PAGE_SIZE * VECTORS + at) (dword_bytes p.off)) (PAGE_SIZE * VECTORS + at + 4) (word_bytes p.sel)
+abbrev pub with_vector : List ℕ → ℕ → FarPtr → List ℕ
+with_vector b at p = put (put b (PAGE_SIZE * VECTORS + at) (dword_bytes p.off)) (PAGE_SIZE * VECTORS + at + 4) (word_bytes p.sel)
 
-pointer_size : (b : List ℕ) (budget at : ℕ) (p : FarPtr) → HasSize b budget → HasSize (with_pointer b at p) budget
+pointer_size : (b : List ℕ) (budget at : ℕ) (p : FarPtr) → HasSize b budget → HasSize (with_vector b at p) budget
 pointer_size b budget at p size =
     size_put (put b (PAGE_SIZE * VECTORS + at) (dword_bytes p.off)) budget (PAGE_SIZE * VECTORS + at + 4) (word_bytes p.sel)
     (size_put b budget (PAGE_SIZE * VECTORS + at) (dword_bytes p.off) size)
 
 pointer_parts : (b : List ℕ) (budget at : ℕ) (p : FarPtr) → HasSize b budget → at + VECTOR_SIZE ≤ PAGE_SIZE * VECTOR_FRAMES →
-    parts_of (with_pointer b at p) budget ≡ record (parts_of b budget) { vectors = put_pointer (vectors_part b) at p }
+    parts_of (with_vector b at p) budget ≡ record (parts_of b budget) { vectors = put_pointer (vectors_part b) at p }
 pointer_parts b budget at p size room =
     let c = put b (PAGE_SIZE * VECTORS + at) (dword_bytes p.off) in
     let first = put_vectors b budget (PAGE_SIZE * VECTORS + at) at (dword_bytes p.off) size refl (omega arith) in
@@ -88,12 +88,12 @@ pointer_parts b budget at p size room =
     ∙ ap (λ (x : MemoryParts). record x { vectors = put x.vectors (at + 4) (word_bytes p.sel) }) first
 
 pub interrupt_changes : (b : List ℕ) (budget n : ℕ) (p : FarPtr) → Holds b budget → n < INTERRUPT_VECTORS →
-    ChangesVectors b (with_pointer b (VECTOR_SIZE * n) p) budget (slice_set (interrupt_vectors_in (vectors_part b)) n p)
+    ChangesVectors b (with_vector b (VECTOR_SIZE * n) p) budget (slice_set (interrupt_vectors_in (vectors_part b)) n p)
     (exception_vectors_in (vectors_part b)) (callbacks_in (vectors_part b)) (pageable_in (vectors_part b))
 interrupt_changes b budget n p holds within =
     let part = vectors_part b in
     let long = vectors_size b budget holds.size in
-    changes b (with_pointer b (VECTOR_SIZE * n) p) budget (put_pointer part (VECTOR_SIZE * n) p) (slice_set (interrupt_vectors_in part) n p)
+    changes b (with_vector b (VECTOR_SIZE * n) p) budget (put_pointer part (VECTOR_SIZE * n) p) (slice_set (interrupt_vectors_in part) n p)
     (exception_vectors_in part) (callbacks_in part) (pageable_in part) holds
     (pointer_parts b budget (VECTOR_SIZE * n) p holds.size (omega arith)) (pointer_size b budget (VECTOR_SIZE * n) p holds.size)
     (keeps_pointer part n p long (omega arith) holds.vectors)
@@ -108,13 +108,13 @@ keeps_exception part n p long within keeps =
     subst (λ (k : ℕ). KeepsVectors (put_pointer part k p)) at (keeps_pointer part (INTERRUPT_VECTORS + n) p long (omega arith) keeps)
 
 pub exception_changes : (b : List ℕ) (budget n : ℕ) (p : FarPtr) → Holds b budget → n < EXCEPTION_VECTORS →
-    ChangesVectors b (with_pointer b (exceptions_start + VECTOR_SIZE * n) p) budget (interrupt_vectors_in (vectors_part b))
+    ChangesVectors b (with_vector b (exceptions_start + VECTOR_SIZE * n) p) budget (interrupt_vectors_in (vectors_part b))
     (slice_set (exception_vectors_in (vectors_part b)) n p) (callbacks_in (vectors_part b)) (pageable_in (vectors_part b))
 exception_changes b budget n p holds within =
     let part = vectors_part b in
     let long = vectors_size b budget holds.size in
     let at = exceptions_start + VECTOR_SIZE * n in
-    changes b (with_pointer b at p) budget (put_pointer part at p) (interrupt_vectors_in part) (slice_set (exception_vectors_in part) n p)
+    changes b (with_vector b at p) budget (put_pointer part at p) (interrupt_vectors_in part) (slice_set (exception_vectors_in part) n p)
     (callbacks_in part) (pageable_in part) holds
     (pointer_parts b budget at p holds.size (omega arith)) (pointer_size b budget at p holds.size)
     (keeps_exception part n p long within holds.vectors) (λ k from to. pointer_away part at p k (inl (omega arith)))

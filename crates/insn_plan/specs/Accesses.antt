@@ -18,8 +18,8 @@ use Rattle.insn_forms.specs.declared.insn.Operand.TheVariants.{Empty, Reg, Seg, 
 use Rattle.insn_plan.specs.declared.accesses.Access.{Access}
 use Rattle.client_world.specs.declared.watchpoints.Touch.{Touch}
 use Rattle.insn_plan.specs.Act.{Act, End, Read, Done, Raise, Interrupt, Input, Given, From, value_of}
-use Rattle.insn_plan.specs.Registers.{offset_of, cut_address}
-use Rattle.insn_plan.specs.Stack.{has_big_stack, with_pointer}
+use Rattle.insn_plan.specs.Registers.{offset_of, cut_address, with_address}
+use Rattle.insn_plan.specs.Stack.{has_big_stack}
 
 -- the world with EIP past an instruction of `len` bytes
 abbrev pub with_next_eip : ℕ → World → World
@@ -102,7 +102,7 @@ pushed_pointer w width esp =
 
 -- ESP after that
 abbrev pub esp_down : World → ℕ → ℕ → ℕ
-esp_down w width esp = with_pointer (has_big_stack w) esp (pushed_pointer w width esp)
+esp_down w width esp = with_address (has_big_stack w) esp (pushed_pointer w width esp)
 
 -- and its access
 abbrev pub and_push : World → ℕ → ℕ → List Access → List Access

@@ -27,6 +27,10 @@ with_register r width n v =
 abbrev pub cut_address : Bool → ℕ → ℕ
 cut_address addr32 a = if addr32 then a % 2 ^ 32 else a % 2 ^ 16
 
+-- a register with another number of the address size in it: at 16 bits the upper half is kept
+abbrev pub with_address : Bool → ℕ → ℕ → ℕ
+with_address addr32 old v = if addr32 then v else with_low_half old v
+
 -- what a register adds to an address, where there is one
 abbrev pub address_part : Regs → Option ℕ → ℕ
 address_part r None = 0

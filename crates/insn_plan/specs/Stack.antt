@@ -1,28 +1,23 @@
 -- The stack: the stack pointer is ESP where the segment in SS has B = 1, else SP; the other half stays.
 -- Source: 80386 Programmer's Reference Manual, ch. 2, "Stack Implementation", and ch. 17, PUSH and POP.
-use Rattle.std.specs.Prelude.{ℕ, ◌+◌, ◌-◌, ◌*◌, ◌^◌, Bool, if◌then◌else◌, List, [], ◌∷◌, ◌++◌}
+use Rattle.std.specs.Prelude.{ℕ, ◌+◌, ◌-◌, ◌*◌, ◌^◌, Bool, List, [], ◌∷◌, ◌++◌}
 use Rattle.client_world.specs.declared.registers.Regs.{Regs}
 use Rattle.client_world.specs.declared.segments.SegReg.TheVariants.{Ss}
-use Rattle.client_world.specs.Registers.{with_low_half}
 use Rattle.client_world.specs.World.{World}
 use Rattle.guest_space.specs.declared.pending.Write.{Write}
 use Rattle.guest_space.specs.Pending.{byte_count}
 use Rattle.guest_space.specs.SegmentRows.{is_big}
 use Rattle.insn_plan.specs.Act.{Input, From, Pending, with_regs}
 use Rattle.insn_plan.specs.Operands.{and_write}
-use Rattle.insn_plan.specs.Registers.{cut_address}
+use Rattle.insn_plan.specs.Registers.{cut_address, with_address}
 
 -- the stack pointer is ESP
 unfoldable pub has_big_stack : World → Bool
 has_big_stack w = is_big w.mode w.descriptors w.regs.ss
 
--- ESP with another stack pointer in it: where that is SP, the upper half is kept
-abbrev pub with_pointer : Bool → ℕ → ℕ → ℕ
-with_pointer big esp sp = if big then sp else with_low_half esp sp
-
 -- ESP with the stack pointer n bytes further up
 abbrev pub esp_up : Bool → ℕ → ℕ → ℕ
-esp_up big n esp = with_pointer big esp (cut_address big (cut_address big esp + n))
+esp_up big n esp = with_address big esp (cut_address big (cut_address big esp + n))
 
 -- the stack pointer of some registers
 abbrev pub stack_pointer : World → Regs → ℕ
@@ -30,7 +25,7 @@ stack_pointer w r = cut_address (has_big_stack w) r.esp
 
 -- the registers with another stack pointer
 abbrev pub with_stack_pointer : World → ℕ → Regs → Regs
-with_stack_pointer w sp r = record r { esp = with_pointer (has_big_stack w) r.esp sp }
+with_stack_pointer w sp r = record r { esp = with_address (has_big_stack w) r.esp sp }
 
 -- a number of a width pushed: the stack pointer goes down by its bytes, and it is there
 unfoldable pub with_pushed_number : World → ℕ → ℕ → Pending → Pending

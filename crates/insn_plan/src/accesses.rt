@@ -10,8 +10,8 @@ ghost use Rattle.insn_plan.specs.Stack.{stack_item, has_big_stack};
 use crate::operands::given;
 use crate::raised::Raised;
 use crate::read::{number_at, read_number};
-use crate::registers::{cut_address, offset_of};
-use crate::stack::{has_big_stack, pointer_down, with_pointer};
+use crate::registers::{cut_address, offset_of, with_address};
+use crate::stack::{has_big_stack, pointer_down};
 use arrayvec::ArrayVec;
 use client_world::{Regs, SegReg, Touch};
 use guest_space::{Machine, byte_count};
@@ -225,7 +225,7 @@ impl<'a> Accesses<'a> {
         let big = has_big_stack(self.machine);
         let sp = pointer_down(big, byte_count(width), esp);
         self.write(SegReg::Ss, sp, width);
-        with_pointer(big, esp, sp)
+        with_address(big, esp, sp)
     }
 
     // The touch of an access, or none where it has a fault.

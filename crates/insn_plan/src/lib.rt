@@ -17,7 +17,7 @@ mod stack;
 
 pub use accesses::{Access, Accesses, MAX_ACCESSES};
 pub use conditions::condition;
-pub use loop_counter::{counter, with_address};
+pub use loop_counter::counter;
 pub use next::{MAX_WRITES, Next};
 pub use operands::{
     at_hand, noted_place, put_operand, put_register, put_with_flags, register_number, shown,
@@ -25,9 +25,8 @@ pub use operands::{
 };
 pub use raised::Raised;
 pub use read::{number_at, number_there, read_number, read_quickly, read_width};
-pub use registers::{cut_address, offset_of, register, set_register};
+pub use registers::{cut_address, offset_of, register, set_register, with_address};
 pub use stack::{
     eight_items, esp_up, has_big_stack, item_pushed, popped_esp, push_item, push_quickly,
     settle_pushes, settle_quickly, shown_top_item, stack_item, stack_pointer, top_item,
-    with_pointer,
 };

@@ -1,9 +1,10 @@
 // General registers by their numbers, and effective addresses.
-ghost use Rattle.std.specs.Prelude.{◌≡◌, ◌+◌, ◌*◌, ◌<◌, ◌≤◌, ◌^◌};
+ghost use Rattle.std.specs.Prelude.{◌≡◌, ◌+◌, ◌*◌, ◌<◌, ◌≤◌, ◌^◌, ◌⊎◌, IsTrue};
 ghost use Rattle.insn_plan.specs.Registers.{
   register,
   with_register,
   cut_address,
+  with_address,
   address_part,
   offset_of,
 };
@@ -57,6 +58,19 @@ pub fn cut_address(addr32: bool, a: u64) -> u32
         (a % 0x1_0000_0000) as u32
     } else {
         (a % 0x1_0000) as u32
+    }
+}
+
+/// A register with another number of the address size in it: at 16 bits the upper half is kept.
+#[inline(always)]
+pub fn with_address(addr32: bool, old: u32, v: u32) -> u32
+    requires { IsTrue addr32 ⊎ (v < 2 ^ 16) }
+    ensures { result ≡ with_address addr32 old v }
+{
+    if addr32 {
+        v
+    } else {
+        old / 0x1_0000 * 0x1_0000 + v
     }
 }
 

@@ -7,7 +7,6 @@ ghost use Rattle.insn_plan.specs.Registers.{cut_address};
 ghost use Rattle.insn_plan.specs.Stack.{
   has_big_stack,
   stack_pointer,
-  with_pointer,
   with_push,
   pending_of_pushes,
   esp_up,
@@ -21,7 +20,7 @@ use crate::next::Next;
 use crate::operands::{write_number, write_quickly};
 use crate::raised::Raised;
 use crate::read::{doubleword, number_at, read_quickly, read_width, word};
-use crate::registers::cut_address;
+use crate::registers::{cut_address, with_address};
 use client_world::general::ESP;
 use client_world::{Regs, SegReg};
 use guest_space::{Machine, Write, byte_count};
@@ -36,19 +35,6 @@ pub fn has_big_stack(m: &Machine) -> bool
     m.is_big(SegReg::Ss)
 }
 
-/// ESP with another stack pointer in it, where it is known whether that is ESP or SP; with SP the upper half is kept.
-#[inline(always)]
-pub fn with_pointer(big: bool, esp: u32, sp: u32) -> u32
-    requires { IsTrue big ⊎ (sp < 2 ^ 16) }
-    ensures { result ≡ with_pointer big esp sp }
-{
-    if big {
-        sp
-    } else {
-        esp / 0x1_0000 * 0x1_0000 + sp
-    }
-}
-
 /// ESP with the stack pointer n bytes further up.
 #[inline(always)]
 pub fn esp_up(big: bool, n: u32, esp: u32) -> u32
@@ -58,7 +44,7 @@ pub fn esp_up(big: bool, n: u32, esp: u32) -> u32
         big,
         u64::from(cut_address(big, u64::from(esp))) + u64::from(n),
     );
-    with_pointer(big, esp, sp)
+    with_address(big, esp, sp)
 }
 
 /// ESP after n items of a width are popped.
@@ -130,7 +116,7 @@ macro_rules! push_by {
         let esp = $m.registers().esp;
         let sp = pointer_down(big, byte_count($width), esp);
         $write($m, SegReg::Ss, sp, $width, $v)?;
-        $m.set_general(ESP, with_pointer(big, esp, sp));
+        $m.set_general(ESP, with_address(big, esp, sp));
         $done(())
     }};
 }
@@ -183,7 +169,7 @@ pub fn item_pushed(big: bool, width: u8, esp: u32, v: u32) -> (Write, u32)
         off: sp,
         value: v,
     };
-    (write, with_pointer(big, esp, sp))
+    (write, with_address(big, esp, sp))
 }
 
 /// Makes the writes of some pushes and then sets ESP; or, where one of them has a fault, does nothing at all.
@@ -259,7 +245,7 @@ impl Next {
         let big = has_big_stack(m);
         let esp = self.esp();
         let sp = pointer_down(big, byte_count(width), esp);
-        self.set_esp(with_pointer(big, esp, sp));
+        self.set_esp(with_address(big, esp, sp));
         self.write(SegReg::Ss, sp, width, v);
     }
 }
