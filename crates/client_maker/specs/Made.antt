@@ -2,7 +2,7 @@
 -- Source: the header is that of MS-DOS executable files; the code is own.
 use Rattle.std.specs.Prelude.{ℕ, ◌+◌, ◌/◌, ◌%◌, List, [], ◌∷◌, ◌++◌, length}
 use Rattle.client_maker.specs.declared.TheConstants.{PIECES}
-use Rattle.client_maker.specs.Pieces.{word, pieces}
+use Rattle.client_maker.specs.Pieces.{word_bytes, pieces}
 
 -- the entry into protected mode as a 16-bit client: MOV AX,1687h; INT 2Fh; PUSH ES; PUSH DI; MOV BP,SP; XOR AX,AX; CALL FAR [BP]
 abbrev pub entry_code : List ℕ
@@ -35,8 +35,8 @@ stack_segment n = (n + 15) / 16
 -- SS, SP 0100h, no checksum, IP 0, CS 0; the relocation table at 1Ch, no overlay, and four bytes of zero
 abbrev pub header : ℕ → List ℕ
 header n =
-    (0x4D ∷ 0x5A ∷ word (made_last_page n)) ++ word (made_pages n) ++ (0 ∷ 0 ∷ 2 ∷ 0 ∷ 0x10 ∷ 0 ∷ 0xFF ∷ 0xFF ∷ [])
-    ++ word (stack_segment n) ++ 0 ∷ 1 ∷ 0 ∷ 0 ∷ 0 ∷ 0 ∷ 0 ∷ 0 ∷ 0x1C ∷ 0 ∷ 0 ∷ 0 ∷ 0 ∷ 0 ∷ 0 ∷ 0 ∷ []
+    (0x4D ∷ 0x5A ∷ word_bytes (made_last_page n)) ++ word_bytes (made_pages n) ++ (0 ∷ 0 ∷ 2 ∷ 0 ∷ 0x10 ∷ 0 ∷ 0xFF ∷ 0xFF ∷ [])
+    ++ word_bytes (stack_segment n) ++ 0 ∷ 1 ∷ 0 ∷ 0 ∷ 0 ∷ 0 ∷ 0 ∷ 0 ∷ 0x1C ∷ 0 ∷ 0 ∷ 0 ∷ 0 ∷ 0 ∷ 0 ∷ 0 ∷ []
 
 -- the file with that code
 abbrev pub client : List ℕ → List ℕ

@@ -12,9 +12,9 @@ unfoldable pub number : ℕ → ℕ → ℕ
 number seed zero = seed
 number seed (suc k) = next_number (number seed k)
 
--- a word in two bytes, least byte first
-abbrev pub word : ℕ → List ℕ
-word p = p % 0x100 ∷ p / 0x100 ∷ []
+-- the bytes of a word, least byte first
+abbrev pub word_bytes : ℕ → List ℕ
+word_bytes p = p % 0x100 ∷ p / 0x100 ∷ []
 
 -- INT 31h
 abbrev pub int_31 : List ℕ
@@ -30,11 +30,11 @@ allocate_descriptors_piece p = (0xB8 ∷ 0 ∷ 0 ∷ 0xB9 ∷ p % 4 ∷ 0 ∷ []
 
 -- MOV AX,0008h; MOV CX,p; MOV DX,0FFFh; INT 31h: sets the limit of BX to p * 10000h + FFFh
 abbrev pub set_limit_piece : ℕ → List ℕ
-set_limit_piece p = (0xB8 ∷ 8 ∷ 0 ∷ 0xB9 ∷ []) ++ word p ++ (0xBA ∷ 0xFF ∷ 0x0F ∷ []) ++ int_31
+set_limit_piece p = (0xB8 ∷ 8 ∷ 0 ∷ 0xB9 ∷ []) ++ word_bytes p ++ (0xBA ∷ 0xFF ∷ 0x0F ∷ []) ++ int_31
 
 -- MOV AX,0501h; MOV BX,0; MOV CX,p; INT 31h: allocates p bytes
 abbrev pub allocate_memory_piece : ℕ → List ℕ
-allocate_memory_piece p = (0xB8 ∷ 1 ∷ 5 ∷ 0xBB ∷ 0 ∷ 0 ∷ 0xB9 ∷ []) ++ word p ++ int_31
+allocate_memory_piece p = (0xB8 ∷ 1 ∷ 5 ∷ 0xBB ∷ 0 ∷ 0 ∷ 0xB9 ∷ []) ++ word_bytes p ++ int_31
 
 -- MOV AX,0502h; INT 31h: frees the block of SI:DI
 abbrev pub free_memory_piece : List ℕ
@@ -46,12 +46,12 @@ print_character_piece p = 0xB2 ∷ (0x20 + p % 64) ∷ 0xB4 ∷ 2 ∷ 0xCD ∷ 0
 
 -- MOV AX,0002h; MOV BX,p; INT 31h; MOV BX,AX: asks for the descriptor of segment p
 abbrev pub map_segment_piece : ℕ → List ℕ
-map_segment_piece p = (0xB8 ∷ 2 ∷ 0 ∷ 0xBB ∷ []) ++ word p ++ int_31 ++ keep_selector
+map_segment_piece p = (0xB8 ∷ 2 ∷ 0 ∷ 0xBB ∷ []) ++ word_bytes p ++ int_31 ++ keep_selector
 
 -- MOV AX,0600h; MOV BX,0040h; MOV CX,0; XOR SI,SI; MOV DI,p; INT 31h: locks p bytes at 00400000h
 abbrev pub lock_memory_piece : ℕ → List ℕ
 lock_memory_piece p =
-    (0xB8 ∷ 0 ∷ 6 ∷ 0xBB ∷ 0x40 ∷ 0 ∷ 0xB9 ∷ 0 ∷ 0 ∷ 0x31 ∷ 0xF6 ∷ 0xBF ∷ []) ++ word p ++ int_31
+    (0xB8 ∷ 0 ∷ 6 ∷ 0xBB ∷ 0x40 ∷ 0 ∷ 0xB9 ∷ 0 ∷ 0 ∷ 0x31 ∷ 0xF6 ∷ 0xBF ∷ []) ++ word_bytes p ++ int_31
 
 -- MOV AX,0001h; INT 31h: frees the descriptor of BX
 abbrev pub free_descriptor_piece : List ℕ

@@ -4,13 +4,10 @@
 -- other than 10, and that flags which the manual leaves undefined are kept.
 use Rattle.std.specs.Prelude.{ℕ, ◌+◌, ◌-◌, ◌*◌, ◌/◌, ◌%◌, Bool, nat_eq, nat_lt, ◌||◌, ◌&&◌, if◌then◌else◌, Option, Some, None}
 use Rattle.client_world.specs.declared.registers.Flags.{Flags}
+use Rattle.client_world.specs.Registers.{low_byte}
 use Rattle.cpu_alu.specs.Results.{result_flags}
 
--- AL, the low byte of AX
-abbrev pub al_of : ℕ → ℕ
-al_of ax = ax % 0x100
-
--- AH, the high byte of AX
+-- AH, the high byte of AX; AL is its low byte
 abbrev pub ah_of : ℕ → ℕ
 ah_of ax = ax / 0x100
 
@@ -33,43 +30,43 @@ adjustment al f = (if low_adjusts al f then 6 else 0) + (if high_adjusts al f th
 -- DAA and DAS: AL and its flags, AF being the low digit's adjustment; AH and OF are kept
 abbrev pub decimal_of : ℕ → ℕ → Bool → Flags → ℕ × Flags
 decimal_of ax al carry f =
-    (ax_of (ah_of ax) al, record (result_flags 8 al f) { af = low_adjusts (al_of ax) f; cf = carry })
+    (ax_of (ah_of ax) al, record (result_flags 8 al f) { af = low_adjusts (low_byte ax) f; cf = carry })
 
 -- DAA: CF is the high digit's adjustment
 unfoldable pub daa_of : ℕ → Flags → ℕ × Flags
-daa_of ax f = decimal_of ax ((al_of ax + adjustment (al_of ax) f) % 0x100) (high_adjusts (al_of ax) f) f
+daa_of ax f = decimal_of ax ((low_byte ax + adjustment (low_byte ax) f) % 0x100) (high_adjusts (low_byte ax) f) f
 
 -- DAS: CF is set too where the low digit's 6 was taken from less
 unfoldable pub das_of : ℕ → Flags → ℕ × Flags
 das_of ax f =
-    decimal_of ax ((al_of ax + 0x100 - adjustment (al_of ax) f) % 0x100)
-    (high_adjusts (al_of ax) f || (low_adjusts (al_of ax) f && nat_lt (al_of ax) 6)) f
+    decimal_of ax ((low_byte ax + 0x100 - adjustment (low_byte ax) f) % 0x100)
+    (high_adjusts (low_byte ax) f || (low_adjusts (low_byte ax) f && nat_lt (low_byte ax) 6)) f
 
 -- AAA and AAS: where the low digit is adjusted, AH and AL are other ones, modulo 2^8; AL keeps its low digit alone. CF and AF
 -- say whether it is; the others are kept
 abbrev pub unpacked_of : ℕ → ℕ → ℕ → Flags → ℕ × Flags
 unpacked_of ax ah al f =
-    let adjusts : Bool = low_adjusts (al_of ax) f in (
-      if adjusts then ax_of (ah % 0x100) (al % 0x10) else ax_of (ah_of ax) (al_of ax % 0x10),
+    let adjusts : Bool = low_adjusts (low_byte ax) f in (
+      if adjusts then ax_of (ah % 0x100) (al % 0x10) else ax_of (ah_of ax) (low_byte ax % 0x10),
       record f { af = adjusts; cf = adjusts },
     )
 
 -- AAA: AL gains 6 and AH 1
 unfoldable pub aaa_of : ℕ → Flags → ℕ × Flags
-aaa_of ax f = unpacked_of ax (ah_of ax + 1) (al_of ax + 6) f
+aaa_of ax f = unpacked_of ax (ah_of ax + 1) (low_byte ax + 6) f
 
 -- AAS: AL loses 6 and AH 1
 unfoldable pub aas_of : ℕ → Flags → ℕ × Flags
-aas_of ax f = unpacked_of ax (ah_of ax + 0x100 - 1) (al_of ax + 0x100 - 6) f
+aas_of ax f = unpacked_of ax (ah_of ax + 0x100 - 1) (low_byte ax + 0x100 - 6) f
 
 -- AAM: AL in two digits of the base, none for a base of 0; OF, AF and CF are kept
 unfoldable pub aam_of : ℕ → ℕ → Flags → Option (ℕ × Flags)
 aam_of ax base f =
     if nat_eq base 0 then None else
-    Some (ax_of (al_of ax / base) (al_of ax % base), result_flags 8 (al_of ax % base) f)
+    Some (ax_of (low_byte ax / base) (low_byte ax % base), result_flags 8 (low_byte ax % base) f)
 
 -- AAD: AL of its two digits, modulo 2^8, and AH of 0; OF, AF and CF are kept
 unfoldable pub aad_of : ℕ → ℕ → Flags → ℕ × Flags
 aad_of ax base f =
-    let al : ℕ = (ah_of ax * base + al_of ax) % 0x100 in
+    let al : ℕ = (ah_of ax * base + low_byte ax) % 0x100 in
     (al, result_flags 8 al f)
