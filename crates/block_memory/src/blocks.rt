@@ -1,6 +1,5 @@
 // The memory blocks of a memory: pages added, removed and moved. Each call keeps all else that the memory holds.
-ghost use Rattle.std.specs.Prelude.{◌≡◌, ◌≤◌, ◌<◌, ◌+◌, ◌-◌, ℕ, None, Some, nat_eq, if◌then◌else◌};
-ghost use Rattle.client_world.specs.declared.limits.TheConstants.{MAX_BLOCKS};
+ghost use Rattle.std.specs.Prelude.{◌≡◌, ◌≤◌, ◌+◌, ◌-◌, ℕ, None, Some, nat_eq, if◌then◌else◌};
 ghost use Rattle.host_memory.specs.Holds.{Holds};
 ghost use Rattle.block_memory.specs.BlockChanges.{CanHoldIn, CanMoveIn, CanSizeIn, HasBlockIn, HasPagesIn, ReplacesBlock, blocks_held};
 ghost use Rattle.block_memory.specs.BlockSizes.{HasPages, at_base, block_with_zero_pages, longer, sized_block, shorter};

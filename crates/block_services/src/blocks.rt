@@ -1,13 +1,12 @@
 // Memory blocks made, freed and given another size.
-ghost use Rattle.std.specs.Prelude.{◌≡◌, ◌≢◌, ◌≤◌, ◌<◌, ◌+◌, ◌*◌, ◌%◌, ◌^◌, MatchResult, None, Some};
+ghost use Rattle.std.specs.Prelude.{◌≡◌, ◌≢◌, ◌≤◌, ◌<◌, ◌+◌, ◌*◌, ◌^◌, MatchResult, None, Some};
 ghost use Rattle.client_world.specs.declared.host_frames.TheConstants.{PAGE_SIZE};
-ghost use Rattle.client_world.specs.declared.limits.TheConstants.{MAX_BLOCKS, MAX_PAGES};
-ghost use Rattle.client_world.specs.declared.memory_map.TheConstants.{BLOCK_REGION, BLOCK_REGION_END, BLOCK_REGION_PAGES};
+ghost use Rattle.client_world.specs.declared.limits.TheConstants.{MAX_PAGES};
+ghost use Rattle.client_world.specs.declared.memory_map.TheConstants.{BLOCK_REGION_PAGES};
 ghost use Rattle.client_world.specs.World.{block_at, base_of_block};
-ghost use Rattle.block_memory.specs.BlockSizes.{row_seen};
 ghost use Rattle.service_rows.specs.declared.refusal.Refusal.TheVariants.{LinearMemoryUnavailable as no_gap};
 ghost use Rattle.service_rows.specs.Reasons.{Does};
-ghost use Rattle.block_services.specs.Rows.{allocate_block, with_block_outputs, asked_pages, free_block, free_pages, si_di, new_base};
+ghost use Rattle.block_services.specs.Rows.{allocate_block, with_block_outputs, free_block, free_pages, si_di, new_base};
 ghost use Rattle.block_services.specs.Rows.{resize_block, bx_cx};
 
 use crate::gaps::{first_gap, is_gap, lowest_handle, page_address, row_of};

@@ -1,5 +1,5 @@
 // What is free.
-ghost use Rattle.std.specs.Prelude.{◌≡◌, ◌≤◌, ◌<◌, ◌+◌, ◌%◌};
+ghost use Rattle.std.specs.Prelude.{◌≡◌, ◌≤◌, ◌+◌, ◌%◌};
 ghost use Rattle.client_world.specs.declared.limits.TheConstants.{MAX_PAGES};
 ghost use Rattle.guest_ram.specs.Bytes.{dword_bytes, put};
 ghost use Rattle.service_rows.specs.Reasons.{Does};

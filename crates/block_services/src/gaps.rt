@@ -1,5 +1,5 @@
 // Pages of the block region that no memory block has, and handles that none has.
-ghost use Rattle.std.specs.Prelude.{◌≡◌, ◌≢◌, ◌≤◌, ◌<◌, ◌+◌, ◌*◌, ◌%◌, ◌^◌, ℕ, IfSome, MatchResult, None, Some, true, false, length};
+ghost use Rattle.std.specs.Prelude.{◌≡◌, ◌≤◌, ◌<◌, ◌+◌, ◌*◌, ◌%◌, ◌^◌, IfSome, MatchResult, None, Some};
 ghost use Rattle.client_world.specs.declared.host_frames.TheConstants.{PAGE_SIZE};
 ghost use Rattle.client_world.specs.declared.limits.TheConstants.{MAX_BLOCKS, MAX_PAGES};
 ghost use Rattle.client_world.specs.declared.memory_map.TheConstants.{BLOCK_REGION, BLOCK_REGION_END, BLOCK_REGION_PAGES};

@@ -1,12 +1,11 @@
 // The call of a callback.
-ghost use Rattle.std.specs.Prelude.{◌≡◌, ◌≢◌, ◌<◌, ◌*◌, IsTrue, true, None, Ok, Err, MatchResult, if◌then◌else◌};
+ghost use Rattle.std.specs.Prelude.{◌≡◌, ◌≢◌, ◌<◌, IsTrue, true, None, Ok, Err, MatchResult, if◌then◌else◌};
 ghost use Rattle.client_world.specs.declared.limits.TheConstants.{GREATEST_DEPTH};
 ghost use Rattle.client_world.specs.declared.registers.Mode.TheVariants.{Real as real};
 ghost use Rattle.client_world.specs.Access.{is_reachable};
 ghost use Rattle.client_world.specs.World.{depth};
 ghost use Rattle.exec_flow.specs.Interrupts.{item_bits};
 ghost use Rattle.guest_space.specs.Far.{world_after_far_write, after_far_write};
-ghost use Rattle.guest_space.specs.Pending.{byte_count, number_bytes};
 ghost use Rattle.guest_space.specs.Transfer.{HasOtherMemory};
 ghost use Rattle.guest_space.specs.VectorLists.{callback_of_slot};
 ghost use Rattle.translation.specs.declared.structure.TheConstants.{STRUCTURE_SIZE as structure_size};

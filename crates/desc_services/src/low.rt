@@ -1,7 +1,7 @@
 // Descriptors of chosen indices, and the step between selectors.
-ghost use Rattle.std.specs.Prelude.{◌≡◌, ◌≢◌, None};
+ghost use Rattle.std.specs.Prelude.{◌≢◌, None};
 ghost use Rattle.service_rows.specs.Reasons.{Does};
-ghost use Rattle.desc_services.specs.Rows.{fresh, allocate_specific, selector_increment};
+ghost use Rattle.desc_services.specs.Rows.{allocate_specific, selector_increment};
 
 use crate::selector::put;
 use client_world::selectors::{SELECTOR_STEP, index_of, is_local};

@@ -1,5 +1,4 @@
 // Packed descriptors in the client's memory.
-ghost use Rattle.std.specs.Prelude.{◌≡◌};
 ghost use Rattle.service_rows.specs.Reasons.{Does};
 ghost use Rattle.desc_services.specs.Rows.{get_descriptor, set_descriptor};
 

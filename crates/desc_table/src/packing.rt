@@ -1,5 +1,5 @@
 // Descriptors and their eight bytes.
-ghost use Rattle.std.specs.Prelude.{◌≡◌, ◌≤◌, ◌<◌, ◌^◌, ℕ, Bool, List, Some, cond, ◌↔◌, IfSome, IsSome, IsTrue};
+ghost use Rattle.std.specs.Prelude.{◌≡◌, ◌≤◌, ◌<◌, ◌^◌, ℕ, List, Some, cond, ◌↔◌, IfSome, IsSome, IsTrue};
 ghost use Rattle.client_world.specs.declared.descriptors.Desc.{Desc};
 ghost use Rattle.client_world.specs.Registers.{has_bit};
 ghost use Rattle.client_world.specs.Descriptor.{access_byte, flags_byte, kind_bits, packed, FitsDescriptor, Packs};

@@ -1,5 +1,5 @@
 // The rows of the client's descriptor table in the host's frames.
-ghost use Rattle.std.specs.Prelude.{◌≡◌, ◌≢◌, ◌≤◌, ◌<◌, ◌+◌, ◌*◌, ◌↔◌, ◌⊎◌, ℕ, List, Some, length, slice_get, slice_set, IfSome, IsNone};
+ghost use Rattle.std.specs.Prelude.{◌≡◌, ◌≢◌, ◌≤◌, ◌<◌, ◌+◌, ◌↔◌, ◌⊎◌, ℕ, List, Some, length, slice_get, slice_set, IfSome, IsNone};
 ghost use Rattle.client_world.specs.declared.host_frames.TheConstants.{DESCRIPTORS, DESCRIPTOR_ROW_SIZE, FIRST_FREE_DESCRIPTOR};
 ghost use Rattle.client_world.specs.Descriptor.{FitsDescriptor};
 ghost use Rattle.client_world.specs.Selector.{Row, FitsRow};

@@ -1,6 +1,5 @@
 // A block is freed.
 ghost use Rattle.std.specs.Prelude.{◌≡◌, ◌≢◌, ◌<◌, [], ◌∷◌, true, None, OnErr, length};
-ghost use Rattle.client_world.specs.declared.dos_memory.DosEntry.{DosEntry};
 ghost use Rattle.dos_blocks.specs.Blocks.{free_result, joined_entry};
 
 use crate::finding::place_of_block;

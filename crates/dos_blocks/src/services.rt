@@ -1,5 +1,5 @@
 // INT 31h, functions 0100h to 0102h.
-ghost use Rattle.std.specs.Prelude.{◌≡◌, ◌≢◌, ◌+◌, None, OnErr, OnOk};
+ghost use Rattle.std.specs.Prelude.{◌≡◌, ◌≢◌, None, OnErr, OnOk};
 ghost use Rattle.client_world.specs.declared.registers.Mode.TheVariants.{Protected as protected};
 ghost use Rattle.client_world.specs.declared.services.Carry.TheVariants.{Clear, Set};
 ghost use Rattle.dos_blocks.specs.Blocks.{has_room_to_grow};

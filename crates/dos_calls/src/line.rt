@@ -1,5 +1,5 @@
 // The call that takes a line of keys.
-ghost use Rattle.std.specs.Prelude.{◌≡◌, ◌<◌, ◌+◌, ◌-◌, [], ◌∷◌, ◌++◌, Some, take, drop, length};
+ghost use Rattle.std.specs.Prelude.{◌≡◌, ◌<◌, ◌+◌, [], ◌∷◌, ◌++◌, Some, take, drop, length};
 ghost use Rattle.dos_calls.specs.Calls.{has_room, with_line, line_of, line_result, read_line};
 ghost use Rattle.dos_calls.specs.Answering.{console_with, IfEnded};
 

@@ -19,7 +19,6 @@ ghost use Rattle.std.specs.Prelude.{
   IsErrOf,
 };
 ghost use Rattle.client_world.specs.declared.limits.TheConstants.{DEFAULT_TRACE, MAX_FILE, MAX_KEYS, MAX_PAGES, MAX_TRACE};
-ghost use Rattle.client_maker.specs.Made.{made};
 ghost use Rattle.dpmi_words.specs.Meaning.{keys_in, pair_in, run_in};
 ghost use Rattle.guest_ram.specs.Bytes.{AreBytes};
 ghost use Rattle.host_run.specs.Start.{blank, host_at_start};

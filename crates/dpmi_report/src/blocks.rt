@@ -1,5 +1,5 @@
 // The part of the memory blocks. It takes no memory; where it fails, a first part of its text was put, and the count of faults rose.
-ghost use Rattle.std.specs.Prelude.{◌≡◌, ◌<◌, ◌+◌, Some, None, count_by, is_some, nat_lt, slice_index, slice_index_or};
+ghost use Rattle.std.specs.Prelude.{◌≡◌, ◌<◌, Some, None, count_by, is_some, nat_lt, slice_index, slice_index_or};
 ghost use Rattle.client_world.specs.declared.limits.TheConstants.{MAX_BLOCKS};
 ghost use Rattle.client_world.specs.World.{block_at};
 ghost use Rattle.block_memory.specs.BlockSizes.{locks_of_block, row_seen};

@@ -1,10 +1,10 @@
 // The parts of the text. None takes memory; where one fails, a first part of its text was put, and the count of faults rose.
-ghost use Rattle.std.specs.Prelude.{◌≡◌, ◌≤◌, ◌<◌, ◌+◌, ◌++◌, Some, length, count_by, is_some};
+ghost use Rattle.std.specs.Prelude.{◌≡◌, ◌<◌, length, count_by, is_some};
 ghost use Rattle.client_world.specs.declared.host_frames.TheConstants.{DESCRIPTORS};
 ghost use Rattle.dpmi_report.specs.Lines.{line_end, exit_part, desc_row, dos_line};
 ghost use Rattle.dpmi_report.specs.Puts.{Puts};
 ghost use Rattle.dpmi_report.specs.Rows.{up_to};
-ghost use Rattle.dpmi_report.specs.Text.{console_head, console_part, trace_head, trace_part, end_part, processor_text, processor_part};
+ghost use Rattle.dpmi_report.specs.Text.{console_head, console_part, trace_head, trace_part, end_part, processor_part};
 ghost use Rattle.dpmi_report.specs.Text.{descs_head, descs_part};
 ghost use Rattle.dpmi_report.specs.Trace.{trace_row};
 

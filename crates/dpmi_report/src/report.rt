@@ -1,5 +1,5 @@
 // The text, put in its order.
-ghost use Rattle.std.specs.Prelude.{◌≡◌, ◌++◌, Some, IsSome};
+ghost use Rattle.std.specs.Prelude.{◌≡◌, Some, IsSome};
 ghost use Rattle.dpmi_report.specs.Puts.{Puts};
 ghost use Rattle.dpmi_report.specs.Text.{memory_part, run_part, state_part, text, text_at};
 

@@ -1,6 +1,5 @@
 // The text of the run of a made client.
-ghost use Rattle.std.specs.Prelude.{◌≡◌, ◌≤◌, ◌++◌, IfSome, Some, cond, length, count_by, slice_get};
-ghost use Rattle.sha2.specs.Sha256.{sha256};
+ghost use Rattle.std.specs.Prelude.{◌≡◌, ◌≤◌, ◌++◌, IfSome, Some, cond, count_by, slice_get};
 ghost use Rattle.dpmi_report.specs.Lines.{exit_part, dos_line};
 ghost use Rattle.dpmi_report.specs.Puts.{Puts};
 ghost use Rattle.dpmi_report.specs.Summary.{soak_head, is_service, is_refusal, services_line, console_line, summary_at};

@@ -1,5 +1,4 @@
 // The flags, and WAIT.
-ghost use Rattle.std.specs.Prelude.{◌≡◌};
 ghost use Rattle.exec_core.specs.FlagRows.{clc, stc, cmc, cld, std, lahf, sahf, wait};
 ghost use Rattle.insn_plan.specs.Plan.{CarriesOut};
 

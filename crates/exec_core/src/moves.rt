@@ -1,5 +1,5 @@
 // Moves.
-ghost use Rattle.std.specs.Prelude.{◌≡◌, ◌<◌, ◌^◌, ◌⊎◌, IfNone, IfSome, IsTrue, Ok};
+ghost use Rattle.std.specs.Prelude.{◌≡◌, ◌<◌, ◌^◌, IfNone, IfSome, IsTrue, Ok};
 ghost use Rattle.cpu_values.specs.Word.{cut};
 ghost use Rattle.exec_core.specs.Moves.{
   mov,

@@ -13,7 +13,6 @@ ghost use Rattle.exec_core.specs.Products.{
   multiply_two,
   multiply_three,
   imul,
-  is_empty,
   divide,
   with_double,
   high_register,

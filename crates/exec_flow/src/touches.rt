@@ -1,5 +1,5 @@
 // What the instructions of this crate access. Each function has the accesses of the row, or the rows, that its contract names.
-ghost use Rattle.std.specs.Prelude.{◌≡◌, ◌<◌, ◌≤◌, ◌+◌, true, false, MatchOption, MatchResult, IsTrue, None, Some, Bool, ℕ, length};
+ghost use Rattle.std.specs.Prelude.{◌≡◌, ◌<◌, ◌≤◌, ◌+◌, false, MatchOption, MatchResult, IsTrue, None, Some, Bool, ℕ, length};
 ghost use Rattle.client_world.specs.declared.descriptors.Desc.{Desc as ADesc};
 ghost use Rattle.client_world.specs.Loading.{register_fault, transfer_fault};
 ghost use Rattle.exec_flow.specs.Dispatch.{IsFlow, flow_row};

@@ -1,5 +1,5 @@
 // Exceptions in either mode.
-ghost use Rattle.std.specs.Prelude.{◌≡◌, ℕ, Ok, Err, MatchResult};
+ghost use Rattle.std.specs.Prelude.{◌≡◌, Ok, Err, MatchResult};
 ghost use Rattle.client_world.specs.declared.faults.Fault.{Fault};
 ghost use Rattle.client_world.specs.Soundness.{IsSound};
 ghost use Rattle.host_memory.specs.View.{MachineView};

@@ -1,6 +1,5 @@
 // The frame of an exception.
 ghost use Rattle.std.specs.Prelude.{◌≡◌, ◌≤◌, ◌*◌, length};
-ghost use Rattle.client_world.specs.World.{depth};
 ghost use Rattle.guest_ram.specs.Bytes.{put};
 ghost use Rattle.fault_service.specs.Delivery.{exception_items, items_bytes};
 

@@ -1,13 +1,12 @@
 // The memory blocks: their rows, pages, bytes and lock counts, all held in the bytes of the memory.
-ghost use Rattle.std.specs.Prelude.{◌≡◌, ◌≢◌, ◌≤◌, ◌<◌, ◌+◌, ◌-◌, None, Some, slice_set, slice_index, slice_index_or, nat_eq};
-ghost use Rattle.std.specs.Prelude.{if◌then◌else◌};
+ghost use Rattle.std.specs.Prelude.{◌≡◌, ◌≢◌, ◌≤◌, ◌<◌, None, Some, slice_index};
 ghost use Rattle.client_world.specs.declared.limits.TheConstants.{MAX_BLOCKS};
 ghost use Rattle.client_world.specs.declared.place.Place.{Place};
 ghost use Rattle.client_world.specs.Access.{IsHeld, HasByte, bytes_of_block, place_of};
 ghost use Rattle.client_world.specs.Soundness.{pages_of_blocks};
 ghost use Rattle.client_world.specs.World.{block_at, with_block_at};
-ghost use Rattle.block_memory.specs.BlockSizes.{CanHold, CanMake, CanMove, CanSize, HasPages, longer, shorter, block_with_zero_pages};
-ghost use Rattle.block_memory.specs.BlockSizes.{at_base, sized_block, fresh_block, IsBlocks, lock_in, with_lock, row_seen};
+ghost use Rattle.block_memory.specs.BlockSizes.{CanMake, CanSize};
+ghost use Rattle.block_memory.specs.BlockSizes.{sized_block, fresh_block, IsBlocks, lock_in, with_lock, row_seen};
 ghost use Rattle.block_memory.specs.BlockSizes.{blocks_with_zero_page, locked_pages};
 ghost use Rattle.host_memory.specs.Layout.{address_of};
 

@@ -1,10 +1,9 @@
 // Fetching code, byte by byte or from a window.
-ghost use Rattle.std.specs.Prelude.{◌≡◌, ◌≤◌, ◌<◌, ◌+◌, ◌^◌, false, IfSome, Ok, length};
+ghost use Rattle.std.specs.Prelude.{◌≡◌, ◌≤◌, ◌<◌, ◌+◌, ◌^◌, IfSome, length};
 ghost use Rattle.client_world.specs.CodeWords.{code_bytes};
 ghost use Rattle.guest_ram.specs.Bytes.{region};
 ghost use Rattle.guest_space.specs.Code.{code_byte, code_from, code_room};
 ghost use Rattle.client_world.specs.declared.host_frames.TheConstants.{PAGE_SIZE};
-ghost use Rattle.guest_space.specs.Transfer.{bytes_at, linear_access};
 ghost use Rattle.guest_space.specs.Windows.{IsWindow};
 
 use crate::machine::Machine;

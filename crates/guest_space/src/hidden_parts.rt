@@ -6,7 +6,7 @@ ghost use Rattle.client_world.specs.Descriptor.{access_byte, is_within};
 ghost use Rattle.client_world.specs.Segments.{selector};
 ghost use Rattle.client_world.specs.Selector.{FitsRow};
 ghost use Rattle.desc_table.specs.Rows.{HasRows, rows_from, rows_start};
-ghost use Rattle.guest_space.specs.HiddenParts.{all_found, base_within, found, is_data_with, number, part_in_row};
+ghost use Rattle.guest_space.specs.HiddenParts.{all_found, base_within, is_data_with, number, part_in_row};
 ghost use Rattle.guest_space.specs.HiddenParts.{part_of_selector};
 
 use crate::segments::{fault_with, stack_or, suits_register};

@@ -1,5 +1,5 @@
 // The machine: what the processor keeps, and the memory that holds all else.
-ghost use Rattle.std.specs.Prelude.{◌≡◌, ◌≢◌, ◌≤◌, ◌<◌, ◌^◌, ℕ, Bool, true, IfOk, None, Some};
+ghost use Rattle.std.specs.Prelude.{◌≡◌, ◌≢◌, ◌≤◌, ◌<◌, ◌^◌, ℕ, Bool, true, IfOk, None};
 ghost use Rattle.client_world.specs.declared.host_frames.TheConstants.{PAGE_DIRECTORY};
 ghost use Rattle.client_world.specs.declared.limits.TheConstants.{MAX_PAGES};
 ghost use Rattle.client_world.specs.declared.registers.Mode.TheVariants.{Protected as protected};

@@ -1,5 +1,5 @@
 // From a linear address to the memory: by the page tables, and by the cache of their translations.
-ghost use Rattle.std.specs.Prelude.{ℕ, ◌≡◌, ◌≤◌, ◌<◌, ◌+◌, ◌%◌, IfSome, MatchResult, Ok, Err, None, Some, true, false, ◌*◌, ◌/◌, IsTrue};
+ghost use Rattle.std.specs.Prelude.{ℕ, ◌≡◌, ◌≤◌, ◌<◌, ◌%◌, IfSome, MatchResult, Ok, None, Some, true, false, ◌/◌, IsTrue};
 ghost use Rattle.std.specs.Prelude.{List};
 ghost use Rattle.client_world.specs.declared.host_frames.TheConstants.{PAGE_SIZE, PAGE_DIRECTORY};
 ghost use Rattle.client_world.specs.Access.{page_fault};

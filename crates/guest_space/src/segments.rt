@@ -2,7 +2,7 @@
 ghost use Rattle.std.specs.Prelude.{◌≡◌, IfSome, IsTrue, None, Ok, false, ◌≢◌, ◌&&◌, ◌||◌, not, MatchResult, OnOk, IfErr, Some};
 ghost use Rattle.client_world.specs.declared.segments.SegReg.TheVariants.{Cs};
 ghost use Rattle.client_world.specs.Access.{fault_with, stack_or, suits_register, base_in_row, protected_base, segment_base};
-ghost use Rattle.client_world.specs.Selector.{FitsRow, row_of_selector};
+ghost use Rattle.client_world.specs.Selector.{row_of_selector};
 ghost use Rattle.client_world.specs.Loading.{transfer_fault, is_privileged, data_fault, stack_fault, code_fault, load_fault};
 ghost use Rattle.client_world.specs.Loading.{register_fault};
 ghost use Rattle.client_world.specs.Segments.{selector, with_selector};

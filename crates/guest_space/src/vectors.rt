@@ -1,5 +1,5 @@
 // The protected-mode vectors, the real-mode callbacks, and which pages of the DOS megabyte's view are pageable.
-ghost use Rattle.std.specs.Prelude.{◌≡◌, ◌≢◌, ◌≤◌, ◌<◌, ◌+◌, ◌*◌, ◌++◌, ℕ, None, cond, length, slice_set};
+ghost use Rattle.std.specs.Prelude.{◌≡◌, ◌≢◌, ◌≤◌, ◌<◌, ◌+◌, ◌*◌, ◌++◌, None, cond, length, slice_set};
 ghost use Rattle.client_world.specs.declared.host_frames.TheConstants.{PAGE_SIZE, BUDGET_FRAMES, CALLBACK_SIZE, VECTORS, VECTOR_FRAMES};
 ghost use Rattle.client_world.specs.declared.limits.TheConstants.{CALLBACKS, EXCEPTION_VECTORS};
 ghost use Rattle.client_world.specs.declared.memory_map.TheConstants.{DOS_VIEW_PAGES};
@@ -7,7 +7,7 @@ ghost use Rattle.client_world.specs.declared.place.Place.{Place};
 ghost use Rattle.guest_ram.specs.Bytes.{dword_bytes, put};
 ghost use Rattle.guest_space.specs.VectorLists.{callback_of_slot, is_pageable, vector_at};
 ghost use Rattle.host_memory.specs.Layout.{address_of};
-ghost use Rattle.host_memory.specs.Vectors.{callback_at, callback_bytes, callbacks_start, exceptions_start, pageable_start, pointer_at};
+ghost use Rattle.host_memory.specs.Vectors.{callback_at, callback_bytes, pointer_at};
 ghost use Rattle.host_memory.specs.Vectors.{pointer_bytes, word_bytes};
 
 use crate::machine::Machine;

@@ -1,5 +1,5 @@
 // A new memory: real mode, no block, no descriptor, the vectors that lead to the host, and all of DOS memory and of the page budget free.
-ghost use Rattle.std.specs.Prelude.{◌≡◌, ◌≤◌, ◌<◌, ◌+◌, ◌*◌, ℕ, IfOk, None, length, true};
+ghost use Rattle.std.specs.Prelude.{◌≡◌, ◌≤◌, ◌<◌, ◌*◌, ℕ, IfOk, None, length, true};
 ghost use Rattle.client_world.specs.declared.registers.Mode.TheVariants.{Real};
 ghost use Rattle.client_world.specs.Soundness.{IsSound};
 ghost use Rattle.host_memory.specs.Blank.{no_regs, blank_world};

@@ -1,5 +1,5 @@
 // Calls of real mode: those that the client asks for, interrupts that are reflected, and the return from both.
-ghost use Rattle.std.specs.Prelude.{◌≡◌, ◌<◌, false, Ok, Err, IfSome, MatchResult};
+ghost use Rattle.std.specs.Prelude.{◌≡◌, ◌<◌, false, IfSome};
 ghost use Rattle.client_world.specs.declared.limits.TheConstants.{GREATEST_DEPTH};
 ghost use Rattle.client_world.specs.declared.registers.Mode.TheVariants.{Protected as protected, Real as real};
 ghost use Rattle.client_world.specs.World.{depth};

@@ -1,5 +1,5 @@
 // Numbers of a few bytes, least byte first.
-ghost use Rattle.std.specs.Prelude.{◌≡◌, ◌≤◌, ◌<◌, ◌^◌, IfOk};
+ghost use Rattle.std.specs.Prelude.{◌≤◌, ◌<◌, ◌^◌, IfOk};
 ghost use Rattle.insn_decode.specs.Reading.{IsReading, number_at};
 
 use crate::stop::Stop;

@@ -1,5 +1,5 @@
 // The opcode maps looked up.
-ghost use Rattle.std.specs.Prelude.{◌≡◌, ◌<◌, IsTrue};
+ghost use Rattle.std.specs.Prelude.{◌≡◌, IsTrue};
 ghost use Rattle.insn_forms.specs.OpcodeMap.{opcode_row, pick};
 ghost use Rattle.insn_forms.specs.Slots.{row_in, has_rows};
 

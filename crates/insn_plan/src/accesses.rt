@@ -1,5 +1,5 @@
 // What an instruction accesses.
-ghost use Rattle.std.specs.Prelude.{◌≡◌, ◌+◌, ◌-◌, ◌<◌, ◌≤◌, ◌++◌, ◌∷◌, [], MatchOption, None, Some, false, true, length};
+ghost use Rattle.std.specs.Prelude.{◌≡◌, ◌+◌, ◌<◌, ◌≤◌, ◌++◌, ◌∷◌, [], MatchOption, None, Some, true, length};
 ghost use Rattle.client_world.specs.declared.segments.SegReg.TheVariants.{Ss};
 ghost use Rattle.guest_space.specs.Pending.{byte_count, IsCountOfWidth};
 ghost use Rattle.insn_plan.specs.Accesses.{and_read, and_put, and_push, esp_down, with_next_eip, touch_of_access, touches_after, HasBytes};

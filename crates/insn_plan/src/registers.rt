@@ -1,5 +1,5 @@
 // General registers by their numbers, and effective addresses.
-ghost use Rattle.std.specs.Prelude.{◌≡◌, ◌+◌, ◌*◌, ◌<◌, ◌≤◌, ◌^◌, ◌⊎◌, IsTrue};
+ghost use Rattle.std.specs.Prelude.{◌≡◌, ◌<◌, ◌^◌, ◌⊎◌, IsTrue};
 ghost use Rattle.insn_plan.specs.Registers.{
   register,
   with_register,

@@ -1,5 +1,5 @@
 // Software interrupts.
-ghost use Rattle.std.specs.Prelude.{false, ◌≡◌, ◌+◌, ◌<◌, IfErr, None, OnOk, Some, Ok, Err, MatchResult};
+ghost use Rattle.std.specs.Prelude.{false, ◌≡◌, IfErr, None, OnOk, Some, Ok, Err, MatchResult};
 ghost use Rattle.client_world.specs.Loading.{transfer_fault};
 ghost use Rattle.exec_flow.specs.Interrupts.{interrupt_push};
 ghost use Rattle.guest_space.specs.Pending.{first_write_fault};

@@ -1,9 +1,7 @@
 // The entry to protected mode.
 ghost use Rattle.std.specs.Prelude.{◌≡◌, ◌≢◌, ◌+◌, ◌<◌, ◌≤◌, ◌^◌, None, Some, Ok, Err, MatchResult, slice_set};
-ghost use Rattle.client_world.specs.declared.descriptors.Origin.{Origin as AnOrigin};
 ghost use Rattle.client_world.specs.declared.host_frames.TheConstants.{DESCRIPTORS, FIRST_FREE_DESCRIPTOR};
 ghost use Rattle.client_world.specs.declared.registers.Mode.TheVariants.{Real as real};
-ghost use Rattle.client_world.specs.declared.registers.Width.{Width as AWidth};
 ghost use Rattle.client_world.specs.declared.selectors.TheConstants.{ENTRY_ENVIRONMENT as the_environment};
 ghost use Rattle.client_world.specs.Selector.{selector_of};
 ghost use Rattle.client_world.specs.Soundness.{IsPlainOrigin};

@@ -1,5 +1,5 @@
 // The header of an MZ file.
-ghost use Rattle.std.specs.Prelude.{◌≡◌, ◌+◌, ◌*◌, ◌≤◌, length};
+ghost use Rattle.std.specs.Prelude.{◌≡◌, ◌+◌, ◌≤◌, length};
 ghost use Rattle.guest_ram.specs.Bytes.{word_of};
 ghost use Rattle.mz_loader.specs.Header.{last_page, pages, relocations, minimum, maximum, relocation_table, header_length, declared_length};
 ghost use Rattle.mz_loader.specs.Header.{image_length, image_paras, needed_paras, block_paras, most_paras, psp_paras};

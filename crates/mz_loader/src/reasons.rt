@@ -1,7 +1,6 @@
 // Why a file isn't loaded.
 ghost use Rattle.std.specs.Prelude.{◌≡◌, ◌+◌, ◌-◌, ◌*◌, ◌≤◌, length, false, IfNone};
 ghost use Rattle.client_world.specs.declared.memory_map.TheConstants.{PARAGRAPH_SIZE};
-ghost use Rattle.client_world.specs.declared.outcome.LoadFault.{LoadFault};
 ghost use Rattle.mz_loader.specs.Header.{block_paras, psp_paras};
 ghost use Rattle.mz_loader.specs.declared.header.TheConstants.{MOST_BYTES};
 ghost use Rattle.mz_loader.specs.Refusal.{header_bytes, is_short, lacks_signature, has_bad_pages, has_bad_table, has_no_room};

@@ -1,5 +1,5 @@
 // The frames of the page budget: a byte for each says which are taken, and the free ones form a list inside themselves.
-ghost use Rattle.std.specs.Prelude.{◌≡◌, ◌↔◌, ◌<◌, ◌≤◌, IsNone, IfSome, IfNone, length};
+ghost use Rattle.std.specs.Prelude.{◌≡◌, ◌↔◌, ◌<◌, IsNone, IfSome, IfNone, length};
 ghost use Rattle.page_tables.specs.Budget.{HasBudget, IsBudgetFrame, IsFree, IsTaken, AllFree, AllTaken, IsNamedNowhere, taken_place};
 ghost use Rattle.page_tables.specs.FreeList.{HasFreeList, KeepsBesideList, first_free, with_head, without_head};
 

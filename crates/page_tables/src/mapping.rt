@@ -1,5 +1,5 @@
 // One page mapped, or no longer.
-ghost use Rattle.std.specs.Prelude.{◌≡◌, IsTrue, length};
+ghost use Rattle.std.specs.Prelude.{◌≡◌, length};
 ghost use Rattle.client_world.specs.declared.host_frames.TheConstants.{PAGE_DIRECTORY};
 ghost use Rattle.guest_ram.specs.Bytes.{put, dword_bytes};
 ghost use Rattle.page_tables.specs.Entry.{page_entry};

@@ -1,8 +1,6 @@
 // The walk of the page tables.
-ghost use Rattle.std.specs.Prelude.{◌≡◌, ◌≤◌, ◌<◌, ◌+◌, ◌*◌, ◌^◌, ℕ, length};
-ghost use Rattle.client_world.specs.declared.host_frames.TheConstants.{PAGE_SIZE};
-ghost use Rattle.guest_ram.specs.Bytes.{dword};
-ghost use Rattle.page_tables.specs.Walk.{IsFrame, TablesInside, walk_end, entry_place, directory_entry, table_place, walked};
+ghost use Rattle.std.specs.Prelude.{◌≡◌, ◌<◌, ◌+◌, length};
+ghost use Rattle.page_tables.specs.Walk.{IsFrame, TablesInside, walk_end, directory_entry, table_place, walked};
 
 use crate::entry::{PRESENT, TABLE_SPAN, is_allowed, is_set};
 use client_world::PageFault;

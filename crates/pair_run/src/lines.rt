@@ -1,5 +1,5 @@
 // The lines that a pair of clients writes.
-ghost use Rattle.std.specs.Prelude.{◌≡◌, ◌≤◌, ◌<◌, ◌+◌, ◌++◌, length};
+ghost use Rattle.std.specs.Prelude.{◌≡◌, ◌≤◌, length};
 ghost use Rattle.pair_run.specs.Slices.{letter_text, pair_head, slice_head};
 
 use dpmi_io::{Line, add, add_decimal};

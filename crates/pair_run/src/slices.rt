@@ -1,9 +1,8 @@
 // Two clients that take turns in slices.
-ghost use Rattle.std.specs.Prelude.{◌≡◌, ◌≤◌, ◌<◌, ◌+◌, ◌-◌, ◌++◌, ℕ, length, drop, is_some, None, IfOk, OnOk, OnErr, IsSome};
+ghost use Rattle.std.specs.Prelude.{◌≡◌, ◌≤◌, ◌<◌, ◌+◌, ℕ, length, drop, is_some, None, IfOk, OnOk, OnErr, IsSome};
 ghost use Rattle.client_world.specs.declared.limits.TheConstants.{MAX_SLICE, MAX_STEPS};
 ghost use Rattle.dpmi_io.specs.Causes.{Rose};
 ghost use Rattle.dpmi_io.specs.Content.{Gains, GainsPart};
-ghost use Rattle.client_world.specs.Console.{Extends};
 ghost use Rattle.pair_run.specs.Run.{IsFirst, run_of, turns_of};
 ghost use Rattle.pair_run.specs.Slices.{lines_text, own_run, pair_head, pair_lines, slice_head, slices_text, line_if_any};
 

@@ -1,5 +1,5 @@
 // Calls that a client asks for: INT 31h functions 0300h to 0302h.
-ghost use Rattle.std.specs.Prelude.{◌≡◌, ◌≢◌, ◌<◌, ◌≤◌, ◌+◌, true, false, None, length, MatchResult};
+ghost use Rattle.std.specs.Prelude.{◌≡◌, ◌≢◌, ◌<◌, ◌≤◌, true, false, None, MatchResult};
 ghost use Rattle.arrayvec.specs.ArrayVec.{array_vec_len};
 ghost use Rattle.client_world.specs.declared.limits.TheConstants.{GREATEST_DEPTH, MAX_CALL_WORDS};
 ghost use Rattle.client_world.specs.declared.memory_map.TheConstants.{SEGMENT_SIZE};
@@ -7,11 +7,7 @@ ghost use Rattle.client_world.specs.declared.registers.Mode.TheVariants.{Protect
 ghost use Rattle.client_world.specs.declared.services.Begun.TheVariants.{Refused as refused};
 ghost use Rattle.client_world.specs.Services.{cx, es_di};
 ghost use Rattle.client_world.specs.World.{depth};
-ghost use Rattle.guest_ram.specs.Bytes.{put};
-ghost use Rattle.guest_space.specs.Records.{record_place};
-ghost use Rattle.host_memory.specs.Records.{record_bytes};
 ghost use Rattle.service_rows.specs.Reasons.{Does};
-ghost use Rattle.translation.specs.RealStack.{with_words_at};
 ghost use Rattle.translation.specs.SimulatedCall.{
   are_readable_words,
   begin_call,
@@ -24,7 +20,6 @@ ghost use Rattle.translation.specs.SimulatedCall.{
   callee_start,
   callee_world,
   carry_of,
-  has_stack,
   is_reflection,
   return_frame,
 };

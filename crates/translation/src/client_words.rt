@@ -1,5 +1,5 @@
 // The words that a client passes to a call, at its stack pointer.
-ghost use Rattle.std.specs.Prelude.{◌≡◌, ◌+◌, ◌*◌, ◌≤◌, ◌++◌, true, false, length, MatchResult, is_ok};
+ghost use Rattle.std.specs.Prelude.{◌≡◌, ◌+◌, ◌*◌, ◌≤◌, ◌++◌, true, false, MatchResult, is_ok};
 ghost use Rattle.arrayvec.specs.ArrayVec.{array_vec_len};
 ghost use Rattle.insn_plan.specs.Stack.{stack_pointer_up};
 ghost use Rattle.translation.specs.SimulatedCall.{are_readable_words, client_word, client_words, word_read};

@@ -1,8 +1,6 @@
 // The stack of a real-mode procedure that the host calls.
-ghost use Rattle.std.specs.Prelude.{◌≡◌, ◌<◌, ◌≤◌, true, false, length, MatchResult, Ok, Err};
-ghost use Rattle.client_world.specs.declared.limits.TheConstants.{GREATEST_DEPTH};
+ghost use Rattle.std.specs.Prelude.{◌≡◌, ◌<◌, ◌≤◌, true, false, MatchResult};
 ghost use Rattle.client_world.specs.declared.memory_map.TheConstants.{SEGMENT_SIZE};
-ghost use Rattle.client_world.specs.World.{depth};
 ghost use Rattle.translation.specs.RealStack.{are_writable_words, host_real_stack, is_writable_word, next_word, with_word_at};
 ghost use Rattle.translation.specs.RealStack.{with_words_at, words_below};
 

@@ -1,5 +1,5 @@
 // The return from a simulated call and from a reflected interrupt.
-ghost use Rattle.std.specs.Prelude.{◌≡◌, ◌≢◌, ◌<◌, ◌-◌, ◌||◌, IsTrue, false, None, Ok, Err, MatchResult, take};
+ghost use Rattle.std.specs.Prelude.{◌≡◌, ◌<◌, ◌-◌, ◌||◌, IsTrue, Ok, Err, MatchResult, take};
 ghost use Rattle.client_world.specs.declared.registers.Mode.TheVariants.{Protected as protected};
 ghost use Rattle.client_world.specs.World.{depth};
 ghost use Rattle.guest_space.specs.Transfer.{HasOtherMemory};

@@ -1,5 +1,5 @@
 // The call structure.
-ghost use Rattle.std.specs.Prelude.{◌≡◌, ◌+◌, ◌≤◌, IsTrue, false, length};
+ghost use Rattle.std.specs.Prelude.{◌≡◌, ◌+◌, IsTrue, false};
 ghost use Rattle.client_world.specs.Access.{is_reachable};
 ghost use Rattle.guest_space.specs.Transfer.{HasOtherMemory};
 ghost use Rattle.translation.specs.declared.structure.TheConstants.{STRUCTURE_SIZE};

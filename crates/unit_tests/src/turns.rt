@@ -1,7 +1,6 @@
 // Two clients that follow scripts, in turns.
-ghost use Rattle.std.specs.Prelude.{◌≡◌, ◌≤◌, ◌<◌, ◌+◌, ◌-◌, [], None, length, drop};
+ghost use Rattle.std.specs.Prelude.{◌≡◌, ◌≤◌, ◌<◌, ◌+◌, [], None, length};
 ghost use Rattle.client_world.specs.declared.limits.TheConstants.{MAX_STEPS};
-ghost use Rattle.pair_run.specs.Run.{turns_of};
 ghost use Rattle.unit_tests.specs.Scripted.{scripted_close, scripted_counts, scripted_extends, scripted_stays, scripted_turn};
 ghost use Rattle.unit_tests.specs.Scripted.{scripted_world};
 

@@ -1,7 +1,6 @@
 // Vectors of real mode, of protected mode, and of exceptions.
-ghost use Rattle.std.specs.Prelude.{◌≡◌, ◌<◌, ◌+◌, true, MatchResult};
+ghost use Rattle.std.specs.Prelude.{◌≡◌, ◌<◌, ◌+◌};
 ghost use Rattle.client_world.specs.declared.memory_map.TheConstants.{ROM_START};
-ghost use Rattle.client_world.specs.Registers.{low_byte};
 ghost use Rattle.guest_ram.specs.Bytes.{with_word};
 ghost use Rattle.service_rows.specs.Reasons.{Does};
 ghost use Rattle.vector_services.specs.Rows.{bl, cx_dx, get_exception_vector, get_protected_vector, get_real_vector, set_exception_vector};

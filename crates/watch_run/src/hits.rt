@@ -4,7 +4,6 @@ ghost use Rattle.cpu_step.specs.Step.{client_row};
 ghost use Rattle.insn_forms.specs.Kinds.{IsWellFormed};
 ghost use Rattle.insn_plan.specs.Accesses.{with_next_eip, touches};
 ghost use Rattle.watch_run.specs.Hits.{
-  covers,
   hits,
   instruction_address,
   is_first_hit,

@@ -1,8 +1,6 @@
 // Turns of a host with its client's watchpoints, and runs.
 ghost use Rattle.std.specs.Prelude.{◌≡◌, ◌≤◌, ◌<◌, ◌+◌, IsTrue, None, Some};
 ghost use Rattle.client_world.specs.declared.limits.TheConstants.{MAX_STEPS};
-ghost use Rattle.client_world.specs.Registers.{low_half};
-ghost use Rattle.client_world.specs.WatchWorld.{WatchWorld};
 ghost use Rattle.host_run.specs.OtherTurns.{int31_call};
 ghost use Rattle.host_run.specs.View.{machine_view};
 ghost use Rattle.host_run.specs.Windows.{HasWindow};
