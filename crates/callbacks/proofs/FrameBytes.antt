@@ -14,14 +14,14 @@ use Rattle.guest_ram.specs.Bytes.{AreBytes}
 use Rattle.guest_space.specs.Pending.{number_bytes}
 use Rattle.translation.specs.declared.structure.TheConstants.{STRUCTURE_SIZE}
 use Rattle.translation.specs.Structure.{index_results, other_results}
-use Rattle.translation.proofs.SoundReturns.{HasBytes, dword_bytes, index_bytes, join, other_bytes, word_bytes}
+use Rattle.translation.proofs.SoundReturns.{HasBytes, dword_has_bytes, index_bytes, join, other_bytes, word_has_bytes}
 use Rattle.callbacks.specs.Callbacks.{caller_structure, callback_frame}
 use Rattle.callbacks.specs.Services.{callback_offset}
 
 item_bytes : (width : Option Width) (v : ℕ) → HasBytes (number_bytes (item_bits width) v)
-item_bytes None v = word_bytes v
-item_bytes (Some Sixteen) v = word_bytes v
-item_bytes (Some ThirtyTwo) v = dword_bytes v
+item_bytes None v = word_has_bytes v
+item_bytes (Some Sixteen) v = word_has_bytes v
+item_bytes (Some ThirtyTwo) v = dword_has_bytes v
 
 pub frame_bytes : (w : World) → AreBytes (callback_frame w)
 unfolding callback_frame
@@ -38,8 +38,8 @@ other_have w = record { each = other_bytes w.regs w.vif }
 pub caller_bytes : (w : World) (slot : ℕ) → AreBytes (caller_structure w slot)
 unfolding caller_structure
 caller_bytes w slot =
-    (join (join (join (join (join (join (index_have w.regs) (dword_bytes 0)) (other_have w)) (word_bytes (callback_offset slot)))
-    (word_bytes ROM_SEGMENT)) (word_bytes w.regs.esp)) (word_bytes w.regs.ss)).each
+    (join (join (join (join (join (join (index_have w.regs) (dword_has_bytes 0)) (other_have w)) (word_has_bytes (callback_offset slot)))
+    (word_has_bytes ROM_SEGMENT)) (word_has_bytes w.regs.esp)) (word_has_bytes w.regs.ss)).each
 
 pub caller_size : (w : World) (slot : ℕ) → length (caller_structure w slot) ≡ STRUCTURE_SIZE
 unfolding caller_structure index_results other_results

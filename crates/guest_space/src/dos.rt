@@ -30,6 +30,7 @@ use guest_ram::Ram;
 use host_memory::{header, listed_entry};
 
 /// Where the byte at an offset of a real-mode segment lies in the DOS megabyte; the offset wraps in its segment.
+/// Source: 80386 Programmer's Reference Manual, ch. 15; that it wraps is own.
 pub fn real_address(segment: u16, offset: u32) -> u32
     ensures at { result ≡ real_address segment offset }
     ensures within { result < DOS_SIZE }

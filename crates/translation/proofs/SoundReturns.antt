@@ -30,11 +30,11 @@ use Rattle.translation.proofs.ReadBytes.{no_bytes, one_byte}
 pub record HasBytes (xs : List ℕ) : Type 0 where
   pub each : AreBytes xs
 
-pub word_bytes : (v : ℕ) → HasBytes (number_bytes 16 v)
-word_bytes v = grind (arith, no_bytes, one_byte)
+pub word_has_bytes : (v : ℕ) → HasBytes (number_bytes 16 v)
+word_has_bytes v = grind (arith, no_bytes, one_byte)
 
-pub dword_bytes : (v : ℕ) → HasBytes (number_bytes 32 v)
-dword_bytes v = grind (arith, no_bytes, one_byte)
+pub dword_has_bytes : (v : ℕ) → HasBytes (number_bytes 32 v)
+dword_has_bytes v = grind (arith, no_bytes, one_byte)
 
 join_bytes : (xs ys : List ℕ) → AreBytes xs → AreBytes ys → AreBytes (xs ++ ys)
 join_bytes [] ys one other = other
@@ -45,13 +45,15 @@ join {xs} {ys} one other = record { each = join_bytes xs ys one.each other.each 
 
 pub index_bytes : (r : Regs) → AreBytes (index_results r)
 unfolding index_results
-index_bytes r = (join (join (dword_bytes r.edi) (dword_bytes r.esi)) (dword_bytes r.ebp)).each
+index_bytes r = (join (join (dword_has_bytes r.edi) (dword_has_bytes r.esi)) (dword_has_bytes r.ebp)).each
 
 pub other_bytes : (r : Regs) (vif : Bool) → AreBytes (other_results r vif)
 unfolding other_results
 other_bytes r vif =
-    (join (join (join (join (join (join (join (join (dword_bytes r.ebx) (dword_bytes r.edx)) (dword_bytes r.ecx)) (dword_bytes r.eax))
-    (word_bytes (flags_image r.flags vif))) (word_bytes r.es)) (word_bytes r.ds)) (word_bytes r.fs)) (word_bytes r.gs)).each
+    (join (join (join
+    (join (join (join (join (join (dword_has_bytes r.ebx) (dword_has_bytes r.edx)) (dword_has_bytes r.ecx)) (dword_has_bytes r.eax))
+    (word_has_bytes (flags_image r.flags vif))) (word_has_bytes r.es)) (word_has_bytes r.ds)) (word_has_bytes r.fs))
+    (word_has_bytes r.gs)).each
 
 sound_results : (w : World) (at : FarPtr) → IsSound w → IsSound (with_results w at)
 unfolding with_results
