@@ -4,7 +4,7 @@ ghost use Rattle.exec_core.specs.Dispatch.{is_core, core_row, IsCore};
 ghost use Rattle.insn_forms.specs.Kinds.{is_segment, is_width, has_good_number, operand_kind};
 ghost use Rattle.insn_plan.specs.Plan.{CarriesOut};
 
-use crate::arithmetic::{binary, compare, unary};
+use crate::arithmetic::{Arithmetic, Comparison, OneOperand};
 use crate::bits::{
     Reset, Set, Toggle, bit_change, bit_scan_forward, bit_scan_reverse, bit_test, setcc,
 };
@@ -13,7 +13,7 @@ use crate::decimal::{
     decimal_adjust_after_addition, decimal_adjust_after_subtraction,
 };
 use crate::flag_rows::{clc, cld, cmc, lahf, sahf, stc, std, wait};
-use crate::moves::{cbw, cwd, lea, mov, movsx, movzx, xchg, xlat};
+use crate::moves::{Mov, cbw, cwd, lea, movsx, movzx, xchg, xlat};
 use crate::operations::{
     Add, AddWithCarry, And, Complement, Decrement, ExclusiveOr, Increment, Negate, Or, Subtract,
     SubtractWithBorrow,
@@ -23,13 +23,13 @@ use crate::shift_operations::{
     RotateLeft, RotateLeftThroughCarry, RotateRight, RotateRightThroughCarry, ShiftArithmeticRight,
     ShiftLeft, ShiftRight,
 };
-use crate::shifts::{ShiftLeftDouble, ShiftRightDouble, shift, shift_in};
-use crate::stacks::{pop, popa, push, pusha};
-use crate::strings::{cmps, lods, movs, scas, stos};
+use crate::shifts::{ShiftLeftDouble, ShiftRightDouble, Shifting, shift_in};
+use crate::stacks::{Pop, Push, popa, pusha};
+use crate::strings::{Cmps, Lods, Movs, Scas, Stos};
 use client_world::Event;
 use guest_space::Machine;
 use insn_forms::{Insn, Op, Operand, Owner};
-use insn_plan::Raised;
+use insn_plan::{Raised, run_row};
 
 // Whether an operand isn't a segment register.
 fn is_no_segment(operand: &Operand) -> bool
@@ -65,20 +65,22 @@ pub fn carry_out_core(m: &mut Machine, insn: &Insn, len: u8) -> Option<Result<()
     ensures kept { IfNone result (m.new ≡ m.old) }
 {
     match insn.op {
-        Op::Mov if is_no_segment(&insn.first) && is_no_segment(&insn.second) => Some(mov(m, insn)),
-        Op::Add => Some(binary::<Add>(m, insn)),
-        Op::Or => Some(binary::<Or>(m, insn)),
-        Op::Adc => Some(binary::<AddWithCarry>(m, insn)),
-        Op::Sbb => Some(binary::<SubtractWithBorrow>(m, insn)),
-        Op::And => Some(binary::<And>(m, insn)),
-        Op::Sub => Some(binary::<Subtract>(m, insn)),
-        Op::Xor => Some(binary::<ExclusiveOr>(m, insn)),
-        Op::Cmp => Some(compare::<Subtract>(m, insn)),
-        Op::Test => Some(compare::<And>(m, insn)),
-        Op::Inc => Some(unary::<Increment>(m, insn)),
-        Op::Dec => Some(unary::<Decrement>(m, insn)),
-        Op::Not => Some(unary::<Complement>(m, insn)),
-        Op::Neg => Some(unary::<Negate>(m, insn)),
+        Op::Mov if is_no_segment(&insn.first) && is_no_segment(&insn.second) => Some(run_row(
+            Mov, m, insn,
+        )),
+        Op::Add => Some(run_row(Arithmetic(Add), m, insn)),
+        Op::Or => Some(run_row(Arithmetic(Or), m, insn)),
+        Op::Adc => Some(run_row(Arithmetic(AddWithCarry), m, insn)),
+        Op::Sbb => Some(run_row(Arithmetic(SubtractWithBorrow), m, insn)),
+        Op::And => Some(run_row(Arithmetic(And), m, insn)),
+        Op::Sub => Some(run_row(Arithmetic(Subtract), m, insn)),
+        Op::Xor => Some(run_row(Arithmetic(ExclusiveOr), m, insn)),
+        Op::Cmp => Some(run_row(Comparison(Subtract), m, insn)),
+        Op::Test => Some(run_row(Comparison(And), m, insn)),
+        Op::Inc => Some(run_row(OneOperand(Increment), m, insn)),
+        Op::Dec => Some(run_row(OneOperand(Decrement), m, insn)),
+        Op::Not => Some(run_row(OneOperand(Complement), m, insn)),
+        Op::Neg => Some(run_row(OneOperand(Negate), m, insn)),
         Op::Mul => Some(multiply::<Unsigned>(m, insn)),
         Op::Imul => Some(multiply_signed(m, insn)),
         Op::Div => Some(divide::<Unsigned>(m, insn)),
@@ -89,13 +91,13 @@ pub fn carry_out_core(m: &mut Machine, insn: &Insn, len: u8) -> Option<Result<()
         Op::Aas => Some(adjust_after_subtraction(m)),
         Op::Aam => Some(adjust_after_product(m, insn)),
         Op::Aad => Some(adjust_before_division(m, insn)),
-        Op::Rol => Some(shift::<RotateLeft>(m, insn)),
-        Op::Ror => Some(shift::<RotateRight>(m, insn)),
-        Op::Rcl => Some(shift::<RotateLeftThroughCarry>(m, insn)),
-        Op::Rcr => Some(shift::<RotateRightThroughCarry>(m, insn)),
-        Op::Shl => Some(shift::<ShiftLeft>(m, insn)),
-        Op::Shr => Some(shift::<ShiftRight>(m, insn)),
-        Op::Sar => Some(shift::<ShiftArithmeticRight>(m, insn)),
+        Op::Rol => Some(run_row(Shifting(RotateLeft), m, insn)),
+        Op::Ror => Some(run_row(Shifting(RotateRight), m, insn)),
+        Op::Rcl => Some(run_row(Shifting(RotateLeftThroughCarry), m, insn)),
+        Op::Rcr => Some(run_row(Shifting(RotateRightThroughCarry), m, insn)),
+        Op::Shl => Some(run_row(Shifting(ShiftLeft), m, insn)),
+        Op::Shr => Some(run_row(Shifting(ShiftRight), m, insn)),
+        Op::Sar => Some(run_row(Shifting(ShiftArithmeticRight), m, insn)),
         Op::Shld => Some(shift_in::<ShiftLeftDouble>(m, insn)),
         Op::Shrd => Some(shift_in::<ShiftRightDouble>(m, insn)),
         Op::Bt => Some(bit_test(m, insn)),
@@ -114,15 +116,15 @@ pub fn carry_out_core(m: &mut Machine, insn: &Insn, len: u8) -> Option<Result<()
         Op::Cwd => Some(cwd(m, insn)),
         Op::Lahf => Some(lahf(m)),
         Op::Sahf => Some(sahf(m)),
-        Op::Push if is_no_segment(&insn.first) => Some(push(m, insn)),
-        Op::Pop if is_no_segment(&insn.first) => Some(pop(m, insn)),
+        Op::Push if is_no_segment(&insn.first) => Some(run_row(Push, m, insn)),
+        Op::Pop if is_no_segment(&insn.first) => Some(run_row(Pop, m, insn)),
         Op::Pusha => Some(pusha(m, insn)),
         Op::Popa => Some(popa(m, insn)),
-        Op::Movs => Some(movs(m, insn, len)),
-        Op::Cmps => Some(cmps(m, insn, len)),
-        Op::Stos => Some(stos(m, insn, len)),
-        Op::Lods => Some(lods(m, insn, len)),
-        Op::Scas => Some(scas(m, insn, len)),
+        Op::Movs => Some(run_row(Movs { len }, m, insn)),
+        Op::Cmps => Some(run_row(Cmps { len }, m, insn)),
+        Op::Stos => Some(run_row(Stos { len }, m, insn)),
+        Op::Lods => Some(run_row(Lods { len }, m, insn)),
+        Op::Scas => Some(run_row(Scas { len }, m, insn)),
         Op::Clc => Some(clc(m)),
         Op::Stc => Some(stc(m)),
         Op::Cmc => Some(cmc(m)),

@@ -1,5 +1,5 @@
 // Moves.
-ghost use Rattle.std.specs.Prelude.{◌≡◌, ◌<◌, ◌^◌, IfNone, IfSome, IsTrue, Ok};
+ghost use Rattle.std.specs.Prelude.{◌≡◌, ◌<◌, ◌^◌, IsTrue};
 ghost use Rattle.cpu_values.specs.Word.{cut};
 ghost use Rattle.exec_core.specs.Moves.{
   mov,
@@ -16,14 +16,16 @@ ghost use Rattle.exec_core.specs.Moves.{
   operand_offset,
 };
 ghost use Rattle.insn_forms.specs.Kinds.{is_width};
-ghost use Rattle.insn_plan.specs.Plan.{CarriesOut, after_plan, plan_result};
+ghost use Rattle.insn_plan.specs.Looks.{CarriesOutBy};
+ghost use Rattle.insn_plan.specs.Plan.{CarriesOut};
 
+use crate::arithmetic::at_known_width;
 use client_world::general::{EAX, EDX};
 use guest_space::Machine;
 use insn_forms::{Insn, Operand};
 use insn_plan::{
-    Next, Raised, at_hand, cut_address, noted_place, offset_of, put_operand, put_register,
-    read_width, register, shown, source, write_there,
+    InsnRow, Look, Next, Raised, cut_address, offset_of, put_operand, put_register, read_width,
+    register, register_width, source,
 };
 
 /// A number cut to a width of 8, 16 or 32 bits.
@@ -40,56 +42,41 @@ pub(crate) fn cut(width: u8, v: u32) -> u32
     }
 }
 
-// MOV, where the tables may have to be asked.
-#[cold]
-#[inline(never)]
-#[tactic(auto, unfolding(crate::specs::Moves::mov, insn_plan::specs::Plan::after_plan))]
-fn mov_by_tables(m: &mut Machine, i: &Insn) -> Result<(), Raised>
-    ensures { CarriesOut m.old m.new result (mov m.old.world i.now) }
-{
-    let v = source(m, i.addr32, i.width, &i.second)?;
-    put_operand(m, i.addr32, i.width, &i.first, v)
-}
-
-// The same where a quick look shows that both operands may be accessed; `None` says nothing, and changes nothing.
+// The row of MOV at a width.
 #[inline(always)]
 #[tactic(auto, unfolding(crate::specs::Moves::mov, insn_plan::specs::Operands::put_operand, insn_plan::specs::Plan::after_plan, //
 insn_plan::specs::Plan::after_commit, guest_space::specs::Pending::first_write_fault, guest_space::specs::Pending::after_writes))]
-fn mov_quickly<const W: u8>(m: &mut Machine, i: &Insn) -> Option<()>
-    requires { i.now.width ≡ W }
-    ensures made { IfSome result (λ _. after_plan m.old (plan_result m.old.world (mov m.old.world i.now)) ≡ Ok m.new) }
-    ensures kept { IfNone result (m.new ≡ m.old) }
+fn mov_at<L: Look>(m: &mut Machine, i: &Insn, width: u8) -> Result<(), L::Missed>
+    requires { i.now.width ≡ width }
+    ensures { CarriesOutBy L.reported m.old m.new result (mov m.old.world i.now) }
 {
+    let v = L::source(m, i.addr32, width, &i.second)?;
     match &i.first {
-        Operand::Reg { width, number } if *width == W => {
-            let v = shown::<W>(m, i.addr32, &i.second)?;
-            put_register(m, W, *number, v);
-            Some(())
+        Operand::Reg { width: own, number } => {
+            let own = register_width::<L>(width, *own)?;
+            put_register(m, own, *number, v);
         }
-        Operand::Mem(place) => {
-            let v = at_hand::<W>(m, i.addr32, &i.second)?;
-            let (off, at) = noted_place::<W>(m, i.addr32, place)?;
-            write_there::<W>(m, place.seg, off, at, v);
-            Some(())
+        Operand::Mem(form) => {
+            let off = offset_of(m.registers(), i.addr32, form);
+            L::write(m, form.seg, off, width, v)?;
         }
-        _ => None,
+        _ => {}
     }
+    Ok(())
 }
 
 /// MOV. Source: 80386 Programmer's Reference Manual, ch. 17.
-#[inline(never)]
-pub(crate) fn mov(m: &mut Machine, i: &Insn) -> Result<(), Raised>
-    ensures { CarriesOut m.old m.new result (mov m.old.world i.now) }
-{
-    let made = match i.width {
-        8 => mov_quickly::<8>(m, i),
-        16 => mov_quickly::<16>(m, i),
-        32 => mov_quickly::<32>(m, i),
-        _ => None,
-    };
-    match made {
-        Some(()) => Ok(()),
-        None => mov_by_tables(m, i),
+#[derive(Clone, Copy)]
+pub(crate) struct Mov;
+
+impl InsnRow for Mov {
+    ghost use Rattle.exec_core.specs.Moves.{mov};
+
+    ghost plan = { λ row w i. mov w i };
+
+    #[inline(always)]
+    fn carry_out<L: Look>(self, m: &mut Machine, i: &Insn) -> Result<(), L::Missed> {
+        at_known_width!(mov_at, L, m, i)
     }
 }
 

@@ -23,9 +23,9 @@ pub(crate) trait BinaryAt<const W: u8>: BinaryFormula {
 }
 
 /// An operation of two numbers at each width.
-pub(crate) trait Binary: BinaryAt<8> + BinaryAt<16> + BinaryAt<32> {}
+pub(crate) trait Binary: BinaryAt<8> + BinaryAt<16> + BinaryAt<32> + Copy {}
 
-impl<O: BinaryAt<8> + BinaryAt<16> + BinaryAt<32>> Binary for O {}
+impl<O: BinaryAt<8> + BinaryAt<16> + BinaryAt<32> + Copy> Binary for O {}
 
 /// What an operation of one number computes.
 pub(crate) trait UnaryFormula {
@@ -41,11 +41,12 @@ pub(crate) trait UnaryAt<const W: u8>: UnaryFormula {
 }
 
 /// An operation of one number at each width.
-pub(crate) trait Unary: UnaryAt<8> + UnaryAt<16> + UnaryAt<32> {}
+pub(crate) trait Unary: UnaryAt<8> + UnaryAt<16> + UnaryAt<32> + Copy {}
 
-impl<O: UnaryAt<8> + UnaryAt<16> + UnaryAt<32>> Unary for O {}
+impl<O: UnaryAt<8> + UnaryAt<16> + UnaryAt<32> + Copy> Unary for O {}
 
 /// ADD.
+#[derive(Clone, Copy)]
 pub(crate) struct Add;
 
 impl BinaryFormula for Add {
@@ -63,6 +64,7 @@ impl<const W: u8> BinaryAt<W> for Add {
 }
 
 /// ADC.
+#[derive(Clone, Copy)]
 pub(crate) struct AddWithCarry;
 
 impl BinaryFormula for AddWithCarry {
@@ -80,6 +82,7 @@ impl<const W: u8> BinaryAt<W> for AddWithCarry {
 }
 
 /// SUB; the flags of CMP are its.
+#[derive(Clone, Copy)]
 pub(crate) struct Subtract;
 
 impl BinaryFormula for Subtract {
@@ -97,6 +100,7 @@ impl<const W: u8> BinaryAt<W> for Subtract {
 }
 
 /// SBB.
+#[derive(Clone, Copy)]
 pub(crate) struct SubtractWithBorrow;
 
 impl BinaryFormula for SubtractWithBorrow {
@@ -114,6 +118,7 @@ impl<const W: u8> BinaryAt<W> for SubtractWithBorrow {
 }
 
 /// AND; the flags of TEST are its.
+#[derive(Clone, Copy)]
 pub(crate) struct And;
 
 impl BinaryFormula for And {
@@ -131,6 +136,7 @@ impl<const W: u8> BinaryAt<W> for And {
 }
 
 /// OR.
+#[derive(Clone, Copy)]
 pub(crate) struct Or;
 
 impl BinaryFormula for Or {
@@ -148,6 +154,7 @@ impl<const W: u8> BinaryAt<W> for Or {
 }
 
 /// XOR.
+#[derive(Clone, Copy)]
 pub(crate) struct ExclusiveOr;
 
 impl BinaryFormula for ExclusiveOr {
@@ -165,6 +172,7 @@ impl<const W: u8> BinaryAt<W> for ExclusiveOr {
 }
 
 /// INC.
+#[derive(Clone, Copy)]
 pub(crate) struct Increment;
 
 impl UnaryFormula for Increment {
@@ -182,6 +190,7 @@ impl<const W: u8> UnaryAt<W> for Increment {
 }
 
 /// DEC.
+#[derive(Clone, Copy)]
 pub(crate) struct Decrement;
 
 impl UnaryFormula for Decrement {
@@ -199,6 +208,7 @@ impl<const W: u8> UnaryAt<W> for Decrement {
 }
 
 /// NEG.
+#[derive(Clone, Copy)]
 pub(crate) struct Negate;
 
 impl UnaryFormula for Negate {
@@ -216,6 +226,7 @@ impl<const W: u8> UnaryAt<W> for Negate {
 }
 
 /// NOT.
+#[derive(Clone, Copy)]
 pub(crate) struct Complement;
 
 impl UnaryFormula for Complement {

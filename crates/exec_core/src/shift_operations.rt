@@ -22,11 +22,12 @@ pub(crate) trait ShiftAt<const W: u8>: ShiftFormula {
 }
 
 /// A shift at each width.
-pub(crate) trait Shift: ShiftAt<8> + ShiftAt<16> + ShiftAt<32> {}
+pub(crate) trait Shift: ShiftAt<8> + ShiftAt<16> + ShiftAt<32> + Copy {}
 
-impl<O: ShiftAt<8> + ShiftAt<16> + ShiftAt<32>> Shift for O {}
+impl<O: ShiftAt<8> + ShiftAt<16> + ShiftAt<32> + Copy> Shift for O {}
 
 /// ROL.
+#[derive(Clone, Copy)]
 pub(crate) struct RotateLeft;
 
 impl ShiftFormula for RotateLeft {
@@ -44,6 +45,7 @@ impl<const W: u8> ShiftAt<W> for RotateLeft {
 }
 
 /// ROR.
+#[derive(Clone, Copy)]
 pub(crate) struct RotateRight;
 
 impl ShiftFormula for RotateRight {
@@ -61,6 +63,7 @@ impl<const W: u8> ShiftAt<W> for RotateRight {
 }
 
 /// RCL.
+#[derive(Clone, Copy)]
 pub(crate) struct RotateLeftThroughCarry;
 
 impl ShiftFormula for RotateLeftThroughCarry {
@@ -78,6 +81,7 @@ impl<const W: u8> ShiftAt<W> for RotateLeftThroughCarry {
 }
 
 /// RCR.
+#[derive(Clone, Copy)]
 pub(crate) struct RotateRightThroughCarry;
 
 impl ShiftFormula for RotateRightThroughCarry {
@@ -95,6 +99,7 @@ impl<const W: u8> ShiftAt<W> for RotateRightThroughCarry {
 }
 
 /// SHL.
+#[derive(Clone, Copy)]
 pub(crate) struct ShiftLeft;
 
 impl ShiftFormula for ShiftLeft {
@@ -112,6 +117,7 @@ impl<const W: u8> ShiftAt<W> for ShiftLeft {
 }
 
 /// SHR.
+#[derive(Clone, Copy)]
 pub(crate) struct ShiftRight;
 
 impl ShiftFormula for ShiftRight {
@@ -129,6 +135,7 @@ impl<const W: u8> ShiftAt<W> for ShiftRight {
 }
 
 /// SAR.
+#[derive(Clone, Copy)]
 pub(crate) struct ShiftArithmeticRight;
 
 impl ShiftFormula for ShiftArithmeticRight {

@@ -1,114 +1,59 @@
 // Shifts and rotates, and the double shifts.
-ghost use Rattle.std.specs.Prelude.{◌≡◌, IfNone, IfSome, IsTrue, Ok};
+ghost use Rattle.std.specs.Prelude.{◌≡◌, IsTrue};
 ghost use Rattle.cpu_alu.specs.DoubleShifts.{shld_of, shrd_of};
 ghost use Rattle.cpu_values.specs.Word.{IsWidth, cut};
 ghost use Rattle.exec_core.specs.Shifts.{DoubleFormula, shift, shift_in};
-ghost use Rattle.guest_space.specs.Registers.{with_registers};
 ghost use Rattle.insn_forms.specs.Kinds.{is_width};
-ghost use Rattle.insn_plan.specs.Act.{with_flags};
-ghost use Rattle.insn_plan.specs.Operands.{and_write};
-ghost use Rattle.insn_plan.specs.Plan.{CarriesOut, Follows, after_commit, after_plan, plan_result};
-ghost use Rattle.insn_plan.specs.Registers.{offset_of};
+ghost use Rattle.insn_plan.specs.Looks.{CarriesOutBy};
+ghost use Rattle.insn_plan.specs.Plan.{CarriesOut};
 
-use crate::arithmetic::at_width;
+use crate::arithmetic::{at_width, change_first};
 use crate::shift_operations::{Shift, ShiftAt};
 use client_world::Flags;
 use cpu_alu::{shld, shrd};
 use cpu_values::cut;
 use guest_space::Machine;
-use insn_forms::{Insn, MemForm, Operand};
+use insn_forms::{Insn, Operand};
 use insn_plan::{
-    Raised, at_hand, offset_of, put_register, put_with_flags, register, register_number, source,
-    write_number,
+    InsnRow, Look, Raised, put_register, put_with_flags, register, register_width, source,
+    source_after,
 };
 
-// Sets the flags of a shift, and gives its result.
+// The result and the flags of a shift.
 #[inline(always)]
-fn set_shift_flags<const W: u8, O: ShiftAt<W>>(m: &mut Machine, a: u32, n: u8) -> u32
+fn shifted<const W: u8, O: ShiftAt<W>>(m: &Machine, a: u32, n: u8) -> (u32, Flags)
     requires { IsWidth W }
-    ensures value { result ≡ (O.formula W (cut W a) n m.old.world.regs.flags).0 }
-    ensures flags { m.new ≡ with_registers (record m.old.world.regs {
-      flags = (O.formula W (cut W a) n m.old.world.regs.flags).1;
-    }) m.old }
-{
-    let (v, f) = O::apply(cut::<W>(u64::from(a)), n, m.registers().flags);
-    m.set_flags(f);
-    v.get()
-}
-
-// Writes the result of a shift to memory and sets the flags, or gives the fault of the write, which changes nothing.
-#[inline(never)]
-#[tactic(auto, unfolding(insn_plan::specs::Plan::after_commit))]
-fn write_shift<const W: u8, O: ShiftAt<W>>(
-    m: &mut Machine,
-    addr32: bool,
-    place: &MemForm,
-    a: u32,
-    n: u8,
-) -> Result<(), Raised>
-    requires { IsWidth W }
-    ensures { let value = O.formula W (cut W a) n m.old.world.regs.flags in
-        Follows m.old m.new result (after_commit m.old (and_write place.now.seg (offset_of m.old.world.regs addr32 place.now) W value.0
-        (with_flags value.1 m.old.world))) }
+    ensures { result ≡ O.formula W (cut W a) n m.now.world.regs.flags }
 {
     let (v, flags) = O::apply(cut::<W>(u64::from(a)), n, m.registers().flags);
-    let off = offset_of(m.registers(), addr32, place);
-    write_number(m, place.seg, off, W, v.get())?;
-    m.set_flags(flags);
-    Ok(())
+    (v.get(), flags)
 }
 
-// SHL, SHR, SAR, ROL, ROR, RCL, RCR, where the tables may have to be asked.
-#[cold]
-#[inline(never)]
-#[tactic(auto, unfolding(crate::specs::Shifts::shift, insn_plan::specs::Operands::put_operand, insn_plan::specs::Plan::after_plan, //
-insn_plan::specs::Plan::after_commit, guest_space::specs::Pending::first_write_fault, guest_space::specs::Pending::after_writes))]
-fn shift_by_tables<O: Shift>(m: &mut Machine, i: &Insn) -> Result<(), Raised>
-    requires { IsTrue (is_width i.now.width) }
-    ensures { CarriesOut m.old m.new result (shift O.formula m.old.world i.now) }
-{
-    let a = source(m, i.addr32, i.width, &i.first)?;
-    let n = (source(m, i.addr32, 8, &i.second)? % 0x100) as u8;
-    match &i.first {
-        Operand::Mem(place) => at_width!(i.width, write_shift, O, m, i.addr32, place, a, n),
-        first => {
-            let v = at_width!(i.width, set_shift_flags, O, m, a, n);
-            if let Operand::Reg { width, number } = first {
-                put_register(m, *width, *number, v);
-            }
-            Ok(())
-        }
-    }
-}
-
-// The same of a register of W bits; `None` says nothing, and changes nothing.
+// The row of a shift of W bits.
 #[inline(always)]
 #[tactic(auto, unfolding(crate::specs::Shifts::shift, insn_plan::specs::Operands::source, insn_plan::specs::Operands::put_operand, //
 insn_plan::specs::Act::value_of, insn_plan::specs::Plan::after_plan, insn_plan::specs::Plan::after_commit, //
 guest_space::specs::Pending::first_write_fault, guest_space::specs::Pending::after_writes))]
-fn shift_quickly<const W: u8, O: ShiftAt<W>>(m: &mut Machine, i: &Insn) -> Option<()>
+fn shift_at<const W: u8, L: Look, O: ShiftAt<W>>(m: &mut Machine, i: &Insn) -> Result<(), L::Missed>
     requires width { IsWidth W }
     requires same { i.now.width ≡ W }
-    ensures made { IfSome result (λ _. after_plan m.old (plan_result m.old.world (shift O.formula m.old.world i.now)) ≡ Ok m.new) }
-    ensures kept { IfNone result (m.new ≡ m.old) }
+    ensures { CarriesOutBy L.reported m.old m.new result (shift O.formula m.old.world i.now) }
 {
-    let number = register_number::<W>(&i.first)?;
-    let n = (at_hand::<8>(m, i.addr32, &i.second)? % 0x100) as u8;
-    let a = register(m.registers(), W, number);
-    let v = set_shift_flags::<W, O>(m, a, n);
-    put_register(m, W, number, v);
-    Some(())
+    change_first!(L, W, m, i, a, count: 8 => shifted::<W, O>(m, a, (count % 0x100) as u8))
 }
 
 /// SHL, SHR, SAR, ROL, ROR, RCL, RCR. Source: 80386 Programmer's Reference Manual, ch. 17.
-#[inline(never)]
-pub(crate) fn shift<O: Shift>(m: &mut Machine, i: &Insn) -> Result<(), Raised>
-    requires { IsTrue (is_width i.now.width) }
-    ensures { CarriesOut m.old m.new result (shift O.formula m.old.world i.now) }
-{
-    match at_width!(i.width, shift_quickly, O, m, i) {
-        Some(()) => Ok(()),
-        None => shift_by_tables::<O>(m, i),
+#[derive(Clone, Copy)]
+pub(crate) struct Shifting<O>(pub O);
+
+impl<O: Shift> InsnRow for Shifting<O> {
+    ghost use Rattle.exec_core.specs.Shifts.{shift};
+
+    ghost plan = { λ row w i. shift O.formula w i };
+
+    #[inline(always)]
+    fn carry_out<L: Look>(self, m: &mut Machine, i: &Insn) -> Result<(), L::Missed> {
+        at_width!(i.width, shift_at, L, O, m, i)
     }
 }
 

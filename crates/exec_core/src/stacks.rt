@@ -1,131 +1,88 @@
 // PUSH and POP of general registers and memory, PUSHA and POPA.
-ghost use Rattle.std.specs.Prelude.{◌≡◌, ◌≢◌, ◌<◌, ℕ, IfNone, IfSome, Ok, false, slice_index};
+ghost use Rattle.std.specs.Prelude.{◌≡◌, ◌≢◌, ◌<◌, ℕ, Ok, false, slice_index};
 ghost use Rattle.exec_core.specs.Stacks.{push, pop, pusha, popa};
-ghost use Rattle.insn_plan.specs.Act.{done, unchanged, value_of, with_regs};
-ghost use Rattle.insn_plan.specs.Operands.{put_operand};
-ghost use Rattle.insn_plan.specs.Plan.{CarriesOut, Follows, after_commit, after_plan, plan_result};
+ghost use Rattle.insn_plan.specs.Act.{done, value_of};
+ghost use Rattle.insn_plan.specs.Looks.{CarriesOutBy};
+ghost use Rattle.insn_plan.specs.Plan.{CarriesOut, after_plan, plan_result};
 ghost use Rattle.insn_plan.specs.Stack.{has_big_stack, pending_of_pushes, stack_item};
 ghost use Rattle.insn_forms.specs.declared.insn.Insn.{Insn};
-ghost use Rattle.insn_forms.specs.declared.insn.Operand.TheVariants.{Mem};
 
+use crate::arithmetic::at_known_width;
 use client_world::general::{EAX, EBP, EBX, ECX, EDI, EDX, ESI, ESP};
 use client_world::{Regs, SegReg};
 use guest_space::{Machine, Write, byte_count};
-use insn_forms::{Insn, MemForm, Operand};
+use insn_forms::{Insn, Operand};
 use insn_plan::{
-    Raised, eight_items, esp_up, has_big_stack, item_pushed, offset_of, popped_esp, push_item,
-    push_quickly, put_register, register, register_number, settle_pushes, settle_quickly, shown,
-    shown_top_item, source, stack_item, top_item, write_number,
+    InsnRow, Look, Raised, eight_items, esp_up, has_big_stack, item_pushed, look_at_top, offset_of,
+    popped_esp, push_number, put_register, register, register_width, settle_pushes, settle_quickly,
+    stack_item,
 };
 
-// PUSH, where the tables may have to be asked.
-#[cold]
-#[inline(never)]
-#[tactic(auto, unfolding(crate::specs::Stacks::push, insn_plan::specs::Plan::after_plan))]
-fn push_by_tables(m: &mut Machine, i: &Insn) -> Result<(), Raised>
-    ensures { CarriesOut m.old m.new result (push m.old.world i.now) }
-{
-    let v = source(m, i.addr32, i.width, &i.first)?;
-    push_item(m, i.width, v)
-}
-
-// The same at a width of W bits, where a quick look shows that it has no fault; `None` says nothing, and changes nothing.
+// The row of PUSH at a width.
 #[inline(always)]
 #[tactic(auto, unfolding(crate::specs::Stacks::push, insn_plan::specs::Plan::after_plan))]
-fn push_at_width<const W: u8>(m: &mut Machine, i: &Insn) -> Option<()>
-    requires { i.now.width ≡ W }
-    ensures made { IfSome result (λ _. after_plan m.old (plan_result m.old.world (push m.old.world i.now)) ≡ Ok m.new) }
-    ensures kept { IfNone result (m.new ≡ m.old) }
+fn push_at<L: Look>(m: &mut Machine, i: &Insn, width: u8) -> Result<(), L::Missed>
+    requires { i.now.width ≡ width }
+    ensures { CarriesOutBy L.reported m.old m.new result (push m.old.world i.now) }
 {
-    let v = shown::<W>(m, i.addr32, &i.first)?;
-    push_quickly(m, W, v)
+    let v = L::source(m, i.addr32, width, &i.first)?;
+    push_number::<L>(m, width, v)
 }
 
 /// PUSH. Source: 80386 Programmer's Reference Manual, ch. 17.
-#[inline(never)]
-pub(crate) fn push(m: &mut Machine, i: &Insn) -> Result<(), Raised>
-    ensures { CarriesOut m.old m.new result (push m.old.world i.now) }
-{
-    let made = match i.width {
-        16 => push_at_width::<16>(m, i),
-        32 => push_at_width::<32>(m, i),
-        _ => None,
-    };
-    match made {
-        Some(()) => Ok(()),
-        None => push_by_tables(m, i),
+#[derive(Clone, Copy)]
+pub(crate) struct Push;
+
+impl InsnRow for Push {
+    ghost use Rattle.exec_core.specs.Stacks.{push};
+
+    ghost plan = { λ row w i. push w i };
+
+    #[inline(always)]
+    fn carry_out<L: Look>(self, m: &mut Machine, i: &Insn) -> Result<(), L::Missed> {
+        at_known_width!(push_at, L, m, i)
     }
 }
 
-// Puts a number that was popped into memory, at the address that ESP gives after the pop.
-#[inline(never)]
-#[tactic(auto, unfolding(insn_plan::specs::Operands::put_operand, insn_plan::specs::Plan::after_commit, //
-client_world::specs::General::with_general))]
-fn pop_into_memory(m: &mut Machine, i: &Insn, f: &MemForm, esp: u32, v: u32) -> Result<(), Raised>
-    ensures { let r = record m.old.world.regs { esp = esp } in Follows m.old m.new result
-        (after_commit m.old (put_operand r i.now.addr32 i.now.width (Mem f.now) v (with_regs r (unchanged m.old.world)))) }
-{
-    let r = Regs { esp, ..m.regs() };
-    write_number(m, f.seg, offset_of(&r, i.addr32, f), i.width, v)?;
-    m.set_general(ESP, esp);
-    Ok(())
-}
-
-// POP, where the tables may have to be asked.
-#[cold]
-#[inline(never)]
-#[tactic(auto, unfolding(crate::specs::Stacks::pop, insn_plan::specs::Stack::regs_after_pops, insn_plan::specs::Operands::put_operand, //
-insn_plan::specs::Plan::after_plan, insn_plan::specs::Plan::after_commit, guest_space::specs::Pending::first_write_fault, //
-guest_space::specs::Pending::after_writes, client_world::specs::General::with_general))]
-fn pop_by_tables(m: &mut Machine, i: &Insn) -> Result<(), Raised>
-    ensures { CarriesOut m.old m.new result (pop m.old.world i.now) }
-{
-    let v = top_item(m, i.width)?;
-    let esp = popped_esp(m, i.width, 1);
-    match &i.first {
-        Operand::Reg { width, number } => {
-            m.set_general(ESP, esp);
-            put_register(m, *width, *number, v);
-            Ok(())
-        }
-        Operand::Mem(f) => pop_into_memory(m, i, f, esp, v),
-        Operand::Imm(_) | Operand::Seg(_) | Operand::Empty | Operand::Far(_) => {
-            m.set_general(ESP, esp);
-            Ok(())
-        }
-    }
-}
-
-// POP of W bits into a register, where a quick look shows the item; `None` says nothing, and changes nothing.
+// The row of POP at a width.
 #[inline(always)]
 #[tactic(auto, unfolding(crate::specs::Stacks::pop, insn_plan::specs::Stack::regs_after_pops, insn_plan::specs::Operands::put_operand, //
 insn_plan::specs::Plan::after_plan, insn_plan::specs::Plan::after_commit, guest_space::specs::Pending::first_write_fault, //
 guest_space::specs::Pending::after_writes, client_world::specs::General::with_general))]
-fn pop_quickly<const W: u8>(m: &mut Machine, i: &Insn) -> Option<()>
-    requires { i.now.width ≡ W }
-    ensures made { IfSome result (λ _. after_plan m.old (plan_result m.old.world (pop m.old.world i.now)) ≡ Ok m.new) }
-    ensures kept { IfNone result (m.new ≡ m.old) }
+fn pop_at<L: Look>(m: &mut Machine, i: &Insn, width: u8) -> Result<(), L::Missed>
+    requires { i.now.width ≡ width }
+    ensures { CarriesOutBy L.reported m.old m.new result (pop m.old.world i.now) }
 {
-    let number = register_number::<W>(&i.first)?;
-    let v = shown_top_item(m, W)?;
-    m.set_general(ESP, popped_esp(m, W, 1));
-    put_register(m, W, number, v);
-    Some(())
+    let v = look_at_top::<L>(m, width)?;
+    let esp = popped_esp(m, width, 1);
+    match &i.first {
+        Operand::Reg { width: own, number } => {
+            let own = register_width::<L>(width, *own)?;
+            m.set_general(ESP, esp);
+            put_register(m, own, *number, v);
+        }
+        Operand::Mem(form) => {
+            let r = Regs { esp, ..m.regs() };
+            L::write(m, form.seg, offset_of(&r, i.addr32, form), width, v)?;
+            m.set_general(ESP, esp);
+        }
+        _ => m.set_general(ESP, esp),
+    }
+    Ok(())
 }
 
 /// POP. Source: as above.
-#[inline(never)]
-pub(crate) fn pop(m: &mut Machine, i: &Insn) -> Result<(), Raised>
-    ensures { CarriesOut m.old m.new result (pop m.old.world i.now) }
-{
-    let made = match i.width {
-        16 => pop_quickly::<16>(m, i),
-        32 => pop_quickly::<32>(m, i),
-        _ => None,
-    };
-    match made {
-        Some(()) => Ok(()),
-        None => pop_by_tables(m, i),
+#[derive(Clone, Copy)]
+pub(crate) struct Pop;
+
+impl InsnRow for Pop {
+    ghost use Rattle.exec_core.specs.Stacks.{pop};
+
+    ghost plan = { λ row w i. pop w i };
+
+    #[inline(always)]
+    fn carry_out<L: Look>(self, m: &mut Machine, i: &Insn) -> Result<(), L::Missed> {
+        at_known_width!(pop_at, L, m, i)
     }
 }
 

@@ -1,5 +1,5 @@
 // Strings. One step is one element.
-ghost use Rattle.std.specs.Prelude.{◌≡◌, IfNone, IfSome, IsTrue, Ok};
+ghost use Rattle.std.specs.Prelude.{◌≡◌, IsTrue};
 ghost use Rattle.exec_core.specs.Strings.{
   is_repeated,
   is_over,
@@ -17,7 +17,7 @@ ghost use Rattle.exec_core.specs.Strings.{
 };
 ghost use Rattle.insn_forms.specs.Kinds.{is_width};
 ghost use Rattle.guest_space.specs.Registers.{with_registers};
-ghost use Rattle.insn_plan.specs.Plan.{CarriesOut, after_plan, plan_result};
+ghost use Rattle.insn_plan.specs.Looks.{CarriesOutBy};
 ghost use Rattle.insn_plan.specs.Registers.{cut_address};
 
 use crate::arithmetic::difference_flags;
@@ -25,21 +25,18 @@ use client_world::general::{EAX, ECX, EDI, ESI};
 use client_world::{Flags, SegReg};
 use guest_space::{Machine, byte_count};
 use insn_forms::{Insn, Rep};
-use insn_plan::{
-    Raised, cut_address, put_register, read_quickly, read_width, register, with_address,
-    write_number, write_quickly,
-};
+use insn_plan::{InsnRow, Look, cut_address, put_register, register, with_address};
 
 // A row at the element's width and the address size of its instruction, both of which the compiler then knows.
 macro_rules! at_size {
-    ($row:ident, $m:ident, $i:ident, $len:ident) => {
+    ($row:ident, $look:ident, $m:ident, $i:ident, $len:expr) => {
         match ($i.width, $i.addr32) {
-            (8, false) => $row($m, $i, $len, 8, false),
-            (8, true) => $row($m, $i, $len, 8, true),
-            (16, false) => $row($m, $i, $len, 16, false),
-            (16, true) => $row($m, $i, $len, 16, true),
-            (_, false) => $row($m, $i, $len, 32, false),
-            (_, true) => $row($m, $i, $len, 32, true),
+            (8, false) => $row::<$look>($m, $i, $len, 8, false),
+            (8, true) => $row::<$look>($m, $i, $len, 8, true),
+            (16, false) => $row::<$look>($m, $i, $len, 16, false),
+            (16, true) => $row::<$look>($m, $i, $len, 16, true),
+            (_, false) => $row::<$look>($m, $i, $len, 32, false),
+            (_, true) => $row::<$look>($m, $i, $len, 32, true),
         }
     };
 }
@@ -172,277 +169,231 @@ fn goes_on_while(rep: Rep, f: Flags) -> bool
     }
 }
 
-// MOVS, with the ways to read and write: those that look quickly, or those that ask the tables.
-macro_rules! movs_by {
-    ($read:ident, $write:ident, $done:ident, $m:ident, $i:ident, $len:ident, $width:expr, $addr32:expr) => {{
-            if is_over($m, $i, $addr32) {
-                return $done(());
-            }
-            let from = source_offset($m, $addr32);
-            let v = $read($m, $i.seg, from, $width)?;
-            let to = destination_offset($m, $addr32);
-            $write($m, SegReg::Es, to, $width, v)?;
-            move_both($m, $i, $width, $addr32);
-            count_element($m, $i, $addr32, $len, true);
-            $done(())
-    }};
-}
-
-// MOVS at a width and an address size, where a quick look shows that it has no fault; `None` says nothing, and changes nothing.
+// The row of MOVS at a width and an address size.
 #[inline(always)]
 #[tactic(auto, unfolding(crate::specs::Strings::movs, insn_plan::specs::Plan::after_plan, insn_plan::specs::Plan::after_commit, //
 guest_space::specs::Pending::first_write_fault, guest_space::specs::Pending::after_writes))]
-fn movs_quickly(m: &mut Machine, i: &Insn, len: u8, width: u8, addr32: bool) -> Option<()>
+fn movs_at<L: Look>(
+    m: &mut Machine,
+    i: &Insn,
+    len: u8,
+    width: u8,
+    addr32: bool,
+) -> Result<(), L::Missed>
     requires width { width ≡ i.now.width }
     requires size { addr32 ≡ i.now.addr32 }
-    ensures made { IfSome result (λ _. after_plan m.old (plan_result m.old.world (movs m.old.world i.now len)) ≡ Ok m.new) }
-    ensures kept { IfNone result (m.new ≡ m.old) }
+    ensures { CarriesOutBy L.reported m.old m.new result (movs m.old.world i.now len) }
 {
-    movs_by!(read_quickly, write_quickly, Some, m, i, len, width, addr32)
-}
-
-// MOVS, where the tables may have to be asked.
-#[cold]
-#[inline(never)]
-#[tactic(auto, unfolding(crate::specs::Strings::movs, insn_plan::specs::Plan::after_plan, insn_plan::specs::Plan::after_commit, //
-guest_space::specs::Pending::first_write_fault, guest_space::specs::Pending::after_writes))]
-fn movs_by_tables(m: &mut Machine, i: &Insn, len: u8) -> Result<(), Raised>
-    requires { IsTrue (is_width i.now.width) }
-    ensures { CarriesOut m.old m.new result (movs m.old.world i.now len) }
-{
-    movs_by!(read_width, write_number, Ok, m, i, len, i.width, i.addr32)
+    if is_over(m, i, addr32) {
+        return Ok(());
+    }
+    let from = source_offset(m, addr32);
+    let v = L::read(m, i.seg, from, width)?;
+    let to = destination_offset(m, addr32);
+    L::write(m, SegReg::Es, to, width, v)?;
+    move_both(m, i, width, addr32);
+    count_element(m, i, addr32, len, true);
+    Ok(())
 }
 
 /// MOVS: the element at ES:(E)DI becomes the one at (E)SI.
 /// Source: 80386 Programmer's Reference Manual, ch. 17, "MOVS/MOVSB/MOVSW/MOVSD"; that a repetition is a step is own.
-#[inline(never)]
-pub(crate) fn movs(m: &mut Machine, i: &Insn, len: u8) -> Result<(), Raised>
-    requires { IsTrue (is_width i.now.width) }
-    ensures { CarriesOut m.old m.new result (movs m.old.world i.now len) }
-{
-    match at_size!(movs_quickly, m, i, len) {
-        Some(()) => Ok(()),
-        None => movs_by_tables(m, i, len),
+#[derive(Clone, Copy)]
+pub(crate) struct Movs {
+    pub len: u8,
+}
+
+impl InsnRow for Movs {
+    ghost use Rattle.exec_core.specs.Strings.{movs};
+
+    ghost plan = { λ row w i. movs w i row.len };
+
+    #[inline(always)]
+    fn carry_out<L: Look>(self, m: &mut Machine, i: &Insn) -> Result<(), L::Missed> {
+        at_size!(movs_at, L, m, i, self.len)
     }
 }
 
-// CMPS, with the ways to read: those that look quickly, or those that ask the tables.
-macro_rules! cmps_by {
-    ($read:ident, $done:ident, $m:ident, $i:ident, $len:ident, $width:expr, $addr32:expr) => {{
-            if is_over($m, $i, $addr32) {
-                return $done(());
-            }
-            let first = source_offset($m, $addr32);
-            let a = $read($m, $i.seg, first, $width)?;
-            let second = destination_offset($m, $addr32);
-            let b = $read($m, SegReg::Es, second, $width)?;
-            let flags = difference_flags($width, a, b, $m.registers().flags);
-            move_both($m, $i, $width, $addr32);
-            count_element($m, $i, $addr32, $len, goes_on_while($i.rep, flags));
-            $m.set_flags(flags);
-            $done(())
-    }};
-}
-
-// CMPS at a width and an address size, where a quick look shows that it has no fault; `None` says nothing, and changes nothing.
+// The row of CMPS at a width and an address size.
 #[inline(always)]
 #[tactic(auto, unfolding(crate::specs::Strings::cmps, insn_plan::specs::Plan::after_plan, insn_plan::specs::Plan::after_commit, //
 guest_space::specs::Pending::first_write_fault, guest_space::specs::Pending::after_writes))]
-fn cmps_quickly(m: &mut Machine, i: &Insn, len: u8, width: u8, addr32: bool) -> Option<()>
+fn cmps_at<L: Look>(
+    m: &mut Machine,
+    i: &Insn,
+    len: u8,
+    width: u8,
+    addr32: bool,
+) -> Result<(), L::Missed>
     requires good { IsTrue (is_width i.now.width) }
     requires width { width ≡ i.now.width }
     requires size { addr32 ≡ i.now.addr32 }
-    ensures made { IfSome result (λ _. after_plan m.old (plan_result m.old.world (cmps m.old.world i.now len)) ≡ Ok m.new) }
-    ensures kept { IfNone result (m.new ≡ m.old) }
+    ensures { CarriesOutBy L.reported m.old m.new result (cmps m.old.world i.now len) }
 {
-    cmps_by!(read_quickly, Some, m, i, len, width, addr32)
-}
-
-// CMPS, where the tables may have to be asked.
-#[cold]
-#[inline(never)]
-#[tactic(auto, unfolding(crate::specs::Strings::cmps, insn_plan::specs::Plan::after_plan, insn_plan::specs::Plan::after_commit, //
-guest_space::specs::Pending::first_write_fault, guest_space::specs::Pending::after_writes))]
-fn cmps_by_tables(m: &mut Machine, i: &Insn, len: u8) -> Result<(), Raised>
-    requires { IsTrue (is_width i.now.width) }
-    ensures { CarriesOut m.old m.new result (cmps m.old.world i.now len) }
-{
-    cmps_by!(read_width, Ok, m, i, len, i.width, i.addr32)
+    if is_over(m, i, addr32) {
+        return Ok(());
+    }
+    let first = source_offset(m, addr32);
+    let a = L::read(m, i.seg, first, width)?;
+    let second = destination_offset(m, addr32);
+    let b = L::read(m, SegReg::Es, second, width)?;
+    move_both(m, i, width, addr32);
+    let flags = difference_flags(width, a, b, m.registers().flags);
+    m.set_flags(flags);
+    count_element(m, i, addr32, len, goes_on_while(i.rep, flags));
+    Ok(())
 }
 
 /// CMPS: the flags of the element at (E)SI less the one at ES:(E)DI.
 /// Source: 80386 Programmer's Reference Manual, ch. 17, "CMPS/CMPSB/CMPSW/CMPSD"; that a repetition is a step is own.
-#[inline(never)]
-pub(crate) fn cmps(m: &mut Machine, i: &Insn, len: u8) -> Result<(), Raised>
-    requires { IsTrue (is_width i.now.width) }
-    ensures { CarriesOut m.old m.new result (cmps m.old.world i.now len) }
-{
-    match at_size!(cmps_quickly, m, i, len) {
-        Some(()) => Ok(()),
-        None => cmps_by_tables(m, i, len),
+#[derive(Clone, Copy)]
+pub(crate) struct Cmps {
+    pub len: u8,
+}
+
+impl InsnRow for Cmps {
+    ghost use Rattle.exec_core.specs.Strings.{cmps};
+
+    ghost plan = { λ row w i. cmps w i row.len };
+
+    #[inline(always)]
+    fn carry_out<L: Look>(self, m: &mut Machine, i: &Insn) -> Result<(), L::Missed> {
+        at_size!(cmps_at, L, m, i, self.len)
     }
 }
 
-// STOS, with the ways to write: those that look quickly, or those that ask the tables.
-macro_rules! stos_by {
-    ($write:ident, $done:ident, $m:ident, $i:ident, $len:ident, $width:expr, $addr32:expr) => {{
-            if is_over($m, $i, $addr32) {
-                return $done(());
-            }
-            let accumulator = register($m.registers(), $width, EAX);
-            let to = destination_offset($m, $addr32);
-            $write($m, SegReg::Es, to, $width, accumulator)?;
-            move_destination($m, $i, $width, $addr32);
-            count_element($m, $i, $addr32, $len, true);
-            $done(())
-    }};
-}
-
-// STOS at a width and an address size, where a quick look shows that it has no fault; `None` says nothing, and changes nothing.
+// The row of STOS at a width and an address size.
 #[inline(always)]
 #[tactic(auto, unfolding(crate::specs::Strings::stos, insn_plan::specs::Plan::after_plan, insn_plan::specs::Plan::after_commit, //
 guest_space::specs::Pending::first_write_fault, guest_space::specs::Pending::after_writes))]
-fn stos_quickly(m: &mut Machine, i: &Insn, len: u8, width: u8, addr32: bool) -> Option<()>
+fn stos_at<L: Look>(
+    m: &mut Machine,
+    i: &Insn,
+    len: u8,
+    width: u8,
+    addr32: bool,
+) -> Result<(), L::Missed>
     requires width { width ≡ i.now.width }
     requires size { addr32 ≡ i.now.addr32 }
-    ensures made { IfSome result (λ _. after_plan m.old (plan_result m.old.world (stos m.old.world i.now len)) ≡ Ok m.new) }
-    ensures kept { IfNone result (m.new ≡ m.old) }
+    ensures { CarriesOutBy L.reported m.old m.new result (stos m.old.world i.now len) }
 {
-    stos_by!(write_quickly, Some, m, i, len, width, addr32)
-}
-
-// STOS, where the tables may have to be asked.
-#[cold]
-#[inline(never)]
-#[tactic(auto, unfolding(crate::specs::Strings::stos, insn_plan::specs::Plan::after_plan, insn_plan::specs::Plan::after_commit, //
-guest_space::specs::Pending::first_write_fault, guest_space::specs::Pending::after_writes))]
-fn stos_by_tables(m: &mut Machine, i: &Insn, len: u8) -> Result<(), Raised>
-    requires { IsTrue (is_width i.now.width) }
-    ensures { CarriesOut m.old m.new result (stos m.old.world i.now len) }
-{
-    stos_by!(write_number, Ok, m, i, len, i.width, i.addr32)
+    if is_over(m, i, addr32) {
+        return Ok(());
+    }
+    let accumulator = register(m.registers(), width, EAX);
+    let to = destination_offset(m, addr32);
+    L::write(m, SegReg::Es, to, width, accumulator)?;
+    move_destination(m, i, width, addr32);
+    count_element(m, i, addr32, len, true);
+    Ok(())
 }
 
 /// STOS: the element at ES:(E)DI becomes the accumulator.
 /// Source: 80386 Programmer's Reference Manual, ch. 17, "STOS/STOSB/STOSW/STOSD"; that a repetition is a step is own.
-#[inline(never)]
-pub(crate) fn stos(m: &mut Machine, i: &Insn, len: u8) -> Result<(), Raised>
-    requires { IsTrue (is_width i.now.width) }
-    ensures { CarriesOut m.old m.new result (stos m.old.world i.now len) }
-{
-    match at_size!(stos_quickly, m, i, len) {
-        Some(()) => Ok(()),
-        None => stos_by_tables(m, i, len),
+#[derive(Clone, Copy)]
+pub(crate) struct Stos {
+    pub len: u8,
+}
+
+impl InsnRow for Stos {
+    ghost use Rattle.exec_core.specs.Strings.{stos};
+
+    ghost plan = { λ row w i. stos w i row.len };
+
+    #[inline(always)]
+    fn carry_out<L: Look>(self, m: &mut Machine, i: &Insn) -> Result<(), L::Missed> {
+        at_size!(stos_at, L, m, i, self.len)
     }
 }
 
-// LODS, with the ways to read: those that look quickly, or those that ask the tables.
-macro_rules! lods_by {
-    ($read:ident, $done:ident, $m:ident, $i:ident, $len:ident, $width:expr, $addr32:expr) => {{
-            if is_over($m, $i, $addr32) {
-                return $done(());
-            }
-            let from = source_offset($m, $addr32);
-            let v = $read($m, $i.seg, from, $width)?;
-            put_register($m, $width, EAX, v);
-            move_source($m, $i, $width, $addr32);
-            count_element($m, $i, $addr32, $len, true);
-            $done(())
-    }};
-}
-
-// LODS at a width and an address size, where a quick look shows that it has no fault; `None` says nothing, and changes nothing.
+// The row of LODS at a width and an address size.
 #[inline(always)]
 #[tactic(auto, unfolding(crate::specs::Strings::lods, insn_plan::specs::Plan::after_plan, insn_plan::specs::Plan::after_commit, //
 guest_space::specs::Pending::first_write_fault, guest_space::specs::Pending::after_writes, client_world::specs::General::with_general, //
 insn_plan::specs::Registers::with_register))]
-fn lods_quickly(m: &mut Machine, i: &Insn, len: u8, width: u8, addr32: bool) -> Option<()>
+fn lods_at<L: Look>(
+    m: &mut Machine,
+    i: &Insn,
+    len: u8,
+    width: u8,
+    addr32: bool,
+) -> Result<(), L::Missed>
     requires width { width ≡ i.now.width }
     requires size { addr32 ≡ i.now.addr32 }
-    ensures made { IfSome result (λ _. after_plan m.old (plan_result m.old.world (lods m.old.world i.now len)) ≡ Ok m.new) }
-    ensures kept { IfNone result (m.new ≡ m.old) }
+    ensures { CarriesOutBy L.reported m.old m.new result (lods m.old.world i.now len) }
 {
-    lods_by!(read_quickly, Some, m, i, len, width, addr32)
-}
-
-// LODS, where the tables may have to be asked.
-#[cold]
-#[inline(never)]
-#[tactic(auto, unfolding(crate::specs::Strings::lods, insn_plan::specs::Plan::after_plan, insn_plan::specs::Plan::after_commit, //
-guest_space::specs::Pending::first_write_fault, guest_space::specs::Pending::after_writes, client_world::specs::General::with_general, //
-insn_plan::specs::Registers::with_register))]
-fn lods_by_tables(m: &mut Machine, i: &Insn, len: u8) -> Result<(), Raised>
-    requires { IsTrue (is_width i.now.width) }
-    ensures { CarriesOut m.old m.new result (lods m.old.world i.now len) }
-{
-    lods_by!(read_width, Ok, m, i, len, i.width, i.addr32)
+    if is_over(m, i, addr32) {
+        return Ok(());
+    }
+    let from = source_offset(m, addr32);
+    let v = L::read(m, i.seg, from, width)?;
+    put_register(m, width, EAX, v);
+    move_source(m, i, width, addr32);
+    count_element(m, i, addr32, len, true);
+    Ok(())
 }
 
 /// LODS: the accumulator becomes the element at (E)SI.
 /// Source: 80386 Programmer's Reference Manual, ch. 17, "LODS/LODSB/LODSW/LODSD"; that a repetition is a step is own.
-#[inline(never)]
-pub(crate) fn lods(m: &mut Machine, i: &Insn, len: u8) -> Result<(), Raised>
-    requires { IsTrue (is_width i.now.width) }
-    ensures { CarriesOut m.old m.new result (lods m.old.world i.now len) }
-{
-    match at_size!(lods_quickly, m, i, len) {
-        Some(()) => Ok(()),
-        None => lods_by_tables(m, i, len),
+#[derive(Clone, Copy)]
+pub(crate) struct Lods {
+    pub len: u8,
+}
+
+impl InsnRow for Lods {
+    ghost use Rattle.exec_core.specs.Strings.{lods};
+
+    ghost plan = { λ row w i. lods w i row.len };
+
+    #[inline(always)]
+    fn carry_out<L: Look>(self, m: &mut Machine, i: &Insn) -> Result<(), L::Missed> {
+        at_size!(lods_at, L, m, i, self.len)
     }
 }
 
-// SCAS, with the ways to read: those that look quickly, or those that ask the tables.
-macro_rules! scas_by {
-    ($read:ident, $done:ident, $m:ident, $i:ident, $len:ident, $width:expr, $addr32:expr) => {{
-            if is_over($m, $i, $addr32) {
-                return $done(());
-            }
-            let from = destination_offset($m, $addr32);
-            let b = $read($m, SegReg::Es, from, $width)?;
-            let a = register($m.registers(), $width, EAX);
-            let flags = difference_flags($width, a, b, $m.registers().flags);
-            move_destination($m, $i, $width, $addr32);
-            count_element($m, $i, $addr32, $len, goes_on_while($i.rep, flags));
-            $m.set_flags(flags);
-            $done(())
-    }};
-}
-
-// SCAS at a width and an address size, where a quick look shows that it has no fault; `None` says nothing, and changes nothing.
+// The row of SCAS at a width and an address size.
 #[inline(always)]
 #[tactic(auto, unfolding(crate::specs::Strings::scas, insn_plan::specs::Plan::after_plan, insn_plan::specs::Plan::after_commit, //
 guest_space::specs::Pending::first_write_fault, guest_space::specs::Pending::after_writes))]
-fn scas_quickly(m: &mut Machine, i: &Insn, len: u8, width: u8, addr32: bool) -> Option<()>
+fn scas_at<L: Look>(
+    m: &mut Machine,
+    i: &Insn,
+    len: u8,
+    width: u8,
+    addr32: bool,
+) -> Result<(), L::Missed>
     requires good { IsTrue (is_width i.now.width) }
     requires width { width ≡ i.now.width }
     requires size { addr32 ≡ i.now.addr32 }
-    ensures made { IfSome result (λ _. after_plan m.old (plan_result m.old.world (scas m.old.world i.now len)) ≡ Ok m.new) }
-    ensures kept { IfNone result (m.new ≡ m.old) }
+    ensures { CarriesOutBy L.reported m.old m.new result (scas m.old.world i.now len) }
 {
-    scas_by!(read_quickly, Some, m, i, len, width, addr32)
-}
-
-// SCAS, where the tables may have to be asked.
-#[cold]
-#[inline(never)]
-#[tactic(auto, unfolding(crate::specs::Strings::scas, insn_plan::specs::Plan::after_plan, insn_plan::specs::Plan::after_commit, //
-guest_space::specs::Pending::first_write_fault, guest_space::specs::Pending::after_writes))]
-fn scas_by_tables(m: &mut Machine, i: &Insn, len: u8) -> Result<(), Raised>
-    requires { IsTrue (is_width i.now.width) }
-    ensures { CarriesOut m.old m.new result (scas m.old.world i.now len) }
-{
-    scas_by!(read_width, Ok, m, i, len, i.width, i.addr32)
+    if is_over(m, i, addr32) {
+        return Ok(());
+    }
+    let from = destination_offset(m, addr32);
+    let b = L::read(m, SegReg::Es, from, width)?;
+    let a = register(m.registers(), width, EAX);
+    move_destination(m, i, width, addr32);
+    let flags = difference_flags(width, a, b, m.registers().flags);
+    m.set_flags(flags);
+    count_element(m, i, addr32, len, goes_on_while(i.rep, flags));
+    Ok(())
 }
 
 /// SCAS: the flags of the accumulator less the element at ES:(E)DI.
 /// Source: 80386 Programmer's Reference Manual, ch. 17, "SCAS/SCASB/SCASW/SCASD"; that a repetition is a step is own.
-#[inline(never)]
-pub(crate) fn scas(m: &mut Machine, i: &Insn, len: u8) -> Result<(), Raised>
-    requires { IsTrue (is_width i.now.width) }
-    ensures { CarriesOut m.old m.new result (scas m.old.world i.now len) }
-{
-    match at_size!(scas_quickly, m, i, len) {
-        Some(()) => Ok(()),
-        None => scas_by_tables(m, i, len),
+#[derive(Clone, Copy)]
+pub(crate) struct Scas {
+    pub len: u8,
+}
+
+impl InsnRow for Scas {
+    ghost use Rattle.exec_core.specs.Strings.{scas};
+
+    ghost plan = { λ row w i. scas w i row.len };
+
+    #[inline(always)]
+    fn carry_out<L: Look>(self, m: &mut Machine, i: &Insn) -> Result<(), L::Missed> {
+        at_size!(scas_at, L, m, i, self.len)
     }
 }

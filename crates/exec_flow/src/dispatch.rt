@@ -14,11 +14,11 @@ use crate::questions::{
 };
 use crate::raising::{escape, invalid_opcode, load_table, privileged};
 use crate::segments::{load_pointer, mov_segment, pop_segment, push_segment};
-use crate::transfers::{call, jcc, jcxz, jmp, loop_while, ret};
+use crate::transfers::{Call, Jcc, Jcxz, Jmp, Loop, Ret};
 use client_world::{Event, SegReg};
 use guest_space::Machine;
 use insn_forms::{Insn, Op};
-use insn_plan::Raised;
+use insn_plan::{Raised, run_row};
 
 /// Runs an instruction of this crate; EIP already points after it. An event leaves the machine as it was; a software interrupt is an event
 /// that names its number and the instruction's length.
@@ -45,19 +45,31 @@ pub fn carry_out_flow(m: &mut Machine, insn: &Insn, len: u8) -> Result<(), Raise
     ensures { CarriesOut m.old m.new result (flow_row insn.now.op m.old.world insn.now len) }
 {
     match insn.op {
-        Op::Jcc(n) => jcc(m, insn, n),
-        Op::Jmp => jmp(m, insn),
-        Op::Call => call(m, insn),
-        Op::Ret => ret(m, insn),
+        Op::Jcc(condition) => run_row(Jcc { condition }, m, insn),
+        Op::Jmp => run_row(Jmp, m, insn),
+        Op::Call => run_row(Call, m, insn),
+        Op::Ret => run_row(Ret, m, insn),
         Op::Push => push_segment(m, insn),
         Op::Pop => pop_segment(m, insn),
         Op::Mov => mov_segment(m, insn),
         Op::Les => load_pointer(m, insn, SegReg::Es),
         Op::Lds => load_pointer(m, insn, SegReg::Ds),
-        Op::Loop => loop_while(m, insn, true),
-        Op::Loope => loop_while(m, insn, m.registers().flags.zf),
-        Op::Loopne => loop_while(m, insn, !m.registers().flags.zf),
-        Op::Jcxz => jcxz(m, insn),
+        Op::Loop => run_row(Loop { holds: true }, m, insn),
+        Op::Loope => run_row(
+            Loop {
+                holds: m.registers().flags.zf,
+            },
+            m,
+            insn,
+        ),
+        Op::Loopne => run_row(
+            Loop {
+                holds: !m.registers().flags.zf,
+            },
+            m,
+            insn,
+        ),
+        Op::Jcxz => run_row(Jcxz, m, insn),
         Op::Pushf => pushf(m, insn),
         Op::Popf => popf(m, insn),
         Op::JmpFar => jump_far(m, insn),

@@ -9,13 +9,13 @@ ghost use Rattle.insn_plan.specs.Plan.{CarriesOut, plan_result};
 use crate::flag_images::set_popped_flags;
 use crate::pointers::{pointer, pointer_offset, pointer_selector};
 use crate::stack_tops::released_esp;
-use crate::transfers::{check_transfer, immediate};
+use crate::transfers::immediate;
 use client_world::general::ESP;
 use client_world::selectors::client_selector;
 use client_world::{Fault, Mode, Regs, SegReg, low_half};
 use guest_space::Machine;
 use insn_forms::Insn;
-use insn_plan::{Next, Raised, popped_esp, stack_item};
+use insn_plan::{Next, Raised, check_transfer, popped_esp, stack_item};
 
 /// What CS holds after a transfer to a selector: in protected mode with privilege level 3. Source: own.
 #[inline(always)]

@@ -24,13 +24,15 @@ use crate::pointers::{offset_range, pointer_offset, pointer_selector, pointer_si
 use crate::questions::{privilege_of, row_of};
 use crate::raising::exception;
 use crate::segments::check_load;
-use crate::transfers::{at_operand_size, check_transfer, immediate};
+use crate::transfers::{at_operand_size, immediate};
 use arrayvec::ArrayVec;
 use client_world::faults::{BOUNDS_CHECK, GENERAL_PROTECTION, INVALID_OPCODE};
 use client_world::{Fault, Mode, SegReg, Touch, low_half};
 use guest_space::{Machine, byte_count};
 use insn_forms::{Insn, Op, Operand};
-use insn_plan::{Accesses, MAX_ACCESSES, Raised, condition, cut_address, offset_of};
+use insn_plan::{
+    Accesses, MAX_ACCESSES, Raised, check_transfer, condition, cut_address, offset_of,
+};
 
 // Whether a transfer may go to an offset of a segment.
 fn check_code(a: &Accesses<'_>, sel: u16, off: u32, ret: bool) -> Result<(), Fault>

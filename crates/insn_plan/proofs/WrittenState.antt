@@ -1,5 +1,7 @@
 -- Writes leave the registers and the virtual interrupt flag.
-use Rattle.std.proofs.Common.{◌≡◌, ℕ, true, List, [], ◌∷◌, None, Some, refl, ap, ◌∙◌}
+use Rattle.std.proofs.Common.{◌≡◌, ℕ, true, List, [], ◌∷◌, Err, None, Some, refl, ap, ◌∙◌}
+use Rattle.std.specs.declared.result.Result.{Result}
+use Rattle.client_world.specs.declared.faults.Event.{Event}
 use Rattle.client_world.specs.declared.faults.Event.TheVariants.{Fault as fault}
 use Rattle.client_world.specs.declared.faults.Fault.{Fault}
 use Rattle.client_world.specs.declared.place.Place.{Place}
@@ -10,6 +12,7 @@ use Rattle.guest_space.specs.declared.pending.Write.{Write}
 use Rattle.guest_space.specs.Pending.{write_fault, after_write, first_write_fault, after_writes, byte_count, number_bytes}
 use Rattle.guest_space.specs.Transfer.{after_store, with_places, places_of_access}
 use Rattle.host_memory.specs.View.{MachineView}
+use Rattle.insn_plan.specs.Looks.{Reports}
 use Rattle.insn_plan.specs.Written.{IsRefused, IsWritten}
 
 -- the same registers and flag
@@ -59,3 +62,11 @@ made old new x allowed is =
 pub refused : (old new : MachineView) (x : Write) (f : Fault) → write_fault old.world x ≡ Some f → new ≡ old → IsRefused x old new (fault f)
 unfolding first_write_fault
 refused old new x f found kept = record { cause = f; found = rw (first_write_fault, found) refl; event = refl; kept = kept }
+
+pub first_refused : (w : World) (x : Write) (f : Fault) → write_fault w x ≡ Some f → first_write_fault w (x ∷ []) ≡ Some f
+unfolding first_write_fault
+first_refused w x f found = rw (first_write_fault, found) refl
+
+-- a fault that is reported is the event
+pub fault_reported : (f : Fault) (expected : Result MachineView Event) → Reports (Some f) expected → expected ≡ Err (fault f)
+fault_reported f expected reports = reports f refl

@@ -2,6 +2,7 @@ pub mod Accesses
 pub mod Act
 pub mod Conditions
 pub mod Counter
+pub mod Looks
 pub mod Operands
 pub mod Plan
 pub mod Raised

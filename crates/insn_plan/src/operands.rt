@@ -1,7 +1,7 @@
 // Operands, read and written at once.
-ghost use Rattle.std.specs.Prelude.{◌≡◌, ◌≢◌, ℕ, OnOk, IfErr, IfSome, IfNone, Ok};
-ghost use Rattle.guest_space.specs.Pending.{byte_count};
-ghost use Rattle.insn_forms.specs.declared.insn.Operand.TheVariants.{Reg};
+ghost use Rattle.std.specs.Prelude.{◌≡◌, ◌∷◌, [], Err, OnOk, IfErr, IfSome, IfNone, MatchResult, Ok, Some};
+ghost use Rattle.client_world.specs.declared.faults.Event.TheVariants.{Fault as fault};
+ghost use Rattle.guest_space.specs.Pending.{byte_count, first_write_fault};
 ghost use Rattle.guest_space.specs.Registers.{with_registers};
 ghost use Rattle.guest_space.specs.WriteRuns.{IsRun};
 ghost use Rattle.insn_plan.specs.Act.{From, unchanged, value_of, with_flags};
@@ -13,7 +13,7 @@ ghost use Rattle.insn_plan.specs.Written.{IsRefused, IsWritten};
 use crate::raised::Raised;
 use crate::read::{note_and_read, read_quickly};
 use crate::registers::{offset_of, register};
-use client_world::{Flags, Regs, SegReg};
+use client_world::{Fault, Flags, Regs, SegReg};
 use cpu_values::{put8, put16};
 use guest_space::{Machine, Write, byte_count};
 use insn_forms::{MemForm, Operand};
@@ -28,11 +28,17 @@ fn quick_source(m: &Machine, addr32: bool, width: u8, f: &MemForm) -> Option<u32
     read_quickly(m, f.seg, off, width)
 }
 
-// Reads an operand in memory by the tables.
+/// Reads an operand in memory by the tables.
 #[cold]
 #[inline(never)]
-fn memory_source(m: &mut Machine, addr32: bool, width: u8, f: &MemForm) -> Result<u32, Raised>
-    ensures value { result ≡ value_of m.old.world (From f.now.seg (offset_of m.old.world.regs addr32 f.now) (byte_count width)) }
+pub(crate) fn memory_source(
+    m: &mut Machine,
+    addr32: bool,
+    width: u8,
+    f: &MemForm,
+) -> Result<u32, Fault>
+    ensures value { let value = value_of m.old.world (From f.now.seg (offset_of m.old.world.regs addr32 f.now) (byte_count width)) in
+        MatchResult result (λ v. value ≡ Ok v) (λ f. value ≡ Err (fault f)) }
     ensures kept { m.new ≡ m.old }
 {
     let off = offset_of(m.registers(), addr32, f);
@@ -52,28 +58,15 @@ pub(crate) fn given(r: &Regs, operand: &Operand) -> u32
     }
 }
 
-/// The number of a register operand of W bits; `None` for any other operand.
-#[inline(always)]
-pub fn register_number<const W: u8>(operand: &Operand) -> Option<u8>
-    ensures some { IfSome result (λ n. operand.now ≡ Reg W n) }
-    ensures none { IfNone result ((n : ℕ) → operand.now ≢ Reg W n) }
-{
-    match operand {
-        Operand::Reg { width, number } if *width == W => Some(*number),
-        _ => None,
-    }
-}
-
-/// What an operand gives that is at hand, in a register of W bits or in the instruction; `None` says nothing. W is the width that the
-/// operand would be read with in memory.
+/// What an operand gives that is in a register of that width, or in the instruction; `None` says nothing.
 #[inline(always)]
 #[tactic(auto, unfolding(crate::specs::Operands::source, crate::specs::Act::value_of))]
-pub fn at_hand<const W: u8>(m: &Machine, addr32: bool, operand: &Operand) -> Option<u32>
-    ensures { IfSome result (λ v. value_of m.now.world (source m.now.world.regs addr32 W operand.now) ≡ Ok v) }
+pub(crate) fn at_hand(m: &Machine, addr32: bool, width: u8, operand: &Operand) -> Option<u32>
+    ensures { IfSome result (λ v. value_of m.now.world (source m.now.world.regs addr32 width operand.now) ≡ Ok v) }
 {
-    if let Operand::Reg { width, number } = operand {
-        if *width == W {
-            return Some(register(m.registers(), W, *number));
+    if let Operand::Reg { width: own, number } = operand {
+        if *own == width {
+            return Some(register(m.registers(), width, *number));
         }
     }
     if let Operand::Imm(v) = operand {
@@ -82,43 +75,42 @@ pub fn at_hand<const W: u8>(m: &Machine, addr32: bool, operand: &Operand) -> Opt
     None
 }
 
-/// What an operand gives that is at hand, or in memory where a quick look shows it; `None` says nothing. W is the width that it is read
-/// with in memory.
+/// The same, or in memory where a quick look shows it. It is read with that width in memory.
 #[inline(always)]
-#[tactic(auto, unfolding(crate::specs::Operands::source, crate::specs::Act::value_of))]
-pub fn shown<const W: u8>(m: &Machine, addr32: bool, operand: &Operand) -> Option<u32>
-    ensures { IfSome result (λ v. value_of m.now.world (source m.now.world.regs addr32 W operand.now) ≡ Ok v) }
+#[tactic(auto, unfolding(crate::specs::Operands::source))]
+pub(crate) fn shown(m: &Machine, addr32: bool, width: u8, operand: &Operand) -> Option<u32>
+    ensures { IfSome result (λ v. value_of m.now.world (source m.now.world.regs addr32 width operand.now) ≡ Ok v) }
 {
     if let Operand::Mem(f) = operand {
-        return quick_source(m, addr32, W, f);
+        return quick_source(m, addr32, width, f);
     }
-    at_hand::<W>(m, addr32, operand)
+    at_hand(m, addr32, width, operand)
 }
 
-/// The offset of an operand in memory of W bits, and its address in the memory, where a quick look shows that it may be read and written;
+/// The offset of a number in memory of a width, and its address in the memory, where a quick look shows that it may be read and written;
 /// `None` says nothing.
 #[inline(always)]
-pub fn noted_place<const W: u8>(m: &Machine, addr32: bool, f: &MemForm) -> Option<(u32, u32)>
+pub(crate) fn noted_place(m: &Machine, addr32: bool, width: u8, f: &MemForm) -> Option<(u32, u32)>
     ensures off { IfSome result (λ place. place.0 ≡ offset_of m.now.world.regs addr32 f.now) }
-    ensures run { IfSome result (λ place. IsRun m.now f.now.seg place.0 (byte_count W) place.1) }
+    ensures run { IfSome result (λ place. IsRun m.now f.now.seg place.0 (byte_count width) place.1) }
 {
     let off = offset_of(m.registers(), addr32, f);
-    let at = m.noted_run(f.seg, off, u32::from(byte_count(W)))?;
+    let at = m.noted_run(f.seg, off, u32::from(byte_count(width)))?;
     Some((off, at))
 }
 
-/// Writes a number of W bits at an offset of a segment register, whose address in the memory is known; the write has no fault. The
+/// Writes a number of a width at an offset of a segment register, whose address in the memory is known; the write has no fault. The
 /// registers and the virtual interrupt flag stay.
 #[inline(always)]
 #[tactic(auto, using(crate::proofs::WrittenState::made))]
-pub fn write_there<const W: u8>(m: &mut Machine, seg: SegReg, off: u32, at: u32, value: u32)
-    requires { IsRun m.old seg off (byte_count W) at }
-    ensures { IsWritten (record { seg = seg; off = off; width = W; value = value }) m.old m.new }
+pub(crate) fn write_there(m: &mut Machine, seg: SegReg, width: u8, off: u32, at: u32, value: u32)
+    requires { IsRun m.old seg off (byte_count width) at }
+    ensures { IsWritten (record { seg = seg; off = off; width = width; value = value }) m.old m.new }
 {
     m.write_run(
         &Write {
             seg,
-            width: W,
+            width,
             off,
             value,
         },
@@ -137,7 +129,7 @@ pub fn source(m: &mut Machine, addr32: bool, width: u8, operand: &Operand) -> Re
         Operand::Reg { width, number } => Ok(register(m.registers(), *width, *number)),
         Operand::Mem(f) => match quick_source(m, addr32, width, f) {
             Some(v) => Ok(v),
-            None => memory_source(m, addr32, width, f),
+            None => Ok(memory_source(m, addr32, width, f)?),
         },
         Operand::Imm(v) => Ok(*v),
         Operand::Seg(seg) => Ok(u32::from(m.registers().selector(*seg))),
@@ -164,19 +156,21 @@ pub fn put_register(m: &mut Machine, width: u8, n: u8, v: u32)
     }
 }
 
-// Writes a number by the tables, after its page was noted.
+/// Writes a number by the tables, after its page was noted.
 #[cold]
 #[inline(never)]
-#[tactic(auto, using(crate::proofs::WrittenState::made, crate::proofs::WrittenState::refused))]
-fn note_and_write(
+#[tactic(auto, using(crate::proofs::WrittenState::made, crate::proofs::WrittenState::first_refused))]
+pub(crate) fn note_and_write(
     m: &mut Machine,
     seg: SegReg,
     off: u32,
     width: u8,
     value: u32,
-) -> Result<(), Raised>
+) -> Result<(), Fault>
     ensures done { OnOk result (IsWritten (record { seg = seg; off = off; width = width; value = value }) m.old m.new) }
-    ensures refused { IfErr result (λ e. IsRefused (record { seg = seg; off = off; width = width; value = value }) m.old m.new e) }
+    ensures refused { IfErr result (λ f.
+        first_write_fault m.old.world (record { seg = seg; off = off; width = width; value = value } ∷ []) ≡ Some f) }
+    ensures kept { IfErr result (λ _. m.new ≡ m.old) }
 {
     m.warm(seg, off);
     m.write_one(&Write {
@@ -192,7 +186,13 @@ fn note_and_write(
 /// and changes nothing. The registers and the virtual interrupt flag stay.
 #[inline(always)]
 #[tactic(auto, using(crate::proofs::WrittenState::made))]
-pub fn write_quickly(m: &mut Machine, seg: SegReg, off: u32, width: u8, value: u32) -> Option<()>
+pub(crate) fn write_quickly(
+    m: &mut Machine,
+    seg: SegReg,
+    off: u32,
+    width: u8,
+    value: u32,
+) -> Option<()>
     ensures made { IfSome result (λ _. IsWritten (record { seg = seg; off = off; width = width; value = value }) m.old m.new) }
     ensures kept { IfNone result (m.new ≡ m.old) }
 {
@@ -212,7 +212,7 @@ pub fn write_quickly(m: &mut Machine, seg: SegReg, off: u32, width: u8, value: u
 /// the virtual interrupt flag stay. Where a quick look doesn't show that the write has no fault, its page is noted.
 #[inline(always)]
 #[tactic(auto, using(crate::proofs::WrittenState::made, crate::proofs::WrittenState::refused))]
-pub fn write_number(
+pub(crate) fn write_number(
     m: &mut Machine,
     seg: SegReg,
     off: u32,
@@ -224,7 +224,7 @@ pub fn write_number(
 {
     match write_quickly(m, seg, off, width, value) {
         Some(()) => Ok(()),
-        None => note_and_write(m, seg, off, width, value),
+        None => Ok(note_and_write(m, seg, off, width, value)?),
     }
 }
 

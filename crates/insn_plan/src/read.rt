@@ -1,12 +1,13 @@
 // Numbers read from memory.
-ghost use Rattle.std.specs.Prelude.{◌≡◌, IfSome, Ok};
+ghost use Rattle.std.specs.Prelude.{◌≡◌, Err, IfSome, MatchResult, Ok};
+ghost use Rattle.client_world.specs.declared.faults.Event.TheVariants.{Fault as fault};
 ghost use Rattle.guest_space.specs.Pending.{IsCountOfWidth, byte_count};
 ghost use Rattle.guest_space.specs.WriteRuns.{IsRun};
 ghost use Rattle.insn_forms.specs.Grammar.{little_endian};
 ghost use Rattle.insn_plan.specs.Act.{From, IsCount, value_of};
 
 use crate::raised::Raised;
-use client_world::SegReg;
+use client_world::{Fault, SegReg};
 use guest_space::{Machine, byte_count};
 
 // The number of one byte.
@@ -53,12 +54,13 @@ fn quadword(bytes: [u8; 8]) -> u64
     u64::from_le_bytes(bytes)
 }
 
-/// The number of 1, 2 or 4 bytes at an offset of a segment register, or the fault of the access; the machine is only looked at.
+// The number of 1, 2 or 4 bytes at an offset of a segment register, or the fault of the access.
 #[inline(always)]
 #[tactic(auto, unfolding(crate::specs::Act::value_of))]
-pub fn number_at(m: &Machine, seg: SegReg, off: u32, count: u8) -> Result<u32, Raised>
+fn number_or_fault(m: &Machine, seg: SegReg, off: u32, count: u8) -> Result<u32, Fault>
     requires { IsCountOfWidth count }
-    ensures { result ≡ value_of m.now.world (From seg off count) }
+    ensures { MatchResult result (λ v. value_of m.now.world (From seg off count) ≡ Ok v)
+        (λ f. value_of m.now.world (From seg off count) ≡ Err (fault f)) }
 {
     match count {
         1 => Ok(byte(m.read::<1>(seg, off)?)),
@@ -67,10 +69,19 @@ pub fn number_at(m: &Machine, seg: SegReg, off: u32, count: u8) -> Result<u32, R
     }
 }
 
+/// The number of 1, 2 or 4 bytes at an offset of a segment register, or the fault of the access; the machine is only looked at.
+#[inline(always)]
+pub fn number_at(m: &Machine, seg: SegReg, off: u32, count: u8) -> Result<u32, Raised>
+    requires { IsCountOfWidth count }
+    ensures { result ≡ value_of m.now.world (From seg off count) }
+{
+    Ok(number_or_fault(m, seg, off, count)?)
+}
+
 /// The number of a width at an offset of a segment register, where a quick look shows it; `None` says nothing.
 #[inline(always)]
 #[tactic(auto, unfolding(crate::specs::Act::value_of))]
-pub fn read_quickly(m: &Machine, seg: SegReg, off: u32, width: u8) -> Option<u32>
+pub(crate) fn read_quickly(m: &Machine, seg: SegReg, off: u32, width: u8) -> Option<u32>
     ensures { IfSome result (λ v. value_of m.now.world (From seg off (byte_count width)) ≡ Ok v) }
 {
     match width {
@@ -80,34 +91,30 @@ pub fn read_quickly(m: &Machine, seg: SegReg, off: u32, width: u8) -> Option<u32
     }
 }
 
-/// The number of W bits at an offset of a segment register, whose address in the memory is known.
+/// The number of a width at an offset of a segment register, whose address in the memory is known.
 #[inline(always)]
 #[tactic(auto, unfolding(crate::specs::Act::value_of))]
-pub fn number_there<const W: u8>(m: &Machine, seg: SegReg, off: u32, at: u32) -> u32
-    requires { IsRun m.now seg off (byte_count W) at }
-    ensures { value_of m.now.world (From seg off (byte_count W)) ≡ Ok result }
+pub(crate) fn number_there(m: &Machine, seg: SegReg, width: u8, off: u32, at: u32) -> u32
+    requires { IsRun m.now seg off (byte_count width) at }
+    ensures { value_of m.now.world (From seg off (byte_count width)) ≡ Ok result }
 {
-    match W {
+    match width {
         8 => byte(m.read_run(seg, off, at)),
         16 => word(m.read_run(seg, off, at)),
         _ => doubleword(m.read_run(seg, off, at)),
     }
 }
 
-// The number, by the tables, after its page was noted.
+/// The number, by the tables, after its page was noted.
 #[cold]
 #[inline(never)]
-pub(crate) fn note_and_read(
-    m: &mut Machine,
-    seg: SegReg,
-    off: u32,
-    width: u8,
-) -> Result<u32, Raised>
-    ensures value { result ≡ value_of m.old.world (From seg off (byte_count width)) }
+pub(crate) fn note_and_read(m: &mut Machine, seg: SegReg, off: u32, width: u8) -> Result<u32, Fault>
+    ensures value { MatchResult result (λ v. value_of m.old.world (From seg off (byte_count width)) ≡ Ok v)
+        (λ f. value_of m.old.world (From seg off (byte_count width)) ≡ Err (fault f)) }
     ensures kept { m.new ≡ m.old }
 {
     m.warm(seg, off);
-    number_at(m, seg, off, byte_count(width))
+    number_or_fault(m, seg, off, byte_count(width))
 }
 
 /// Reads a number of a width at an offset of a segment register, or gives the fault of the access. Where a quick look doesn't show it, the
@@ -119,7 +126,7 @@ pub fn read_width(m: &mut Machine, seg: SegReg, off: u32, width: u8) -> Result<u
 {
     match read_quickly(m, seg, off, width) {
         Some(v) => Ok(v),
-        None => note_and_read(m, seg, off, width),
+        None => Ok(note_and_read(m, seg, off, width)?),
     }
 }
 

@@ -1,7 +1,8 @@
 // The stack.
-ghost use Rattle.std.specs.Prelude.{◌≡◌, ◌+◌, ◌-◌, ◌<◌, ◌^◌, ◌⊎◌, IfNone, IfSome, IsFalse, IsTrue, Ok, length, slice_index, ℕ};
+ghost use Rattle.std.specs.Prelude.{◌≡◌, ◌+◌, ◌-◌, ◌<◌, ◌^◌, ◌⊎◌, IfSome, IsFalse, IsTrue, Ok, length, slice_index, ℕ};
 ghost use Rattle.client_world.specs.World.{World};
 ghost use Rattle.insn_plan.specs.Act.{Pending, unchanged, value_of};
+ghost use Rattle.insn_plan.specs.Looks.{FollowsBy, Shows};
 ghost use Rattle.insn_plan.specs.Plan.{Follows, after_commit};
 ghost use Rattle.insn_plan.specs.Registers.{cut_address};
 ghost use Rattle.insn_plan.specs.Stack.{
@@ -16,10 +17,10 @@ ghost use Rattle.insn_plan.specs.Stack.{
 };
 ghost use Rattle.insn_plan.specs.declared.next.TheConstants.{MAX_WRITES};
 
+use crate::looks::{Look, Quick, Tables};
 use crate::next::Next;
-use crate::operands::{write_number, write_quickly};
 use crate::raised::Raised;
-use crate::read::{doubleword, number_at, read_quickly, read_width, word};
+use crate::read::{doubleword, number_at, read_width, word};
 use crate::registers::{cut_address, with_address};
 use client_world::general::ESP;
 use client_world::{Regs, SegReg};
@@ -89,13 +90,15 @@ pub fn stack_item(m: &Machine, width: u8, place: u8) -> Result<u32, Raised>
     number_at(m, SegReg::Ss, off, count)
 }
 
-/// The item of a width at the top of the stack, where a quick look shows it; `None` says nothing.
+/// Reads the item of a width at the top of the stack, by a look.
 #[inline(always)]
 #[tactic(auto, using(crate::proofs::TopItem::top_item))]
-pub fn shown_top_item(m: &Machine, width: u8) -> Option<u32>
-    ensures { IfSome result (λ v. value_of m.now.world (stack_item m.now.world width 0) ≡ Ok v) }
+pub fn look_at_top<L: Look>(m: &mut Machine, width: u8) -> Result<u32, L::Missed>
+    ensures value { Shows L.reported result (value_of m.old.world (stack_item m.old.world width 0)) }
+    ensures kept { m.new ≡ m.old }
 {
-    read_quickly(m, SegReg::Ss, stack_pointer(m, m.registers()), width)
+    let sp = stack_pointer(m, m.registers());
+    L::read(m, SegReg::Ss, sp, width)
 }
 
 /// Reads that item, or gives the fault of the access. Where a quick look doesn't show it, its page is noted.
@@ -109,49 +112,42 @@ pub fn top_item(m: &mut Machine, width: u8) -> Result<u32, Raised>
     read_width(m, SegReg::Ss, sp, width)
 }
 
-// A push, with the way to write: one that looks quickly, or one that asks the tables.
-macro_rules! push_by {
-    ($write:ident, $done:ident, $m:ident, $width:ident, $v:ident) => {{
-        let big = has_big_stack($m);
-        let esp = $m.registers().esp;
-        let sp = pointer_down(big, byte_count($width), esp);
-        $write($m, SegReg::Ss, sp, $width, $v)?;
-        $m.set_general(ESP, with_address(big, esp, sp));
-        $done(())
-    }};
-}
-
-/// Pushes a number of a width where a quick look shows that the write has no fault; `None` says nothing, and changes nothing.
+/// Pushes a number of a width, with a way to look; where the look misses, nothing is changed.
+/// Source: 80386 Programmer's Reference Manual, ch. 17, PUSH.
 #[inline(always)]
 #[tactic(auto, unfolding(crate::specs::Stack::with_pushed_number, crate::specs::Plan::after_commit, //
 client_world::specs::General::with_general))]
-pub fn push_quickly(m: &mut Machine, width: u8, v: u32) -> Option<()>
-    ensures made { IfSome result (λ _. after_commit m.old (with_pushed_number m.old.world width v (unchanged m.old.world)) ≡ Ok m.new) }
-    ensures kept { IfNone result (m.new ≡ m.old) }
+pub fn push_number<L: Look>(m: &mut Machine, width: u8, v: u32) -> Result<(), L::Missed>
+    ensures { FollowsBy L.reported m.old m.new result
+        (after_commit m.old (with_pushed_number m.old.world width v (unchanged m.old.world))) }
 {
-    push_by!(write_quickly, Some, m, width, v)
+    let big = has_big_stack(m);
+    let esp = m.registers().esp;
+    let sp = pointer_down(big, byte_count(width), esp);
+    L::write(m, SegReg::Ss, sp, width, v)?;
+    m.set_general(ESP, with_address(big, esp, sp));
+    Ok(())
 }
 
-// The same, where the tables have to be asked.
+// The same by the tables.
 #[cold]
 #[inline(never)]
-#[tactic(auto, unfolding(crate::specs::Stack::with_pushed_number, crate::specs::Plan::after_commit, //
-client_world::specs::General::with_general))]
+#[tactic(auto, using(crate::proofs::WrittenState::fault_reported))]
 fn push_by_tables(m: &mut Machine, width: u8, v: u32) -> Result<(), Raised>
     ensures { Follows m.old m.new result (after_commit m.old (with_pushed_number m.old.world width v (unchanged m.old.world))) }
 {
-    push_by!(write_number, Ok, m, width, v)
+    push_number::<Tables>(m, width, v)?;
+    Ok(())
 }
 
-/// Pushes a number of a width, or gives the fault of the write, which changes nothing.
-/// Source: 80386 Programmer's Reference Manual, ch. 17, PUSH.
+/// Pushes a number of a width, or gives the fault of the write, which changes nothing. Source: as above.
 #[inline(always)]
 pub fn push_item(m: &mut Machine, width: u8, v: u32) -> Result<(), Raised>
     ensures { Follows m.old m.new result (after_commit m.old (with_pushed_number m.old.world width v (unchanged m.old.world))) }
 {
-    match push_quickly(m, width, v) {
-        Some(()) => Ok(()),
-        None => push_by_tables(m, width, v),
+    match push_number::<Quick>(m, width, v) {
+        Ok(()) => Ok(()),
+        Err(_) => push_by_tables(m, width, v),
     }
 }
 

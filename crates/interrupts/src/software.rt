@@ -16,9 +16,9 @@ ghost use Rattle.interrupts.specs.Worlds.{world_interrupt};
 
 use client_world::{Event, FarPtr, Fault, Mode, SegReg};
 use cpu_step::move_behind;
-use exec_flow::{check_transfer, code_selector, push_interrupt_frame};
+use exec_flow::{code_selector, push_interrupt_frame};
 use guest_space::Machine;
-use insn_plan::Next;
+use insn_plan::{Next, check_transfer};
 
 // The vector of the mode.
 fn vector(m: &Machine, n: u8) -> FarPtr

@@ -1,6 +1,6 @@
 use Rattle.std.proofs.Common.{rules}
 use Rattle.insn_plan.specs.Act.{value_of}
-use Rattle.insn_plan.proofs.read.number_at.Goals as goal
+use Rattle.insn_plan.proofs.read.number_or_fault.Goals as goal
 
 pub returns-in_ok-read-in-1 : goal.returns-in_ok-read-in-1
 unfolding value_of
