@@ -1,14 +1,13 @@
 // The client's next instruction.
 ghost use Rattle.std.specs.Prelude.{◌≡◌, ◌+◌, ◌<◌, OnOk};
-ghost use Rattle.client_world.specs.CodeWords.{code_bytes};
 ghost use Rattle.guest_space.specs.Windows.{IsWindow};
 ghost use Rattle.insn_forms.specs.Kinds.{IsWellFormed};
 ghost use Rattle.insn_plan.specs.Plan.{CarriesOut, Follows};
-ghost use Rattle.cpu_step.specs.Step.{view_with_next_eip, client_row, client_step, code, after_instruction, has_big_code, incomplete_fault};
+ghost use Rattle.cpu_step.specs.Step.{view_with_next_eip, client_row, client_step, after_instruction, has_big_code, incomplete_fault};
 
 use arrayvec::ArrayVec;
 use client_world::faults::{GENERAL_PROTECTION, INVALID_OPCODE};
-use client_world::{CodeWords, Event, Fault, SegReg};
+use client_world::{Event, Fault, SegReg};
 use exec_core::carry_out_core;
 use exec_flow::carry_out_flow;
 use guest_space::{CodeWindow, Machine};
@@ -56,11 +55,13 @@ fn execute(m: &mut Machine, insn: &Insn, len: u8) -> Result<(), Raised>
 {
     let start = m.registers().eip;
     move_behind(m, len);
-    let result = run(m, insn, len);
-    if result.is_err() {
-        m.set_eip(start);
+    match run(m, insn, len) {
+        Ok(()) => Ok(()),
+        Err(raised) => {
+            m.set_eip(start);
+            Err(raised)
+        }
     }
-    result
 }
 
 // The fault where the code bytes are only the first ones of an instruction.
@@ -111,47 +112,31 @@ pub fn step(m: &mut Machine) -> Result<(), Event>
     }
 }
 
-// Makes the instruction of these code bytes, which the memo learns where it doesn't know it.
+// Where the memo looks for the instruction at that start of a window: the address of the code in the memory.
+#[inline(always)]
+fn key_of(window: &CodeWindow, from: u32) -> u32 {
+    window.address.wrapping_add(from)
+}
+
+// Makes the instruction at that start of a window, where the memo lacks it or it has more than 8 bytes.
 #[cold]
 #[inline(never)]
-#[tactic(auto, using(crate::proofs::KnownSteps::known_step))]
+#[tactic(auto, using(crate::proofs::KnownSteps::known_step), unfolding(crate::specs::Step::has_big_code))]
 fn learn_and_step(
     m: &mut Machine,
     memo: &mut Memo,
-    key: u32,
-    words: CodeWords,
-    big: bool,
+    window: &CodeWindow,
+    from: u32,
 ) -> Result<(), Raised>
-    requires code { code m.old.world ≡ code_bytes words }
-    requires big { big ≡ has_big_code m.old.world }
+    requires window { IsWindow m.old window.now }
+    requires start { from < window.now.starts }
+    requires here { window.now.first + from ≡ m.old.world.regs.eip }
     ensures { Follows m.old m.new result (client_step m.old) }
 {
-    if memo.known(key, words, big).is_none() {
-        memo.learn(key, words, big);
-    }
-    match memo.known(key, words, big) {
+    let words = m.words_in(window, from);
+    match memo.learn(key_of(window, from), words, window.big) {
         Some(entry) => execute(m, &entry.insn, entry.len),
         None => decode_and_step(m),
-    }
-}
-
-// Makes the instruction of these code bytes, by the memo where it knows it. The key is an address of the code.
-#[inline(always)]
-#[tactic(auto, using(crate::proofs::KnownSteps::known_step))]
-fn step_of_words(
-    m: &mut Machine,
-    memo: &mut Memo,
-    key: u32,
-    words: CodeWords,
-    big: bool,
-) -> Result<(), Raised>
-    requires code { code m.old.world ≡ code_bytes words }
-    requires big { big ≡ has_big_code m.old.world }
-    ensures { Follows m.old m.new result (client_step m.old) }
-{
-    match memo.known(key, words, big) {
-        Some(entry) => execute(m, &entry.insn, entry.len),
-        None => learn_and_step(m, memo, key, words, big),
     }
 }
 
@@ -159,7 +144,7 @@ fn step_of_words(
 /// The instruction is known to lie in a window of code, at that start of it. The window stays one of the machine's while CS holds what it
 /// held.
 #[inline(always)]
-#[tactic(auto, unfolding(crate::specs::Step::has_big_code))]
+#[tactic(auto, using(crate::proofs::KnownSteps::known_step), unfolding(crate::specs::Step::has_big_code))]
 pub fn step_in_window(
     m: &mut Machine,
     memo: &mut Memo,
@@ -173,7 +158,9 @@ pub fn step_in_window(
     ensures window { OnOk result (m.new.world.regs.cs ≡ window.now.cs → IsWindow m.new window.now) }
 {
     m.holds_world();
-    let words = m.words_in(window, from);
-    let key = window.address.wrapping_add(from);
-    step_of_words(m, memo, key, words, window.big)
+    let low = m.words_in(window, from).low;
+    match memo.known(key_of(window, from), low, window.big) {
+        Some(entry) => execute(m, &entry.insn, entry.len),
+        None => learn_and_step(m, memo, window, from),
+    }
 }

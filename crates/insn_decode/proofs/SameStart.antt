@@ -1,9 +1,8 @@
 -- Code bytes that agree in the bytes of an instruction.
-use Rattle.std.proofs.Common.{◌≡◌, ℕ, zero, suc, ◌+◌, ◌-◌, ◌*◌, ◌/◌, ◌%◌, ◌^◌, ◌<◌, ◌≤◌, Bool, List, ◌++◌, length, take, drop, sym, ap, ◌∙◌}
-use Rattle.std.proofs.Common.{arith, lit<, IsTrue, nat_eq, subst, T}
+use Rattle.std.proofs.Common.{◌≡◌, ℕ, zero, suc, ◌-◌, ◌*◌, ◌/◌, ◌%◌, ◌^◌, ◌<◌, ◌≤◌, Bool, List, ◌++◌, length, take, drop, sym, ap, ◌∙◌}
+use Rattle.std.proofs.Common.{arith, lit<}
 use Rattle.std.proofs.Math.Arith.{mod-mul}
-use Rattle.std.proofs.Math.Facts.{eqb_yes}
-use Rattle.std.proofs.Math.Nat.{mul-div_cancel, mul-mod_left, div-add-mod, add-mul-mod_self_left, add-mul, mul-add, mul_assoc}
+use Rattle.std.proofs.Math.Nat.{mul-div_cancel, mul-mod_left}
 use Rattle.std.proofs.lemmas.List.{take-append-drop, length-take-le}
 use Rattle.std.proofs.lemmas.Nat.{div-mul-add, mod-mul-add, mod_below}
 use Rattle.client_world.specs.declared.code.CodeWords.{CodeWords}
@@ -24,22 +23,6 @@ low_same a b k p some more e =
     sym (mul-div_cancel (a % k) more)
     ∙ ap (λ (x : ℕ). x / p) (sym (shifted a k p some more) ∙ e ∙ shifted b k p some more)
     ∙ mul-div_cancel (b % k) more
-
--- where the difference of two numbers is nothing after a shift, the numbers are the same after it
-pub same_after_shift : (a b p m : ℕ) → b ≤ m → (a + (m - b)) % m * p % m ≡ 0 → a * p % m ≡ b * p % m
-same_after_shift a b p m small e =
-    let d = (a + (m - b)) % m in
-    let q = (a + (m - b)) / m in
-    let r = d * p / m in
-    let whole : d + b + m * q ≡ a + m = omega (arith, div-add-mod (a + (m - b)) m) in
-    let times : d * p ≡ m * r = omega (arith, e, div-add-mod (d * p) m) in
-    let scaled : (d + b + m * q) * p ≡ (a + m) * p = ap (λ (x : ℕ). x * p) whole in
-    let left : (a + m) * p ≡ a * p + m * p = add-mul a m p in
-    let right : (d + b + m * q) * p ≡ b * p + m * (r + q * p) =
-    omega (arith, add-mul (d + b) (m * q) p, add-mul d b p, mul_assoc m q p, mul-add m r (q * p), times) in
-    sym (add-mul-mod_self_left (a * p) m p)
-    ∙ ap (λ (x : ℕ). x % m) (sym left ∙ sym scaled ∙ right)
-    ∙ add-mul-mod_self_left (b * p) m (r + q * p)
 
 -- a byte is one of the low bytes
 digit : (n m c : ℕ) → 0 < m → 0 < c → n % (m * 256 * c) / c % 256 ≡ n / c % 256
@@ -87,6 +70,3 @@ decoded_start big insn len bytes other are same e =
     decoded_only big insn (take len bytes) (drop len other) other
     (sym (take-append-drop len other) ∙ ap (λ (xs : List ℕ). xs ++ drop len other) (sym same)) encoded.0
     ∙ ap (Whole insn) short
-
-pub by_test : (x y : ℕ) → IsTrue (nat_eq x y) → x ≡ y
-by_test x y t = eqb_yes (subst T (sym t) tt)

@@ -1,15 +1,16 @@
 // Instructions that were decoded before.
-ghost use Rattle.std.specs.Prelude.{◌≡◌, ◌<◌, ◌≤◌, ◌-◌, ◌*◌, ◌^◌, IfSome, IsTrue, length, take};
+ghost use Rattle.std.specs.Prelude.{◌≡◌, ◌<◌, ◌*◌, ◌^◌, ◌%◌, IfSome, IsTrue, length, take};
 ghost use Rattle.client_world.specs.CodeWords.{code_bytes};
+ghost use Rattle.client_world.specs.declared.code.CodeWords.{CodeWords as Words};
 ghost use Rattle.insn_decode.specs.Decode.{decoded};
 ghost use Rattle.insn_decode.specs.declared.decoding.Decoded.TheVariants.{Whole};
-ghost use Rattle.insn_decode.specs.declared.memo.TheConstants.{PLACES};
+ghost use Rattle.insn_decode.specs.declared.memo.TheConstants.{PLACES, WORD_BYTES};
 ghost use Rattle.insn_forms.specs.Kinds.{IsWellFormed};
 
 use crate::decoding::{Decoded, decode};
 use arrayvec::ArrayVec;
-use client_world::CodeWords;
-use insn_forms::{Insn, every_instruction_is_well_formed};
+use client_world::{CodeWords, SegReg};
+use insn_forms::{Insn, Op, Operand, Rep, every_instruction_is_well_formed};
 use std::alloc::{AllocError, Global};
 
 /// The places of a memo: a power of two, so that the place of a key is its low bits.
@@ -18,58 +19,92 @@ const PLACES: usize = 4096;
 // The bytes of a code word.
 const WORD_BYTES: u8 = 8;
 
+// A test whether code begins with certain bytes, by its low word: times `scale`, modulo 2^64, the word keeps only its first bytes, and must
+// be `scaled`.
+#[derive(Clone, Copy)]
+struct Start {
+    scale: u64,
+    scaled: u64,
+}
+
+impl Start {
+    // The test that no code passes.
+    const NONE: Start = Start {
+        scale: 0,
+        scaled: 1,
+    };
+
+    // The test for the first `len` bytes of code with this low word. Where they are more than 8, no code passes.
+    fn new(low: u64, len: u8) -> Start
+        requires { 0 < len }
+        ensures { (a b : Words) → a.low ≡ low → b.low * result.scale % 2 ^ 64 ≡ result.scaled →
+            take len (code_bytes a) ≡ take len (code_bytes b) }
+    {
+        if len > WORD_BYTES {
+            return Start::NONE;
+        }
+        let scale = 1u64 << (8 * (WORD_BYTES - len));
+        Start {
+            scale,
+            scaled: low.wrapping_mul(scale),
+        }
+    }
+
+    // Whether code with this low word passes.
+    #[inline(always)]
+    fn matches(&self, low: u64) -> bool
+        ensures { IsTrue result → low * self.now.scale % 2 ^ 64 ≡ self.now.scaled }
+    {
+        low.wrapping_mul(self.scale) == self.scaled
+    }
+}
+
 /// An instruction and the number of its bytes, beside what it was decoded from: 15 code bytes, and whether operands and addresses have
-/// 32 bits by default. Times `scale`, modulo 2^64, a word of code keeps the bytes of an instruction of up to 8 bytes alone.
+/// 32 bits by default. One of at most 8 bytes is found by the low word of the code alone, a longer one by all 15 bytes.
 #[derive(Clone, Copy)]
 pub struct Entry {
     words: CodeWords,
     big: bool,
-    scale: u64,
+    start: Start,
     pub insn: Insn,
     pub len: u8,
-    ghost decoded: { decoded big (code_bytes words) ≡ Whole insn len },
+    ghost short: { (w : Words) → w.low * start.scale % 2 ^ 64 ≡ start.scaled → decoded big (code_bytes w) ≡ Whole insn len },
+    ghost long: { WORD_BYTES < len → decoded big (code_bytes words) ≡ Whole insn len },
     ghost well_formed: { IsWellFormed insn },
-    ghost some: { 0 < len },
-    ghost scaled: { len ≤ 8 → scale ≡ 2 ^ (8 * (8 - len)) },
 }
 
 /// A memo of decoded instructions. Each entry is what `decode` returns for the bytes that are beside it, so that none is ever out of
-/// date. Source: own.
+/// date. The entry of an empty place matches no code. Source: own.
 #[derive(Drop)]
 pub struct Memo {
-    entries: Vec<Option<Entry>>,
-    ghost long: { length entries.items ≡ PLACES },
-}
-
-// The scale of an instruction of `len` bytes.
-fn scale_of(len: u8) -> u64
-    requires { 0 < len }
-    ensures { len ≤ 8 → result ≡ 2 ^ (8 * (8 - len)) }
-{
-    if len < WORD_BYTES {
-        1u64 << (8 * (WORD_BYTES - len))
-    } else {
-        1
-    }
-}
-
-// Whether code bytes agree in the first `len` of them.
-#[inline(always)]
-fn has_same_start(a: CodeWords, b: CodeWords, len: u8, scale: u64) -> bool
-    requires some { 0 < len }
-    requires scaled { len ≤ 8 → scale ≡ 2 ^ (8 * (8 - len)) }
-    ensures { IsTrue result → take len (code_bytes a) ≡ take len (code_bytes b) }
-{
-    if len > WORD_BYTES {
-        return a.low == b.low && a.high == b.high;
-    }
-    // The low bits of two words are the same where those of their difference are 0.
-    a.low.wrapping_sub(b.low).wrapping_mul(scale) == 0
+    entries: Vec<Entry>,
+    ghost places: { length entries.items ≡ PLACES },
 }
 
 impl Entry {
+    // The entry of an empty place. Its instruction is never used.
+    const NONE: Entry = Entry {
+        words: CodeWords { low: 0, high: 0 },
+        big: false,
+        start: Start::NONE,
+        insn: Insn {
+            op: Op::Clc,
+            width: 16,
+            addr32: false,
+            seg: SegReg::Ds,
+            rep: Rep::Plain,
+            locked: false,
+            first: Operand::Empty,
+            second: Operand::Empty,
+            third: Operand::Empty,
+        },
+        len: 0,
+    };
+
     // The entry of these bytes, where they begin with an instruction.
-    fn new(words: CodeWords, big: bool) -> Option<Entry> {
+    fn new(words: CodeWords, big: bool) -> Option<Entry>
+        ensures { IfSome result (λ e. decoded big (code_bytes words) ≡ Whole e.insn e.len) }
+    {
         let code = ArrayVec::from(words.bytes());
         match decode(&code, big) {
             Decoded::Whole(insn, len) => {
@@ -77,7 +112,7 @@ impl Entry {
                 Some(Entry {
                     words,
                     big,
-                    scale: scale_of(len),
+                    start: Start::new(words.low, len),
                     insn,
                     len,
                 })
@@ -86,40 +121,57 @@ impl Entry {
         }
     }
 
-    // Whether these bytes begin with its instruction, with that default size.
+    // Whether code with this low word begins with its instruction, of at most 8 bytes, with that default size.
     #[inline(always)]
-    fn is_of(&self, words: CodeWords, big: bool) -> bool
+    fn matches(&self, low: u64, big: bool) -> bool
+        ensures { IsTrue result → (w : Words) → w.low ≡ low → decoded big (code_bytes w) ≡ Whole self.now.insn self.now.len }
+    {
+        self.start.matches(low) && self.big == big
+    }
+
+    // Whether these bytes begin with its instruction, of more than 8 bytes, with that default size.
+    fn matches_long(&self, words: CodeWords, big: bool) -> bool
         ensures { IsTrue result → decoded big (code_bytes words) ≡ Whole self.now.insn self.now.len }
     {
-        self.big == big && has_same_start(self.words, words, self.len, self.scale)
+        self.len > WORD_BYTES && self.big == big && self.words == words
     }
 }
 
 impl Memo {
     /// An empty memo.
+    #[tactic(auto, unfolding(insn_forms::specs::Kinds::operation))]
     pub fn new(alloc: Global) -> Result<Memo, AllocError> {
-        let entries = vec![in alloc; None; PLACES]?;
+        let entries = vec![in alloc; Entry::NONE; PLACES]?;
         Ok(Memo { entries })
     }
 
-    /// The instruction that these bytes begin with, where the memo has it. The key, an address of the code, says where to look.
+    /// The instruction of at most 8 bytes that code with this low word begins with, whatever follows it, where the memo has it. The key, an
+    /// address of the code, says where to look.
     #[inline(always)]
-    pub fn known(&self, key: u32, words: CodeWords, big: bool) -> Option<&Entry>
-        ensures decoded { IfSome result (λ e. decoded big (code_bytes words) ≡ Whole e.now.insn e.now.len) }
+    pub fn known(&self, key: u32, low: u64, big: bool) -> Option<&Entry>
+        ensures decoded { IfSome result (λ e. (w : Words) → w.low ≡ low →
+            decoded big (code_bytes w) ≡ Whole e.now.insn e.now.len) }
         ensures well_formed { IfSome result (λ e. IsWellFormed e.now.insn) }
     {
-        match &self.entries[key as usize % PLACES] {
-            Some(entry) if entry.is_of(words, big) => Some(entry),
-            _ => None,
+        let entry = &self.entries[key as usize % PLACES];
+        if entry.matches(low, big) {
+            Some(entry)
+        } else {
+            None
         }
     }
 
-    /// Decodes the instruction that these bytes begin with, and keeps it where `known` looks for it. Where they begin with none, nothing
-    /// is kept.
+    /// The instruction that these bytes begin with, of any length; `None` where they begin with none, and then nothing is kept. Unless the
+    /// memo has it as one of more than 8 bytes, it is decoded, and kept where `known` looks for it.
     #[inline(never)]
-    pub fn learn(&mut self, key: u32, words: CodeWords, big: bool) {
-        if let Some(entry) = Entry::new(words, big) {
-            self.entries[key as usize % PLACES] = Some(entry);
+    pub fn learn(&mut self, key: u32, words: CodeWords, big: bool) -> Option<&Entry>
+        ensures decoded { IfSome result (λ e. decoded big (code_bytes words) ≡ Whole e.now.insn e.now.len) }
+        ensures well_formed { IfSome result (λ e. IsWellFormed e.now.insn) }
+    {
+        let entry = &mut self.entries[key as usize % PLACES];
+        if !entry.matches_long(words, big) {
+            *entry = Entry::new(words, big)?;
         }
+        Some(entry)
     }
 }

@@ -2,6 +2,6 @@ use Rattle.std.proofs.Common.{rules}
 use Rattle.cpu_step.specs.Step.{after_instruction}
 use Rattle.cpu_step.proofs.steps.execute.Goals as goal
 
-pub returns-then-is_err : goal.returns-then-is_err
+pub returns-in-Err : goal.returns-in-Err
 unfolding after_instruction
-returns-then-is_err c = search rules
+returns-in-Err c = search rules

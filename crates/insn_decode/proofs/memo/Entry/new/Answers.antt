@@ -1,19 +1,28 @@
-use Rattle.std.proofs.Common.{◌∙◌, sym, ap}
+use Rattle.std.proofs.Common.{◌≡◌, ◌∙◌, sym, ap, refl}
+use Rattle.client_world.specs.CodeWords.{code_bytes}
+use Rattle.insn_decode.specs.declared.decoding.Decoded.TheVariants.{Whole}
 use Rattle.insn_decode.specs.Decode.{decoded}
 use Rattle.insn_decode.proofs.Answering.{has_a_byte}
+use Rattle.insn_decode.proofs.SameStart.{are_code_bytes, decoded_start}
 use Rattle.insn_decode.proofs.memo.Entry.new.Goals as goal
 
-pub scale_of-requires : goal.scale_of-requires
-scale_of-requires c =
+pub new-requires : goal.new-requires
+new-requires c =
     let encoded = (c.decode.ensures.whole c.in-Whole.insn c.in-Whole.len c.in-Whole.is).0 in
     has_a_byte c.args.big c.in-Whole.insn c.in-Whole.len _ encoded
 
 pub invariant_of-result : goal.invariant_of-result
 invariant_of-result c =
-    let encoded = (c.decode.ensures.whole c.in-Whole.insn c.in-Whole.len c.in-Whole.is).0 in
+    let big = c.args.big in
+    let insn = c.in-Whole.insn in
+    let len = c.in-Whole.len in
+    let words = c.args.words in
+    let encoded = (c.decode.ensures.whole insn len c.in-Whole.is).0 in
+    let read : decoded big (code_bytes words) ≡ Whole insn len =
+    ap (decoded big) (sym (c.from-code.ensures.0 ∙ c.bytes.ensures)) ∙ sym c.decode.ensures.read ∙ c.in-Whole.is in
     record {
-      decoded = ap (decoded c.args.big) (sym (c.from-code.ensures.0 ∙ c.bytes.ensures)) ∙ sym c.decode.ensures.read ∙ c.in-Whole.is;
-      well_formed = c.every_instruction_is_well_formed.ensures c.in-Whole.insn (c.args.big, _, encoded);
-      some = has_a_byte c.args.big c.in-Whole.insn c.in-Whole.len _ encoded;
-      scaled = c.scale_of.ensures;
+      short = λ w same. decoded_start big insn len (code_bytes words) (code_bytes w) (are_code_bytes words)
+          (c.new.ensures words w refl same) read;
+      long = λ _. read;
+      well_formed = c.every_instruction_is_well_formed.ensures insn (big, _, encoded);
     }
