@@ -1,3 +1,4 @@
+pub mod Answered
 mod AskedCalls
 pub mod ClientChanges
 mod HandedExceptions

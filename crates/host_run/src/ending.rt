@@ -1,4 +1,4 @@
-// How a run ends, in one word.
+// That a run has ended, and how, in one word.
 ghost use Rattle.std.specs.Prelude.{◌≡◌};
 ghost use Rattle.client_world.specs.declared.outcome.Exit.{Exit as AnExit};
 ghost use Rattle.host_run.specs.Ending.{exit_in};
@@ -6,9 +6,15 @@ ghost use Rattle.host_run.specs.Ending.{exit_in};
 use client_world::Exit;
 use std::marker::Model;
 
-/// An exit in one word: a turn's answer then stays in two registers, where an `Exit` would be stored and copied at each call. Source: own.
+/// That the run has ended; its host says how (`Host::exit`). It holds nothing, so that a turn's answer is one byte and is compared once.
+/// Source: own.
 #[derive(Drop)]
-pub struct Ending {
+pub struct Ended;
+
+/// An exit in one word: the answer of a turn's work then stays in two registers, where an `Exit` would be stored and copied at each call.
+/// Source: own.
+#[derive(Drop)]
+pub(crate) struct Ending {
     word: u64,
 }
 
@@ -46,7 +52,7 @@ impl Ending {
     /// The exit.
     #[inline(never)]
     #[tactic(auto, unfolding(crate::specs::Ending::exit_in))]
-    pub fn exit(&self) -> Exit
+    pub(crate) fn exit(&self) -> Exit
         ensures { result ≡ self.now }
     {
         let number = (self.word / 0x10 % 0x100) as u8;

@@ -16,7 +16,7 @@ ghost use Rattle.host_run.specs.Traps.{current_trap};
 ghost use Rattle.host_run.specs.View.{ComesTo, HasRoom, HostView, machine_view};
 ghost use Rattle.host_run.specs.Turn.{after_interrupt, after_step, after_trap, turn};
 
-use crate::ending::Ending;
+use crate::ending::{Ended, Ending};
 use crate::traps::Trap;
 use client_world::limits::{MAX_KEYS, MAX_PAGES, MAX_STEPS, MAX_TRACE};
 use client_world::{Event, Exit, LoadFault, TraceLine};
@@ -148,14 +148,19 @@ impl Host {
 
     /// One turn: it serves a trap byte, or runs one client instruction with its software interrupt, or delivers its
     /// exception. Of the memory it changes the bytes of its footprint alone. After an exit it returns that exit again and changes nothing.
+    #[tactic(auto, unfolding(crate::specs::Turn::turn))]
     pub fn turn(&mut self) -> Result<(), Exit>
         requires { self.old.world.exit ≡ None → self.old.world.steps < MAX_STEPS }
         ensures { MakesTurn self.old self.new result self.new.world (turn self.old.world) (turn_footprint self.old.world) }
     {
+        if let Some(exit) = self.exit {
+            return Err(exit);
+        }
         let mut window = CodeWindow::NONE;
-        match self.turn_in(&mut window) {
-            Ok(()) => Ok(()),
-            Err(ending) => Err(ending.exit()),
+        let _ended = self.next_turn(&mut window);
+        match self.exit {
+            Some(exit) => Err(exit),
+            None => Ok(()),
         }
     }
 
@@ -167,10 +172,13 @@ impl Host {
         ensures kept { IfSome self.old.world.exit (λ _. self.new ≡ self.old) }
         ensures answer { self.new.world.exit ≡ Some result }
     {
+        if let Some(exit) = self.exit() {
+            return exit;
+        }
         let mut window = CodeWindow::NONE;
         for count in 0..bound {
-            if let Err(ending) = self.turn_in(&mut window) {
-                return ending.exit();
+            if let Err(Ended) = self.next_turn(&mut window) {
+                return self.end_run();
             }
         }
         self.end_run()

@@ -22,7 +22,7 @@ mod traps;
 mod vectors;
 mod windows;
 
-pub use ending::Ending;
+pub use ending::Ended;
 pub use host::Host;
 pub use laws::{
     a_run_past_an_exit_is_over, every_changed_place_is_touched,

@@ -3,13 +3,13 @@ ghost use Rattle.std.specs.Prelude.{◌≡◌, ◌+◌, ◌<◌, IfSome, IsTrue,
 ghost use Rattle.client_world.specs.declared.limits.TheConstants.{MAX_STEPS};
 ghost use Rattle.host_run.specs.declared.traps.Trap.TheVariants.{NoTrap};
 ghost use Rattle.host_run.specs.Footprint.{ChangesOnly, client_footprint, client_turn, turn_footprint, work_footprint};
-ghost use Rattle.host_run.specs.MakesTurn.{MakesTurn};
+ghost use Rattle.host_run.specs.MakesTurn.{AnswersBy, MakesTurn, turn_answer};
 ghost use Rattle.host_run.specs.Traps.{current_trap};
 ghost use Rattle.host_run.specs.Turn.{after_next_instruction, turn, work};
 ghost use Rattle.host_run.specs.View.{ComesTo, HasRoom, machine_view};
 ghost use Rattle.host_run.specs.Windows.{HasWindow, IsFound, IsOutside, IsStart, IsTrapFree};
 
-use crate::ending::Ending;
+use crate::ending::{Ended, Ending};
 use crate::host::Host;
 use crate::serving::step_machine;
 use crate::traps::{Trap, current_trap};
@@ -125,45 +125,50 @@ impl Host {
         }
     }
 
-    // The run has ended so.
+    // Ends the run with that exit.
     #[cold]
     #[inline(never)]
-    fn stop(&mut self, ending: Ending) -> Ending
+    fn stop(&mut self, ending: Ending)
         ensures world { self.new.world ≡ record self.old.world { exit = Some ending } }
         ensures bytes { self.new.bytes ≡ self.old.bytes }
-        ensures same { result ≡ ending }
     {
         self.exit = Some(ending.exit());
-        ending
     }
 
     // The turn of a client that has not ended, at that trap.
     #[inline(always)]
     #[tactic(auto, unfolding(crate::specs::Turn::turn))]
-    fn turn_at(&mut self, t: Trap, window: &mut CodeWindow, from: Option<u32>) -> Result<(), Ending>
+    fn turn_at(&mut self, t: Trap, window: &mut CodeWindow, from: Option<u32>) -> Result<(), Ended>
         requires no_exit { self.old.world.exit ≡ None }
         requires trap { t ≡ current_trap self.old.world.machine }
         requires room { self.old.world.steps < MAX_STEPS }
         requires found { IsFound (machine_view self.old) window.old from }
-        ensures turn { MakesTurn self.old self.new result self.new.world (turn self.old.world) (turn_footprint self.old.world) }
+        ensures turn { MakesTurn self.old self.new (turn_answer self.new.world.exit) self.new.world (turn self.old.world)
+            (turn_footprint self.old.world) }
+        ensures answer { AnswersBy result self.new.world.exit }
         ensures steps { self.new.world.steps ≡ self.old.world.steps + 1 }
         ensures window { HasWindow (machine_view self.new) window.new }
     {
         self.steps += 1;
         match self.work(t, window, from) {
             Ok(()) => Ok(()),
-            Err(ending) => Err(self.stop(ending)),
+            Err(ending) => {
+                self.stop(ending);
+                Err(Ended)
+            }
         }
     }
 
     /// The turn of a client that has not ended, at that start of a window.
     #[inline(always)]
-    pub fn turn_in_window(&mut self, window: &mut CodeWindow, from: u32) -> Result<(), Ending>
+    pub fn turn_in_window(&mut self, window: &mut CodeWindow, from: u32) -> Result<(), Ended>
         requires no_exit { self.old.world.exit ≡ None }
         requires room { self.old.world.steps < MAX_STEPS }
         requires window { IsTrapFree (machine_view self.old) window.old }
         requires start { IsStart self.old.world.machine window.old from }
-        ensures turn { MakesTurn self.old self.new result self.new.world (turn self.old.world) (turn_footprint self.old.world) }
+        ensures turn { MakesTurn self.old self.new (turn_answer self.new.world.exit) self.new.world (turn self.old.world)
+            (turn_footprint self.old.world) }
+        ensures answer { AnswersBy result self.new.world.exit }
         ensures steps { self.new.world.steps ≡ self.old.world.steps + 1 }
         ensures window { HasWindow (machine_view self.new) window.new }
     {
@@ -174,10 +179,12 @@ impl Host {
     // The turn of a client that is at no start of a window.
     #[cold]
     #[inline(never)]
-    fn turn_outside(&mut self, window: &mut CodeWindow) -> Result<(), Ending>
+    fn turn_outside(&mut self, window: &mut CodeWindow) -> Result<(), Ended>
         requires no_exit { self.old.world.exit ≡ None }
         requires room { self.old.world.steps < MAX_STEPS }
-        ensures turn { MakesTurn self.old self.new result self.new.world (turn self.old.world) (turn_footprint self.old.world) }
+        ensures turn { MakesTurn self.old self.new (turn_answer self.new.world.exit) self.new.world (turn self.old.world)
+            (turn_footprint self.old.world) }
+        ensures answer { AnswersBy result self.new.world.exit }
         ensures window { HasWindow (machine_view self.new) window.new }
     {
         *window = CodeWindow::NONE;
@@ -185,18 +192,17 @@ impl Host {
         self.turn_at(t, window, None)
     }
 
-    /// One turn, as `turn` makes it, with a window of code that turns hand on.
+    // The turn of a client that has not ended, with a window of code that turns hand on.
     #[inline(always)]
-    #[tactic(auto, unfolding(crate::specs::Turn::turn))]
-    pub fn turn_in(&mut self, window: &mut CodeWindow) -> Result<(), Ending>
-        requires room { self.old.world.exit ≡ None → self.old.world.steps < MAX_STEPS }
+    pub(crate) fn next_turn(&mut self, window: &mut CodeWindow) -> Result<(), Ended>
+        requires no_exit { self.old.world.exit ≡ None }
+        requires room { self.old.world.steps < MAX_STEPS }
         requires window { HasWindow (machine_view self.old) window.old }
-        ensures turn { MakesTurn self.old self.new result self.new.world (turn self.old.world) (turn_footprint self.old.world) }
+        ensures turn { MakesTurn self.old self.new (turn_answer self.new.world.exit) self.new.world (turn self.old.world)
+            (turn_footprint self.old.world) }
+        ensures answer { AnswersBy result self.new.world.exit }
         ensures window { HasWindow (machine_view self.new) window.new }
     {
-        if let Some(exit) = self.exit {
-            return Err(Ending::from(exit));
-        }
         match self.find_start(window) {
             Some(from) => self.turn_in_window(window, from),
             None => self.turn_outside(window),

@@ -60,10 +60,6 @@ part_steps t h =
 pub part_was_on : (t : TimerState) (h : HostWorld) → (timer_part t h).host.exit ≡ None → h.exit ≡ None
 part_was_on t h = part_has (λ p. p.host.exit ≡ None → h.exit ≡ None) t h (λ exit is on. on) (λ none on. none) (λ none on. none)
 
--- after an exit nothing changes
-pub part_over : (t : TimerState) (h : HostWorld) (exit : Exit) → h.exit ≡ Some exit → timer_part t h ≡ passed t h
-part_over t h exit = part_has (λ p. h.exit ≡ Some exit → p ≡ passed t h) t h (λ _ _ _. refl) (λ none is. cc) (λ none is. cc)
-
 -- where the turn is still to be made, the host is as it was
 pub part_passed : (t : TimerState) (h : HostWorld) → (timer_part t h).taken ≡ false → (timer_part t h).host ≡ h
 part_passed t h = part_has (λ p. p.taken ≡ false → p.host ≡ h) t h (λ _ _ _. refl) (λ none no. cc) (λ _ _. refl)

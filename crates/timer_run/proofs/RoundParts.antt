@@ -1,5 +1,5 @@
--- The round that is made, by what `Timer::before` returns.
-use Rattle.std.proofs.Common.{◌≡◌, ◌∙◌, ℕ, Bool, true, false, List, Option, None, Some, Ok, Err, refl, ap, subst, sym}
+-- The round that is made, by what the timer's part returns.
+use Rattle.std.proofs.Common.{◌≡◌, ◌∙◌, ℕ, Bool, true, false, List, Option, None, Some, Ok, Err, ap, subst, sym}
 use Rattle.std.specs.Prelude.{if◌then◌else◌}
 use Rattle.client_world.specs.declared.outcome.Exit.{Exit}
 use Rattle.client_world.specs.WatchWorld.{WatchWorld}
@@ -7,7 +7,7 @@ use Rattle.client_world.specs.World.{HostWorld}
 use Rattle.host_run.specs.Footprint.{ChangesOnly, Footprint, unsaid}
 use Rattle.timer_run.specs.Rounds.{TimedWorld, after_part, round_footprint, round_with_timer, timed, timer_of}
 use Rattle.timer_run.specs.Timer.{TimerPart, TimerState, timer_answer, timer_part}
-use Rattle.timer_run.proofs.Parts.{answered_exit, answered_on, part_ended, part_over, part_passed, part_was_on}
+use Rattle.timer_run.proofs.Parts.{answered_exit, answered_on, part_ended, part_passed, part_was_on}
 use Rattle.watch_run.specs.Turn.{turn_with_watchpoints, watch_footprint}
 
 -- ---- after an exit, and without one
@@ -42,14 +42,12 @@ answered_round t w taken answer =
     let is = answered_on p taken answer in
     round_on t.every (timed t w) (part_was_on t w.host is.0) ∙ after_taken (timed t w) p taken is.1
 
-ended_by : (t : TimerState) (w : WatchWorld) (exit : Exit) (o : Option Exit) → w.host.exit ≡ o →
-    (timer_part t w.host).host.exit ≡ Some exit →
+ended_round : (t : TimerState) (w : WatchWorld) (exit : Exit) → w.host.exit ≡ None → Err exit ≡ timer_answer (timer_part t w.host) →
     let p = timer_part t w.host in round_with_timer t.every (timed t w) ≡ timed p.timer (record w { host = p.host })
-ended_by t w exit (Some other) is ended =
-    round_over t.every (timed t w) other is
-    ∙ sym (ap (λ (p : TimerPart). timed p.timer (record w { host = p.host })) (part_over t w.host other is))
-ended_by t w exit None is ended =
-    round_on t.every (timed t w) is ∙ after_taken (timed t w) (timer_part t w.host) true (part_ended t w.host exit ended is)
+ended_round t w exit none answer =
+    let p = timer_part t w.host in
+    round_on t.every (timed t w) none
+    ∙ after_taken (timed t w) p true (part_ended t w.host exit (answered_exit p exit answer) none)
 
 -- the timer and the host after the part, and the watchpoints as they were
 part_made : (p : TimerPart) (w : WatchWorld) (t : TimerState) (h : HostWorld) → t ≡ p.timer → h ≡ p.host →
@@ -62,12 +60,11 @@ pub interrupt_made : (t next : TimerState) (w : WatchWorld) (h : HostWorld) → 
     Ok true ≡ timer_answer (timer_part t w.host) → timed next (record w { host = h }) ≡ round_with_timer t.every (timed t w)
 interrupt_made t next w h timer host answer = part_made (timer_part t w.host) w next h timer host ∙ sym (answered_round t w true answer)
 
-pub exit_made : (t next : TimerState) (w : WatchWorld) (h : HostWorld) (exit : Exit) → next ≡ (timer_part t w.host).timer →
-    h ≡ (timer_part t w.host).host → Err exit ≡ timer_answer (timer_part t w.host) →
+pub exit_made : (t next : TimerState) (w : WatchWorld) (h : HostWorld) (exit : Exit) → w.host.exit ≡ None →
+    next ≡ (timer_part t w.host).timer → h ≡ (timer_part t w.host).host → Err exit ≡ timer_answer (timer_part t w.host) →
     timed next (record w { host = h }) ≡ round_with_timer t.every (timed t w)
-exit_made t next w h exit timer host answer =
-    part_made (timer_part t w.host) w next h timer host
-    ∙ sym (ended_by t w exit w.host.exit refl (answered_exit (timer_part t w.host) exit answer))
+exit_made t next w h exit none timer host answer =
+    part_made (timer_part t w.host) w next h timer host ∙ sym (ended_round t w exit none answer)
 
 -- the turn is made from the host as it was
 pub turn_from : (t : TimerState) (before h : HostWorld) → h ≡ (timer_part t before).host →

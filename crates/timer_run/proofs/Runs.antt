@@ -1,6 +1,8 @@
 -- A run: how it starts, one round after another, and how it ends.
-use Rattle.std.proofs.Common.{arith, ◌≡◌, ◌∙◌, ◌≤◌, ◌<◌, ◌+◌, ◌-◌, ℕ, zero, suc, false, None, Some, refl, sym, ap, subst, add-zero, add-suc}
+use Rattle.std.proofs.Common.{arith, ◌≡◌, ◌∙◌, ◌≤◌, ◌<◌, ◌+◌, ◌-◌, ℕ, zero, suc, false, Option, None, Some, refl, sym, ap, subst, add-zero}
+use Rattle.std.proofs.Common.{add-suc}
 use Rattle.std.proofs.Common.{add-one}
+use Rattle.std.specs.Prelude.{IsSome}
 use Rattle.client_world.specs.declared.outcome.Exit.{Exit}
 use Rattle.client_world.specs.WatchWorld.{WatchWorld, Watching, no_watches, host_without_watches}
 use Rattle.client_world.specs.World.{HostWorld}
@@ -47,21 +49,35 @@ rounds_past every w i n exit le is =
 
 -- ---- its end
 
+-- the exit that is there
+exit_of : (o : Option Exit) → IsSome o → (exit : Exit) × (o ≡ Some exit)
+exit_of None some = cc
+exit_of (Some exit) some = (exit, refl)
+
 bounded_ended : (h : HostWorld) (exit : Exit) → h.exit ≡ Some exit → with_bound_exit h ≡ h
 bounded_ended h exit is = rw is refl
 
 -- a run that ends with round i + 1 is over there
-pub run_ended : (every : ℕ) (h : HostWorld) (n i : ℕ) (exit : Exit) (last : TimedWorld) → last ≡ timed_rounds every h (i + 1) → i < n →
-    last.watched.host.exit ≡ Some exit → last.watched.host ≡ timed_run every h n
+pub run_ended : (every : ℕ) (h : HostWorld) (n i : ℕ) (last : TimedWorld) → last ≡ timed_rounds every h (i + 1) → i < n →
+    IsSome last.watched.host.exit → with_bound_exit last.watched.host ≡ timed_run every h n
 unfolding timed_run
-run_ended every h n i exit last is less ends =
+run_ended every h n i last is less some =
     let start = with_new_timer (host_without_watches h) in
-    let there : (rounds every start (i + 1)).watched.host.exit ≡ Some exit = sym (ap (λ (w : TimedWorld). w.watched.host.exit) is) ∙ ends in
-    let same : rounds every start n ≡ last = rounds_past every start (i + 1) n exit (omega arith) there ∙ sym is in
-    sym (ap (λ (w : TimedWorld). with_bound_exit w.watched.host) same ∙ bounded_ended last.watched.host exit ends)
+    let ended = exit_of last.watched.host.exit some in
+    let same = ap (λ (w : TimedWorld). w.watched.host.exit) is in
+    let past = rounds_past every start (i + 1) n ended.0 (omega arith) (sym same ∙ ended.1) in
+    ap (λ (w : TimedWorld). with_bound_exit w.watched.host) (is ∙ sym past)
 
 -- a run that makes as many rounds as its bound
 pub run_bounded : (every : ℕ) (h : HostWorld) (n i : ℕ) (last : TimedWorld) → last ≡ timed_rounds every h i → i ≡ n →
     with_bound_exit last.watched.host ≡ timed_run every h n
 unfolding timed_run
 run_bounded every h n i last is all = ap (λ (w : TimedWorld). with_bound_exit w.watched.host) (is ∙ ap (timed_rounds every h) all)
+
+-- a run that starts after an exit changes nothing
+pub run_over : (every : ℕ) (h : HostWorld) (n : ℕ) (exit : Exit) → h.exit ≡ Some exit → h ≡ timed_run every h n
+unfolding timed_run rounds
+run_over every h n exit is =
+    let start = with_new_timer (host_without_watches h) in
+    sym (ap (λ (w : TimedWorld). with_bound_exit w.watched.host) (rounds_past every start 0 n exit (omega arith) is)
+    ∙ bounded_ended h exit is)

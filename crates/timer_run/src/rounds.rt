@@ -1,6 +1,7 @@
 // Rounds of a run with a timer, and runs.
 ghost use Rattle.std.specs.Prelude.{◌≡◌, ◌≤◌, ◌<◌, ◌+◌, None, Some};
 ghost use Rattle.client_world.specs.declared.limits.TheConstants.{GREATEST_TIMER, MAX_STEPS};
+ghost use Rattle.host_run.specs.MakesTurn.{AnswersBy, turn_answer};
 ghost use Rattle.host_run.specs.View.{machine_view};
 ghost use Rattle.host_run.specs.Windows.{HasWindow};
 ghost use Rattle.timer_run.specs.Rounds.{MakesRound, timed_run};
@@ -8,31 +9,33 @@ ghost use Rattle.timer_run.specs.Rounds.{MakesRound, timed_run};
 use crate::timer::Timer;
 use client_world::Exit;
 use guest_space::CodeWindow;
-use host_run::{Ending, Host};
-use watch_run::{Watches, watch_turn_in};
+use host_run::{Ended, Host};
+use watch_run::{Watches, next_watched_turn};
 
-// One round, with a window of code that rounds hand on.
-fn round_in(
+// The round of a client that has not ended, with a window of code that rounds hand on.
+fn next_round(
     host: &mut Host,
     watches: &mut Watches,
     timer: &mut Timer,
     window: &mut CodeWindow,
-) -> Result<(), Ending>
-    requires room { host.old.world.exit ≡ None → host.old.world.steps < MAX_STEPS }
+) -> Result<(), Ended>
+    requires no_exit { host.old.world.exit ≡ None }
+    requires room { host.old.world.steps < MAX_STEPS }
     requires window { HasWindow (machine_view host.old) window.old }
-    ensures round { MakesRound host.old host.new watches.old watches.new timer.old timer.new result }
+    ensures round { MakesRound host.old host.new watches.old watches.new timer.old timer.new (turn_answer host.new.world.exit) }
+    ensures answer { AnswersBy result host.new.world.exit }
     ensures every { timer.new.every ≡ timer.old.every }
     ensures window { HasWindow (machine_view host.new) window.new }
 {
-    match timer.before(host) {
+    match timer.begin_round(host) {
         Ok(true) => {
             *window = CodeWindow::NONE;
             Ok(())
         }
-        Ok(false) => watch_turn_in(host, watches, window),
-        Err(exit) => {
+        Ok(false) => next_watched_turn(host, watches, window),
+        Err(_) => {
             *window = CodeWindow::NONE;
-            Err(Ending::from(exit))
+            Err(Ended)
         }
     }
 }
@@ -48,10 +51,14 @@ pub fn round_with_timer(
     ensures round { MakesRound host.old host.new watches.old watches.new timer.old timer.new result }
     ensures every { timer.new.every ≡ timer.old.every }
 {
+    if let Some(exit) = host.exit() {
+        return Err(exit);
+    }
     let mut window = CodeWindow::NONE;
-    match round_in(host, watches, timer, &mut window) {
-        Ok(()) => Ok(()),
-        Err(ending) => Err(ending.exit()),
+    let _ended = next_round(host, watches, timer, &mut window);
+    match host.exit() {
+        Some(exit) => Err(exit),
+        None => Ok(()),
     }
 }
 
@@ -64,12 +71,15 @@ pub fn timed_run(host: &mut Host, every: u32, bound: u32) -> Exit
     ensures world { host.new.world ≡ timed_run every host.old.world bound }
     ensures answer { host.new.world.exit ≡ Some result }
 {
+    if let Some(exit) = host.exit() {
+        return exit;
+    }
     let mut timer = Timer::new(every);
     let mut watches = Watches::new();
     let mut window = CodeWindow::NONE;
     for count in 0..bound {
-        if let Err(ending) = round_in(host, &mut watches, &mut timer, &mut window) {
-            return ending.exit();
+        if let Err(Ended) = next_round(host, &mut watches, &mut timer, &mut window) {
+            return host.end_run();
         }
     }
     host.end_run()

@@ -85,6 +85,19 @@ impl Timer {
         if let Some(exit) = host.exit() {
             return Err(exit);
         }
+        self.begin_round(host)
+    }
+
+    // The same of a client that has not ended.
+    #[tactic(auto, unfolding(crate::specs::Timer::timer_part))]
+    pub(crate) fn begin_round(&mut self, host: &mut Host) -> Result<bool, Exit>
+        requires no_exit { host.old.world.exit ≡ None }
+        requires room { host.old.world.steps < MAX_STEPS }
+        ensures timer { self.new ≡ (timer_part self.old host.old.world).timer }
+        ensures host { host.new.world ≡ (timer_part self.old host.old.world).host }
+        ensures answer { result ≡ timer_answer (timer_part self.old host.old.world) }
+        ensures kept { result ≢ Ok true → host.new.bytes ≡ host.old.bytes }
+    {
         self.tick();
         if self.waits && takes_interrupts(host.machine()) {
             self.waits = false;

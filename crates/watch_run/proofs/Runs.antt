@@ -29,11 +29,17 @@ bounded_ended : (h : HostWorld) (e : Exit) → h.exit ≡ Some e → with_bound_
 bounded_ended h e is = rw is refl
 
 -- a run that ends with turn i + 1 is over there
-pub run_ended : (w new : WatchWorld) (n i : ℕ) (e : Exit) → new ≡ turns_with_watchpoints w (i + 1) → i < n →
-    new.host.exit ≡ Some e → new ≡ run_with_watchpoints w n
-run_ended w new n i e is lt ends =
-    let there : (turns_with_watchpoints w (i + 1)).host.exit ≡ Some e = sym (ap (λ (v : WatchWorld). v.host.exit) is) ∙ ends in
-    let past = turns_past w (i + 1) n (omega arith) (some_is _ e there) in
-    let same : turns_with_watchpoints w n ≡ new = past ∙ sym is in
-    sym (ap (λ (v : WatchWorld). let x : WatchWorld = record v { host = with_bound_exit v.host } in x) same
-    ∙ ap (λ (h : HostWorld). let x : WatchWorld = record new { host = h } in x) (bounded_ended new.host e ends))
+pub run_ended : (w new : WatchWorld) (n i : ℕ) → new ≡ turns_with_watchpoints w (i + 1) → i < n → IsSome new.host.exit →
+    record new { host = with_bound_exit new.host } ≡ run_with_watchpoints w n
+run_ended w new n i is lt some =
+    let there : IsSome (turns_with_watchpoints w (i + 1)).host.exit = subst (λ (v : WatchWorld). IsSome v.host.exit) is some in
+    ap (λ (v : WatchWorld). let x : WatchWorld = record v { host = with_bound_exit v.host } in x)
+    (is ∙ sym (turns_past w (i + 1) n (omega arith) there))
+
+-- one that starts after an exit changes nothing
+pub run_over : (w : WatchWorld) (n : ℕ) (e : Exit) → w.host.exit ≡ Some e → w ≡ run_with_watchpoints w n
+unfolding turns_with_watchpoints
+run_over w n e is =
+    let past = turns_past w 0 n (omega arith) (some_is _ e is) in
+    sym (ap (λ (v : WatchWorld). let x : WatchWorld = record v { host = with_bound_exit v.host } in x) past
+    ∙ ap (λ (h : HostWorld). let x : WatchWorld = record w { host = h } in x) (bounded_ended w.host e is))

@@ -18,5 +18,5 @@ pub use laws::{
     every_watched_turn_changes_the_innermost_record_at_most, every_watched_turn_is_counted,
     every_watched_turn_is_sound,
 };
-pub use turn::{run_with_watchpoints, watch_turn, watch_turn_in, watched_run};
+pub use turn::{next_watched_turn, run_with_watchpoints, watch_turn, watched_run};
 pub use watch::Watches;

@@ -1,6 +1,7 @@
 // Turns of a host with its client's watchpoints, and runs.
 ghost use Rattle.std.specs.Prelude.{◌≡◌, ◌≤◌, ◌<◌, ◌+◌, IsTrue, None, Some};
 ghost use Rattle.client_world.specs.declared.limits.TheConstants.{MAX_STEPS};
+ghost use Rattle.host_run.specs.MakesTurn.{AnswersBy, turn_answer};
 ghost use Rattle.host_run.specs.OtherTurns.{int31_call};
 ghost use Rattle.host_run.specs.View.{machine_view};
 ghost use Rattle.host_run.specs.Windows.{HasWindow};
@@ -12,7 +13,7 @@ use crate::watch::Watches;
 use client_world::faults::DEBUG;
 use client_world::{Exit, Fault, Mode};
 use guest_space::{CodeWindow, Machine};
-use host_run::{Ending, Host, is_at_trap};
+use host_run::{Ended, Host, is_at_trap};
 
 // Whether a function of INT 31h is one of those on watchpoints.
 fn is_watch_function(ax: u16) -> bool
@@ -101,30 +102,36 @@ fn watching_turn(h: &mut Host, w: &mut Watches) -> Result<(), Exit>
 // A turn outside the windows of code, or with watchpoints.
 #[cold]
 #[inline(never)]
-fn watching_turn_in(h: &mut Host, w: &mut Watches, window: &mut CodeWindow) -> Result<(), Ending>
+fn watching_turn_in(h: &mut Host, w: &mut Watches, window: &mut CodeWindow) -> Result<(), Ended>
     requires no_exit { h.old.world.exit ≡ None }
     requires room { h.old.world.steps < MAX_STEPS }
-    ensures turn { MakesWatchedTurn h.old h.new w.old w.new result }
+    ensures turn { MakesWatchedTurn h.old h.new w.old w.new (turn_answer h.new.world.exit) }
+    ensures answer { AnswersBy result h.new.world.exit }
     ensures window { HasWindow (machine_view h.new) window.new }
 {
     *window = CodeWindow::NONE;
-    watching_turn(h, w)?;
-    Ok(())
+    match watching_turn(h, w) {
+        Ok(()) => Ok(()),
+        Err(_) => Err(Ended),
+    }
 }
 
-/// One turn, as `watch_turn` makes it, with a window of code that turns hand on.
+/// The turn of a client that has not ended, with a window of code that turns hand on.
 #[inline(always)]
 #[tactic(auto, unfolding(crate::specs::Turn::turn_with_watchpoints), using(crate::proofs::TurnParts::none_watched, //
 crate::proofs::TurnParts::not_called))]
-pub fn watch_turn_in(h: &mut Host, w: &mut Watches, window: &mut CodeWindow) -> Result<(), Ending>
-    requires room { h.old.world.exit ≡ None → h.old.world.steps < MAX_STEPS }
+pub fn next_watched_turn(
+    h: &mut Host,
+    w: &mut Watches,
+    window: &mut CodeWindow,
+) -> Result<(), Ended>
+    requires no_exit { h.old.world.exit ≡ None }
+    requires room { h.old.world.steps < MAX_STEPS }
     requires window { HasWindow (machine_view h.old) window.old }
-    ensures turn { MakesWatchedTurn h.old h.new w.old w.new result }
+    ensures turn { MakesWatchedTurn h.old h.new w.old w.new (turn_answer h.new.world.exit) }
+    ensures answer { AnswersBy result h.new.world.exit }
     ensures window { HasWindow (machine_view h.new) window.new }
 {
-    if let Some(exit) = h.exit() {
-        return Err(Ending::from(exit));
-    }
     // Nothing is watched, no hit waits, and a client's instruction calls no function: the turn is the host's.
     if w.is_unused() {
         if let Some(from) = h.find_start(window) {
@@ -138,14 +145,19 @@ pub fn watch_turn_in(h: &mut Host, w: &mut Watches, window: &mut CodeWindow) -> 
 /// One turn of a host with its client's watchpoints. In protected mode a hit that is due is delivered as exception 1, in a turn of its own;
 /// INT 31h functions 0B00h to 0B03h are served here; any other turn is the host's, and what its instruction hits is noted. After an exit it
 /// returns that exit again and changes nothing. Source: own.
+#[tactic(auto, unfolding(crate::specs::Turn::turn_with_watchpoints))]
 pub fn watch_turn(h: &mut Host, w: &mut Watches) -> Result<(), Exit>
     requires { h.old.world.exit ≡ None → h.old.world.steps < MAX_STEPS }
     ensures { MakesWatchedTurn h.old h.new w.old w.new result }
 {
+    if let Some(exit) = h.exit() {
+        return Err(exit);
+    }
     let mut window = CodeWindow::NONE;
-    match watch_turn_in(h, w, &mut window) {
-        Ok(()) => Ok(()),
-        Err(ending) => Err(ending.exit()),
+    let _ended = next_watched_turn(h, w, &mut window);
+    match h.exit() {
+        Some(exit) => Err(exit),
+        None => Ok(()),
     }
 }
 
@@ -156,10 +168,13 @@ pub fn run_with_watchpoints(h: &mut Host, w: &mut Watches, bound: u32) -> Exit
         ≡ run_with_watchpoints (record { host = h.old.world; watching = w.old }) bound }
     ensures answer { h.new.world.exit ≡ Some result }
 {
+    if let Some(exit) = h.exit() {
+        return exit;
+    }
     let mut window = CodeWindow::NONE;
     for count in 0..bound {
-        if let Err(ending) = watch_turn_in(h, w, &mut window) {
-            return ending.exit();
+        if let Err(Ended) = next_watched_turn(h, w, &mut window) {
+            return h.end_run();
         }
     }
     h.end_run()

@@ -10,5 +10,5 @@ invariant-loop-count l =
     ≡ timed_rounds l.every l.fn.host.world l.count)
     × (l.timer.every ≡ l.every)
     × (l.host.world.steps ≤ l.fn.host.world.steps + l.count)
-    × (l.host.world.exit ≡ None → l.fn.host.world.exit ≡ None)
+    × (l.host.world.exit ≡ None)
     × HasWindow (machine_view l.host) l.window

@@ -8,5 +8,5 @@ abbrev pub invariant-loop-count : goal.invariant-loop-count
 invariant-loop-count l =
     (record { host = l.h.world; watching = l.w } ≡ turns_with_watchpoints (record { host = l.fn.h.world; watching = l.fn.w }) l.count)
     × (l.h.world.steps ≤ l.fn.h.world.steps + l.count)
-    × (l.h.world.exit ≡ None → l.fn.h.world.exit ≡ None)
+    × (l.h.world.exit ≡ None)
     × HasWindow (machine_view l.h) l.window

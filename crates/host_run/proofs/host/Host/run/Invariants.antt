@@ -2,10 +2,9 @@ use Rattle.std.proofs.Common.{◌≡◌, ◌≤◌, ◌+◌, None}
 use Rattle.host_run.specs.Run.{turns}
 use Rattle.host_run.specs.View.{machine_view}
 use Rattle.host_run.specs.Windows.{HasWindow}
-use Rattle.host_run.proofs.Runs.{IsKept}
 use Rattle.host_run.proofs.host.Host.run.Given as goal
 
 abbrev pub invariant-loop-count : goal.invariant-loop-count
 invariant-loop-count l =
     (l.self.world ≡ turns l.fn.self.world l.count) × (l.self.world.steps ≤ l.fn.self.world.steps + l.count)
-    × (l.self.world.exit ≡ None → l.fn.self.world.exit ≡ None) × IsKept l.fn.self l.self × HasWindow (machine_view l.self) l.window
+    × (l.self.world.exit ≡ None) × HasWindow (machine_view l.self) l.window

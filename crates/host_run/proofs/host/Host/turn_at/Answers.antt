@@ -1,16 +1,17 @@
-use Rattle.std.proofs.Common.{rules, ℕ, List, ap, subst, sym}
+use Rattle.std.proofs.Common.{rules, ℕ, List, Ok, Err, ap, subst, sym}
 use Rattle.client_world.specs.World.{HostWorld, World}
 use Rattle.host_run.specs.Windows.{HasWindow}
 use Rattle.host_run.specs.Turn.{turn}
+use Rattle.host_run.proofs.Answered.{by_exit}
 use Rattle.host_run.proofs.host.Host.turn_at.Goals as goal
 
 pub returns-in-Ok-clause-turn : goal.returns-in-Ok-clause-turn
 unfolding turn
-returns-in-Ok-clause-turn c = search rules
+returns-in-Ok-clause-turn c = by_exit _ _ (Ok tt) _ _ _ (search rules)
 
 pub returns-in-Err-clause-turn : goal.returns-in-Err-clause-turn
 unfolding turn
-returns-in-Err-clause-turn c = search rules
+returns-in-Err-clause-turn c = by_exit _ _ (Err c.in-Err.ending) _ _ _ (search rules)
 
 pub returns-in-Err-clause-window : goal.returns-in-Err-clause-window
 returns-in-Err-clause-window c =

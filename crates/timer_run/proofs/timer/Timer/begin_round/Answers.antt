@@ -1,6 +1,6 @@
 use Rattle.std.proofs.Common.{rules}
 use Rattle.timer_run.specs.Timer.{timer_part}
-use Rattle.timer_run.proofs.timer.Timer.before.Goals as goal
+use Rattle.timer_run.proofs.timer.Timer.begin_round.Goals as goal
 
 pub int_turn-requires-clause-enabled : goal.int_turn-requires-clause-enabled
 int_turn-requires-clause-enabled c = search rules
