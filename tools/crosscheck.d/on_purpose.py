@@ -44,6 +44,15 @@ def popa_loads_before_its_fault(case, one, two, names):
     return operation(case) == "popa" and both(one, two, STACK) and set(names) <= GENERAL and has_stayed(case, two)
 
 
+def popa_passes_over_its_slot(case, one, two, names):
+    """The slot of (E)SP, which isn't read, lies outside the stack's limit or across its end."""
+    if operation(case) != "popa" or one.vector != STACK or one.values["eip"] != case.eip:
+        return False
+    stack, size = case.segments["ss"], width(case) // 8
+    at = (case.values["esp"] + 3 * size) % wraps_at(case)
+    return not stack.low <= at <= at + size - 1 <= stack.high
+
+
 def compare_faults_in_repetition(case, one, two, names):
     words = operation(case).split("_")[0].split()
     return words[0] in ("rep", "repne") and words[-1][:4] in ("cmps", "scas") and names == ["flags"] and two.values["eip"] == case.eip
@@ -87,6 +96,13 @@ def far_pointer_wraps(case, one, two, names):
     return address == 16 and at + size > 0x10000 and two.vector in (STACK, PROTECTION) and two.error == 0 and has_stayed(case, two)
 
 
+def selector_is_its_own_code(case, one, two, names):
+    """A selector read from the instruction's own bytes, which may name a descriptor of one side alone."""
+    place = getattr(case, "place", None)
+    return (operation(case) in ("lar", "lsl", "verr", "verw") and place is not None and case.eip - 2 < place[0] < case.eip + 15
+            and set(names) <= GENERAL | {"flags"})
+
+
 def enter_level(case):
     return int(case.text.split("#")[0].split(",")[-1], 16) % 32 if operation(case) == "enter" else -1
 
@@ -113,9 +129,9 @@ def enter_frame_has_high_half(case, one, two, names):
 REASONS = {
     "adjusts_whole_ax": is_aaa,
     **{reason.__name__: reason for reason in (
-        popa_loads_before_its_fault, compare_faults_in_repetition, compare_has_two_faults, pushes_before_its_fault, call_has_two_faults,
-        selector_is_popped_as_word, bound_tests_lower_first, far_pointer_wraps, enter_asks_last_stack_pointer, enter_reads_frames_first,
-        enter_frame_has_operand_size, enter_frame_has_high_half)},
+        popa_loads_before_its_fault, popa_passes_over_its_slot, compare_faults_in_repetition, compare_has_two_faults,
+        pushes_before_its_fault, call_has_two_faults, selector_is_popped_as_word, selector_is_its_own_code, bound_tests_lower_first,
+        far_pointer_wraps, enter_asks_last_stack_pointer, enter_reads_frames_first, enter_frame_has_operand_size, enter_frame_has_high_half)},
 }
 
 
