@@ -68,6 +68,7 @@ is_within down size limit offset n =
     if down then nat_lt limit offset && nat_le (offset + n) (greatest_offset size + 1)
     else nat_le (offset + n) (limit + 1) && nat_le (offset + n) (2 ^ 32)
 
+-- that of a descriptor
 abbrev pub is_inside : Desc → ℕ → ℕ → Bool
 is_inside d offset n = is_within (expands_down d.kind) d.size (byte_limit d) offset n
 
