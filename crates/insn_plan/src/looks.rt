@@ -299,7 +299,7 @@ pub fn register_width<L: Look>(width: u8, own: u8) -> Result<u8, L::Missed>
     Ok(own)
 }
 
-/// An operand of which a look came ahead, or didn't.
+/// Reads an operand, unless a look ahead has read it.
 #[inline(always)]
 pub fn source_after<L: Look>(
     m: &mut Machine,
