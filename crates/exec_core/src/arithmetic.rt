@@ -109,8 +109,6 @@ fn binary_at<const W: u8, L: Look, O: BinaryAt<W>>(
 pub(crate) struct Arithmetic<O>(pub O);
 
 impl<O: Binary> InsnRow for Arithmetic<O> {
-    ghost use Rattle.exec_core.specs.Arithmetic.{binary};
-
     ghost plan = { λ row w i. binary O.formula w i };
 
     #[inline(always)]
@@ -143,8 +141,6 @@ fn compare_at<const W: u8, L: Look, O: BinaryAt<W>>(
 pub(crate) struct Comparison<O>(pub O);
 
 impl<O: Binary> InsnRow for Comparison<O> {
-    ghost use Rattle.exec_core.specs.Arithmetic.{compare};
-
     ghost plan = { λ row w i. compare O.formula w i };
 
     #[inline(always)]
@@ -194,8 +190,6 @@ fn unary_at<const W: u8, L: Look, O: UnaryAt<W>>(m: &mut Machine, i: &Insn) -> R
 pub(crate) struct OneOperand<O>(pub O);
 
 impl<O: Unary> InsnRow for OneOperand<O> {
-    ghost use Rattle.exec_core.specs.Arithmetic.{unary};
-
     ghost plan = { λ row w i. unary O.formula w i };
 
     #[inline(always)]

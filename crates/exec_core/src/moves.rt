@@ -70,8 +70,6 @@ fn mov_at<L: Look>(m: &mut Machine, i: &Insn, width: u8) -> Result<(), L::Missed
 pub(crate) struct Mov;
 
 impl InsnRow for Mov {
-    ghost use Rattle.exec_core.specs.Moves.{mov};
-
     ghost plan = { λ row w i. mov w i };
 
     #[inline(always)]

@@ -47,8 +47,6 @@ fn shift_at<const W: u8, L: Look, O: ShiftAt<W>>(m: &mut Machine, i: &Insn) -> R
 pub(crate) struct Shifting<O>(pub O);
 
 impl<O: Shift> InsnRow for Shifting<O> {
-    ghost use Rattle.exec_core.specs.Shifts.{shift};
-
     ghost plan = { λ row w i. shift O.formula w i };
 
     #[inline(always)]

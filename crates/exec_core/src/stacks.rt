@@ -34,8 +34,6 @@ fn push_at<L: Look>(m: &mut Machine, i: &Insn, width: u8) -> Result<(), L::Misse
 pub(crate) struct Push;
 
 impl InsnRow for Push {
-    ghost use Rattle.exec_core.specs.Stacks.{push};
-
     ghost plan = { λ row w i. push w i };
 
     #[inline(always)]
@@ -76,8 +74,6 @@ fn pop_at<L: Look>(m: &mut Machine, i: &Insn, width: u8) -> Result<(), L::Missed
 pub(crate) struct Pop;
 
 impl InsnRow for Pop {
-    ghost use Rattle.exec_core.specs.Stacks.{pop};
-
     ghost plan = { λ row w i. pop w i };
 
     #[inline(always)]

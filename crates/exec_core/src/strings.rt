@@ -204,8 +204,6 @@ pub(crate) struct Movs {
 }
 
 impl InsnRow for Movs {
-    ghost use Rattle.exec_core.specs.Strings.{movs};
-
     ghost plan = { λ row w i. movs w i row.len };
 
     #[inline(always)]
@@ -252,8 +250,6 @@ pub(crate) struct Cmps {
 }
 
 impl InsnRow for Cmps {
-    ghost use Rattle.exec_core.specs.Strings.{cmps};
-
     ghost plan = { λ row w i. cmps w i row.len };
 
     #[inline(always)]
@@ -296,8 +292,6 @@ pub(crate) struct Stos {
 }
 
 impl InsnRow for Stos {
-    ghost use Rattle.exec_core.specs.Strings.{stos};
-
     ghost plan = { λ row w i. stos w i row.len };
 
     #[inline(always)]
@@ -341,8 +335,6 @@ pub(crate) struct Lods {
 }
 
 impl InsnRow for Lods {
-    ghost use Rattle.exec_core.specs.Strings.{lods};
-
     ghost plan = { λ row w i. lods w i row.len };
 
     #[inline(always)]
@@ -388,8 +380,6 @@ pub(crate) struct Scas {
 }
 
 impl InsnRow for Scas {
-    ghost use Rattle.exec_core.specs.Strings.{scas};
-
     ghost plan = { λ row w i. scas w i row.len };
 
     #[inline(always)]

@@ -1,7 +1,7 @@
 // Near transfers.
 ghost use Rattle.std.specs.Prelude.{◌≡◌, IfErr, OnOk, false};
 ghost use Rattle.client_world.specs.Loading.{transfer_fault};
-ghost use Rattle.exec_flow.specs.Transfers.{at_operand_size, count_down, immediate, target};
+ghost use Rattle.exec_flow.specs.Transfers.{at_operand_size, call, count_down, immediate, jcc, jcxz, jmp, loop_while, ret, target};
 ghost use Rattle.guest_space.specs.Registers.{with_registers};
 ghost use Rattle.insn_plan.specs.Act.{value_of};
 ghost use Rattle.insn_plan.specs.Looks.{Clears, Shows};
@@ -59,8 +59,6 @@ pub(crate) struct Jcc {
 }
 
 impl InsnRow for Jcc {
-    ghost use Rattle.exec_flow.specs.Transfers.{jcc};
-
     ghost plan = { λ row w i. jcc w i row.condition };
 
     #[inline(always)]
@@ -80,8 +78,6 @@ impl InsnRow for Jcc {
 pub(crate) struct Jcxz;
 
 impl InsnRow for Jcxz {
-    ghost use Rattle.exec_flow.specs.Transfers.{jcxz};
-
     ghost plan = { λ row w i. jcxz w i };
 
     #[inline(always)]
@@ -111,8 +107,6 @@ pub(crate) struct Loop {
 }
 
 impl InsnRow for Loop {
-    ghost use Rattle.exec_flow.specs.Transfers.{loop_while};
-
     ghost plan = { λ row w i. loop_while row.holds w i };
 
     #[inline(always)]
@@ -136,8 +130,6 @@ impl InsnRow for Loop {
 pub(crate) struct Jmp;
 
 impl InsnRow for Jmp {
-    ghost use Rattle.exec_flow.specs.Transfers.{jmp};
-
     ghost plan = { λ row w i. jmp w i };
 
     #[inline(always)]
@@ -155,8 +147,6 @@ impl InsnRow for Jmp {
 pub(crate) struct Call;
 
 impl InsnRow for Call {
-    ghost use Rattle.exec_flow.specs.Transfers.{call};
-
     ghost plan = { λ row w i. call w i };
 
     #[inline(always)]
@@ -188,8 +178,6 @@ pub(crate) fn immediate(operand: &Operand) -> u32
 pub(crate) struct Ret;
 
 impl InsnRow for Ret {
-    ghost use Rattle.exec_flow.specs.Transfers.{ret};
-
     ghost plan = { λ row w i. ret w i };
 
     #[inline(always)]

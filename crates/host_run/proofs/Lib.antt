@@ -10,7 +10,7 @@ pub mod Nested
 mod NoTraps
 mod PoppedInterrupts
 mod RealCalls
-mod Runs
+pub mod Runs
 mod Services
 mod Touches
 mod TrapBytes

@@ -27,11 +27,12 @@ pub turns_more : (w : HostWorld) (i : ℕ) → turns w (i + 1) ≡ turn (turns w
 unfolding turns
 turns_more w i = rw add-one refl
 
-bounded_ended : (w : HostWorld) (e : Exit) → w.exit ≡ Some e → with_bound_exit w ≡ w
+-- a world with an exit keeps it at the end of a run
+pub bounded_ended : (w : HostWorld) (e : Exit) → w.exit ≡ Some e → with_bound_exit w ≡ w
 bounded_ended w e is = rw is refl
 
 -- the exit that is there
-exit_of : (o : Option Exit) → IsSome o → (e : Exit) × (o ≡ Some e)
+pub exit_of : (o : Option Exit) → IsSome o → (e : Exit) × (o ≡ Some e)
 exit_of None is = cc
 exit_of (Some e) is = (e, refl)
 

@@ -1,12 +1,12 @@
 -- A run: how it starts, one round after another, and how it ends.
-use Rattle.std.proofs.Common.{arith, ◌≡◌, ◌∙◌, ◌≤◌, ◌<◌, ◌+◌, ◌-◌, ℕ, zero, suc, false, Option, None, Some, refl, sym, ap, subst, add-zero}
-use Rattle.std.proofs.Common.{add-suc}
-use Rattle.std.proofs.Common.{add-one}
+use Rattle.std.proofs.Common.{arith, ◌≡◌, ◌∙◌, ◌≤◌, ◌<◌, ◌+◌, ◌-◌, ℕ, zero, suc, false, Some, refl, sym, ap, subst, add-zero}
+use Rattle.std.proofs.Common.{add-suc, add-one}
 use Rattle.std.specs.Prelude.{IsSome}
 use Rattle.client_world.specs.declared.outcome.Exit.{Exit}
 use Rattle.client_world.specs.WatchWorld.{WatchWorld, Watching, no_watches, host_without_watches}
 use Rattle.client_world.specs.World.{HostWorld}
 use Rattle.host_run.specs.Run.{with_bound_exit}
+use Rattle.host_run.proofs.Runs.{bounded_ended, exit_of}
 use Rattle.timer_run.specs.Rounds.{TimedWorld, round_with_timer, rounds, timed, timed_rounds, timed_run, with_new_timer}
 use Rattle.timer_run.specs.Timer.{TimerState}
 use Rattle.timer_run.proofs.RoundParts.{round_over}
@@ -48,14 +48,6 @@ rounds_past every w i n exit le is =
     subst (λ m. rounds every w m ≡ rounds every w i) split (rounds_stop every w i (n - i) exit is)
 
 -- ---- its end
-
--- the exit that is there
-exit_of : (o : Option Exit) → IsSome o → (exit : Exit) × (o ≡ Some exit)
-exit_of None some = cc
-exit_of (Some exit) some = (exit, refl)
-
-bounded_ended : (h : HostWorld) (exit : Exit) → h.exit ≡ Some exit → with_bound_exit h ≡ h
-bounded_ended h exit is = rw is refl
 
 -- a run that ends with round i + 1 is over there
 pub run_ended : (every : ℕ) (h : HostWorld) (n i : ℕ) (last : TimedWorld) → last ≡ timed_rounds every h (i + 1) → i < n →

@@ -6,6 +6,7 @@ use Rattle.client_world.specs.declared.outcome.Exit.{Exit}
 use Rattle.client_world.specs.WatchWorld.{WatchWorld}
 use Rattle.client_world.specs.World.{HostWorld}
 use Rattle.host_run.specs.Run.{with_bound_exit}
+use Rattle.host_run.proofs.Runs.{bounded_ended}
 use Rattle.watch_run.specs.Turn.{run_with_watchpoints, turn_with_watchpoints, turns_with_watchpoints}
 use Rattle.watch_run.proofs.WatchedTurns.{stays}
 
@@ -24,9 +25,6 @@ turns_past : (w : WatchWorld) (i n : ℕ) → i ≤ n → IsSome (turns_with_wat
 turns_past w i n le some =
     let split : i + (n - i) ≡ n = omega arith in
     subst (λ m. turns_with_watchpoints w m ≡ turns_with_watchpoints w i) split (turns_stop w i (n - i) some)
-
-bounded_ended : (h : HostWorld) (e : Exit) → h.exit ≡ Some e → with_bound_exit h ≡ h
-bounded_ended h e is = rw is refl
 
 -- a run that ends with turn i + 1 is over there
 pub run_ended : (w new : WatchWorld) (n i : ℕ) → new ≡ turns_with_watchpoints w (i + 1) → i < n → IsSome new.host.exit →
