@@ -1,8 +1,8 @@
 ; Counts the timer's ticks with handlers of its own, and prints the time: 18 ticks are a second, as with DOS. Between two lines it counts
 ; its rounds. Ends with 0 after five seconds. It needs the timer: dpmi run clock.exe --timer 1000.
-;     nasm -f bin clock.asm -o clock.exe                        in real mode
-;     nasm -f bin -DWIDTH=0 clock.asm -o clock16.exe            in protected mode, as a client of 16 bits
-;     nasm -f bin -DWIDTH=1 clock.asm -o clock32.exe            or of 32 bits
+;     nasm -f bin clock.asm -o clock.exe                        # in real mode
+;     nasm -f bin -DWIDTH=0 clock.asm -o clock16.exe            # in protected mode, as a client of 16 bits
+;     nasm -f bin -DWIDTH=1 clock.asm -o clock32.exe            # or of 32 bits
 %include "exe.inc"
     push cs
     pop ds

@@ -1,6 +1,7 @@
 ; Enters protected mode and prints two lines: one letter by letter with INT 21h, which the host reflects to DOS in real mode, and one with
 ; function 0300h, which calls DOS with the registers of a structure. Ends with 0.
-;     nasm -f bin -DWIDTH=0 prints.asm -o prints16.exe          nasm -f bin -DWIDTH=1 prints.asm -o prints32.exe
+;     nasm -f bin -DWIDTH=0 prints.asm -o prints16.exe
+;     nasm -f bin -DWIDTH=1 prints.asm -o prints32.exe
 %include "exe.inc"
     mov [cs:structure + 24h - code], cs     ; DS of DOS's call
     mov ax, 1687h               ; ES:DI = the entry to protected mode

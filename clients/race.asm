@@ -1,5 +1,6 @@
 ; A race over ten miles, for two clients in turns. The hare runs fast, but sleeps after six miles; the tortoise walks all the way.
-;     nasm -f bin -DHARE race.asm -o hare.exe          nasm -f bin race.asm -o tortoise.exe
+;     nasm -f bin -DHARE race.asm -o hare.exe
+;     nasm -f bin race.asm -o tortoise.exe
 %include "exe.inc"
 %ifdef HARE
     %define NAME 'Hare'
