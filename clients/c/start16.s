@@ -7,11 +7,18 @@ start:  mov     ax, cs
         mov     ds, ax
         mov     ss, ax
         mov     esp, 0xFFF0
-        mov     ax, 0x1687              # ES:DI is the entry to protected mode
+        mov     ax, 0x1687              # ES:DI is the entry to protected mode; the host needs SI paragraphs of ours
         int     0x2F
+        test    ax, ax
+        jnz     failed                  # there is no host
+        cmp     si, 0x400
+        ja      failed                  # the header asks for no more
         push    es
         push    di
         mov     bp, sp
+        mov     ax, ds                  # ES: they lie after the segment
+        add     ax, 0x1000
+        mov     es, ax
         xor     ax, ax                  # a client of 16 bits
         lcall   [bp]
         jc      failed

@@ -5,11 +5,19 @@
         .globl start
 start:  mov     ax, cs
         mov     ds, ax
-        mov     ax, 0x1687              # ES:DI is the entry to protected mode
+        mov     ax, 0x1687              # ES:DI is the entry to protected mode; the host needs SI paragraphs of ours
         int     0x2F
+        test    ax, ax
+        jnz     failed                  # there is no host
+        test    bx, 1
+        jz      failed                  # it has no clients of 32 bits
+        cmp     si, 0x400
+        ja      failed                  # the header asks for no more
         push    es
         push    di
         mov     bp, sp
+        mov     ax, offset after_stack  # ES: they lie after the stack
+        mov     es, ax
         mov     ax, 1                   # a client of 32 bits
         lcall   [bp]
         jc      failed
