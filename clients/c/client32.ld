@@ -12,6 +12,7 @@ SECTIONS
     SHORT(start - 0x740) SHORT(0) SHORT(0x1C) SHORT(0) LONG(0)               /* IP, CS */
   }
   .image 0x740 : AT(32) { image_start = .; *(.start) *(.text*) *(.rodata*) *(.data*) image_end = .; }
-  .bss (NOLOAD) : { *(.bss*) *(COMMON) . = ALIGN(16); . += 0x4000; stack_top = .; after_stack = . / 16; }
+  .bss (NOLOAD) : { *(.bss*) *(COMMON) . = ALIGN(16); . += 0x4000; stack_top = .; }
+  after_stack = ABSOLUTE(stack_top) / 16;
   /DISCARD/ : { *(.note*) *(.comment) *(.eh_frame*) }
 }

@@ -15,7 +15,7 @@ void leave(int status)
     __builtin_unreachable();
 }
 
-static u32 service(u32 ax, u32 bx, u32 cx, u32 dx)
+u32 service(u32 ax, u32 bx, u32 cx, u32 dx)
 {
     u8 carry;
     __asm__ volatile("int $0x31; setc %1" : "+a"(ax), "=qm"(carry) : "b"(bx), "c"(cx), "d"(dx) : "cc", "memory");

@@ -24,7 +24,7 @@ static int call(int number, u32 a, u32 b, u32 c, u32 d)
     return result;
 }
 
-static void leave(int status)
+void leave(int status)
 {
     call(__NR_exit, status, 0, 0, 0);
 }
