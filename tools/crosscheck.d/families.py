@@ -13,7 +13,7 @@ LEFT_OUT = {
     "TF, NT and flags above it in an image": "flags that aren't among the seven that clients see",
     "selectors of the GDT": "they are Linux's own descriptors",
     "null selectors 1 to 3, a null SS": "a return to user mode clears the selectors, and takes no null SS",
-    "page faults": "the two sides have other pages",
+    "page faults of code and of page tables": "the code lies in one piece, and the tables are Linux's own",
     "conforming and execute-only code": "function 0009h makes neither",
     "opcodes that later processors gave a meaning": "they are invalid here",
 }

@@ -30,6 +30,22 @@ void put(const void *bytes, u32 count)
         __asm__ volatile("int $0x21" : : "a"(0x0200), "d"(((const u8 *)bytes)[i]) : "cc", "memory");
 }
 
+u8 *make_data(u32 size)
+{
+    u32 ax = 0x0501, high = size >> 16, low = size & 0xFFFF, si, di;
+    u8 carry;
+    __asm__ volatile("int $0x31; setc %5" : "+a"(ax), "+b"(high), "+c"(low), "=S"(si), "=D"(di), "=qm"(carry) : : "cc", "memory");
+    if (carry)
+        leave(3);
+    return (u8 *)(high << 16 | (low & 0xFFFF));
+}
+
+/* From there on the megabyte can't be written, and has F4h in each byte. */
+u8 *read_only_page(void)
+{
+    return (u8 *)0xF0000;
+}
+
 static void catch_exceptions(void)
 {
     u32 cs;
@@ -43,9 +59,10 @@ void make_descriptors(const struct table *t, const u8 *code, u32 code_size, cons
     catch_exceptions();
     if (service(0x0000, 0, t->shapes, 0) != t->first_selector)
         leave(4);
+    const u8 *places[] = {data, code, read_only_page() - BEFORE_READ_ONLY_SIZE};
     for (u32 i = 0; i < t->shapes; i++) {
         const struct shape *s = t->shape + i;
-        u32 selector = t->first_selector + 8 * i, base = (u32)(s->is_code ? code : data) + s->base;
+        u32 selector = t->first_selector + 8 * i, base = (u32)places[s->place] + s->base;
         service(0x0007, selector, base >> 16, base & 0xFFFF);
         service(0x0008, selector, s->limit >> 16, s->limit & 0xFFFF);
         service(0x0009, selector, s->flags << 8 | s->access, 0);

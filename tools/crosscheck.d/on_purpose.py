@@ -5,7 +5,7 @@ differ.
 """
 
 GENERAL = {"edi", "esi", "ebp", "ebx", "edx", "ecx", "eax"}
-BOUNDS, STACK, PROTECTION = 0x05, 0x0C, 0x0D
+BOUNDS, STACK, PROTECTION, PAGE = 0x05, 0x0C, 0x0D, 0x0E
 
 
 def adjusts_whole_ax(text, left, right):
@@ -15,7 +15,7 @@ def adjusts_whole_ax(text, left, right):
 
 
 def operation(case):
-    return case.text.split("# ")[1] if "#" in case.text else case.text.replace(".byte 0x66; ", "").split()[0]
+    return case.text.split("# ")[1] if "#" in case.text else case.text.replace(".byte 0x66; ", "").removeprefix("lock ").split()[0]
 
 
 def width(case):
@@ -41,12 +41,12 @@ def is_aaa(case, one, two, names):
 
 
 def popa_loads_before_its_fault(case, one, two, names):
-    return operation(case) == "popa" and both(one, two, STACK) and set(names) <= GENERAL and has_stayed(case, two)
+    return operation(case) == "popa" and one.vector == two.vector in (STACK, PAGE) and set(names) <= GENERAL and has_stayed(case, two)
 
 
 def popa_passes_over_its_slot(case, one, two, names):
     """The slot of (E)SP, which isn't read, lies outside the stack's limit or across its end."""
-    if operation(case) != "popa" or one.vector != STACK or one.values["eip"] != case.eip:
+    if operation(case) != "popa" or one.vector not in (STACK, PAGE) or one.values["eip"] != case.eip:
         return False
     stack, size = case.segments["ss"], width(case) // 8
     at = (case.values["esp"] + 3 * size) % wraps_at(case)
@@ -59,33 +59,34 @@ def compare_faults_in_repetition(case, one, two, names):
 
 
 def pushes_before_its_fault(case, one, two, names):
-    return (operation(case) in ("call", "call far", "lcall", "pusha", "enter") and one.vector == two.vector in (STACK, PROTECTION)
+    return (operation(case) in ("call", "call far", "lcall", "pusha", "enter") and one.vector == two.vector in (STACK, PROTECTION, PAGE)
             and names == ["memory"] and has_stayed(case, two))
 
 
 def call_has_two_faults(case, one, two, names):
     return (operation(case) in ("call", "call far", "lcall") and set(names) <= {"vector", "error", "memory"}
-            and (one.vector, two.vector) == (STACK, PROTECTION) and has_stayed(case, two))
+            and one.vector in (STACK, PAGE) and two.vector == PROTECTION and has_stayed(case, two))
 
 
 def selector_is_popped_as_word(case, one, two, names):
-    """An item of 32 bits whose lower half, the selector, lies inside the stack's limit, and the half above it outside."""
+    """An item of 32 bits whose lower half, the selector, lies inside the stack's limit or its last page, and the half above it outside."""
     words = operation(case).split()
     above = 4 if words[0] in ("retf", "iret") else 0 if words[0] == "pop" and words[-1] in ("ds", "es", "ss", "fs", "gs") else None
-    if above is None or width(case) != 32 or two.vector != STACK:
+    if above is None or width(case) != 32 or two.vector not in (STACK, PAGE):
         return False
     stack, at = case.segments["ss"], (case.values["esp"] + above) % wraps_at(case)
     return stack.low <= at and at + 1 <= stack.high < at + 3 and has_stayed(case, two)
 
 
 def compare_has_two_faults(case, one, two, names):
-    allowed = {"vector", "flags"} if operation(case).startswith("rep") else {"vector"}
-    return ("cmps" in operation(case) and set(names) <= allowed and (one.vector, two.vector) == (PROTECTION, STACK)
+    """The source has one fault, and ES:(E)DI another."""
+    faults = {STACK, PROTECTION, PAGE}
+    return ("cmps" in operation(case) and "vector" in names and set(names) <= {"vector", "error", "flags"} and {one.vector, two.vector} <= faults
             and one.values["eip"] == two.values["eip"] == case.eip)
 
 
 def bound_tests_lower_first(case, one, two, names):
-    return operation(case) == "bound" and one.vector == BOUNDS and two.vector in (STACK, PROTECTION) and has_stayed(case, two)
+    return operation(case) == "bound" and one.vector == BOUNDS and two.vector in (STACK, PROTECTION, PAGE) and has_stayed(case, two)
 
 
 def far_pointer_wraps(case, one, two, names):
@@ -108,7 +109,7 @@ def enter_level(case):
 
 
 def enter_asks_last_stack_pointer(case, one, two, names):
-    return enter_level(case) >= 0 and one.vector == STACK != two.vector and one.values["eip"] == case.eip
+    return enter_level(case) >= 0 and one.vector in (STACK, PAGE) and one.vector != two.vector and one.values["eip"] == case.eip
 
 
 def enter_reads_frames_first(case, one, two, names):
@@ -126,12 +127,23 @@ def enter_frame_has_high_half(case, one, two, names):
             and (one_frame ^ two_frame) % 2**16 == 0 and two_frame < 2**16)
 
 
+# Operations that read their first operand and then write it; XCHG's second one may be the one in memory.
+CHANGING = {"add", "adc", "sub", "sbb", "and", "or", "xor", "inc", "dec", "neg", "not", "rol", "ror", "rcl", "rcr", "shl", "shr", "sar", "shld",
+            "shrd", "bts", "btr", "btc", "xchg"}
+
+
+def changed_operand_is_read_first(case, one, two, names):
+    """The fault of an operand in an absent page that is read and then written: a write's to the processor, a read's here."""
+    return (operation(case) in CHANGING and names == ["error"] and both(one, two, PAGE) and (one.error, two.error) == (6, 4)
+            and has_stayed(case, two))
+
+
 REASONS = {
     "adjusts_whole_ax": is_aaa,
     **{reason.__name__: reason for reason in (
         popa_loads_before_its_fault, popa_passes_over_its_slot, compare_faults_in_repetition, compare_has_two_faults,
         pushes_before_its_fault, call_has_two_faults, selector_is_popped_as_word, selector_is_its_own_code, bound_tests_lower_first,
-        far_pointer_wraps, enter_asks_last_stack_pointer, enter_reads_frames_first, enter_frame_has_operand_size, enter_frame_has_high_half)},
+        far_pointer_wraps, enter_asks_last_stack_pointer, enter_reads_frames_first, enter_frame_has_operand_size, enter_frame_has_high_half, changed_operand_is_read_first)},
 }
 
 

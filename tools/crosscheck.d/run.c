@@ -7,7 +7,7 @@
 #define DATA_SIZE 0x12000
 
 static u8 code[CODE_SIZE];
-static u32 data[DATA_SIZE / 4], before[DATA_SIZE / 4];
+static u32 *data, before[DATA_SIZE / 4];
 static struct state home, wanted;
 static struct left left;
 static int is_inside;
@@ -49,7 +49,7 @@ static void note_changed(u32 at)
             continue;
         if (left.changed++ == 0) {
             left.first_changed = i;
-            copy(left.bytes, now + i, sizeof left.bytes);
+            copy(left.bytes, now + i, i + sizeof left.bytes <= DATA_SIZE ? sizeof left.bytes : DATA_SIZE - i);
         }
         left.sum = (left.sum ^ i ^ (u32)now[i] << 24) * 16777619u;
     }
@@ -75,6 +75,8 @@ static void run(const struct test *t, const u8 *code_of_case)
         copy((u8 *)data + t->pokes[p].at, t->pokes[p].bytes, t->pokes[p].count);
         copy((u8 *)before + t->pokes[p].at, t->pokes[p].bytes, t->pokes[p].count);
     }
+    for (u32 *at = (u32 *)(read_only_page() - BEFORE_READ_ONLY_SIZE); at < (u32 *)read_only_page(); at++)
+        *at = 0;
     copy(&wanted, &t->state, sizeof wanted);
     left.changed = left.first_changed = left.sum = 0;
     for (u32 i = 0; i < sizeof left.bytes; i++)
@@ -91,6 +93,7 @@ int main(void)
     const struct test *tests = (const struct test *)(windows + table.windows);
     for (u32 i = 0; i < CODE_SIZE; i++)
         code[i] = HLT;
+    data = (u32 *)make_data(DATA_SIZE);
     for (u32 at = 0; at < DATA_SIZE / 4; at++)
         data[at] = before[at] = natural(at);
     make_descriptors(&table, code, CODE_SIZE, (const u8 *)data);

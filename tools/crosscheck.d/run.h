@@ -9,10 +9,14 @@ struct state {
     u16 cs, ss, ds, es, fs, gs;
 };
 
-/* A descriptor of the table: its base counts from the beginning of the code (where `is_code` is 1) or of the data. */
+/* Where the base of a descriptor counts from: the beginning of the data or of the code, or 2 KB below a page that can't be written. */
+enum place { IN_DATA, IN_CODE, BEFORE_READ_ONLY };
+
+#define BEFORE_READ_ONLY_SIZE 0x800
+
 struct shape {
     u32 base, limit;
-    u8 access, flags, is_code, unused;
+    u8 access, flags, place, unused;
 };
 
 /* Doublewords of the data that are compared after each case. */
@@ -49,6 +53,8 @@ extern struct table table;
 /* run.c: called by a platform at each exception, with the state that it interrupts, which it replaces */
 void trapped(struct state *now, u32 vector, u32 error);
 
-/* the platform */
+/* the platform: `size` bytes of whole pages, after which there is no page */
+u8 *make_data(u32 size);
+u8 *read_only_page(void);
 void make_descriptors(const struct table *t, const u8 *code, u32 code_size, const u8 *data);
 void put(const void *bytes, u32 count);
