@@ -7,7 +7,7 @@ use client_world::{FarPtr, Width, by_width, low_half, with_low_half};
 use guest_space::Machine;
 
 /// A register with a new value in the part that a client of that width names: the low half for 16 bits, all of it for 32. Source: DPMI 0.9,
-/// section 4.1.
+/// INT 31h, of 16-bit and 32-bit clients.
 pub fn with_by_width(width: Option<Width>, x: u32, v: u32) -> u32
     ensures { result ≡ with_by_width width x v }
 {
