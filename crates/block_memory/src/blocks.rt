@@ -48,7 +48,8 @@ fn drop_page(ram: &mut Ram, place: u32, base: u32, n: u32)
     set_block_row(ram, place, base_of_pages(base, n), n);
 }
 
-/// Adds zero pages with lock count 0 after those of a block, or makes one where there is none, until it has `to` pages. Source: own.
+/// Adds zero pages with lock count 0 after those of a block, by its handle less 1, or makes one where there is none, until it has `to`
+/// pages. Source: own.
 pub fn extend_block(ram: &mut Ram, place: u32, base: u32, from: u32, to: u32)
     requires order { from ≤ to }
     requires room { CanHoldIn ram.old place base from to }

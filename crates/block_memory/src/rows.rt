@@ -10,7 +10,7 @@ use client_world::memory_map::BLOCK_REGION;
 use guest_ram::Ram;
 
 /// Writes the row of a block, by its handle less 1: its linear address and its number of pages. Source: own.
-pub fn set_block_row(ram: &mut Ram, place: u32, base: u32, pages: u32)
+pub(crate) fn set_block_row(ram: &mut Ram, place: u32, base: u32, pages: u32)
     requires size { PAGE_SIZE * BUDGET_FRAMES ≤ length ram.old }
     requires place { place < MAX_BLOCKS }
     ensures { ram.new ≡ put (put ram.old (PAGE_SIZE * BLOCK_ROWS + BLOCK_ROW_SIZE * place) (dword_bytes base))

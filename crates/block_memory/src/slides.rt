@@ -25,7 +25,7 @@ fn vacant_start(from: u32, to: u32, n: u32) -> u32
 
 /// Moves a run of n bytes from one place to another, which may overlap, and clears what it leaves. Source: own.
 #[tactic(auto, unfolding(crate::specs::BlockSizes::after_slide))]
-pub fn slide(ram: &mut Ram, from: u32, to: u32, n: u32)
+pub(crate) fn slide(ram: &mut Ram, from: u32, to: u32, n: u32)
     requires source { from + n ≤ length ram.old }
     requires target { to + n ≤ length ram.old }
     ensures bytes { ram.new ≡ after_slide ram.old from to n }

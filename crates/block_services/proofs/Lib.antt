@@ -7,5 +7,7 @@ pub mod KeptServices
 mod PageLaws
 mod RoomLaws
 pub mod SoundServices
+mod SpanLaws
+mod SpanLists
 mod StayLaws
 mod ViewLaws

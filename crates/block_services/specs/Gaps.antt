@@ -1,5 +1,5 @@
 -- Pages of the block region that no memory block has, and handles that none has. Source: own.
-use Rattle.std.specs.Prelude.{ℕ, ◌+◌, ◌-◌, ◌*◌, ◌/◌, Bool, false, ◌&&◌, not, nat_eq, nat_lt, nat_le, is_none, List, None, Some}
+use Rattle.std.specs.Prelude.{ℕ, ◌+◌, ◌*◌, Bool, false, ◌&&◌, not, nat_eq, nat_lt, nat_le, is_none, List, None, Some}
 use Rattle.std.specs.declared.option.Option.{Option}
 use Rattle.client_world.specs.declared.blocks.BlockRow.{BlockRow}
 use Rattle.client_world.specs.declared.host_frames.TheConstants.{PAGE_SIZE}
@@ -17,11 +17,6 @@ page_address page = BLOCK_REGION + PAGE_SIZE * page
 abbrev pub overlaps : Option BlockRow → ℕ → ℕ → Bool
 overlaps None base pages = false
 overlaps (Some row) base pages = nat_lt row.base (base + PAGE_SIZE * pages) && nat_lt base (row.base + PAGE_SIZE * row.pages)
-
--- the page after a block's last one, counted from the start of the block region
-abbrev pub page_after : Option BlockRow → ℕ
-page_after None = 0
-page_after (Some row) = (row.base - BLOCK_REGION) / PAGE_SIZE + row.pages
 
 -- the block of a handle other than `own` overlaps a run of pages
 abbrev pub is_in_way : List (Option MemoryBlock) → ℕ → ℕ → ℕ → ℕ → Bool

@@ -2,3 +2,4 @@ pub mod Free
 pub mod Gaps
 pub mod Pages
 pub mod Rows
+pub mod Spans

@@ -37,8 +37,9 @@ fn ask(m: &mut Machine, ax: u16) -> Result<(), Refusal>
     }
 }
 
-/// Serves a function of INT 31h on memory blocks, for a client in protected mode. Source: DPMI 0.9, INT 31h functions 0500h to 0503h, 0600h
-/// to 0604h, 0702h and 0703h.
+/// Serves a function of INT 31h on memory blocks, for a client in protected mode. Where it refuses, the carry is set, AX is the number of
+/// the first reason that applies, and nothing else changes. A number that isn't one of these sets the carry and changes nothing. Source:
+/// DPMI 0.9, INT 31h functions 0500h to 0503h, 0600h to 0604h, 0702h and 0703h.
 #[tactic(auto, using(service_rows::proofs::WidthLaws::protected_width), unfolding(crate::specs::Rows::block_service))]
 pub fn serve(m: &mut Machine, ax: u16) -> Carry
     requires { m.old.world.mode ≡ protected }

@@ -7,26 +7,18 @@ ghost use Rattle.block_services.specs.Free.{free_table, largest_new_block};
 ghost use Rattle.block_services.specs.Rows.{free_memory_information};
 
 use crate::blocks::free_pages;
-use crate::gaps::first_gap;
+use crate::gaps::widest_gap;
 use client_world::host_frames::PAGE_SIZE;
 use client_world::memory_map::BLOCK_REGION_PAGES;
-use guest_space::Machine;
+use guest_space::{Machine, dword_bytes};
 use service_rows::{Refusal, es_di};
 
 // The greatest number of pages, up to a limit, for which a new block would find a free run.
 fn largest_new_block(m: &Machine, most: u32) -> u32
-    requires { most ≤ MAX_PAGES }
     ensures pages { result ≡ largest_new_block m.now.world.blocks most }
     ensures most { result ≤ most }
 {
-    let mut pages = most;
-    'down: while pages > 0 {
-        match first_gap(m, pages) {
-            Ok(_) => return pages,
-            Err(_) => pages -= 1,
-        }
-    }
-    pages
+    most.min(widest_gap(m))
 }
 
 // Writes a doubleword into a table, least significant byte first.
@@ -34,10 +26,11 @@ fn put_dword(table: &mut [u8; 48], at: usize, v: u32)
     requires { at + 4 ≤ 48 }
     ensures { table.new ≡ put table.old at (dword_bytes (v % 0x100000000)) }
 {
-    table[at] = (v % 0x100) as u8;
-    table[at + 1] = (v / 0x100 % 0x100) as u8;
-    table[at + 2] = (v / 0x1_0000 % 0x100) as u8;
-    table[at + 3] = (v / 0x100_0000) as u8;
+    let [first, second, third, fourth] = dword_bytes(v);
+    table[at] = first;
+    table[at + 1] = second;
+    table[at + 2] = third;
+    table[at + 3] = fourth;
 }
 
 // The table of what is free.

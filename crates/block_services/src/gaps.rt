@@ -1,5 +1,5 @@
 // Pages of the block region that no memory block has, and handles that none has.
-ghost use Rattle.std.specs.Prelude.{◌≡◌, ◌≤◌, ◌<◌, ◌+◌, ◌*◌, ◌%◌, ◌^◌, IfSome, MatchResult, None, Some};
+ghost use Rattle.std.specs.Prelude.{◌≡◌, ◌≤◌, ◌<◌, ◌+◌, ◌*◌, ◌%◌, ◌^◌, ℕ, min, IfSome, MatchResult, None, Some};
 ghost use Rattle.client_world.specs.declared.host_frames.TheConstants.{PAGE_SIZE};
 ghost use Rattle.client_world.specs.declared.limits.TheConstants.{MAX_BLOCKS, MAX_PAGES};
 ghost use Rattle.client_world.specs.declared.memory_map.TheConstants.{BLOCK_REGION, BLOCK_REGION_END, BLOCK_REGION_PAGES};
@@ -8,8 +8,10 @@ ghost use Rattle.client_world.specs.World.{block_at, base_of_block};
 ghost use Rattle.block_memory.specs.BlockSizes.{row_seen};
 ghost use Rattle.service_rows.specs.declared.refusal.Refusal.TheVariants.{LinearMemoryUnavailable as no_gap};
 ghost use Rattle.service_rows.specs.declared.refusal.Refusal.TheVariants.{HandleUnavailable as no_handle};
-ghost use Rattle.block_services.specs.Gaps.{block_in_way, first_gap, is_gap, is_in_way, lowest_handle, overlaps, page_address, page_after};
+ghost use Rattle.block_services.specs.Free.{largest_new_block};
+ghost use Rattle.block_services.specs.Gaps.{block_in_way, first_gap, is_gap, is_in_way, lowest_handle, overlaps, page_address};
 
+use crate::spans::spans_by_address;
 use client_world::BlockRow;
 use client_world::host_frames::PAGE_SIZE;
 use client_world::limits::MAX_BLOCKS;
@@ -76,17 +78,6 @@ pub(crate) fn is_gap(m: &Machine, own: u32, base: u32, pages: u32) -> bool
     base + PAGE_SIZE * pages <= BLOCK_REGION_END && block_in_way(m, own, base, pages).is_none()
 }
 
-// The page after a block's last one, counted from the start of the block region.
-fn page_after(row: Option<BlockRow>) -> u32
-    requires row { IfSome row (λ row. row.base + PAGE_SIZE * row.pages ≤ BLOCK_REGION_END) }
-    ensures { result ≡ page_after row }
-{
-    match row {
-        Some(row) => row.base.saturating_sub(BLOCK_REGION) / PAGE_SIZE + row.pages,
-        None => 0,
-    }
-}
-
 /// The linear address of a page of the block region.
 pub(crate) fn page_address(page: u32) -> u32
     requires { page ≤ BLOCK_REGION_PAGES }
@@ -95,7 +86,7 @@ pub(crate) fn page_address(page: u32) -> u32
     BLOCK_REGION + PAGE_SIZE * page
 }
 
-/// The first page of the block region from which that many pages belong to no block.
+/// The first page of the block region from which that many pages belong to no block, or `LinearMemoryUnavailable` where there is none.
 pub(crate) fn first_gap(m: &Machine, pages: u32) -> Result<u32, Refusal>
     requires some { 0 < pages }
     requires few { pages ≤ BLOCK_REGION_PAGES + MAX_PAGES }
@@ -104,14 +95,35 @@ pub(crate) fn first_gap(m: &Machine, pages: u32) -> Result<u32, Refusal>
         (λ refusal. (first_gap m.now.world.blocks pages ≡ None) × (refusal ≡ no_gap)) }
 {
     m.soundness();
+    let sorted = spans_by_address(m);
+    let spans = sorted.as_slice();
     let mut page = 0;
-    'pages: while page + pages <= BLOCK_REGION_PAGES {
-        match block_in_way(m, 0, page_address(page), pages) {
-            Some(handle) => page = page_after(row_of(m, handle)),
-            None => return Ok(page),
+    for span in spans {
+        if page + pages <= span.first {
+            return Ok(page);
         }
+        page = page.max(span.after);
+    }
+    if page + pages <= BLOCK_REGION_PAGES {
+        return Ok(page);
     }
     Err(Refusal::LinearMemoryUnavailable)
+}
+
+/// The greatest number of pages in a row that belong to no block. A new block of up to as many finds a place, and no larger one.
+pub(crate) fn widest_gap(m: &Machine) -> u32
+    ensures { (most : ℕ) → largest_new_block m.now.world.blocks most ≡ min most result }
+{
+    m.soundness();
+    let sorted = spans_by_address(m);
+    let spans = sorted.as_slice();
+    let mut page = 0;
+    let mut widest: u32 = 0;
+    for span in spans {
+        widest = widest.max(span.first.saturating_sub(page));
+        page = page.max(span.after);
+    }
+    widest.max(BLOCK_REGION_PAGES - page)
 }
 
 /// The lowest handle that isn't held.

@@ -12,6 +12,7 @@ mod gaps;
 mod laws;
 mod pages;
 mod regions;
+mod spans;
 
 pub use dispatch::serve;
 pub use laws::{

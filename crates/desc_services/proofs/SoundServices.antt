@@ -7,6 +7,7 @@ use Rattle.client_world.specs.declared.descriptors.Desc.{Desc}
 use Rattle.client_world.specs.declared.descriptors.Origin.{Origin}
 use Rattle.client_world.specs.declared.descriptors.Origin.TheVariants.{Own, Segment}
 use Rattle.client_world.specs.declared.host_frames.TheConstants.{FIRST_FREE_DESCRIPTOR}
+use Rattle.client_world.specs.declared.memory_map.TheConstants.{PARAGRAPH_SIZE}
 use Rattle.client_world.specs.declared.registers.Mode.TheVariants.{Protected}
 use Rattle.client_world.specs.Descriptor.{FitsDescriptor}
 use Rattle.client_world.specs.FreeRuns.{IsFreeRunOf}
@@ -155,8 +156,8 @@ sound_segment_made : (w : World) (o : Option ℕ) → IsSound w → w.width ≢ 
 sound_segment_made w None s width e none = s
 sound_segment_made w (Some first) s width e none =
     let run = free_run_of w.descriptors 1 first e in
-    sound_ax (with_row first (Some (data_at (bx w * 16) 0xFFFF, Segment (bx w))) w) _
-    (may_make_segment_at w first (data_at (bx w * 16) 0xFFFF) (bx w) s width none run.0 run.1
+    sound_ax (with_row first (Some (data_at (bx w * PARAGRAPH_SIZE) 0xFFFF, Segment (bx w))) w) _
+    (may_make_segment_at w first (data_at (bx w * PARAGRAPH_SIZE) 0xFFFF) (bx w) s width none run.0 run.1
     (record { base = omega arith; limit = omega arith })).sound
 
 sound_segment : (w : World) (o : Option ℕ) → IsSound w → w.width ≢ None → segment_index w.descriptors (bx w) ≡ o →

@@ -6,6 +6,7 @@ use Rattle.client_world.specs.declared.descriptors.Desc.{Desc}
 use Rattle.client_world.specs.declared.descriptors.Origin.{Origin}
 use Rattle.client_world.specs.declared.descriptors.Origin.TheVariants.{Own, Low, Entry, Psp, Segment, Dos, Host}
 use Rattle.client_world.specs.declared.host_frames.TheConstants.{DESCRIPTORS}
+use Rattle.client_world.specs.declared.memory_map.TheConstants.{PARAGRAPH_SIZE}
 use Rattle.client_world.specs.Access.{is_reachable}
 use Rattle.client_world.specs.Descriptor.{is_code, packed}
 use Rattle.client_world.specs.Registers.{has_bit, high_byte, low_byte, with_low_half}
@@ -91,7 +92,7 @@ segment_index rows segment = first_index (λ index. is_segment_row (row_at_index
 abbrev pub with_new_segment : Option ℕ → World → World
 with_new_segment None w = w
 with_new_segment (Some first) w =
-    with_ax (selector_of first) (with_row first (Some (data_at (bx w * 16) 0xFFFF, Segment (bx w))) w)
+    with_ax (selector_of first) (with_row first (Some (data_at (bx w * PARAGRAPH_SIZE) 0xFFFF, Segment (bx w))) w)
 
 -- the descriptor that there is, or a new one
 abbrev pub with_segment : Option ℕ → World → World

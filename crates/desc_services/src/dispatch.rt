@@ -39,7 +39,9 @@ fn ask(m: &mut Machine, ax: u16) -> Result<(), Refusal>
     }
 }
 
-/// Serves a function of INT 31h on descriptors, for a client in protected mode. Source: DPMI 0.9, INT 31h functions 0000h to 000Dh.
+/// Serves a function of INT 31h on descriptors, for a client in protected mode. Where it refuses, the carry is set, AX is the number of the
+/// first reason that applies, and nothing else changes. A number that isn't one of these sets the carry and changes nothing. Source: DPMI
+/// 0.9, INT 31h functions 0000h to 000Dh.
 #[tactic(auto, using(service_rows::proofs::WidthLaws::protected_width), unfolding(crate::specs::Rows::descriptor_service))]
 pub fn serve(m: &mut Machine, ax: u16) -> Carry
     requires { m.old.world.mode ≡ protected }

@@ -1,12 +1,11 @@
 // The limit and the access rights of a descriptor.
 ghost use Rattle.std.specs.Prelude.{◌≡◌, ◌<◌, ◌^◌};
-ghost use Rattle.client_world.specs.Registers.{has_bit};
-ghost use Rattle.desc_table.specs.Unpacked.{is_access_byte, kind_of};
 ghost use Rattle.service_rows.specs.Reasons.{Does};
 ghost use Rattle.desc_services.specs.Rows.{is_no_limit, desc_with_limit, set_segment_limit, set_access_rights};
 
 use crate::selector::{change, changeable};
-use client_world::{Desc, Kind, high_byte, low_byte, low_half, two_words};
+use client_world::{Desc, high_byte, low_byte, low_half, two_words};
+use desc_table::{is_access_byte, is_set, kind_of};
 use guest_space::Machine;
 use service_rows::Refusal;
 
@@ -49,35 +48,6 @@ pub(crate) fn set_segment_limit(m: &mut Machine) -> Result<(), Refusal>
     Ok(())
 }
 
-// Whether the bit of that value is set.
-fn is_set(byte: u8, bit: u8) -> bool
-    requires { 0 < bit }
-    ensures { result ≡ has_bit byte bit }
-{
-    byte / bit % 2 == 1
-}
-
-// Whether it is the access byte of data or of readable code that doesn't conform, with DPL 3.
-fn is_access(byte: u8) -> bool
-    ensures { result ≡ is_access_byte byte }
-{
-    byte / 0x10 % 8 == 7 && (!is_set(byte, 8) || (!is_set(byte, 4) && is_set(byte, 2)))
-}
-
-// What a segment with that access byte holds.
-fn kind(byte: u8) -> Kind
-    ensures { result ≡ kind_of byte }
-{
-    if is_set(byte, 8) {
-        Kind::Code
-    } else {
-        Kind::Data {
-            writable: is_set(byte, 2),
-            down: is_set(byte, 4),
-        }
-    }
-}
-
 /// Function 0009h: CL is the access byte of BX, and CH has G, D/B and AVL.
 #[tactic(auto, unfolding(crate::specs::Rows::set_access_rights))]
 pub(crate) fn set_access_rights(m: &mut Machine) -> Result<(), Refusal>
@@ -88,14 +58,14 @@ pub(crate) fn set_access_rights(m: &mut Machine) -> Result<(), Refusal>
     let (mut d, origin) = changeable(m, sel)?;
     let access = low_byte(r.ecx);
     let flags = high_byte(r.ecx);
-    if !is_access(access) || is_set(flags, 0x20) {
+    if !is_access_byte(access) || is_set(flags, 0x20) {
         return Err(Refusal::InvalidValue);
     }
     d.gran = is_set(flags, 0x80);
     d.size = is_set(flags, 0x40);
     d.avl = is_set(flags, 0x10);
     d.present = is_set(access, 0x80);
-    d.kind = kind(access);
+    d.kind = kind_of(access);
     change(m, sel, origin, d);
     Ok(())
 }

@@ -14,13 +14,13 @@ use client_world::{Desc, Origin, low_half};
 use guest_space::Machine;
 use service_rows::{Refusal, data_at, set_ax};
 
-/// The first of n free indices, from 64 on.
+/// The first of n free indices, from 64 on, or `DescriptorUnavailable` where there is no such run.
 pub(crate) fn first_free(m: &Machine, n: u16) -> Result<u16, Refusal>
     ensures { MatchResult result
         (λ first. (first_free_run m.now.world.descriptors n ≡ Some first) × (IsFirstFreeRunOf m.now.world.descriptors first n))
         (λ refusal. (first_free_run m.now.world.descriptors n ≡ None) × (refusal ≡ unavailable)) }
 {
-    match m.free_descs(n) {
+    match service_rows::first_free(m, n) {
         Some(first) => Ok(first),
         None => Err(Refusal::DescriptorUnavailable),
     }

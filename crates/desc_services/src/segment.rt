@@ -7,6 +7,7 @@ ghost use Rattle.desc_services.specs.Rows.{is_segment_origin, is_segment_row, se
 use crate::runs::first_free;
 use crate::selector::put;
 use client_world::host_frames::DESCRIPTORS;
+use client_world::memory_map::PARAGRAPH_SIZE;
 use client_world::selectors::selector_of;
 use client_world::{Desc, Origin, low_half};
 use guest_space::Machine;
@@ -58,7 +59,7 @@ pub(crate) fn segment_to_descriptor(m: &mut Machine) -> Result<(), Refusal>
         None => {
             let first = first_free(m, 1)?;
             m.soundness();
-            let d = data_at(u32::from(segment) * 16, 0xFFFF);
+            let d = data_at(u32::from(segment) * PARAGRAPH_SIZE, 0xFFFF);
             put(m, first, Some((d, Origin::Segment(segment))));
             first
         }

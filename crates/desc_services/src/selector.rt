@@ -60,8 +60,7 @@ pub(crate) fn put(m: &mut Machine, index: u16, row: Option<(Desc, Origin)>)
     m.set_desc(index, row);
 }
 
-/// Gives a descriptor that the client may change other fields.
-
+/// Gives other fields to a descriptor that the client may change.
 pub(crate) fn change(m: &mut Machine, sel: u16, origin: Origin, d: Desc)
     requires held { (old : Desc) × (desc_of m.old.world sel ≡ Some (old, origin)) }
     requires changeable { is_changeable_origin origin ≡ true }

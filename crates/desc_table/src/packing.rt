@@ -42,8 +42,9 @@ fn weight(flag: bool, bit: u8) -> u8
     if flag { bit } else { 0 }
 }
 
-// Whether the bit of that value is set.
-fn is_set(byte: u8, bit: u8) -> bool
+/// Whether the bit of that value is set in a byte of a descriptor.
+/// Source: 80386 Programmer's Reference Manual, ch. 5, "Descriptors".
+pub fn is_set(byte: u8, bit: u8) -> bool
     requires { 0 < bit }
     ensures { result ≡ has_bit byte bit }
 {
@@ -98,16 +99,18 @@ pub fn pack(d: &Desc) -> [u8; 8]
     ]
 }
 
-// Whether it is the access byte of data or of readable code that doesn't conform, with DPL 3.
-fn is_access(byte: u8) -> bool
+/// Whether it is the access byte of data or of readable code that doesn't conform, with DPL 3.
+/// Source: 80386 Programmer's Reference Manual, ch. 6, "Type Checking"; which of them are taken is own.
+pub fn is_access_byte(byte: u8) -> bool
     ensures { result ≡ is_access_byte byte }
 {
     byte / 0x10 % 8 == 7
         && (!is_set(byte, EXECUTABLE) || (!is_set(byte, CONFORMING) && is_set(byte, READABLE)))
 }
 
-// What a segment with that access byte holds.
-fn kind(byte: u8) -> Kind
+/// What a segment with that access byte holds: data, or readable code that doesn't conform.
+/// Source: 80386 Programmer's Reference Manual, ch. 6, "Type Checking", table 6-1.
+pub fn kind_of(byte: u8) -> Kind
     ensures { result ≡ kind_of byte }
 {
     if is_set(byte, EXECUTABLE) {
@@ -134,7 +137,7 @@ fn describe(b: &[u8; 8]) -> Desc
         size: is_set(b[6], SIZE),
         avl: is_set(b[6], AVAILABLE),
         present: is_set(b[5], PRESENT),
-        kind: kind(b[5]),
+        kind: kind_of(b[5]),
     }
 }
 
@@ -148,14 +151,14 @@ pub fn unpack(b: &[u8; 8]) -> Option<Desc>
     ensures packs { IfSome result (λ d. Packs d (with_accessed b.now)) }
     ensures fits { IfSome result FitsDescriptor }
 {
-    if is_access(b[5]) && !is_set(b[6], RESERVED) {
+    if is_access_byte(b[5]) && !is_set(b[6], RESERVED) {
         Some(describe(b))
     } else {
         None
     }
 }
 
-/// A descriptor that was packed is unpacked again, so eight bytes are those of one descriptor at most.
+/// A descriptor that was packed is unpacked again, so eight bytes are those of one descriptor at most. Source: own.
 pub fn a_packed_descriptor_is_unpacked()
     ensures again { (d : Desc) → d.limit < 2 ^ 20 → unpacked (packed d) 0 ≡ Some d }
     ensures one { (d e : Desc) (b : List ℕ) → d.limit < 2 ^ 20 → e.limit < 2 ^ 20 →

@@ -10,4 +10,5 @@ pub mod RunPuts
 pub mod BlockRuns
 pub mod OneStep
 pub mod ServiceLaws
+pub mod RefusedServices
 pub mod NamedLaws

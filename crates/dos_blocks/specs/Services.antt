@@ -12,13 +12,11 @@ use Rattle.client_world.specs.Selector.{Row, index_of, is_local, row_at_index, s
 use Rattle.client_world.specs.Services.{Served, bx, dx}
 use Rattle.client_world.specs.Soundness.{descriptors_for}
 use Rattle.client_world.specs.World.{World}
-use Rattle.service_rows.specs.Rows.{with_ax}
+use Rattle.service_rows.specs.Rows.{with_ax, with_bx}
 use Rattle.service_rows.specs.FreeRun.{first_free_run}
+use Rattle.dos_blocks.specs.declared.services.TheConstants.{NO_MEMORY, WRONG_BLOCK}
 use Rattle.dos_blocks.specs.Blocks.{Done, allocation_result, entry_of_place, free_result, has_room_to_grow, is_of_segment, largest}
 use Rattle.dos_blocks.specs.Blocks.{place_of_block, greatest_size, resize_result, run_of_block, segment_of_row}
-
-abbrev pub with_bx : ℕ → World → World
-with_bx v w = record w { regs = record w.regs { ebx = with_low_half w.regs.ebx v } }
 
 abbrev pub with_dx : ℕ → World → World
 with_dx v w = record w { regs = record w.regs { edx = with_low_half w.regs.edx v } }
@@ -99,8 +97,8 @@ resize_dos_block w = resize_result_of_segment (bx w) (index_of (dx w)) (segment_
 
 -- a refusal has its number in AX; where memory is short, BX is the most that there could be
 abbrev pub with_refusal : DosRefusal → World → World
-with_refusal (NoMemory most) w = with_ax 8 (with_bx most w)
-with_refusal WrongBlock w = with_ax 9 w
+with_refusal (NoMemory most) w = with_ax NO_MEMORY (with_bx most w)
+with_refusal WrongBlock w = with_ax WRONG_BLOCK w
 
 unfoldable pub served_result : Done (Unit {0}) → Served
 served_result done = elim done.answer [

@@ -43,8 +43,8 @@ pub(crate) fn split(for_dpmi: bool, at: u16, n: u16, paras: u16) -> ArrayVec<Dos
 }
 
 /// Allocates a block of `paras` paragraphs and returns its segment, or `NoMemory` with the largest free size where no entry has room; then
-/// nothing changes. With `for_dpmi` the block gets descriptors too, in the first free run. Source: MS-DOS function 48h, INT 31h function
-/// 0100h.
+/// nothing changes. With `for_dpmi` the block gets descriptors too, in the first free run. Source: MS-DOS Programmer's Reference, function
+/// 48h; DPMI 0.9, INT 31h function 0100h.
 #[tactic(auto, unfolding(crate::specs::Blocks::allocation_result))]
 pub fn dos_alloc(m: &mut Machine, paras: u16, for_dpmi: bool) -> Result<u16, DosRefusal>
     requires { for_dpmi ≡ true → CanAllocate m.old.world paras }

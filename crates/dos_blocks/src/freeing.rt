@@ -34,7 +34,7 @@ pub(crate) fn joined_entry(m: &Machine, place: u16) -> DosEntry
 }
 
 /// Frees the block at a segment, and with `for_dpmi` its descriptors. `WrongBlock` where no block of that kind starts there; then nothing
-/// changes. Source: MS-DOS function 49h, INT 31h function 0101h.
+/// changes. Source: MS-DOS Programmer's Reference, function 49h; DPMI 0.9, INT 31h function 0101h.
 #[tactic(auto, unfolding(crate::specs::Blocks::free_result))]
 pub fn dos_free(m: &mut Machine, seg: u16, for_dpmi: bool) -> Result<(), DosRefusal>
     requires { for_dpmi ≡ true → m.old.world.width ≢ None }

@@ -2,24 +2,26 @@
 ghost use Rattle.std.specs.Prelude.{ℕ, ◌≡◌, ◌↔◌, ◌+◌, ◌<◌, ◌≤◌, ◌⊎◌, true, List, length, Some, Ok};
 ghost use Rattle.client_world.specs.declared.dos_memory.DosRun.{DosRun};
 ghost use Rattle.client_world.specs.declared.registers.Mode.TheVariants.{Protected as protected};
+ghost use Rattle.client_world.specs.declared.services.Carry.TheVariants.{Set as set};
 ghost use Rattle.client_world.specs.DosMemory.{block_segment, is_dpmi};
 ghost use Rattle.client_world.specs.Selector.{Row, row_at_index};
 ghost use Rattle.client_world.specs.Services.{bx, dx};
 ghost use Rattle.client_world.specs.Soundness.{IsSound};
 ghost use Rattle.client_world.specs.World.{World};
 ghost use Rattle.guest_space.specs.DosRuns.{dos_row, with_dos_rows};
+ghost use Rattle.service_rows.specs.Reasons.{HasOtherAxAndBx};
 ghost use Rattle.dos_blocks.specs.Blocks.{entry_of_place};
 ghost use Rattle.dos_blocks.specs.Named.{HasNewBlock, LosesDescriptors, NamesBlock};
 ghost use Rattle.dos_blocks.specs.Services.{allocate_dos_block, dos_service, free_dos_block, place_of_selector};
 
 /// A service leads from a sound world of protected mode to a sound one: of the descriptors of DOS blocks, each belongs to a block, and a
-/// block has one for each 64 KB, in a row.
+/// block has one for each 64 KB, in a row. Source: own.
 #[tactic(auto, using(crate::proofs::ServiceLaws::sound_service))]
 pub fn every_dos_service_is_sound()
     ensures { (ax : ℕ) (w : World) → IsSound w → w.mode ≡ protected → IsSound (dos_service ax w).world }
 {}
 
-/// A service changes registers, the megabyte, the arena and descriptors alone.
+/// A service changes registers, the megabyte, the arena and descriptors alone. Source: own.
 #[tactic(auto, using(crate::proofs::ServiceLaws::kept_service))]
 pub fn every_dos_service_keeps_the_rest()
     ensures { (ax : ℕ) (w : World) → (dos_service ax w).world ≡ record w {
@@ -30,7 +32,13 @@ pub fn every_dos_service_keeps_the_rest()
     } }
 {}
 
-/// The descriptors of a block lie in a row, each for its 64 KB, and no other descriptor changes.
+/// A service that is refused changes AX and BX alone. Source: own.
+#[tactic(auto, using(crate::proofs::RefusedServices::refused_service))]
+pub fn every_refused_dos_service_changes_ax_and_bx_alone()
+    ensures { (ax : ℕ) (w : World) → (dos_service ax w).carry ≡ set → HasOtherAxAndBx w (dos_service ax w).world }
+{}
+
+/// The descriptors of a block lie in a row, each for its 64 KB, and no other descriptor changes. Source: DPMI 0.9, INT 31h function 0100h.
 #[tactic(auto, using(guest_space::proofs::DosRows::row_inside, guest_space::proofs::DosRows::row_outside))]
 pub fn the_descriptors_of_a_block_lie_in_a_row()
     ensures inside { (rows : List Row) (run : DosRun) (n j : ℕ) → run.first + n ≤ length rows → j < n →
@@ -39,8 +47,8 @@ pub fn the_descriptors_of_a_block_lie_in_a_row()
         row_at_index (with_dos_rows rows run n) index ≡ row_at_index rows index }
 {}
 
-/// Functions 0101h and 0102h find the block that a selector names, and no other: each block has one such selector, that of its first
-/// descriptor.
+/// Functions 0101h and 0102h find the block that a selector names, and no other. Each block has a selector that names it: that of its first
+/// descriptor, with any privilege level. Source: own.
 #[tactic(auto, using(crate::proofs::NamedLaws::each_named))]
 pub fn a_selector_finds_the_block_that_it_names()
     ensures found { (w : World) (sel place : ℕ) → IsSound w → ((place_of_selector w sel ≡ Some place) ↔ NamesBlock w sel place) }
@@ -48,12 +56,13 @@ pub fn a_selector_finds_the_block_that_it_names()
         (sel : ℕ) × NamesBlock w sel place }
 {}
 
-/// After function 0100h has made a block, the selector in DX names it, and AX is its segment.
+/// After function 0100h has made a block, the selector in DX names it, and AX is its segment. Source: DPMI 0.9, INT 31h function 0100h.
 pub fn a_block_that_is_made_is_named_by_its_first_selector()
     ensures { (w : World) → IsSound w → (allocate_dos_block w).answer ≡ Ok tt → HasNewBlock (allocate_dos_block w).world (bx w) }
 {}
 
-/// Function 0101h frees the block that DX names with all its descriptors, and no other descriptor.
+/// Function 0101h frees the block that DX names with all its descriptors, and no other descriptor. Source: DPMI 0.9, INT 31h function
+/// 0101h.
 #[tactic(auto, using(crate::proofs::NamedLaws::freed_answer, crate::proofs::NamedLaws::freed_block))]
 pub fn a_block_that_is_freed_loses_its_descriptors()
     ensures answer { (w : World) (place : ℕ) → IsSound w → NamesBlock w (dx w) place → (free_dos_block w).answer ≡ Ok tt }

@@ -3,10 +3,11 @@ ghost use Rattle.std.specs.Prelude.{◌≡◌};
 ghost use Rattle.dos_blocks.specs.Blocks.{first_descriptor, new_descriptor, with_block};
 ghost use Rattle.dos_blocks.specs.Puts.{CanPutBlock};
 
-use crate::selectors::{descriptor_of_block, first_free};
+use crate::selectors::descriptor_of_block;
 use arrayvec::ArrayVec;
 use client_world::{DosEntry, DosRun};
 use guest_space::{Machine, descriptors_for};
+use service_rows::first_free;
 
 /// Puts entries in place of others, and for a block of INT 31h function 0100h its run of descriptors.
 pub(crate) fn put_block(

@@ -1,17 +1,42 @@
 // A block is resized.
-ghost use Rattle.std.specs.Prelude.{◌≡◌, true, OnErr};
+ghost use Rattle.std.specs.Prelude.{◌≡◌, ◌≢◌, true, None, OnErr};
+ghost use Rattle.std.specs.Bool.{OnTrue};
 ghost use Rattle.dos_blocks.specs.Blocks.{CanResize, resize_result};
 
 use crate::allocating::split;
 use crate::finding::place_of_block;
 use crate::neighbours::{free_entries_after, room_after};
 use crate::putting::{first_descriptor, put_block};
+use crate::selectors::has_room_to_grow;
 use client_world::{DosRefusal, DosRun};
 use guest_space::Machine;
 
+/// Whether `dos_resize` can be asked to give the block of INT 31h function 0100h at a segment that size: it isn't 0, and the descriptors that
+/// the block would need besides are free. Source: own.
+pub fn can_resize(m: &Machine, seg: u16, paras: u16) -> bool
+    requires { m.now.world.width ≢ None }
+    ensures { OnTrue result (CanResize m.now.world seg paras) }
+{
+    if paras == 0 {
+        return false;
+    }
+    let Some(place) = place_of_block(m, true, seg) else {
+        return true;
+    };
+    let entry = m.arena(place);
+    let after = paras;
+    let run = DosRun {
+        seg: entry.at + 1,
+        first: first_descriptor(m, true, seg),
+        before: entry.paras,
+        after,
+    };
+    has_room_to_grow(m, run)
+}
+
 /// Resizes the block at a segment to `paras` paragraphs in place, and with `for_dpmi` gives it the descriptors of that size. `WrongBlock`
-/// where no block of that kind starts there, `NoMemory` with the largest size where it can't have that many; then nothing changes.
-/// Source: MS-DOS function 4Ah, INT 31h function 0102h.
+/// where no block of that kind starts there, `NoMemory` with the largest size where it can't have that many; then nothing changes. Source:
+/// MS-DOS Programmer's Reference, function 4Ah; DPMI 0.9, INT 31h function 0102h.
 #[tactic(auto, unfolding(crate::specs::Blocks::resize_result))]
 pub fn dos_resize(m: &mut Machine, seg: u16, paras: u16, for_dpmi: bool) -> Result<(), DosRefusal>
     requires { for_dpmi ≡ true → CanResize m.old.world seg paras }

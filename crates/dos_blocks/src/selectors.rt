@@ -1,16 +1,15 @@
 // The block whose first descriptor a selector names, and runs of descriptors that are free.
-ghost use Rattle.std.specs.Prelude.{◌≡◌, ◌<◌, IfSome};
+ghost use Rattle.std.specs.Prelude.{◌≡◌, ◌<◌};
 ghost use Rattle.client_world.specs.declared.host_frames.TheConstants.{DESCRIPTORS};
-ghost use Rattle.client_world.specs.FreeRuns.{IsFirstFreeRunOf};
 ghost use Rattle.client_world.specs.Selector.{row_at_index};
-ghost use Rattle.service_rows.specs.FreeRun.{first_free_run, is_free_run};
-ghost use Rattle.dos_blocks.specs.Blocks.{descriptor_of_block, is_of_segment, segment_of_origin, segment_of_row};
+ghost use Rattle.service_rows.specs.FreeRun.{is_free_run};
+ghost use Rattle.dos_blocks.specs.Blocks.{descriptor_of_block, has_room_to_grow, is_of_segment, segment_of_origin, segment_of_row};
 ghost use Rattle.dos_blocks.specs.Services.{segment_of_selector};
 
 use client_world::host_frames::DESCRIPTORS;
 use client_world::selectors::{index_of, is_local};
-use client_world::{Desc, Origin};
-use guest_space::Machine;
+use client_world::{Desc, DosRun, Origin};
+use guest_space::{Machine, descriptors_for};
 
 // The segment of the block to which descriptors of this origin belong.
 fn segment_of_origin(origin: Origin) -> Option<u16>
@@ -76,14 +75,6 @@ pub(crate) fn descriptor_of_block(m: &Machine, segment: u16) -> Option<u16>
     None
 }
 
-/// The first of n free indices, from 64 on.
-pub(crate) fn first_free(m: &Machine, n: u16) -> Option<u16>
-    ensures found { result ≡ first_free_run m.now.world.descriptors n }
-    ensures first { IfSome result (λ first. IsFirstFreeRunOf m.now.world.descriptors first n) }
-{
-    m.free_descs(n)
-}
-
 /// Whether n indices from one on are in the table, and free.
 pub(crate) fn is_free_run(m: &Machine, first: u32, n: u16) -> bool
     ensures { result ≡ is_free_run m.now.world.descriptors first n }
@@ -97,4 +88,13 @@ pub(crate) fn is_free_run(m: &Machine, first: u32, n: u16) -> bool
         }
     }
     true
+}
+
+/// Whether the descriptors that a run adds are free.
+pub(crate) fn has_room_to_grow(m: &Machine, run: DosRun) -> bool
+    ensures { result ≡ has_room_to_grow m.now.world.descriptors run }
+{
+    let before = descriptors_for(run.before);
+    let added = descriptors_for(run.after).saturating_sub(before);
+    is_free_run(m, u32::from(run.first) + u32::from(before), added)
 }

@@ -2,8 +2,7 @@
 ghost use Rattle.std.specs.Prelude.{◌≡◌, ◌≢◌, None, OnErr, OnOk};
 ghost use Rattle.client_world.specs.declared.registers.Mode.TheVariants.{Protected as protected};
 ghost use Rattle.client_world.specs.declared.services.Carry.TheVariants.{Clear, Set};
-ghost use Rattle.dos_blocks.specs.Blocks.{has_room_to_grow};
-ghost use Rattle.dos_blocks.specs.Services.{allocate_dos_block, served_result, dos_service, free_dos_block, resize_dos_block, with_bx};
+ghost use Rattle.dos_blocks.specs.Services.{allocate_dos_block, served_result, dos_service, free_dos_block, resize_dos_block};
 ghost use Rattle.dos_blocks.specs.Services.{with_dx};
 
 use crate::allocating::dos_alloc;
@@ -11,21 +10,17 @@ use crate::finding::{largest, place_of_block};
 use crate::freeing::dos_free;
 use crate::neighbours::room_after;
 use crate::resizing::dos_resize;
-use crate::selectors::{first_free, is_free_run, segment_of_selector};
+use crate::selectors::{has_room_to_grow, segment_of_selector};
 use client_world::selectors::{index_of, selector_of};
 use client_world::{Carry, DosRefusal, DosRun, low_half, with_low_half};
 use guest_space::{Machine, descriptors_for};
-use service_rows::set_ax;
+use service_rows::{first_free, set_ax, set_bx};
 
-// Sets BX.
-fn set_bx(m: &mut Machine, v: u16)
-    ensures world { m.new.world ≡ with_bx v m.old.world }
-    ensures bytes { m.new.bytes ≡ m.old.bytes }
-{
-    let mut r = m.regs();
-    r.ebx = with_low_half(r.ebx, v);
-    m.set_regs(r);
-}
+/// The error code in AX where there is no room. Source: MS-DOS Programmer's Reference, functions 48h and 4Ah.
+pub const NO_MEMORY: u16 = 8;
+
+/// The error code in AX where no block starts at a segment. Source: MS-DOS Programmer's Reference, functions 49h and 4Ah.
+pub const WRONG_BLOCK: u16 = 9;
 
 // Sets DX.
 fn set_dx(m: &mut Machine, v: u16)
@@ -78,15 +73,6 @@ fn free_dos_block(m: &mut Machine) -> Result<(), DosRefusal>
     }
 }
 
-// Whether the descriptors that a run adds are free.
-fn has_room_to_grow(m: &Machine, run: DosRun) -> bool
-    ensures { result ≡ has_room_to_grow m.now.world.descriptors run }
-{
-    let before = descriptors_for(run.before);
-    let added = descriptors_for(run.after).saturating_sub(before);
-    is_free_run(m, u32::from(run.first) + u32::from(before), added)
-}
-
 // Function 0102h: the block of DX gets BX paragraphs, and the descriptors of as many.
 #[tactic(auto, unfolding(crate::specs::Services::resize_dos_block))]
 fn resize_dos_block(m: &mut Machine) -> Result<(), DosRefusal>
@@ -129,17 +115,18 @@ fn report(m: &mut Machine, done: Result<(), DosRefusal>) -> Carry
         Ok(()) => Carry::Clear,
         Err(DosRefusal::NoMemory { largest }) => {
             set_bx(m, largest);
-            set_ax(m, 8);
+            set_ax(m, NO_MEMORY);
             Carry::Set
         }
         Err(DosRefusal::WrongBlock) => {
-            set_ax(m, 9);
+            set_ax(m, WRONG_BLOCK);
             Carry::Set
         }
     }
 }
 
-/// Serves a function of INT 31h on DOS memory, for a client in protected mode. Where it refuses, no byte of the memory changes.
+/// Serves a function of INT 31h on DOS memory, for a client in protected mode. Where it refuses, AX is 8 or 9, with 8 BX the most
+/// paragraphs that there could be, and no byte of the memory changes. A number that isn't one of these sets the carry and changes nothing.
 /// Source: DPMI 0.9, INT 31h functions 0100h to 0102h.
 #[tactic(auto, using(service_rows::proofs::WidthLaws::protected_width), unfolding(crate::specs::Services::dos_service))]
 pub fn serve(m: &mut Machine, ax: u16) -> Carry

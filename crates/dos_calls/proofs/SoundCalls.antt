@@ -12,16 +12,16 @@ use Rattle.client_world.specs.Registers.{low_byte, high_byte, low_half}
 use Rattle.client_world.specs.Soundness.{IsSound}
 use Rattle.client_world.specs.World.{World}
 use Rattle.client_world.proofs.SoundWrites.{IsSound-dos}
-use Rattle.service_rows.specs.Rows.{with_ax}
+use Rattle.dos_blocks.specs.declared.services.TheConstants.{NO_MEMORY, WRONG_BLOCK}
 use Rattle.dos_blocks.specs.Blocks.{allocation_result, free_result, resize_result}
-use Rattle.dos_blocks.specs.Services.{with_bx}
+use Rattle.service_rows.specs.Rows.{with_ax, with_bx}
 use Rattle.dos_blocks.proofs.SoundBlocks.{sound_allocated, sound_freed, sound_resized}
 use Rattle.guest_ram.specs.Bytes.{AreBytes, word_of}
 use Rattle.host_memory.specs.Vectors.{word_bytes}
 use Rattle.dos_calls.specs.Calls as calls
 use Rattle.dos_calls.specs.Calls.{CallResult, CallState, served_call, ended_call, print_result, with_al, with_error, without_carry}
 use Rattle.dos_calls.specs.Calls.{poll_key, with_line, line_result, line_of, keys_result, bad_handle, with_memory_error}
-use Rattle.dos_calls.specs.Calls.{after_allocate_call, after_block_call, no_memory, wrong_block, bad_function, dos_call}
+use Rattle.dos_calls.specs.Calls.{after_allocate_call, after_block_call, bad_function, dos_call}
 use Rattle.dos_calls.specs.DosBytes.{byte_at, with_dos_bytes_at}
 use Rattle.dos_calls.specs.Multiplex.{with_entry, multiplex_call}
 use Rattle.dos_calls.proofs.ByteLists.{no_bytes, more_bytes, bytes_behind, bytes_append, bytes_take, bytes_drop, length-taken, bytes_word}
@@ -211,8 +211,8 @@ keeps_write_file s seen =
 -- ---- memory
 
 sound_refused : (refusal : DosRefusal) (w : World) → IsSound w → IsSound (with_memory_error refusal w)
-sound_refused (NoMemory largest) w s = sound_error (with_bx largest w) no_memory (sound_bx w largest s)
-sound_refused WrongBlock w s = sound_error w wrong_block s
+sound_refused (NoMemory largest) w s = sound_error (with_bx largest w) NO_MEMORY (sound_bx w largest s)
+sound_refused WrongBlock w s = sound_error w WRONG_BLOCK s
 
 sound_given : (answer : Result ℕ DosRefusal) (w : World) → IsSound w → IsSound (after_allocate_call (record { answer = answer; world = w }))
 sound_given (Ok segment) w s = sound_carry (with_ax segment w) false (sound_ax w segment s)

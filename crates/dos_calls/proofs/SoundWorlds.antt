@@ -9,8 +9,7 @@ use Rattle.client_world.specs.Soundness.{IsSound, SoundMegabyte}
 use Rattle.client_world.specs.World.{World}
 use Rattle.client_world.proofs.SoundWrites.{IsSound-dos, IsSound-regs, SoundMegabyte-set}
 use Rattle.guest_space.specs.Dos.{with_dos_byte}
-use Rattle.service_rows.specs.Rows.{with_ax}
-use Rattle.dos_blocks.specs.Services.{with_bx}
+use Rattle.service_rows.specs.Rows.{with_ax, with_bx}
 use Rattle.dos_calls.specs.Calls.{with_al, with_error}
 use Rattle.guest_ram.specs.Bytes.{AreBytes}
 use Rattle.dos_calls.specs.DosBytes.{with_bit, with_dos_bytes_at, with_stacked}

@@ -16,9 +16,9 @@ use Rattle.client_world.specs.Registers.{low_byte, high_byte, low_half, with_low
 use Rattle.client_world.specs.World.{World}
 use Rattle.guest_ram.specs.Bytes.{word_of}
 use Rattle.host_memory.specs.Vectors.{word_bytes}
-use Rattle.service_rows.specs.Rows.{with_ax}
+use Rattle.dos_blocks.specs.declared.services.TheConstants.{NO_MEMORY, WRONG_BLOCK}
 use Rattle.dos_blocks.specs.Blocks.{Done, allocation_result, free_result, resize_result}
-use Rattle.dos_blocks.specs.Services.{with_bx}
+use Rattle.service_rows.specs.Rows.{with_ax, with_bx}
 use Rattle.dos_calls.specs.DosBytes.{byte_at, with_dos_bytes_at, bytes_from, text_from, with_stacked}
 
 -- what a call comes to
@@ -192,16 +192,10 @@ write_file s =
 
 -- ---- memory
 
-abbrev pub no_memory : ℕ
-no_memory = 8
-
-abbrev pub wrong_block : ℕ
-wrong_block = 9
-
 -- a refusal: where there is no room BX is the most paragraphs that there could be
 abbrev pub with_memory_error : DosRefusal → World → World
-with_memory_error (NoMemory largest) w = with_error no_memory (with_bx largest w)
-with_memory_error WrongBlock w = with_error wrong_block w
+with_memory_error (NoMemory largest) w = with_error NO_MEMORY (with_bx largest w)
+with_memory_error WrongBlock w = with_error WRONG_BLOCK w
 
 -- 48h: BX paragraphs; AX is the segment
 abbrev pub after_allocate_call : Done ℕ → World

@@ -23,7 +23,7 @@ impl Model for Console {
 }
 
 impl Console {
-    /// An empty console.
+    /// An empty console, or `AllocError` where memory for all that it can hold is short. Source: own.
     pub fn new(alloc: Global) -> Result<Console, AllocError>
         ensures { IfOk result (λ console. console ≡ []) }
     {
@@ -31,7 +31,7 @@ impl Console {
         Ok(Console { written })
     }
 
-    /// The bytes.
+    /// What the client wrote, in order. Source: own.
     pub fn bytes(&self) -> &[u8]
         ensures bytes { result.now ≡ self.now }
         ensures most { length result.now ≤ CONSOLE_ROOM }

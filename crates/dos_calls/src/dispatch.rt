@@ -15,8 +15,8 @@ use crate::vectors::{get_prefix, get_vector, set_vector, terminate, unknown_func
 use client_world::{DosDone, high_byte};
 use guest_space::Machine;
 
-/// Serves INT 21h: the function whose number is in AH. Where it ends the client, the machine stays as it was.
-/// Source: MS-DOS functions 01h to 62h.
+/// Serves INT 21h: the function whose number is in AH. A number that DOS doesn't have is refused with the carry and error 1 in AX. Where it
+/// ends the client, the machine stays as it was. Source: MS-DOS Programmer's Reference, functions 01h to 62h.
 #[tactic(auto, unfolding(crate::specs::Calls::dos_call))]
 pub fn int21(m: &mut Machine, keys: &mut Keys, console: &mut Console) -> DosDone
     ensures call { record { done = result; world = m.new.world; keys = keys.new; console = console.new }

@@ -4,6 +4,7 @@ ghost use Rattle.dos_calls.specs.Calls.{line_of};
 ghost use Rattle.dos_calls.specs.Answering.{any_left, line_at};
 ghost use Rattle.guest_ram.specs.Bytes.{AreBytes};
 
+use guest_space::are_bytes;
 use std::alloc::{AllocError, Global};
 use std::marker::Model;
 
@@ -22,13 +23,8 @@ impl Model for Keys {
     ghost invariant = { λ k. k.next ≤ length k.typed.items };
 }
 
-// Each of the bytes fits: the type says so, and contracts see numbers alone.
-fn all_fit(bytes: &[u8])
-    ensures { AreBytes bytes.now }
-{}
-
 impl Keys {
-    /// Those keystrokes, in a copy.
+    /// Those keystrokes, in a copy, or `AllocError` where memory is short. Source: own.
     pub fn new(alloc: Global, bytes: &[u8]) -> Result<Keys, AllocError>
         ensures { IfOk result (λ keys. keys ≡ bytes.now) }
     {
@@ -43,21 +39,21 @@ impl Keys {
         &self.typed[self.next..]
     }
 
-    /// The keystrokes that are left are bytes.
+    /// The keystrokes that are left are bytes. Source: own.
     pub fn soundness(&self)
         ensures { AreBytes self.now }
     {
-        all_fit(self.left());
+        are_bytes(self.left());
     }
 
-    /// Whether one is left.
+    /// Whether a keystroke is left. Source: own.
     pub fn any_left(&self) -> bool
         ensures { result ≡ any_left self.now }
     {
         !self.left().is_empty()
     }
 
-    /// Takes the first one.
+    /// Takes the first keystroke that is left, or `None` where none is; then nothing changes. Source: own.
     pub fn take(&mut self) -> Option<u8>
         ensures { MatchOption result ((self.old ≡ []) × (self.new ≡ [])) (λ key. self.old ≡ key ∷ self.new) }
     {

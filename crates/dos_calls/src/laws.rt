@@ -12,7 +12,7 @@ ghost use Rattle.client_world.specs.Console.{Extends};
 ghost use Rattle.dos_calls.specs.Kept.{HasOtherDosMemory, HasSameStack};
 
 /// A call leads from a sound world to a sound one, where the keys are bytes. Those that are left are bytes, and a console of bytes stays
-/// one.
+/// one. Source: own.
 pub fn every_dos_call_is_sound()
     ensures world { (s : CallState) → IsSound s.world → AreBytes s.keys → IsSound (dos_call s).world }
     ensures keys { (s : CallState) → IsSound s.world → AreBytes s.keys → AreBytes (dos_call s).keys }
@@ -21,7 +21,7 @@ pub fn every_dos_call_is_sound()
 {}
 
 /// A call changes registers and DOS memory alone, and INT 2Fh registers alone. Both leave the mode and the place of the stack, so that the
-/// frame of their interrupt is where it was.
+/// frame of their interrupt is where it was. Source: own.
 pub fn every_dos_call_keeps_the_rest()
     ensures calls { (s : CallState) → HasOtherDosMemory s.world (dos_call s).world }
     ensures stack { (s : CallState) → HasSameStack s.world (dos_call s).world }
@@ -29,12 +29,12 @@ pub fn every_dos_call_keeps_the_rest()
     ensures multiplex_stack { (w : World) → HasSameStack w (multiplex_call w) }
 {}
 
-/// What the client wrote before a call stays: a call adds bytes at the console's end alone.
+/// What the client wrote before a call stays: a call adds bytes at the console's end alone. Source: own.
 pub fn every_dos_call_extends_the_console()
     ensures { (s : CallState) → Extends s.console (dos_call s).console }
 {}
 
-/// A call that ends the client leaves the machine, and but for a full console the keys and the console too.
+/// A call that ends the client leaves the machine, and but for a full console the keys and the console too. Source: own.
 pub fn every_end_of_a_dos_call_leaves_the_machine()
     ensures machine { (s : CallState) (exit : AnExit) → (dos_call s).done ≡ Ended exit → (dos_call s).world ≡ s.world }
     ensures outside { (s : CallState) (exit : AnExit) → (dos_call s).done ≡ Ended exit → exit ≢ ConsoleFull →

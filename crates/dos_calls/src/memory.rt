@@ -3,16 +3,11 @@ ghost use Rattle.std.specs.Prelude.{◌≡◌};
 ghost use Rattle.dos_calls.specs.Calls.{allocate, free, with_memory_error, resize};
 ghost use Rattle.dos_calls.specs.Answering.{Serves};
 
-use crate::registers::{refuse, set_bx, set_carry};
+use crate::registers::{refuse, set_carry};
 use client_world::{DosRefusal, low_half};
-use dos_blocks::{dos_alloc, dos_free, dos_resize};
+use dos_blocks::{NO_MEMORY, WRONG_BLOCK, dos_alloc, dos_free, dos_resize};
 use guest_space::Machine;
-use service_rows::set_ax;
-
-// The error codes where there is no room, and where no block starts at a segment.
-const NO_MEMORY: u16 = 8;
-
-const WRONG_BLOCK: u16 = 9;
+use service_rows::{set_ax, set_bx};
 
 // Answers a refusal: where there is no room BX is the most paragraphs that there could be.
 fn refuse_memory(m: &mut Machine, refusal: DosRefusal)

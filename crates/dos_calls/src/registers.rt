@@ -1,12 +1,11 @@
 // The parts of registers that DOS calls read and return values in, and the flags that they return.
 ghost use Rattle.std.specs.Prelude.{◌≡◌};
 ghost use Rattle.client_world.specs.declared.registers.TheConstants.{CARRY_BIT, ZERO_BIT};
-ghost use Rattle.dos_blocks.specs.Services.{with_bx};
 ghost use Rattle.dos_calls.specs.Calls.{with_al, with_error};
 ghost use Rattle.dos_calls.specs.DosBytes.{with_bit, with_stacked};
 
 use crate::bytes::stacked_flags;
-use client_world::{with_low_byte, with_low_half};
+use client_world::with_low_byte;
 use guest_space::Machine;
 use service_rows::set_ax;
 
@@ -16,15 +15,6 @@ pub(crate) fn set_al(m: &mut Machine, v: u8)
 {
     let mut r = m.regs();
     r.eax = with_low_byte(r.eax, v);
-    m.set_regs(r);
-}
-
-/// Returns a value in BX.
-pub(crate) fn set_bx(m: &mut Machine, v: u16)
-    ensures { m.new.world ≡ with_bx v m.old.world }
-{
-    let mut r = m.regs();
-    r.ebx = with_low_half(r.ebx, v);
     m.set_regs(r);
 }
 

@@ -4,10 +4,11 @@ ghost use Rattle.dos_calls.specs.Calls.{set_vector, dos_version, get_vector, get
 ghost use Rattle.dos_calls.specs.Answering.{Serves};
 
 use crate::bytes::put_bytes;
-use crate::registers::{refuse, set_bx};
+use crate::registers::refuse;
 use client_world::memory_map::PSP_SEGMENT;
 use client_world::{DosDone, Exit, low_byte, low_half, with_low_half};
 use guest_space::Machine;
+use service_rows::set_bx;
 
 // The error code for a function that DOS doesn't have.
 const BAD_FUNCTION: u16 = 1;

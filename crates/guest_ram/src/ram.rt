@@ -45,7 +45,7 @@ impl Model for Ram {
 }
 
 impl Ram {
-    /// That many frames of zero bytes, 1 to `MAX_FRAMES`.
+    /// That many frames of zero bytes, 1 to `MAX_FRAMES`, or `AllocError` where memory is short. Source: own.
     pub fn new(alloc: Global, frames: u32) -> Result<Ram, AllocError>
         requires some { 0 < frames }
         requires few { frames ≤ MAX_FRAMES }
@@ -69,7 +69,7 @@ impl Ram {
         let _ = &self.frames;
     }
 
-    /// The byte at an address.
+    /// The byte at an address, which is below `len`.
     pub fn get8(&self, at: u32) -> u8
         requires { at < length self.now }
         ensures { result ≡ slice_index self.now at }
@@ -77,7 +77,7 @@ impl Ram {
         self.byte_at(at as usize)
     }
 
-    /// The word at an address, least byte first.
+    /// The word at an address, least byte first. Source: 80386 Programmer's Reference Manual, ch. 2, "Data Types".
     pub fn get16(&self, at: u32) -> u16
         requires { at + 1 < length self.now }
         ensures { result ≡ word_of self.now at }
@@ -85,7 +85,7 @@ impl Ram {
         self.word_at(at as usize)
     }
 
-    /// The doubleword at an address, least byte first.
+    /// The doubleword at an address, least byte first. Source: 80386 Programmer's Reference Manual, ch. 2, "Data Types".
     #[tactic(auto, unfolding(crate::specs::Bytes::dword))]
     pub fn get32(&self, at: u32) -> u32
         requires { at + 3 < length self.now }
@@ -117,7 +117,7 @@ impl Ram {
         unsafe { *self.block.add(at as usize) = v }
     }
 
-    /// Puts a word at an address, least byte first.
+    /// Puts a word at an address, least byte first. Source: 80386 Programmer's Reference Manual, ch. 2, "Data Types".
     pub fn set16(&mut self, at: u32, v: u16)
         requires { at + 1 < length self.old }
         ensures bytes { self.new ≡ with_word self.old at v }
@@ -132,7 +132,7 @@ impl Ram {
         }
     }
 
-    /// Puts a doubleword at an address, least byte first.
+    /// Puts a doubleword at an address, least byte first. Source: 80386 Programmer's Reference Manual, ch. 2, "Data Types".
     pub fn set32(&mut self, at: u32, v: u32)
         requires { at + 3 < length self.old }
         ensures bytes { self.new ≡ put self.old at (dword_bytes v) }
@@ -269,7 +269,7 @@ impl Drop for Ram {
     }
 }
 
-/// The word at an index of a run of bytes, least byte first.
+/// The word at an index of a run of bytes, least byte first. Source: 80386 Programmer's Reference Manual, ch. 2, "Data Types".
 pub fn word(bytes: &[u8], i: usize) -> u16
     requires { i + 1 < length bytes.now }
     ensures { result ≡ word_of bytes.now i }
@@ -277,7 +277,7 @@ pub fn word(bytes: &[u8], i: usize) -> u16
     u16::from(bytes[i]) + 0x100 * u16::from(bytes[i + 1])
 }
 
-/// The doubleword at an index of a run of bytes, least byte first.
+/// The doubleword at an index of a run of bytes, least byte first. Source: 80386 Programmer's Reference Manual, ch. 2, "Data Types".
 #[tactic(auto, unfolding(crate::specs::Bytes::dword))]
 pub fn doubleword(bytes: &[u8], i: usize) -> u32
     requires { i + 3 < length bytes.now }

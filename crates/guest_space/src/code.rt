@@ -36,7 +36,8 @@ pub(crate) fn words_of(ram: &Ram, at: u32) -> CodeWords
 }
 
 impl Machine {
-    /// The code byte at CS:EIP + `at`, or the fault of its fetch. The offset doesn't wrap.
+    /// The code byte at CS:EIP + `at`, or the fault of its fetch. The offset doesn't wrap. Source: 80386 Programmer's Reference Manual, ch.
+    /// 5 and 6.
     pub fn fetch(&self, at: u8) -> Result<u8, Fault>
         ensures { result ≡ code_byte self.now.world at }
     {
@@ -47,7 +48,7 @@ impl Machine {
         Ok(byte)
     }
 
-    /// The code bytes from CS:EIP on, up to 15 or to the first that can't be fetched: what `fetch` gives one by one.
+    /// The code bytes from CS:EIP on, up to 15 or to the first that can't be fetched: what `fetch` gives one by one. Source: own.
     pub fn code(&self) -> ArrayVec<u8, 15>
         ensures { result.items ≡ code_from self.now.world 0 code_room }
     {
@@ -103,7 +104,7 @@ impl Machine {
         self.window_from(first, if more < page { more + 1 } else { page })
     }
 
-    /// The code in the page of CS:EIP, where a quick look shows it, or none.
+    /// The code in the page of CS:EIP, where a quick look shows it, else a window that has no start. Source: own.
     #[inline(never)]
     pub fn code_window(&self) -> CodeWindow
         ensures { 0 < result.starts → IsWindow self.now result }
@@ -114,7 +115,7 @@ impl Machine {
         CodeWindow::NONE
     }
 
-    /// The code bytes at CS:EIP, which is that start of a window.
+    /// The code bytes at CS:EIP, which is that start of a window. Source: own.
     #[inline(always)]
     pub fn words_in(&self, window: &CodeWindow, from: u32) -> CodeWords
         requires window { IsWindow self.now window.now }

@@ -47,7 +47,7 @@ impl Machine {
         look(&self.ram, index)
     }
 
-    /// The descriptor at an index and its origin, or `None` where there is none, as from index 8192 on.
+    /// The descriptor at an index and its origin, or `None` where there is none, as from index 8192 on. Source: own.
     #[tactic(auto, using(crate::proofs::RowCalls::none_beyond))]
     pub fn desc(&self, index: u16) -> Option<(Desc, Origin)>
         ensures row { result ≡ row_at_index self.now.world.descriptors index }
@@ -61,7 +61,8 @@ impl Machine {
         }
     }
 
-    /// The descriptor that a selector names and its origin, or `None` where the selector isn't held.
+    /// The descriptor that a selector names and its origin, or `None` where the selector names none of the client's table. Source: 80386
+    /// Programmer's Reference Manual, ch. 5, "Selectors".
     pub fn desc_of(&self, sel: u16) -> Option<(Desc, Origin)>
         ensures row { result ≡ row_of_selector self.now.world.descriptors sel }
         ensures fits { FitsRow result }
@@ -73,8 +74,8 @@ impl Machine {
         }
     }
 
-    /// Puts a descriptor and its origin at an index below 8192, or frees the index. The descriptors of DOS blocks are changed with
-    /// these alone.
+    /// Puts a descriptor and its origin at an index below 8192, or frees the index. The descriptors of DOS blocks are changed with their
+    /// blocks, by `arena_put_dpmi`, and not by this. Source: own.
     pub fn set_desc(&mut self, index: u16, row: Option<(Desc, Origin)>)
         requires index { index < DESCRIPTORS }
         requires width { self.old.world.width ≢ None }
@@ -90,7 +91,7 @@ impl Machine {
         self.hidden = parts;
     }
 
-    /// The first index from 64 on at which n indices one after another are free. `None` where n is 0 or there is no such run.
+    /// The first index from 64 on at which n indices one after another are free. `None` where n is 0 or there is no such run. Source: own.
     pub fn free_descs(&self, n: u16) -> Option<u16>
         ensures none { IsNone result ↔ ((n ≡ 0)
             ⊎ ((first : ℕ) → FIRST_FREE_DESCRIPTOR ≤ first → ¬ IsFreeRunOf self.now.world.descriptors first n)) }
@@ -99,7 +100,7 @@ impl Machine {
         free_run(&self.ram, n)
     }
 
-    /// Sets the client's width, once, and makes the two descriptors of the host.
+    /// Sets the client's width, once, and makes the two descriptors of the host. Source: own.
     pub fn set_width(&mut self, w: Width)
         requires { self.old.world.width ≡ None }
         ensures world { self.new.world ≡ record self.old.world {

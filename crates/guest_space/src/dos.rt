@@ -67,7 +67,7 @@ impl Machine {
         }
     }
 
-    /// Puts a byte of the DOS megabyte at an address below 100000h; from F0000h on it is dropped.
+    /// Puts a byte of the DOS megabyte at an address below 100000h; from F0000h on it is dropped. Source: own.
     pub fn set_dos8(&mut self, at: u32, v: u8)
         requires { at < DOS_SIZE }
         ensures world { self.new.world ≡ record self.old.world { dos = with_dos_byte self.old.world.dos at v } }
@@ -295,6 +295,9 @@ impl Machine {
     pub fn arena_put_dpmi(&mut self, place: u16, old: u16, new: &ArrayVec<DosEntry, 3>, run: DosRun)
         requires { CanPutRun self.old.world place old new.now.items run }
         ensures world { self.new.world ≡ with_entries_and_run self.old.world place old new.now.items run }
+        ensures bytes { self.new.bytes ≡ with_run_bytes (with_headers
+            (put self.old.bytes (PAGE_SIZE * DOS_LIST) (arena_bytes (with_replaced_entries self.old.world.arena place old new.now.items)))
+            (with_replaced_entries self.old.world.arena place old new.now.items)) run (rows_of_run run) }
         ensures addresses { (p : Place) → address_of self.new.bytes p ≡ address_of self.old.bytes p }
     {
         put_entries(&mut self.ram, place, old, new);

@@ -10,7 +10,8 @@ use crate::machine::Machine;
 use client_world::{FarPtr, SegReg};
 
 impl Machine {
-    /// Whether n bytes at a far pointer may be read, or written, 1 to 4096 of them.
+    /// Whether n bytes at a far pointer may be read, or written, 1 to 4096 of them, by the rules of protected mode in either mode. Source:
+    /// 80386 Programmer's Reference Manual, ch. 5 and 6.
     pub fn far_ok(&self, p: FarPtr, n: u32, write: bool) -> bool
         requires some { 0 < n }
         requires few { n ≤ PAGE_SIZE }
@@ -22,7 +23,7 @@ impl Machine {
         }
     }
 
-    /// Reads the bytes at a far pointer, 1 to 4096 of them, which are reachable.
+    /// Reads the bytes at a far pointer, 1 to 4096 of them, which are reachable. Source: 80386 Programmer's Reference Manual, ch. 5 and 6.
     pub fn read_bytes(&self, p: FarPtr, into: &mut [u8])
         requires some { 0 < length into.old }
         requires few { length into.old ≤ PAGE_SIZE }
@@ -35,7 +36,7 @@ impl Machine {
     }
 
     /// Writes bytes at a far pointer, 1 to 4096 of them, which are reachable for writing. Of the memory only the bytes of their places
-    /// change, and none of the host's frames.
+    /// change, and none of the host's frames. Source: 80386 Programmer's Reference Manual, ch. 5 and 6.
     pub fn write_bytes(&mut self, p: FarPtr, bytes: &[u8])
         requires some { 0 < length bytes.now }
         requires few { length bytes.now ≤ PAGE_SIZE }
@@ -50,7 +51,7 @@ impl Machine {
         }
     }
 
-    /// The byte at a far pointer, which is reachable.
+    /// The byte at a far pointer, which is reachable. Source: 80386 Programmer's Reference Manual, ch. 5 and 6.
     pub fn far_get8(&self, p: FarPtr) -> u8
         requires { IsTrue (is_reachable self.now.world p 1 false) }
         ensures { result ∷ [] ≡ far_bytes self.now.world p 1 }
@@ -60,7 +61,8 @@ impl Machine {
         byte[0]
     }
 
-    /// Puts a byte at a far pointer, which is reachable for writing. Of the memory only that byte changes.
+    /// Puts a byte at a far pointer, which is reachable for writing. Of the memory only that byte changes. Source: 80386 Programmer's
+    /// Reference Manual, ch. 5 and 6.
     pub fn far_set8(&mut self, p: FarPtr, v: u8)
         requires { IsTrue (is_reachable self.old.world p 1 true) }
         ensures written { self.new ≡ after_far_write self.old p 1 (v ∷ []) }

@@ -42,5 +42,6 @@ pub use laws::{
     what_was_written_is_read,
 };
 pub use machine::Machine;
+pub use memory::are_bytes;
 pub use pending::{Write, byte_count, dword_bytes, word_bytes};
 pub use windows::CodeWindow;

@@ -58,7 +58,7 @@ impl Model for Machine {
 }
 
 impl Machine {
-    /// A new machine with a budget of 1 to `MAX_PAGES` pages for memory blocks. Source: own.
+    /// A new machine with a budget of 1 to `MAX_PAGES` pages for memory blocks, or `AllocError` where memory is short. Source: own.
     pub fn new(alloc: Global, pages: u32) -> Result<Machine, AllocError>
         requires some { 0 < pages }
         requires few { pages ≤ MAX_PAGES }
@@ -144,7 +144,7 @@ impl Machine {
         segments_fit(self.regs);
     }
 
-    /// Sets a segment register to a selector, or in real mode a segment, and asks nothing.
+    /// Sets a segment register to a selector, or in real mode a segment, and asks nothing. Source: own.
     #[inline(always)]
     pub fn set_selector(&mut self, seg: SegReg, sel: u16)
         ensures { self.new ≡ with_registers (with_selector self.old.world.regs seg sel) self.old }
@@ -179,7 +179,7 @@ impl Machine {
         self.mode
     }
 
-    /// Sets the processor's mode; to protected mode only once there is a width.
+    /// Sets the processor's mode; to protected mode only once there is a width. Source: own.
     pub fn set_mode(&mut self, m: Mode)
         requires width { m ≡ protected → self.old.world.width ≢ None }
         ensures world { self.new.world ≡ record self.old.world { mode = m } }

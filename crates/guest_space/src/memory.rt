@@ -16,8 +16,8 @@ use crate::pending::{Write, byte_count};
 use client_world::host_frames::PAGE_SIZE;
 use client_world::{Fault, SegReg};
 
-// Each of them is a byte.
-pub(crate) fn are_bytes(bytes: &[u8])
+/// Each element of a run of bytes is below 100h: the type says so, and contracts see numbers alone. Source: own.
+pub fn are_bytes(bytes: &[u8])
     ensures { (i : ℕ) → slice_index bytes.now i < 0x100 }
 {}
 
@@ -106,7 +106,8 @@ impl Machine {
         self.load(base.wrapping_add(off))
     }
 
-    /// Whether n bytes at an offset of a segment register may be read, or written, or the fault of the access, 1 to 4096 of them.
+    /// Whether n bytes at an offset of a segment register may be read, or written, or the fault of the access, 1 to 4096 of them. Source:
+    /// 80386 Programmer's Reference Manual, ch. 5 and 6.
     #[inline(always)]
     pub fn probe(&self, seg: SegReg, off: u32, n: u32, write: bool) -> Result<(), Fault>
         requires some { 0 < n }
@@ -264,7 +265,7 @@ impl Machine {
         }
     }
 
-    /// N bytes at an offset of a segment register, whose address in the memory is known.
+    /// N bytes at an offset of a segment register, whose address in the memory is known. Source: own.
     #[inline(always)]
     pub fn read_run<const N: usize>(&self, seg: SegReg, off: u32, at: u32) -> [u8; N]
         requires some { 0 < N }
@@ -275,7 +276,7 @@ impl Machine {
         self.part_of_run(seg, off, N as u32, at, 0)
     }
 
-    /// Makes a write of whose bytes the address in the memory is known; it has no fault.
+    /// Makes a write of whose bytes the address in the memory is known; it has no fault. Source: own.
     #[inline(always)]
     pub fn write_run(&mut self, x: &Write, at: u32)
         requires { IsRun self.old x.now.seg x.now.off (byte_count x.now.width) at }

@@ -20,7 +20,7 @@ pub struct Write {
     pub value: u32,
 }
 
-/// The bytes of a width of 8, 16 or 32 bits.
+/// The number of bytes of a width of 8, 16 or 32 bits; any other width counts as 32.
 #[inline(always)]
 pub fn byte_count(width: u8) -> u8
     ensures value { result ≡ byte_count width }
@@ -61,8 +61,8 @@ impl Machine {
             .err()
     }
 
-    /// Makes a write, or gives its fault, which changes nothing. Of the memory only the bytes of the write's places change, and none of the
-    /// host's frames.
+    /// Makes a write, or returns its fault and changes nothing. Of the memory only the bytes of the write's places change, and none of the
+    /// host's frames. Source: 80386 Programmer's Reference Manual, ch. 5 and 6.
     #[inline(always)]
     pub fn write_one(&mut self, x: &Write) -> Result<(), Fault>
         ensures made { MatchResult result
@@ -91,7 +91,7 @@ impl Machine {
         let _ = self.write_one(x);
     }
 
-    /// The fault of the first of some writes that has one.
+    /// The fault of the first of some writes that has one, or `None` where none has. Source: own.
     pub fn first_fault(&self, writes: &[Write]) -> Option<Fault>
         ensures { result ≡ first_write_fault self.now.world writes.now }
     {
@@ -138,8 +138,8 @@ impl Machine {
         }
     }
 
-    /// Makes all of some writes in their order, or, where one of them has a fault, none of them, and returns the first such fault. Of the
-    /// memory only the bytes of the writes' places change, and none of the host's frames.
+    /// Makes all of some writes in their order; or, where one of them has a fault, makes none and returns the first such fault. Of the
+    /// memory only the bytes of the writes' places change, and none of the host's frames. Source: own.
     pub fn write_all(&mut self, writes: &[Write]) -> Result<(), Fault>
         ensures done { OnOk result ((first_write_fault self.old.world writes.now ≡ None)
             × (self.new ≡ after_writes self.old writes.now)) }

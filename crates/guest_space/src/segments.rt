@@ -166,7 +166,7 @@ impl Machine {
     }
 
     /// The linear address of the first byte of the segment in a register, whether the segment may be used or not; 0 where protected mode
-    /// has no row for it.
+    /// has no row for it. Source: 80386 Programmer's Reference Manual, ch. 5, "Segment Translation".
     #[inline(always)]
     pub fn first_byte(&self, seg: SegReg) -> u32
         ensures { result ≡ first_byte self.now.world.mode self.now.world.descriptors (selector self.now.world.regs seg) }
@@ -178,8 +178,8 @@ impl Machine {
         }
     }
 
-    /// Whether a quick look at the hidden part of CS shows that a near transfer may go to an offset: one byte may be fetched there.
-    /// `false` says nothing.
+    /// Whether a quick look at the hidden part of CS shows that a near transfer may go to an offset: one byte may be fetched there. `false`
+    /// says nothing. Source: own.
     #[inline(always)]
     pub fn is_near_target(&self, off: u32) -> bool
         ensures { IsTrue result → transfer_fault self.now.world self.now.world.regs.cs off false ≡ None }

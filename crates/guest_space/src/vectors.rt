@@ -135,7 +135,7 @@ impl Machine {
         set_pointer(&mut self.ram, EXCEPTIONS_START + VECTOR_SIZE * n as u32, p);
     }
 
-    /// The callback of a slot below 16: its procedure and its call structure; none where the slot is free.
+    /// The callback of a slot below 16: its procedure and its call structure; `None` where the slot is free. Source: own.
     pub fn back(&self, slot: u8) -> Option<(FarPtr, FarPtr)>
         requires { slot < CALLBACKS }
         ensures { result ≡ callback_of_slot self.now.world.callbacks slot }

@@ -30,7 +30,7 @@ impl CodeWindow {
         starts: 0,
     };
 
-    /// Which of its starts CS:EIP is, where CS holds what the window's did; `None` says nothing.
+    /// Which of its starts CS:EIP is, where CS holds what the window's did; `None` says nothing. Source: own.
     #[inline(always)]
     pub fn place_of(&self, regs: &Regs) -> Option<u32>
         ensures { IfSome result (λ from.

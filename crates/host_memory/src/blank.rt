@@ -1,9 +1,9 @@
 // A new memory: real mode, no block, no descriptor, the vectors that lead to the host, and all of DOS memory and of the page budget free.
-ghost use Rattle.std.specs.Prelude.{◌≡◌, ◌≤◌, ◌<◌, ◌*◌, ℕ, IfOk, None, length, true};
+ghost use Rattle.std.specs.Prelude.{◌≡◌, ◌≤◌, ◌<◌, ◌+◌, ◌*◌, ℕ, IfOk, None, length, true};
 ghost use Rattle.client_world.specs.declared.registers.Mode.TheVariants.{Real};
 ghost use Rattle.client_world.specs.Soundness.{IsSound};
 ghost use Rattle.host_memory.specs.Blank.{no_regs, blank_world};
-ghost use Rattle.host_memory.specs.Filling.{Written, real_vector_at, vector_half_at};
+ghost use Rattle.host_memory.specs.Filling.{Written, real_vector_at, table_entry, table_size, table_start, vector_half_at};
 ghost use Rattle.host_memory.specs.Holds.{Holds};
 ghost use Rattle.host_memory.specs.Layout.{world_of};
 ghost use Rattle.host_memory.specs.Tables.{directory_entry_at, low_entry_at, window_entry_at};
@@ -102,61 +102,67 @@ fn vector_half(k: u32) -> u32
     }
 }
 
-fn fill_directory(ram: &mut Ram)
-    requires { PAGE_SIZE * BUDGET_FRAMES ≤ length ram.old }
-    ensures { Written directory_entry_at (PAGE_SIZE * PAGE_DIRECTORY) TABLE_ENTRIES ram.old ram.new }
+// A table of doublewords of a new memory.
+#[derive(Clone, Copy, PartialEq, Eq)]
+enum Table {
+    RealVectors,
+    Directory,
+    Low,
+    Window,
+    ProtectedVectors,
+}
+
+// The address of a table.
+fn table_start(table: Table) -> u32
+    ensures { result ≡ table_start table }
 {
-    for index in 0..TABLE_ENTRIES {
-        ram.set32(
-            PAGE_SIZE * PAGE_DIRECTORY + PAGE_ENTRY_SIZE * index,
-            directory_entry(index),
-        );
+    match table {
+        Table::RealVectors => 0,
+        Table::Directory => PAGE_SIZE * PAGE_DIRECTORY,
+        Table::Low => PAGE_SIZE * LOW_TABLE,
+        Table::Window => PAGE_SIZE * WINDOW_TABLE,
+        Table::ProtectedVectors => PAGE_SIZE * VECTORS,
     }
 }
 
-fn fill_low_table(ram: &mut Ram)
-    requires { PAGE_SIZE * BUDGET_FRAMES ≤ length ram.old }
-    ensures { Written low_entry_at (PAGE_SIZE * LOW_TABLE) TABLE_ENTRIES ram.old ram.new }
+// How many doublewords it has.
+fn table_size(table: Table) -> u32
+    ensures size { result ≡ table_size table }
+    ensures inside { table_start table + 4 * result ≤ PAGE_SIZE * BUDGET_FRAMES }
 {
-    for page in 0..TABLE_ENTRIES {
-        ram.set32(
-            PAGE_SIZE * LOW_TABLE + PAGE_ENTRY_SIZE * page,
-            low_entry(page),
-        );
+    match table {
+        Table::RealVectors => INTERRUPT_VECTORS,
+        Table::Directory | Table::Low | Table::Window => TABLE_ENTRIES,
+        Table::ProtectedVectors => VECTOR_HALVES,
     }
 }
 
-fn fill_window_table(ram: &mut Ram)
-    requires { PAGE_SIZE * BUDGET_FRAMES ≤ length ram.old }
-    ensures { Written window_entry_at (PAGE_SIZE * WINDOW_TABLE) TABLE_ENTRIES ram.old ram.new }
+// The one at an index.
+fn table_entry(table: Table, index: u32) -> u32
+    requires { index < table_size table }
+    ensures { result ≡ table_entry table index }
 {
-    for page in 0..TABLE_ENTRIES {
-        ram.set32(
-            PAGE_SIZE * WINDOW_TABLE + PAGE_ENTRY_SIZE * page,
-            window_entry(page),
-        );
+    match table {
+        Table::RealVectors => blank_vector(index),
+        Table::Directory => directory_entry(index),
+        Table::Low => low_entry(index),
+        Table::Window => window_entry(index),
+        Table::ProtectedVectors => vector_half(index),
     }
 }
 
-fn fill_real_vectors(ram: &mut Ram)
+fn fill_table(ram: &mut Ram, table: Table)
     requires { PAGE_SIZE * BUDGET_FRAMES ≤ length ram.old }
-    ensures { Written real_vector_at 0 INTERRUPT_VECTORS ram.old ram.new }
+    ensures { Written (table_entry table) (table_start table) (table_size table) ram.old ram.new }
 {
-    for n in 0..INTERRUPT_VECTORS {
-        ram.set32(4 * n, blank_vector(n));
+    let start = table_start(table);
+    for index in 0..table_size(table) {
+        ram.set32(start + PAGE_ENTRY_SIZE * index, table_entry(table, index));
     }
 }
 
-fn fill_protected_vectors(ram: &mut Ram)
-    requires { PAGE_SIZE * BUDGET_FRAMES ≤ length ram.old }
-    ensures { Written vector_half_at (PAGE_SIZE * VECTORS) VECTOR_HALVES ram.old ram.new }
-{
-    for k in 0..VECTOR_HALVES {
-        ram.set32(PAGE_SIZE * VECTORS + 4 * k, vector_half(k));
-    }
-}
-
-/// The memory of a new machine whose blocks may take `pages` pages together, 1 to `MAX_PAGES`.
+/// The memory of a new machine whose blocks may take `pages` pages together, 1 to `MAX_PAGES`, or `AllocError` where memory is short.
+/// Source: own.
 pub fn blank_memory(alloc: Global, pages: u32) -> Result<Ram, AllocError>
     requires some { 0 < pages }
     requires few { pages ≤ MAX_PAGES }
@@ -167,16 +173,16 @@ pub fn blank_memory(alloc: Global, pages: u32) -> Result<Ram, AllocError>
     let mut ram = Ram::new(alloc, BUDGET_FRAMES + pages)?;
     link_frames(&mut ram);
     ram.fill(ROM_START, DOS_SIZE - ROM_START, ROM_BYTE);
-    fill_real_vectors(&mut ram);
+    fill_table(&mut ram, Table::RealVectors);
     ram.write(
         PARAGRAPH_SIZE * ARENA_START,
         &header(LAST_HEADER, WHOLE_ARENA),
     );
-    fill_directory(&mut ram);
-    fill_low_table(&mut ram);
-    fill_window_table(&mut ram);
+    fill_table(&mut ram, Table::Directory);
+    fill_table(&mut ram, Table::Low);
+    fill_table(&mut ram, Table::Window);
     ram.write(PAGE_SIZE * DOS_LIST, &listed_entry(WHOLE_ARENA));
-    fill_protected_vectors(&mut ram);
+    fill_table(&mut ram, Table::ProtectedVectors);
     Ok(ram)
 }
 

@@ -11,6 +11,7 @@ mod NoTraps
 mod PoppedInterrupts
 mod RealCalls
 pub mod Runs
+mod RefusedFunctions
 mod Services
 mod Touches
 mod TrapBytes

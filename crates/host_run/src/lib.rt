@@ -15,6 +15,7 @@ mod host;
 mod laws;
 mod other_turns;
 mod protected;
+mod service_laws;
 mod serving;
 mod switches;
 mod trace;
@@ -33,4 +34,5 @@ pub use laws::{
     every_turn_extends_the_console, every_turn_is_counted, every_turn_is_sound,
     nested_calls_return_in_order, no_instruction_runs_at_a_trap, once_ended_a_run_stays,
 };
+pub use service_laws::every_refused_function_changes_ax_and_bx_alone;
 pub use traps::{Trap, is_at_trap};

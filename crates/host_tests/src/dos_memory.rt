@@ -2,8 +2,9 @@
 use crate::machines::{Differing, compare_all, entered, same};
 use Dos::{Allocate, Free, Resize};
 use client_world::{Carry, Desc, DosEntry, DosRefusal, DosState, Kind, Mode, Origin, Regs, Width};
-use dos_blocks::{dos_alloc, dos_free, dos_resize, serve};
-use guest_space::Machine;
+use dos_blocks::{can_resize, dos_alloc, dos_free, dos_resize, serve};
+use guest_space::{Machine, descriptors_for};
+use service_rows::first_free;
 use std::test::Fail;
 
 // A call of DOS, by its words.
@@ -183,6 +184,145 @@ fn answer_of(m: &mut Machine, call: Dos) -> Result<u16, DosRefusal> {
     }
 }
 
+// The same of blocks with descriptors, after the questions that INT 31h functions 0100h to 0102h ask first.
+fn allocate_for_dpmi(m: &mut Machine, paras: u16) -> Result<u16, DosRefusal> {
+    if m.width().is_none() || paras == 0 || first_free(m, descriptors_for(paras)).is_none() {
+        return Err(DosRefusal::WrongBlock);
+    }
+    dos_alloc(m, paras, true)
+}
+
+fn free_for_dpmi(m: &mut Machine, seg: u16) -> Result<u16, DosRefusal> {
+    if m.width().is_none() {
+        return Err(DosRefusal::WrongBlock);
+    }
+    match dos_free(m, seg, true) {
+        Ok(()) => Ok(seg),
+        Err(refusal) => Err(refusal),
+    }
+}
+
+fn resize_for_dpmi(m: &mut Machine, seg: u16, paras: u16) -> Result<u16, DosRefusal> {
+    if m.width().is_none() || !can_resize(m, seg, paras) {
+        return Err(DosRefusal::WrongBlock);
+    }
+    match dos_resize(m, seg, paras, true) {
+        Ok(()) => Ok(seg),
+        Err(refusal) => Err(refusal),
+    }
+}
+
+fn answer_for_dpmi(m: &mut Machine, call: Dos) -> Result<u16, DosRefusal> {
+    match call {
+        Allocate(paras) => allocate_for_dpmi(m, paras),
+        Free(seg) => free_for_dpmi(m, seg),
+        Resize(seg, paras) => resize_for_dpmi(m, seg, paras),
+    }
+}
+
+// A call, whether it is one on blocks with descriptors, what it answers, how many entries there are after it, the header of the last one,
+// and the limits of the descriptors at 64 and 65.
+type DpmiCall = (
+    Dos,
+    bool,
+    Result<u16, DosRefusal>,
+    u16,
+    u32,
+    [Option<u32>; 2],
+);
+
+const WITH_DESCRIPTORS: [DpmiCall; 11] = [
+    (
+        Allocate(0x1001),
+        true,
+        Ok(0x61),
+        2,
+        0x1_0620,
+        [Some(0x1000F), Some(0xF)],
+    ),
+    (
+        Allocate(2),
+        false,
+        Ok(0x1063),
+        3,
+        0x1_0650,
+        [Some(0x1000F), Some(0xF)],
+    ),
+    (
+        Allocate(0xFFFF),
+        true,
+        Err(DosRefusal::NoMemory { largest: 0x8F9A }),
+        3,
+        0x1_0650,
+        [Some(0x1000F), Some(0xF)],
+    ),
+    // A block of one kind is none of the other.
+    (
+        Free(0x61),
+        false,
+        Err(DosRefusal::WrongBlock),
+        3,
+        0x1_0650,
+        [Some(0x1000F), Some(0xF)],
+    ),
+    (
+        Resize(0x61, 1),
+        false,
+        Err(DosRefusal::WrongBlock),
+        3,
+        0x1_0650,
+        [Some(0x1000F), Some(0xF)],
+    ),
+    (
+        Free(0x1063),
+        true,
+        Err(DosRefusal::WrongBlock),
+        3,
+        0x1_0650,
+        [Some(0x1000F), Some(0xF)],
+    ),
+    (
+        Resize(0x61, 0x1002),
+        true,
+        Err(DosRefusal::NoMemory { largest: 0x1001 }),
+        3,
+        0x1_0650,
+        [Some(0x1000F), Some(0xF)],
+    ),
+    (
+        Resize(0x61, 0x1000),
+        true,
+        Ok(0x61),
+        4,
+        0x1_0650,
+        [Some(0xFFFF), None],
+    ),
+    (
+        Resize(0x61, 0x1001),
+        true,
+        Ok(0x61),
+        3,
+        0x1_0650,
+        [Some(0x1000F), Some(0xF)],
+    ),
+    (Free(0x61), true, Ok(0x61), 3, 0x1_0650, [None, None]),
+    (Free(0x1063), false, Ok(0x1063), 1, 0x600, [None, None]),
+];
+
+fn compare_dpmi_call(m: &mut Machine, call: &DpmiCall) -> Result<(), Differing> {
+    let (call, for_dpmi, answer, entries, last, limits) = *call;
+    let given = if for_dpmi {
+        answer_for_dpmi(m, call)
+    } else {
+        answer_of(m, call)
+    };
+    same(Differing::Answer, given == answer)?;
+    let is_last = last < 0x10_0000 && m.dos8(last) == 0x5A;
+    same(Differing::Memory, m.arena_len() == entries && is_last)?;
+    same(Differing::Descriptor(64), limit(m, 64) == limits[0])?;
+    same(Differing::Descriptor(65), limit(m, 65) == limits[1])
+}
+
 fn compare_dos_call(m: &mut Machine, call: &DosCall) -> Result<(), Differing> {
     let (call, answer, entries, last) = *call;
     same(Differing::Answer, answer_of(m, call) == answer)?;
@@ -214,6 +354,16 @@ fn blocks_are_given_resized_and_freed(rt: HostRuntime) -> Result<(), Fail> {
         state: DosState::Free,
     };
     assert!(rt; m.arena_len() == 1 && m.arena(0) == whole);
+    Ok(())
+}
+
+#[test]
+fn a_block_with_descriptors_is_none_of_a_dos_call(rt: HostRuntime) -> Result<(), Fail> {
+    let mut m = entered(rt.alloc(), Width::Sixteen)?;
+    assert_eq!(rt;
+        compare_all(&mut m, &WITH_DESCRIPTORS, compare_dpmi_call),
+        Ok(())
+    );
     Ok(())
 }
 

@@ -6,6 +6,7 @@ use block_services::serve;
 use client_world::memory_map::PROTECTED_STACKS;
 use client_world::{Carry, Mode, Regs, Width};
 use guest_space::Machine;
+use std::alloc::{AllocError, Global};
 use std::test::Fail;
 
 // AX, EBX, ECX, ESI, EDI of a call, and the last four after it, or AX where it is refused. AX stays for a number that the family doesn't
@@ -100,6 +101,66 @@ fn compare_call(m: &mut Machine, call: &Call) -> Result<(), Differing> {
 fn calls_return_what_their_rows_say(rt: HostRuntime) -> Result<(), Fail> {
     let mut m = entered(rt.alloc(), Width::Sixteen)?;
     assert_eq!(rt; compare_all(&mut m, &CALLS, compare_call), Ok(()));
+    Ok(())
+}
+
+// A machine of the greatest budget, 4000h pages.
+#[tactic(auto, unfolding(host_memory::specs::Blank::blank_world))]
+fn large_machine(alloc: Global) -> Result<Machine, AllocError> {
+    let mut m = Machine::new(alloc, 0x4000)?;
+    m.set_width(Width::Sixteen);
+    m.set_mode(Mode::Protected);
+    Ok(m)
+}
+
+// Eight blocks of 1F40h pages one after another fill the block region but for its last 600h pages. Each but the last shrinks to a page once
+// the next is made, so no gap has 1F40h pages, and the first has 1F3Fh. The budget has more pages left.
+const BARRED: [Call; 19] = [
+    ([0x0501, 0x1F4, 0, 0, 0], Ok([0x40, 0, 0, 1])),
+    ([0x0501, 0x1F4, 0, 0, 0], Ok([0x234, 0, 0, 2])),
+    ([0x0503, 0, 1, 0, 1], Ok([0x40, 0, 0, 1])),
+    ([0x0501, 0x1F4, 0, 0, 0], Ok([0x428, 0, 0, 3])),
+    ([0x0503, 0, 1, 0, 2], Ok([0x234, 0, 0, 2])),
+    ([0x0501, 0x1F4, 0, 0, 0], Ok([0x61C, 0, 0, 4])),
+    ([0x0503, 0, 1, 0, 3], Ok([0x428, 0, 0, 3])),
+    ([0x0501, 0x1F4, 0, 0, 0], Ok([0x810, 0, 0, 5])),
+    ([0x0503, 0, 1, 0, 4], Ok([0x61C, 0, 0, 4])),
+    ([0x0501, 0x1F4, 0, 0, 0], Ok([0xA04, 0, 0, 6])),
+    ([0x0503, 0, 1, 0, 5], Ok([0x810, 0, 0, 5])),
+    ([0x0501, 0x1F4, 0, 0, 0], Ok([0xBF8, 0, 0, 7])),
+    ([0x0503, 0, 1, 0, 6], Ok([0xA04, 0, 0, 6])),
+    ([0x0501, 0x1F4, 0, 0, 0], Ok([0xDEC, 0, 0, 8])),
+    ([0x0503, 0, 1, 0, 7], Ok([0xBF8, 0, 0, 7])),
+    ([0x0501, 0x1F4, 0, 0, 0], Err(0x8012)),
+    ([0x0503, 0x1F4, 0x1000, 0, 1], Err(0x8012)),
+    ([0x0501, 0x1F3, 0xF000, 0, 0], Ok([0x40, 0x1000, 0, 9])),
+    ([0x0502, 0, 0, 0, 9], Ok([0, 0, 0, 9])),
+];
+
+// The call that makes a block of one page where eight are held: the first gap begins at 00401000h.
+fn single_page(number: u32) -> Call
+    requires { number < 504 }
+{
+    let base = 0x40_1000 + 0x1000 * number;
+    (
+        [0x0501, 0, 1, 0, 0],
+        Ok([base / 0x1_0000, base % 0x1_0000, 0, 9 + number]),
+    )
+}
+
+// So many that all 512 handles are held, and one more.
+fn compare_handles(m: &mut Machine) -> Result<(), Differing> {
+    for number in 0..504 {
+        compare_call(m, &single_page(number))?;
+    }
+    compare_call(m, &([0x0501, 0, 1, 0, 0], Err(0x8016)))
+}
+
+#[test]
+fn a_block_without_a_gap_or_a_handle_is_refused(rt: HostRuntime) -> Result<(), Fail> {
+    let mut m = large_machine(rt.alloc())?;
+    assert_eq!(rt; compare_all(&mut m, &BARRED, compare_call), Ok(()));
+    assert_eq!(rt; compare_handles(&mut m), Ok(()));
     Ok(())
 }
 

@@ -13,7 +13,7 @@ use guest_space::{dword_bytes, word_bytes};
 // The bytes of a record.
 const ROW_SIZE: usize = RECORD_SIZE as usize;
 
-/// Puts bytes in place of those of a slice from an offset on.
+/// Puts bytes in place of those of a slice from an offset on. Source: own.
 pub fn put_at(into: &mut [u8], at: usize, bytes: &[u8])
     requires { at + length bytes.now ≤ length into.old }
     ensures { into.new ≡ put into.old at bytes.now }

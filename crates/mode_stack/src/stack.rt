@@ -14,19 +14,12 @@ use guest_space::Machine;
 // The number of rows, one for each depth.
 const ROWS: u8 = GREATEST_DEPTH as u8;
 
-/// The depth: the number of records. Source: own.
+/// The depth: the number of records, 32 at most. Source: own.
 pub fn depth(m: &Machine) -> u8
     ensures depth { result ≡ depth m.now.world }
     ensures most { result ≤ GREATEST_DEPTH }
 {
-    m.soundness();
-    for slot in 0..ROWS {
-        let row = m.record_bytes(slot);
-        if row[0] == 0 {
-            return slot;
-        }
-    }
-    ROWS
+    m.record_count()
 }
 
 /// The innermost record, or `None` at depth 0. Source: own.

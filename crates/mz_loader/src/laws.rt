@@ -6,7 +6,7 @@ ghost use Rattle.host_memory.specs.Blank.{blank_world};
 ghost use Rattle.mz_loader.specs.Refusal.{refusal};
 ghost use Rattle.mz_loader.specs.Start.{world_at_start};
 
-/// The client of a file that is loaded starts in a sound world.
+/// The client of a file that is loaded starts in a sound world. Source: own.
 pub fn every_start_is_sound()
     ensures { (file : List ℕ) (pages : ℕ) → AreBytes file → refusal file ≡ None →
         IsSound (world_at_start file (blank_world pages)) }

@@ -31,7 +31,7 @@ fn start(m: &mut Machine, file: &[u8])
 }
 
 /// Loads a client into a machine that holds nothing, or returns the first reason for which the file isn't loaded, and changes nothing.
-/// Source: MS-DOS executable files and program segment prefix.
+/// Source: MS-DOS Programmer's Reference, .EXE file header and program segment prefix; the order of the reasons is own.
 pub fn load(m: &mut Machine, file: &[u8]) -> Result<(), LoadFault>
     requires blank { m.old.world ≡ blank_world m.old.world.budget }
     ensures loaded { OnOk result ((refusal file.now ≡ None) × (m.new.world ≡ world_at_start file.now m.old.world)) }

@@ -28,8 +28,8 @@ fn taken_place(ram: &Ram, frame: u32) -> u32
     PAGE_SIZE * TAKEN_FRAMES + (frame - BUDGET_FRAMES)
 }
 
-/// Takes the frame at the head of the list of free frames, or none where each frame of the budget is taken. Its bytes stay.
-/// Source: own.
+/// Takes the frame at the head of the list of free frames, or `None` where each frame of the budget is taken; then nothing changes. The
+/// frame's bytes stay. Source: own.
 pub fn take_frame(ram: &mut Ram) -> Option<u32>
     requires frames { HasBudget ram.old }
     requires list { HasFreeList ram.old }

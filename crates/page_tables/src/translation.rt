@@ -45,8 +45,8 @@ pub(crate) fn table_place(ram: &Ram, root: u32, lin: u32) -> u32
     PAGE_SIZE * table + PAGE_ENTRY_SIZE * (lin / PAGE_SIZE % TABLE_ENTRIES)
 }
 
-/// Where in the memory a user's access to a linear address ends, by the page directory in frame `root`.
-/// A `PageFault` says whether both entries were present. No entry's accessed or dirty bit changes.
+/// Where in the memory a user's access to a linear address ends, by the page directory in frame `root`; or a `PageFault` where an entry
+/// isn't present or doesn't let a user do that. It says whether both entries were present. No entry's accessed or dirty bit changes.
 /// Source: 80386 Programmer's Reference Manual, ch. 5, "Page Translation", and ch. 6, "Page-Level Protection".
 #[inline(always)]
 #[tactic(auto, unfolding(crate::specs::Walk::walked))]

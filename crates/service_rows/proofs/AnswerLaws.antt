@@ -1,5 +1,5 @@
 -- What is true of a service is true of what it answers.
-use Rattle.std.proofs.Common.{◌≡◌, refl, ap, arith, ℕ, Bool, true, false, List, [], ◌∷◌, if◌then◌else◌, Option, None, Some}
+use Rattle.std.proofs.Common.{◌≡◌, refl, ◌∙◌, ap, arith, ℕ, Bool, true, false, List, [], ◌∷◌, if◌then◌else◌, Option, None, Some}
 use Rattle.client_world.specs.declared.services.Carry.TheVariants.{Set}
 use Rattle.client_world.specs.Registers.{low_half, with_low_half}
 use Rattle.client_world.specs.Soundness.{IsSound}
@@ -7,8 +7,8 @@ use Rattle.client_world.specs.World.{World}
 use Rattle.client_world.proofs.SoundWrites.{IsSound-regs}
 use Rattle.service_rows.specs.declared.refusal.Refusal.{Refusal}
 use Rattle.service_rows.specs.declared.refusal.Refusal.TheVariants.{Unsupported}
-use Rattle.service_rows.specs.Reasons.{HasOtherAx, Service, family_answer, first_reason, refusal_number, service_answer}
-use Rattle.service_rows.specs.Rows.{with_ax}
+use Rattle.service_rows.specs.Reasons.{HasOtherAx, HasOtherAxAndBx, Service, family_answer, first_reason, refusal_number, service_answer}
+use Rattle.service_rows.specs.Rows.{with_ax, with_bx}
 
 pub if_has : (P : Service → Type 0) (b : Bool) (x y : Service) → P x → P y → P (if b then x else y)
 if_has P true x y one other = one
@@ -36,8 +36,15 @@ sound_ax w n s = IsSound-regs w (record w.regs { eax = with_low_half w.regs.eax 
 same_low_half : (x : ℕ) → x ≡ with_low_half x (low_half x)
 same_low_half x = omega arith
 
-same_ax : (w : World) → HasOtherAx w w
+pub same_ax : (w : World) → HasOtherAx w w
 same_ax w = (low_half w.regs.eax, ap (λ (eax : ℕ). record w { regs = record w.regs { eax = eax } }) (same_low_half w.regs.eax))
+
+pub same_bx : (w : World) → w ≡ with_bx (low_half w.regs.ebx) w
+same_bx w = ap (λ (ebx : ℕ). record w { regs = record w.regs { ebx = ebx } }) (same_low_half w.regs.ebx)
+
+-- what changes AX alone changes AX and BX alone
+pub ax_and_bx : (w u : World) → HasOtherAx w u → HasOtherAxAndBx w u
+ax_and_bx w u h = (h.0, low_half w.regs.ebx, h.1 ∙ ap (λ (v : World). with_ax h.0 v) (same_bx w))
 
 pub refused_answer : (o : Option Refusal) (w after : World) → (service_answer o w after).carry ≡ Set →
     HasOtherAx w (service_answer o w after).world

@@ -11,7 +11,7 @@ use Rattle.service_rows.specs.declared.refusal.Refusal.TheVariants.{Unsupported,
 use Rattle.service_rows.specs.declared.refusal.Refusal.TheVariants.{PhysicalMemoryUnavailable, CallbackUnavailable, HandleUnavailable}
 use Rattle.service_rows.specs.declared.refusal.Refusal.TheVariants.{InvalidValue, InvalidSelector, InvalidHandle, InvalidCallback}
 use Rattle.service_rows.specs.declared.refusal.Refusal.TheVariants.{InvalidAddress}
-use Rattle.service_rows.specs.Rows.{with_ax}
+use Rattle.service_rows.specs.Rows.{with_ax, with_bx}
 
 -- the first reason that applies
 abbrev pub first_reason : List (Refusal × Bool) → Option Refusal
@@ -48,6 +48,10 @@ refusal_answer refusal w = record { carry = Set; world = with_ax (refusal_number
 -- the second world is the first one but for AX
 abbrev pub HasOtherAx : World → World → Type 0
 HasOtherAx w u = (number : ℕ) × (u ≡ with_ax number w)
+
+-- and but for BX
+abbrev pub HasOtherAxAndBx : World → World → Type 0
+HasOtherAxAndBx w u = (number other : ℕ) × (u ≡ with_ax number (with_bx other w))
 
 -- the carry and the world after a service: the first reason that applies refuses it
 abbrev pub service_answer : Option Refusal → World → World → Served

@@ -16,6 +16,10 @@ use Rattle.client_world.specs.World.{World}
 abbrev pub with_ax : ℕ → World → World
 with_ax v w = record w { regs = record w.regs { eax = with_low_half w.regs.eax v } }
 
+-- the world with another BX
+abbrev pub with_bx : ℕ → World → World
+with_bx v w = record w { regs = record w.regs { ebx = with_low_half w.regs.ebx v } }
+
 -- a register named (E)X with a new value: in its low half for a 16-bit client, in all of it for a 32-bit one
 abbrev pub with_by_width : Option Width → ℕ → ℕ → ℕ
 with_by_width None register v = with_low_half register (low_half v)

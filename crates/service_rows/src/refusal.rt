@@ -45,7 +45,7 @@ impl Refusal {
     }
 }
 
-/// Refuses a service of INT 31h: AX holds the number of the reason, and the carry is set.
+/// Refuses a service of INT 31h: AX holds the number of the reason, the carry is set, and nothing else changes. Source: own.
 pub fn refuse(m: &mut Machine, refusal: Refusal) -> Carry
     ensures refused { record { carry = result; world = m.new.world } ≡ refusal_answer refusal m.old.world }
     ensures bytes { m.new.bytes ≡ m.old.bytes }

@@ -33,8 +33,9 @@ fn ask(m: &mut Machine, ax: u16) -> Result<(), Refusal>
     }
 }
 
-/// Serves a function of INT 31h on vectors, on the version or on virtual interrupts. Source: DPMI 0.9, INT 31h functions 0200h to 0205h,
-/// 0400h and 0900h to 0902h.
+/// Serves a function of INT 31h on vectors, on the version or on virtual interrupts. Where it refuses, the carry is set, AX is the number
+/// of the first reason that applies, and nothing else changes. A number that isn't one of these sets the carry and changes nothing. Source:
+/// DPMI 0.9, INT 31h functions 0200h to 0205h, 0400h and 0900h to 0902h.
 #[tactic(auto, unfolding(crate::specs::Rows::vector_service))]
 pub fn serve(m: &mut Machine, ax: u16) -> Carry
     ensures served { record { carry = result; world = m.new.world } ≡ vector_service ax m.old.world }

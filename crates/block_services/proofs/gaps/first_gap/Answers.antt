@@ -1,39 +1,56 @@
-use Rattle.std.proofs.Common.{◌∙◌, sym, refl, ap, arith, ℕ}
-use Rattle.block_services.specs.Gaps.{block_in_way, first_gap, page_address}
-use Rattle.block_services.proofs.GapLaws.{gap_found, gap_here, gap_missed, skips}
+use Rattle.std.proofs.Common.{◌+◌, ◌∙◌, ℕ, sym, ap, arith, refl, drop}
+use Rattle.block_services.proofs.SpanLaws.{found, found_here, found_last, found_next, found_none, gap_is, missing, span_within}
 use Rattle.block_services.proofs.gaps.first_gap.Goals as goal
 
-pub pages-smaller : goal.pages-smaller
-pages-smaller c =
-    let w = c.args.m.now.world in
-    let s = skips w.blocks w.budget c.in-Some.handle c.pages.page c.args.pages c.soundness.ensures.blocks
-    (ap (λ (base : ℕ). block_in_way w.blocks 0 base c.args.pages) (sym c.page_address.ensures) ∙ sym c.block_in_way.ensures ∙ c.in-Some.is)
-    c.row_of.result c.row_of.ensures.row in
-    let next = c.page_after-page.ensures in let more = s.more in let few = s.few in
-    omega arith
+pub returns-then-page-pages : goal.returns-then-page-pages
+returns-then-page-pages c =
+    let first = gap_is c.args.m.now.world.blocks c.args.m.now.world.budget c.args.pages c.as_slice-spans.result.now c.spans_by_address-sorted.result.items
+    c.soundness.ensures.blocks c.requires.some c.as_slice-spans.ensures.value c.spans_by_address-sorted.ensures.held
+    c.spans_by_address-sorted.ensures.ascending in
+    let within = span_within c.args.m.now.world.blocks c.args.m.now.world.budget c.loop-span.span-index missing
+    c.as_slice-spans.result.now c.spans_by_address-sorted.result.items
+    c.soundness.ensures.blocks c.as_slice-spans.ensures.value c.spans_by_address-sorted.ensures.held
+    c.spans_by_address-sorted.ensures.ascending c.loop-span-test.true in
+    let some = c.requires.some in (
+      first ∙ sym c.loop-span.invariant.same
+          ∙ found_here c.as_slice-spans.result.now c.loop-span.span-index c.loop-span.page c.args.pages missing c.loop-span-test.true
+          c.if-page-pages.true,
+      omega (arith, within.first, some, c.if-page-pages.true),
+    )
 
-pub pages-preserved : goal.pages-preserved
-pages-preserved c =
-    let w = c.args.m.now.world in
-    let s = skips w.blocks w.budget c.in-Some.handle c.pages.page c.args.pages c.soundness.ensures.blocks
-    (ap (λ (base : ℕ). block_in_way w.blocks 0 base c.args.pages) (sym c.page_address.ensures) ∙ sym c.block_in_way.ensures ∙ c.in-Some.is)
-    c.row_of.result c.row_of.ensures.row in
-    rw c.page_after-page.ensures (record { few = s.few; same = sym s.same ∙ c.pages.invariant.same })
+pub loop-span-preserved : goal.loop-span-preserved
+loop-span-preserved c =
+    let within = span_within c.args.m.now.world.blocks c.args.m.now.world.budget c.loop-span.span-index missing
+    c.as_slice-spans.result.now c.spans_by_address-sorted.result.items
+    c.soundness.ensures.blocks c.as_slice-spans.ensures.value c.spans_by_address-sorted.ensures.held
+    c.spans_by_address-sorted.ensures.ascending c.loop-span-test.true in
+    let few = c.loop-span.invariant.few in
+    record {
+      few = omega (arith, within.after, few, c.max-page.ensures);
+      same = ap (λ (page : ℕ). found (drop (c.loop-span.span-index + 1) c.as_slice-spans.result.now) page c.args.pages) c.max-page.ensures
+          ∙ sym (found_next c.as_slice-spans.result.now c.loop-span.span-index c.loop-span.page c.args.pages missing c.loop-span-test.true
+          c.if-page-pages.false)
+          ∙ c.loop-span.invariant.same;
+    }
 
-pub returns-in-None : goal.returns-in-None
-unfolding first_gap
-returns-in-None c =
-    let w = c.args.m.now.world in
-    let free = ap (λ (base : ℕ). block_in_way w.blocks 0 base c.args.pages) (sym c.page_address.ensures) ∙ sym c.block_in_way.ensures
-    ∙ c.in-None.is in
-    let here = gap_here w.blocks 0 (page_address c.pages.page) c.args.pages (omega (arith, c.pages-test.true)) free in (
-      sym c.pages.invariant.same ∙ gap_found w.blocks c.pages.page c.args.pages (omega (arith, c.pages-test.true)) here,
-      omega (arith, c.pages-test.true),
+pub returns-then-page-pages-le-BLOCK_REGION_PAGES : goal.returns-then-page-pages-le-BLOCK_REGION_PAGES
+returns-then-page-pages-le-BLOCK_REGION_PAGES c =
+    let first = gap_is c.args.m.now.world.blocks c.args.m.now.world.budget c.args.pages c.as_slice-spans.result.now c.spans_by_address-sorted.result.items
+    c.soundness.ensures.blocks c.requires.some c.as_slice-spans.ensures.value c.spans_by_address-sorted.ensures.held
+    c.spans_by_address-sorted.ensures.ascending in (
+      first ∙ sym c.loop-span.invariant.same
+          ∙ found_last c.as_slice-spans.result.now c.loop-span.span-index c.loop-span.page c.args.pages c.loop-span-test.false
+          c.if-page-pages-le-BLOCK_REGION_PAGES.true,
+      omega (arith, c.requires.some, c.if-page-pages-le-BLOCK_REGION_PAGES.true),
     )
 
 pub returns : goal.returns
-unfolding first_gap
-returns c = (
-  sym c.pages.invariant.same ∙ gap_missed c.args.m.now.world.blocks c.pages.page c.args.pages c.pages-test.false,
-  refl,
-)
+returns c =
+    let first = gap_is c.args.m.now.world.blocks c.args.m.now.world.budget c.args.pages c.as_slice-spans.result.now c.spans_by_address-sorted.result.items
+    c.soundness.ensures.blocks c.requires.some c.as_slice-spans.ensures.value c.spans_by_address-sorted.ensures.held
+    c.spans_by_address-sorted.ensures.ascending in (
+      first ∙ sym c.loop-span.invariant.same
+          ∙ found_none c.as_slice-spans.result.now c.loop-span.span-index c.loop-span.page c.args.pages c.loop-span-test.false
+          c.if-page-pages-le-BLOCK_REGION_PAGES.false,
+      refl,
+    )

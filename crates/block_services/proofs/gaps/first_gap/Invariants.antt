@@ -1,15 +1,10 @@
-use Rattle.std.proofs.Common.{◌≡◌, ◌≤◌, ◌-◌}
+use Rattle.std.proofs.Common.{◌≡◌, ◌≤◌, drop}
 use Rattle.client_world.specs.declared.memory_map.TheConstants.{BLOCK_REGION_PAGES}
-use Rattle.service_rows.specs.FirstIndex.{first_index}
-use Rattle.block_services.proofs.GapLaws.{gap_at}
+use Rattle.block_services.proofs.SpanLaws.{found}
 use Rattle.block_services.proofs.gaps.first_gap.Given as goal
 
-abbrev pub invariant-pages : goal.invariant-pages
-invariant-pages l = record {
+abbrev pub invariant-loop-span : goal.invariant-loop-span
+invariant-loop-span l = record {
   few : l.page ≤ BLOCK_REGION_PAGES;
-  same : first_index (gap_at l.m.world.blocks l.pages) l.page (BLOCK_REGION_PAGES - l.page)
-      ≡ first_index (gap_at l.m.world.blocks l.pages) 0 BLOCK_REGION_PAGES;
+  same : found (drop l.span-index l.spans) l.page l.pages ≡ found l.spans 0 l.pages;
 }
-
-abbrev pub decreases-pages : goal.decreases-pages
-decreases-pages l = BLOCK_REGION_PAGES - l.page

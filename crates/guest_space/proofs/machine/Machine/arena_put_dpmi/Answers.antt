@@ -1,9 +1,13 @@
-use Rattle.std.proofs.Common.{◌+◌, ◌≤◌, subst, arith, List, length}
+use Rattle.std.proofs.Common.{◌≡◌, ◌+◌, ◌*◌, ◌≤◌, ◌∙◌, ℕ, ap, subst, arith, List, length}
+use Rattle.client_world.specs.declared.host_frames.TheConstants.{DOS_LIST, PAGE_SIZE}
 use Rattle.client_world.specs.declared.dos_memory.DosEntry.{DosEntry}
 use Rattle.client_world.specs.DosMemory.{IsArena}
-use Rattle.guest_space.specs.Arena.{with_replaced_entries}
+use Rattle.guest_ram.specs.Bytes.{put}
+use Rattle.host_memory.specs.Headers.{with_headers}
+use Rattle.guest_space.specs.Arena.{arena_bytes, with_replaced_entries}
+use Rattle.guest_space.specs.DosRuns.{rows_of_run, with_run_bytes}
 use Rattle.guest_space.proofs.ArenaCalls.{put_there}
-use Rattle.guest_space.proofs.ArenaWrites.{arena_of, entries_holds}
+use Rattle.guest_space.proofs.ArenaWrites.{arena_of, entries_holds, with_arena}
 use Rattle.guest_space.proofs.DosRunCalls.{run_machine}
 use Rattle.guest_space.proofs.Insides.{processor_of}
 use Rattle.guest_space.proofs.machine.Machine.arena_put_dpmi.Goals as goal
@@ -46,4 +50,12 @@ returns c =
     let after = run_machine c.self.inside c.args.self.now c.self.view_is c.self.invariant c.put_entries.new.ram c.put_dos_rows.new.ram
     c.args.place c.args.old c.args.new.now.items
     c.args.run (omega arith) (omega arith) c.requires c.put_entries.ensures c.put_dos_rows.ensures in
-    record { world = after.world; addresses = after.addresses }
+    let entries : c.put_entries.new.ram ≡ with_headers
+    (put c.args.self.now.bytes (PAGE_SIZE * DOS_LIST)
+    (arena_bytes (with_replaced_entries c.args.self.now.world.arena c.args.place c.args.old c.args.new.now.items)))
+    (with_replaced_entries c.args.self.now.world.arena c.args.place c.args.old c.args.new.now.items) = grind (arith, put_there, with_arena) in
+    record {
+      world = after.world;
+      bytes = c.put_dos_rows.ensures ∙ ap (λ (b : List ℕ). with_run_bytes b c.args.run (rows_of_run c.args.run)) entries;
+      addresses = after.addresses;
+    }

@@ -1,5 +1,5 @@
 use Rattle.service_rows.proofs.RunLaws.{is_first_free_run}
-use Rattle.dos_blocks.proofs.selectors.first_free.Goals as goal
+use Rattle.service_rows.proofs.descriptors.first_free.Goals as goal
 
 pub returns-clause-found : goal.returns-clause-found
 returns-clause-found c =
