@@ -131,14 +131,13 @@ pub fn carry_out_core(m: &mut Machine, insn: &Insn, len: u8) -> Option<Result<()
         Op::Cld => Some(cld(m)),
         Op::Std => Some(std(m)),
         Op::Wait => Some(wait(m)),
-        // With a segment register they are exec_flow's, and so are all others.
-        Op::Mov | Op::Push | Op::Pop => None,
+        // MOV, PUSH and POP with a segment register are exec_flow's, and so are all others.
         _ => None,
     }
 }
 
 /// Runs an instruction of this crate, whose EIP is already after it. An event leaves the machine as it was.
-/// Source: as above.
+/// Source: 80386 Programmer's Reference Manual, ch. 17; that an instruction that faults changes nothing is own.
 pub fn run_core(m: &mut Machine, insn: &Insn, len: u8) -> Result<(), Event>
     requires core { IsCore insn.now }
     requires width { IsTrue (is_width insn.now.width) }

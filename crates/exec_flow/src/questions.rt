@@ -18,14 +18,12 @@ ghost use Rattle.insn_plan.specs.Plan.{CarriesOut, Follows, after_commit};
 
 use crate::raising::exception;
 use client_world::faults::INVALID_OPCODE;
+use client_world::selectors::privilege_of;
 use client_world::{Desc, Flags, Mode, Origin, low_half};
 use desc_table::pack;
 use guest_space::Machine;
 use insn_forms::Insn;
 use insn_plan::{Raised, put_with_flags, source};
-
-// The number of privilege levels, 0 to 3.
-const PRIVILEGE_LEVELS: u32 = 4;
 
 // The flags with another ZF.
 fn with_zero(m: &Machine, zero_flag: bool) -> Flags
@@ -160,11 +158,11 @@ pub(crate) fn tell_byte_limit(m: &mut Machine, i: &Insn) -> Result<(), Raised>
     }
 }
 
-/// The privilege level that a selector asks for.
-pub(crate) fn privilege_of(sel: u32) -> u32
+/// The privilege level, 0 to 3, that the low word of a number asks for as a selector.
+pub(crate) fn requested_privilege(sel: u32) -> u32
     ensures { result ≡ privilege_of sel }
 {
-    sel % PRIVILEGE_LEVELS
+    u32::from(privilege_of(low_half(sel)))
 }
 
 /// ARPL. Source: as above.
@@ -179,9 +177,10 @@ pub(crate) fn arpl(m: &mut Machine, i: &Insn) -> Result<(), Raised>
     }
     let a = source(m, i.addr32, 16, &i.first)?;
     let b = source(m, i.addr32, 16, &i.second)?;
-    if privilege_of(a) < privilege_of(b) {
+    let (own, asked) = (requested_privilege(a), requested_privilege(b));
+    if own < asked {
         let flags = with_zero(m, true);
-        let v = a - privilege_of(a) + privilege_of(b);
+        let v = a - own + asked;
         put_with_flags(m, flags, i.addr32, 16, &i.first, v)
     } else {
         tell_nothing(m)

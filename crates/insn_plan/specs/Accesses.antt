@@ -73,7 +73,7 @@ touches_where w (Some done) = touches_after w [] done
 unfoldable pub touches : World → Act → Option (List Touch)
 touches w act = touches_where w (accesses_after w [] act)
 
--- ---- what is followed
+-- ---- what is followed: the words of `Accesses`, which notes the accesses of a row one by one
 
 -- the access is to one byte at least
 abbrev pub HasBytes : Access → Type 0
