@@ -64,7 +64,8 @@ of_writes w done (x ∷ xs) =
     let a = access_of x in
     of_writes w (done ++ a ∷ []) xs
     ∙ ap (λ (places : List Place). places ++ places_of_writes w xs)
-    (accesses_append w done (a ∷ []) ∙ ap (λ (places : List Place). written_access_places w done ++ places) (append-nil (access_places w a)))
+    (accesses_append w done (a ∷ [])
+    ∙ ap (λ (places : List Place). written_access_places w done ++ places) (append-nil (access_places w a)))
     ∙ append_assoc (written_access_places w done) (access_places w a) (places_of_writes w xs)
 
 -- a read adds none

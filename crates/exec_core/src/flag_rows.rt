@@ -21,7 +21,7 @@ pub(crate) fn clc(m: &mut Machine) -> Result<(), Raised>
     Ok(())
 }
 
-/// STC. Source: as above.
+/// STC. Source: 80386 Programmer's Reference Manual, ch. 17.
 #[inline(always)]
 #[tactic(auto, unfolding(crate::specs::FlagRows::stc, insn_plan::specs::Plan::after_plan, insn_plan::specs::Plan::after_commit, //
 guest_space::specs::Pending::first_write_fault, guest_space::specs::Pending::after_writes))]
@@ -35,7 +35,7 @@ pub(crate) fn stc(m: &mut Machine) -> Result<(), Raised>
     Ok(())
 }
 
-/// CMC. Source: as above.
+/// CMC. Source: 80386 Programmer's Reference Manual, ch. 17.
 #[inline(always)]
 #[tactic(auto, unfolding(crate::specs::FlagRows::cmc, insn_plan::specs::Plan::after_plan, insn_plan::specs::Plan::after_commit, //
 guest_space::specs::Pending::first_write_fault, guest_space::specs::Pending::after_writes))]
@@ -47,7 +47,7 @@ pub(crate) fn cmc(m: &mut Machine) -> Result<(), Raised>
     Ok(())
 }
 
-/// CLD. Source: as above.
+/// CLD. Source: 80386 Programmer's Reference Manual, ch. 17.
 #[inline(always)]
 #[tactic(auto, unfolding(crate::specs::FlagRows::cld, insn_plan::specs::Plan::after_plan, insn_plan::specs::Plan::after_commit, //
 guest_space::specs::Pending::first_write_fault, guest_space::specs::Pending::after_writes))]
@@ -61,7 +61,7 @@ pub(crate) fn cld(m: &mut Machine) -> Result<(), Raised>
     Ok(())
 }
 
-/// STD. Source: as above.
+/// STD. Source: 80386 Programmer's Reference Manual, ch. 17.
 #[inline(always)]
 #[tactic(auto, unfolding(crate::specs::FlagRows::std, insn_plan::specs::Plan::after_plan, insn_plan::specs::Plan::after_commit, //
 guest_space::specs::Pending::first_write_fault, guest_space::specs::Pending::after_writes))]
@@ -75,7 +75,7 @@ pub(crate) fn std(m: &mut Machine) -> Result<(), Raised>
     Ok(())
 }
 
-/// LAHF. Source: as above.
+/// LAHF. Source: 80386 Programmer's Reference Manual, ch. 17.
 #[inline(never)]
 #[tactic(auto, unfolding(crate::specs::FlagRows::lahf, insn_plan::specs::Plan::after_plan, insn_plan::specs::Plan::after_commit, //
 guest_space::specs::Pending::first_write_fault, guest_space::specs::Pending::after_writes))]
@@ -87,7 +87,7 @@ pub(crate) fn lahf(m: &mut Machine) -> Result<(), Raised>
     Ok(())
 }
 
-/// SAHF. Source: as above.
+/// SAHF. Source: 80386 Programmer's Reference Manual, ch. 17.
 #[inline(never)]
 #[tactic(auto, using(crate::proofs::Parts::ah_fits), unfolding(crate::specs::FlagRows::sahf, insn_plan::specs::Plan::after_plan, //
 insn_plan::specs::Plan::after_commit, guest_space::specs::Pending::first_write_fault, guest_space::specs::Pending::after_writes))]
@@ -105,7 +105,7 @@ pub(crate) fn sahf(m: &mut Machine) -> Result<(), Raised>
     Ok(())
 }
 
-/// WAIT: nothing happens. Source: as above.
+/// WAIT: nothing happens. Source: 80386 Programmer's Reference Manual, ch. 17.
 #[inline(always)]
 #[tactic(auto, unfolding(crate::specs::FlagRows::wait, insn_plan::specs::Plan::after_plan, insn_plan::specs::Plan::after_commit, //
 guest_space::specs::Pending::first_write_fault, guest_space::specs::Pending::after_writes))]

@@ -69,7 +69,7 @@ fn pop_at<L: Look>(m: &mut Machine, i: &Insn, width: u8) -> Result<(), L::Missed
     Ok(())
 }
 
-/// POP. Source: as above.
+/// POP. Source: 80386 Programmer's Reference Manual, ch. 17.
 #[derive(Clone, Copy)]
 pub(crate) struct Pop;
 
@@ -126,7 +126,7 @@ fn pusha_of_width(m: &mut Machine, i: &Insn, width: u8) -> Result<(), Raised>
     }
 }
 
-/// PUSHA. Source: as above.
+/// PUSHA. Source: 80386 Programmer's Reference Manual, ch. 17.
 #[inline(never)]
 pub(crate) fn pusha(m: &mut Machine, i: &Insn) -> Result<(), Raised>
     ensures { CarriesOut m.old m.new result (pusha m.old.world i.now) }
@@ -197,7 +197,7 @@ fn popa_of_width(m: &mut Machine, i: &Insn, width: u8) -> Result<(), Raised>
     }
 }
 
-/// POPA. Source: as above.
+/// POPA. Source: 80386 Programmer's Reference Manual, ch. 17.
 #[inline(never)]
 pub(crate) fn popa(m: &mut Machine, i: &Insn) -> Result<(), Raised>
     ensures { CarriesOut m.old m.new result (popa m.old.world i.now) }

@@ -67,7 +67,7 @@ pub(crate) fn jump_far(m: &mut Machine, i: &Insn) -> Result<(), Raised>
     Ok(())
 }
 
-/// CALL far. Source: as above.
+/// CALL far. Source: 80386 Programmer's Reference Manual, ch. 17.
 #[inline(never)]
 #[tactic(auto, unfolding(crate::specs::FarTransfers::call_far, crate::specs::FarTransfers::far_transfer, //
 insn_plan::specs::Plan::after_plan))]

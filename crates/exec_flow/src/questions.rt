@@ -77,7 +77,7 @@ pub(crate) fn verify_readable(m: &mut Machine, i: &Insn) -> Result<(), Raised>
     Ok(())
 }
 
-/// VERW. Source: as above.
+/// VERW. Source: 80386 Programmer's Reference Manual, ch. 17.
 #[inline(never)]
 #[tactic(auto, unfolding(crate::specs::Questions::verify, crate::specs::Raising::in_protected, crate::specs::Raising::invalid_opcode, //
 insn_plan::specs::Plan::after_plan, insn_plan::specs::Plan::after_commit, guest_space::specs::Pending::first_write_fault, //
@@ -165,7 +165,7 @@ pub(crate) fn requested_privilege(sel: u32) -> u32
     u32::from(privilege_of(low_half(sel)))
 }
 
-/// ARPL. Source: as above.
+/// ARPL. Source: 80386 Programmer's Reference Manual, ch. 17.
 #[inline(never)]
 #[tactic(auto, unfolding(crate::specs::Questions::arpl, crate::specs::Raising::in_protected, crate::specs::Raising::invalid_opcode, //
 insn_plan::specs::Plan::after_plan))]

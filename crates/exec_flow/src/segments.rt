@@ -56,7 +56,7 @@ pub(crate) fn mov_segment(m: &mut Machine, i: &Insn) -> Result<(), Raised>
     }
 }
 
-/// PUSH of a segment register. Source: as above.
+/// PUSH of a segment register. Source: 80386 Programmer's Reference Manual, ch. 17.
 #[inline(never)]
 #[tactic(auto, unfolding(crate::specs::Segments::push_segment, insn_plan::specs::Plan::after_plan))]
 pub(crate) fn push_segment(m: &mut Machine, i: &Insn) -> Result<(), Raised>
@@ -82,7 +82,7 @@ fn pop_into(m: &mut Machine, i: &Insn, seg: SegReg) -> Result<(), Raised>
     Ok(())
 }
 
-/// POP of a segment register. Source: as above.
+/// POP of a segment register. Source: 80386 Programmer's Reference Manual, ch. 17.
 #[inline(never)]
 #[tactic(auto, unfolding(crate::specs::Segments::pop_segment, insn_plan::specs::Plan::after_plan, insn_plan::specs::Plan::after_commit, //
 guest_space::specs::Pending::first_write_fault, guest_space::specs::Pending::after_writes))]

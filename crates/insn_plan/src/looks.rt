@@ -287,6 +287,7 @@ impl Look for Tables {
 
 /// The width of a register operand, `own`. Quick looks miss where it differs from the instruction's, so that elsewhere the compiler knows
 /// it.
+/// Source: own.
 #[inline(always)]
 pub fn register_width<L: Look>(width: u8, own: u8) -> Result<u8, L::Missed>
     ensures is { IfOk result (λ w. w ≡ own) }
@@ -299,7 +300,7 @@ pub fn register_width<L: Look>(width: u8, own: u8) -> Result<u8, L::Missed>
     Ok(own)
 }
 
-/// Reads an operand, unless a look ahead has read it.
+/// Reads an operand, unless a look ahead has read it; or gives what the look that misses returns. The machine stays. Source: own.
 #[inline(always)]
 pub fn source_after<L: Look>(
     m: &mut Machine,
@@ -342,6 +343,7 @@ fn carry_out_by_tables<R: InsnRow>(row: R, m: &mut Machine, i: &Insn) -> Result<
 }
 
 /// Carries out an instruction by its row, or gives its event, which changes nothing: quickly, and by the tables where a quick look misses.
+/// Source: own.
 #[inline(never)]
 pub fn run_row<R: InsnRow>(row: R, m: &mut Machine, i: &Insn) -> Result<(), Raised>
     requires { IsTrue (is_width i.now.width) }

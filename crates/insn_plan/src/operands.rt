@@ -118,7 +118,8 @@ pub(crate) fn write_there(m: &mut Machine, seg: SegReg, width: u8, off: u32, at:
     );
 }
 
-/// Reads an operand, in memory at that width, or gives the fault of the access.
+/// Reads an operand, in memory at a width of 8, 16 or 32 bits, or gives the fault of the access; an operand that isn't there is 0.
+/// Source: 80386 Programmer's Reference Manual, ch. 17, "Operation".
 #[inline(always)]
 #[tactic(auto, unfolding(crate::specs::Operands::source, crate::specs::Act::value_of))]
 pub fn source(m: &mut Machine, addr32: bool, width: u8, operand: &Operand) -> Result<u32, Raised>
@@ -137,7 +138,8 @@ pub fn source(m: &mut Machine, addr32: bool, width: u8, operand: &Operand) -> Re
     }
 }
 
-/// Puts a number into a register of the machine at a width of 8, 16 or 32 bits; the other bits of the register are kept.
+/// Puts a number into a register of the machine at a width of 8, 16 or 32 bits, cut to the width; the other bits of the register are kept.
+/// Source: 80386 Programmer's Reference Manual, ch. 17, "reg".
 #[inline(always)]
 #[tactic(auto, unfolding(crate::specs::Registers::with_register))]
 pub fn put_register(m: &mut Machine, width: u8, n: u8, v: u32)
@@ -248,7 +250,9 @@ fn put_in_memory(
     Ok(())
 }
 
-/// Puts a number where an operand names and sets the flags, or gives the fault of the write, which changes nothing.
+/// Puts a number where an operand names, in memory at a width of 8, 16 or 32 bits, and sets the flags; or gives the fault of the write,
+/// which changes nothing.
+/// Source: 80386 Programmer's Reference Manual, ch. 17, "Operation".
 #[inline(always)]
 #[tactic(auto, unfolding(crate::specs::Operands::put_operand, crate::specs::Plan::after_commit, //
 guest_space::specs::Pending::first_write_fault, guest_space::specs::Pending::after_writes))]
@@ -277,7 +281,8 @@ pub fn put_with_flags(
     }
 }
 
-/// Puts a number where an operand names, or gives the fault of the write, which changes nothing.
+/// Puts a number where an operand names, in memory at a width of 8, 16 or 32 bits, or gives the fault of the write, which changes nothing.
+/// Source: 80386 Programmer's Reference Manual, ch. 17, "Operation".
 #[inline(always)]
 #[tactic(auto, unfolding(crate::specs::Operands::put_operand, crate::specs::Plan::after_commit, //
 guest_space::specs::Pending::first_write_fault, guest_space::specs::Pending::after_writes))]
