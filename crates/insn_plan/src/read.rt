@@ -21,7 +21,7 @@ fn byte(bytes: [u8; 1]) -> u32
 // The number of two bytes, least byte first.
 #[inline(always)]
 #[tactic(auto, using(crate::proofs::Numbers::number_of_two))]
-pub(crate) fn word(bytes: [u8; 2]) -> u32
+fn word(bytes: [u8; 2]) -> u32
     ensures { result ≡ little_endian bytes }
 {
     u32::from(u16::from_le_bytes(bytes))
@@ -30,7 +30,7 @@ pub(crate) fn word(bytes: [u8; 2]) -> u32
 // The number of four bytes, least byte first.
 #[inline(always)]
 #[tactic(auto, using(crate::proofs::Numbers::number_of_four))]
-pub(crate) fn doubleword(bytes: [u8; 4]) -> u32
+fn doubleword(bytes: [u8; 4]) -> u32
     ensures { result ≡ little_endian bytes }
 {
     u32::from_le_bytes(bytes)
