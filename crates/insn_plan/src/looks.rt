@@ -17,7 +17,7 @@ ghost use Rattle.insn_plan.specs.Plan.{CarriesOut};
 ghost use Rattle.insn_plan.specs.Registers.{offset_of};
 
 use crate::operands::{
-    at_hand, given, memory_source, note_and_write, noted_place, shown, write_quickly, write_there,
+    at_hand, given, note_and_write, noted_place, shown, write_quickly, write_there,
 };
 use crate::raised::Raised;
 use crate::read::{note_and_read, number_there, read_quickly};
@@ -231,7 +231,10 @@ impl Look for Tables {
     #[tactic(auto, unfolding(crate::specs::Operands::source, crate::specs::Act::value_of))]
     fn source(m: &mut Machine, addr32: bool, width: u8, operand: &Operand) -> Result<u32, Fault> {
         match operand {
-            Operand::Mem(form) => memory_source(m, addr32, width, form),
+            Operand::Mem(form) => {
+                let off = offset_of(m.registers(), addr32, form);
+                note_and_read(m, form.seg, off, width)
+            }
             _ => Ok(given(m.registers(), operand)),
         }
     }
