@@ -27,11 +27,11 @@ use client_world::{Fault, SegReg};
 use guest_space::Machine;
 use insn_forms::{Insn, MemForm, Operand};
 
-/// A number in memory that is read and written back: its offset, its address in the memory where the look knows it, and its value.
+/// A number in memory that is read and written back: its offset, where it is in the memory as far as the look knows, and its value.
 #[derive(Clone, Copy)]
-pub struct NumberInMemory {
+pub struct NumberInMemory<P> {
     pub off: u32,
-    pub at: u32,
+    pub at: P,
     pub value: u32,
 }
 
@@ -40,11 +40,14 @@ pub trait Look {
     /// What a look that misses returns.
     type Missed: Drop;
 
+    /// What a look that shows a number knows of where it is: its address in the memory, or nothing.
+    type Place: Copy;
+
     /// The fault that it reports, if any.
     ghost reported: { Self.Missed → Option AFault };
 
-    /// What the look knows of the address of a number of a width that it read, to be written back.
-    ghost knows: { MachineView → Segment → ℕ → ℕ → ℕ → Type 0 };
+    /// That a number of a width at an offset of a segment register is there, and may be read and written.
+    ghost knows: { MachineView → Segment → ℕ → ℕ → Self.Place → Type 0 };
 
     /// Reads a number of a width at an offset of a segment register.
     fn read(m: &mut Machine, seg: SegReg, off: u32, width: u8) -> Result<u32, Self::Missed>
@@ -77,7 +80,7 @@ pub trait Look {
         addr32: bool,
         width: u8,
         form: &MemForm,
-    ) -> Result<NumberInMemory, Self::Missed>
+    ) -> Result<NumberInMemory<Self::Place>, Self::Missed>
         ensures off { IfOk result (λ number. number.off ≡ offset_of m.old.world.regs addr32 form.now) }
         ensures at { IfOk result (λ number. knows m.old form.now.seg width number.off number.at) }
         ensures value { MatchResult result
@@ -91,7 +94,7 @@ pub trait Look {
         m: &mut Machine,
         seg: SegReg,
         width: u8,
-        number: NumberInMemory,
+        number: NumberInMemory<Self::Place>,
         value: u32,
     ) -> Result<(), Self::Missed>
         requires { knows m.old seg width number.off number.at }
@@ -128,6 +131,8 @@ pub(crate) struct Quick;
 impl Look for Quick {
     type Missed = Unshown;
 
+    type Place = u32;
+
     ghost reported = { λ missed. None };
 
     ghost knows = { λ v seg width off at. IsRun v seg off (byte_count width) at };
@@ -162,7 +167,7 @@ impl Look for Quick {
         addr32: bool,
         width: u8,
         form: &MemForm,
-    ) -> Result<NumberInMemory, Unshown> {
+    ) -> Result<NumberInMemory<u32>, Unshown> {
         match noted_place(m, addr32, width, form) {
             Some((off, at)) => {
                 let value = number_there(m, form.seg, width, off, at);
@@ -177,7 +182,7 @@ impl Look for Quick {
         m: &mut Machine,
         seg: SegReg,
         width: u8,
-        number: NumberInMemory,
+        number: NumberInMemory<u32>,
         value: u32,
     ) -> Result<(), Unshown> {
         write_there(m, seg, width, number.off, number.at, value);
@@ -218,6 +223,8 @@ pub(crate) struct Tables;
 impl Look for Tables {
     type Missed = Fault;
 
+    type Place = ();
+
     ghost reported = { λ missed. Some missed };
 
     ghost knows = { λ v seg width off at. Unit };
@@ -250,10 +257,10 @@ impl Look for Tables {
         addr32: bool,
         width: u8,
         form: &MemForm,
-    ) -> Result<NumberInMemory, Fault> {
+    ) -> Result<NumberInMemory<()>, Fault> {
         let off = offset_of(m.registers(), addr32, form);
         let value = note_and_read(m, form.seg, off, width)?;
-        Ok(NumberInMemory { off, at: 0, value })
+        Ok(NumberInMemory { off, at: (), value })
     }
 
     #[inline(always)]
@@ -261,7 +268,7 @@ impl Look for Tables {
         m: &mut Machine,
         seg: SegReg,
         width: u8,
-        number: NumberInMemory,
+        number: NumberInMemory<()>,
         value: u32,
     ) -> Result<(), Fault> {
         note_and_write(m, seg, number.off, width, value)
