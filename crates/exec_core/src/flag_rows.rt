@@ -1,4 +1,9 @@
 // The flags, and WAIT.
+#![tactic(auto, unfolding(crate::specs::FlagRows::clc, crate::specs::FlagRows::stc, crate::specs::FlagRows::cmc, //
+crate::specs::FlagRows::cld, crate::specs::FlagRows::std, crate::specs::FlagRows::lahf, crate::specs::FlagRows::wait, //
+insn_plan::specs::Plan::after_plan, insn_plan::specs::Plan::after_commit, guest_space::specs::Pending::first_write_fault, //
+guest_space::specs::Pending::after_writes))]
+
 ghost use Rattle.exec_core.specs.FlagRows.{clc, stc, cmc, cld, std, lahf, sahf, wait};
 ghost use Rattle.insn_plan.specs.Plan.{CarriesOut};
 
@@ -9,8 +14,6 @@ use insn_plan::{Raised, put_register, register};
 
 /// CLC. Source: 80386 Programmer's Reference Manual, ch. 17.
 #[inline(always)]
-#[tactic(auto, unfolding(crate::specs::FlagRows::clc, insn_plan::specs::Plan::after_plan, insn_plan::specs::Plan::after_commit, //
-guest_space::specs::Pending::first_write_fault, guest_space::specs::Pending::after_writes))]
 pub(crate) fn clc(m: &mut Machine) -> Result<(), Raised>
     ensures { CarriesOut m.old m.new result (clc m.old.world) }
 {
@@ -23,8 +26,6 @@ pub(crate) fn clc(m: &mut Machine) -> Result<(), Raised>
 
 /// STC. Source: 80386 Programmer's Reference Manual, ch. 17.
 #[inline(always)]
-#[tactic(auto, unfolding(crate::specs::FlagRows::stc, insn_plan::specs::Plan::after_plan, insn_plan::specs::Plan::after_commit, //
-guest_space::specs::Pending::first_write_fault, guest_space::specs::Pending::after_writes))]
 pub(crate) fn stc(m: &mut Machine) -> Result<(), Raised>
     ensures { CarriesOut m.old m.new result (stc m.old.world) }
 {
@@ -37,8 +38,6 @@ pub(crate) fn stc(m: &mut Machine) -> Result<(), Raised>
 
 /// CMC. Source: 80386 Programmer's Reference Manual, ch. 17.
 #[inline(always)]
-#[tactic(auto, unfolding(crate::specs::FlagRows::cmc, insn_plan::specs::Plan::after_plan, insn_plan::specs::Plan::after_commit, //
-guest_space::specs::Pending::first_write_fault, guest_space::specs::Pending::after_writes))]
 pub(crate) fn cmc(m: &mut Machine) -> Result<(), Raised>
     ensures { CarriesOut m.old m.new result (cmc m.old.world) }
 {
@@ -49,8 +48,6 @@ pub(crate) fn cmc(m: &mut Machine) -> Result<(), Raised>
 
 /// CLD. Source: 80386 Programmer's Reference Manual, ch. 17.
 #[inline(always)]
-#[tactic(auto, unfolding(crate::specs::FlagRows::cld, insn_plan::specs::Plan::after_plan, insn_plan::specs::Plan::after_commit, //
-guest_space::specs::Pending::first_write_fault, guest_space::specs::Pending::after_writes))]
 pub(crate) fn cld(m: &mut Machine) -> Result<(), Raised>
     ensures { CarriesOut m.old m.new result (cld m.old.world) }
 {
@@ -63,8 +60,6 @@ pub(crate) fn cld(m: &mut Machine) -> Result<(), Raised>
 
 /// STD. Source: 80386 Programmer's Reference Manual, ch. 17.
 #[inline(always)]
-#[tactic(auto, unfolding(crate::specs::FlagRows::std, insn_plan::specs::Plan::after_plan, insn_plan::specs::Plan::after_commit, //
-guest_space::specs::Pending::first_write_fault, guest_space::specs::Pending::after_writes))]
 pub(crate) fn std(m: &mut Machine) -> Result<(), Raised>
     ensures { CarriesOut m.old m.new result (std m.old.world) }
 {
@@ -77,8 +72,6 @@ pub(crate) fn std(m: &mut Machine) -> Result<(), Raised>
 
 /// LAHF. Source: 80386 Programmer's Reference Manual, ch. 17.
 #[inline(never)]
-#[tactic(auto, unfolding(crate::specs::FlagRows::lahf, insn_plan::specs::Plan::after_plan, insn_plan::specs::Plan::after_commit, //
-guest_space::specs::Pending::first_write_fault, guest_space::specs::Pending::after_writes))]
 pub(crate) fn lahf(m: &mut Machine) -> Result<(), Raised>
     ensures { CarriesOut m.old m.new result (lahf m.old.world) }
 {
@@ -107,8 +100,6 @@ pub(crate) fn sahf(m: &mut Machine) -> Result<(), Raised>
 
 /// WAIT: nothing happens. Source: 80386 Programmer's Reference Manual, ch. 17.
 #[inline(always)]
-#[tactic(auto, unfolding(crate::specs::FlagRows::wait, insn_plan::specs::Plan::after_plan, insn_plan::specs::Plan::after_commit, //
-guest_space::specs::Pending::first_write_fault, guest_space::specs::Pending::after_writes))]
 pub(crate) fn wait(m: &mut Machine) -> Result<(), Raised>
     ensures { CarriesOut m.old m.new result (wait m.old.world) }
 {

@@ -1,4 +1,8 @@
 // Questions about descriptors.
+#![tactic(auto, unfolding(crate::specs::Questions::verify, crate::specs::Questions::load_from_descriptor, crate::specs::Questions::arpl, //
+crate::specs::Raising::in_protected, crate::specs::Raising::invalid_opcode, insn_plan::specs::Plan::after_plan, //
+insn_plan::specs::Plan::after_commit, guest_space::specs::Pending::first_write_fault, guest_space::specs::Pending::after_writes))]
+
 ghost use Rattle.std.specs.Prelude.{◌≡◌, ◌<◌, ◌^◌, true, false};
 ghost use Rattle.client_world.specs.Descriptor.{byte_limit};
 ghost use Rattle.client_world.specs.Registers.{low_half};
@@ -62,9 +66,6 @@ fn is_writable_row(row: Option<(Desc, Origin)>) -> bool
 
 /// VERR. Source: 80386 Programmer's Reference Manual, ch. 17.
 #[inline(never)]
-#[tactic(auto, unfolding(crate::specs::Questions::verify, crate::specs::Raising::in_protected, crate::specs::Raising::invalid_opcode, //
-insn_plan::specs::Plan::after_plan, insn_plan::specs::Plan::after_commit, guest_space::specs::Pending::first_write_fault, //
-guest_space::specs::Pending::after_writes))]
 pub(crate) fn verify_readable(m: &mut Machine, i: &Insn) -> Result<(), Raised>
     ensures { CarriesOut m.old m.new result (verify is_readable m.old.world i.now) }
 {
@@ -79,9 +80,6 @@ pub(crate) fn verify_readable(m: &mut Machine, i: &Insn) -> Result<(), Raised>
 
 /// VERW. Source: 80386 Programmer's Reference Manual, ch. 17.
 #[inline(never)]
-#[tactic(auto, unfolding(crate::specs::Questions::verify, crate::specs::Raising::in_protected, crate::specs::Raising::invalid_opcode, //
-insn_plan::specs::Plan::after_plan, insn_plan::specs::Plan::after_commit, guest_space::specs::Pending::first_write_fault, //
-guest_space::specs::Pending::after_writes))]
 pub(crate) fn verify_writable(m: &mut Machine, i: &Insn) -> Result<(), Raised>
     ensures { CarriesOut m.old m.new result (verify is_writable_row m.old.world i.now) }
 {
@@ -114,8 +112,6 @@ fn tell_number(m: &mut Machine, i: &Insn, v: u32) -> Result<(), Raised>
 }
 
 // Clears ZF.
-#[tactic(auto, unfolding(insn_plan::specs::Plan::after_commit, guest_space::specs::Pending::first_write_fault, //
-guest_space::specs::Pending::after_writes))]
 fn tell_nothing(m: &mut Machine) -> Result<(), Raised>
     ensures { Follows m.old m.new result (after_commit m.old (with_flags (with_zero m.old.world false) m.old.world)) }
 {
@@ -126,8 +122,6 @@ fn tell_nothing(m: &mut Machine) -> Result<(), Raised>
 
 /// LAR. Source: 80386 Programmer's Reference Manual, ch. 17; its mask is own.
 #[inline(never)]
-#[tactic(auto, unfolding(crate::specs::Questions::load_from_descriptor, crate::specs::Raising::in_protected, //
-crate::specs::Raising::invalid_opcode, insn_plan::specs::Plan::after_plan))]
 pub(crate) fn tell_access_rights(m: &mut Machine, i: &Insn) -> Result<(), Raised>
     ensures { CarriesOut m.old m.new result (load_from_descriptor access_rights m.old.world i.now) }
 {
@@ -143,8 +137,6 @@ pub(crate) fn tell_access_rights(m: &mut Machine, i: &Insn) -> Result<(), Raised
 
 /// LSL. Source: 80386 Programmer's Reference Manual, ch. 17.
 #[inline(never)]
-#[tactic(auto, unfolding(crate::specs::Questions::load_from_descriptor, crate::specs::Raising::in_protected, //
-crate::specs::Raising::invalid_opcode, insn_plan::specs::Plan::after_plan))]
 pub(crate) fn tell_byte_limit(m: &mut Machine, i: &Insn) -> Result<(), Raised>
     ensures { CarriesOut m.old m.new result (load_from_descriptor byte_limit m.old.world i.now) }
 {
@@ -167,8 +159,6 @@ pub(crate) fn requested_privilege(sel: u32) -> u32
 
 /// ARPL. Source: 80386 Programmer's Reference Manual, ch. 17.
 #[inline(never)]
-#[tactic(auto, unfolding(crate::specs::Questions::arpl, crate::specs::Raising::in_protected, crate::specs::Raising::invalid_opcode, //
-insn_plan::specs::Plan::after_plan))]
 pub(crate) fn arpl(m: &mut Machine, i: &Insn) -> Result<(), Raised>
     ensures { CarriesOut m.old m.new result (arpl m.old.world i.now) }
 {
