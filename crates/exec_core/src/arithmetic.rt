@@ -50,7 +50,7 @@ macro_rules! change_first {
                 $(let $b = source_after::<$look>($m, $i.addr32, $second_width, &$i.second, ahead)?;)?
                 let $a = number.value;
                 let (v, flags) = $result;
-                $look::put_back($m, form.seg, $width, number, v)?;
+                $look::put_back($m, form.seg, $width, number.off, number.at, v)?;
                 $m.set_flags(flags);
                 Ok(())
             }

@@ -94,11 +94,12 @@ pub trait Look {
         m: &mut Machine,
         seg: SegReg,
         width: u8,
-        number: NumberInMemory<Self::Place>,
+        off: u32,
+        at: Self::Place,
         value: u32,
     ) -> Result<(), Self::Missed>
-        requires { knows m.old seg width number.off number.at }
-        ensures { Writes reported m.old m.new result (record { seg = seg; off = number.off; width = width; value = value }) };
+        requires { knows m.old seg width off at }
+        ensures { Writes reported m.old m.new result (record { seg = seg; off = off; width = width; value = value }) };
 
     /// Reads an operand ahead of a number in memory, so that it isn't read while that is kept; `None` where its look comes after it. Quick
     /// looks read it where it isn't in memory, and miss where it is.
@@ -182,10 +183,11 @@ impl Look for Quick {
         m: &mut Machine,
         seg: SegReg,
         width: u8,
-        number: NumberInMemory<u32>,
+        off: u32,
+        at: u32,
         value: u32,
     ) -> Result<(), Unshown> {
-        write_there(m, seg, width, number.off, number.at, value);
+        write_there(m, seg, width, off, at, value);
         Ok(())
     }
 
@@ -268,10 +270,11 @@ impl Look for Tables {
         m: &mut Machine,
         seg: SegReg,
         width: u8,
-        number: NumberInMemory<()>,
+        off: u32,
+        at: (),
         value: u32,
     ) -> Result<(), Fault> {
-        note_and_write(m, seg, number.off, width, value)
+        note_and_write(m, seg, off, width, value)
     }
 
     #[inline(always)]
