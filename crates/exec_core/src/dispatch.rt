@@ -131,7 +131,8 @@ pub fn carry_out_core(m: &mut Machine, insn: &Insn, len: u8) -> Option<Result<()
         Op::Cld => Some(cld(m)),
         Op::Std => Some(std(m)),
         Op::Wait => Some(wait(m)),
-        // MOV, PUSH and POP with a segment register are exec_flow's, and so are all others.
+        // With a segment register they are exec_flow's, and so are all others.
+        Op::Mov | Op::Push | Op::Pop => None,
         _ => None,
     }
 }
