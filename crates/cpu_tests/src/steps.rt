@@ -1,8 +1,10 @@
 // Worked rows: code bytes, and what a step makes of registers, stack and virtual interrupt flag, or its event.
-use accesses::{compare_touches, TOUCHED};
+use accesses::{TOUCHED, compare_touches};
 use bytes::{BYTES, Bytes};
 use cases::{Done, Raises};
-use client_world::{Desc, FarPtr, Kind, Mode, Origin, Regs, Width, a_plain_descriptor_keeps_a_world_sound};
+use client_world::{
+    Desc, FarPtr, Kind, Mode, Origin, Regs, Width, a_plain_descriptor_keeps_a_world_sound,
+};
 use cpu_step::step;
 use guest_space::Machine;
 use protected::{PROTECTED_DONE, PROTECTED_RAISES};

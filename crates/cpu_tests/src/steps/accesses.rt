@@ -41,11 +41,23 @@ const DATA: Operand = mem!(SegReg::Ds, Some(3), None, 0);
 
 pub(crate) static TOUCHED: [Touched; 18] = [
     // an operand that is changed is read and then written
-    touched!(insn!(Op::Add, 16, DATA, AX), [run!(read 0x1_0100, 2), run!(write 0x1_0100, 2)]),
-    touched!(insn!(Op::Cmp, 8, DATA, reg!(8, 0)), [run!(read 0x1_0100, 1)]),
-    touched!(insn!(Op::Mov, 32, DATA, reg!(32, 0)), [run!(write 0x1_0100, 4)]),
+    touched!(
+        insn!(Op::Add, 16, DATA, AX),
+        [run!(read 0x1_0100, 2), run!(write 0x1_0100, 2)]
+    ),
+    touched!(
+        insn!(Op::Cmp, 8, DATA, reg!(8, 0)),
+        [run!(read 0x1_0100, 1)]
+    ),
+    touched!(
+        insn!(Op::Mov, 32, DATA, reg!(32, 0)),
+        [run!(write 0x1_0100, 4)]
+    ),
     touched!(insn!(Op::Lea, 16, AX, DATA), []),
-    touched!(insn!(Op::Movs, 16, NONE, NONE), [run!(read 0x1_0100, 2), run!(write 0x2_0200, 2)]),
+    touched!(
+        insn!(Op::Movs, 16, NONE, NONE),
+        [run!(read 0x1_0100, 2), run!(write 0x2_0200, 2)]
+    ),
     touched!(insn!(Op::Push, 16, AX, NONE), [run!(write 0x3_02FE, 2)]),
     // a word at offset FFFFh, a division by 0, and a byte past the segment's limit are events
     touched!(insn!(Op::Mov, 16, AX, mem!(SegReg::Ds, None, None, 0xFFFF))),
@@ -54,12 +66,28 @@ pub(crate) static TOUCHED: [Touched; 18] = [
     // a far pointer is one run
     touched!(insn!(Op::Les, 16, AX, DATA), [run!(read 0x1_0100, 4)]),
     touched!(insn!(Op::Jmp, 16, Operand::Imm(0x10), NONE), []),
-    touched!(insn!(Op::Call, 16, Operand::Imm(0x10), NONE), [run!(write 0x3_02FE, 2)]),
-    touched!(insn!(Op::Retf, 16, NONE, NONE), [run!(read 0x3_0300, 2), run!(read 0x3_0302, 2)]),
-    touched!(insn!(Op::Push, 16, Operand::Seg(SegReg::Es), NONE), [run!(write 0x3_02FE, 2)]),
+    touched!(
+        insn!(Op::Call, 16, Operand::Imm(0x10), NONE),
+        [run!(write 0x3_02FE, 2)]
+    ),
+    touched!(
+        insn!(Op::Retf, 16, NONE, NONE),
+        [run!(read 0x3_0300, 2), run!(read 0x3_0302, 2)]
+    ),
+    touched!(
+        insn!(Op::Push, 16, Operand::Seg(SegReg::Es), NONE),
+        [run!(write 0x3_02FE, 2)]
+    ),
     // ENTER of level 2 reads the frame pointer of level 1 before it pushes
-    touched!(insn!(Op::Enter, 16, Operand::Imm(0), Operand::Imm(2)),
-        [run!(read 0x3_01FE, 2), run!(write 0x3_02FE, 2), run!(write 0x3_02FC, 2), run!(write 0x3_02FA, 2)]),
+    touched!(
+        insn!(Op::Enter, 16, Operand::Imm(0), Operand::Imm(2)),
+        [
+            run!(read 0x3_01FE, 2),
+            run!(write 0x3_02FE, 2),
+            run!(write 0x3_02FC, 2),
+            run!(write 0x3_02FA, 2)
+        ]
+    ),
     // AX lies outside both bounds, which are 0
     touched!(insn!(Op::Bound, 16, AX, DATA)),
     touched!(insn!(Op::Int, 8, Operand::Imm(0x21), NONE)),

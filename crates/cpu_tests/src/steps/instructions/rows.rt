@@ -206,6 +206,13 @@ static TRANSFERS: [Case; 8] = [
     case!(insn!(Op::Ret, 16, NONE, NONE), [] b"", [eip: 0x0B0A, esp: 0x302] b""),
     case!(insn!(Op::Push, 16, Operand::Seg(SegReg::Es), NONE), [] b"", [esp: 0x2FE] b"", stack: 0x0B0A_2000),
     case!(insn!(Op::Mov, 16, Operand::Seg(SegReg::Es), AX), [] b"", [es: 0x4321] b""),
-    refused!(insn!(Op::Int, 8, Operand::Imm(0x21), NONE), [], Some(Event::Soft { number: 0x21, len: 2 })),
+    refused!(
+        insn!(Op::Int, 8, Operand::Imm(0x21), NONE),
+        [],
+        Some(Event::Soft {
+            number: 0x21,
+            len: 2
+        })
+    ),
     refused!(insn!(Op::Hlt, 16, NONE, NONE), [], LIMIT_FAULT),
 ];
