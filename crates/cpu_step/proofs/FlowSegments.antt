@@ -120,7 +120,7 @@ mov_from_leaves w i s = λ v. words_put _ _ _ _ _ _ s
 
 -- what is done with a segment register, and with any other operand
 by_operand : (o : Operand) (f : SegReg → Act) (other : Act) → ((seg : SegReg) → LeavesWords (f seg)) → LeavesWords other →
-    LeavesWords (elim o [ Seg seg ↦ f seg | Empty ↦ other | Reg own number ↦ other | Mem form ↦ other | Imm v ↦ other | Far p ↦ other ])
+    LeavesWords (elim o [ Seg seg ↦ f seg | _ ↦ other ])
 by_operand Empty f other one rest = rest
 by_operand (Reg own number) f other one rest = rest
 by_operand (Seg seg) f other one rest = one seg

@@ -34,7 +34,7 @@ use Rattle.cpu_step.specs.Touched.{touch_places, DoesNotWrap}
 -- ---- one access
 
 -- its places, where it has no fault
-abbrev access_places : World → Access → List Place
+abbrev pub access_places : World → Access → List Place
 access_places w a = places_of_access (access w a.seg a.off a.count a.write)
 
 abbrev pub IsGranted : World → Access → Type 0
@@ -151,10 +151,11 @@ run_inside blocks at (suc n) write less e =
 
 -- ---- one touch
 
-record IsTouch (w : World) (a : Access) (t : Touch) : Type 0 where
-  granted : IsGranted w a
-  places : places_from w.blocks t.lin t.len ≡ access_places w a
-  inside : DoesNotWrap t
+pub record IsTouch (w : World) (a : Access) (t : Touch) : Type 0 where
+  pub granted : IsGranted w a
+  pub places : places_from w.blocks t.lin t.len ≡ access_places w a
+  pub flag : t.write ≡ a.write
+  pub inside : DoesNotWrap t
 
 granted_by : (o : Option Fault) (t u : Touch) → elim o as (λ _. Option Touch) [ None ↦ Some u | Some f ↦ None ] ≡ Some t →
     (o ≡ None) × (t ≡ u)
@@ -170,11 +171,12 @@ touch_is w a e =
     record {
       granted = e;
       places = again ∙ sym run.is;
+      flag = refl;
       inside = run_inside w.blocks (linear at) a.count a.write start
           (ap (λ (places : List Place). first_forbidden places a.write) again ∙ run.allowed);
     }
 
-granted_touch : (w : World) (a : Access) (t : Touch) → touch_of_access w a ≡ Some t → IsTouch w a t
+pub granted_touch : (w : World) (a : Access) (t : Touch) → touch_of_access w a ≡ Some t → IsTouch w a t
 unfolding touch_of_access
 granted_touch w a t e =
     let by = granted_by (access_fault w a.seg a.off a.count a.write) t (touch_of w a) e in
@@ -216,12 +218,12 @@ pub record AreTouches (w : World) (done : List Touch) (accesses : List Access) (
   pub places : touch_places w list ≡ touch_places w done ++ all_places w accesses
   pub inside : All DoesNotWrap list
 
-record First (w : World) (done : List Touch) (a : Access) (rest : List Access) (list : List Touch) : Type 0 where
-  touch : Touch
-  is : touch_of_access w a ≡ Some touch
-  others : touches_after w (done ++ touch ∷ []) rest ≡ Some list
+pub record First (w : World) (done : List Touch) (a : Access) (rest : List Access) (list : List Touch) : Type 0 where
+  pub touch : Touch
+  pub is : touch_of_access w a ≡ Some touch
+  pub others : touches_after w (done ++ touch ∷ []) rest ≡ Some list
 
-first_by : (o : Option Touch) (w : World) (done : List Touch) (a : Access) (rest : List Access) (list : List Touch) →
+pub first_by : (o : Option Touch) (w : World) (done : List Touch) (a : Access) (rest : List Access) (list : List Touch) →
     o ≡ touch_of_access w a →
     elim o as (λ _. Option (List Touch)) [ Some touch ↦ touches_after w (done ++ touch ∷ []) rest | None ↦ None ] ≡ Some list →
     First w done a rest list
@@ -284,12 +286,12 @@ are_written w done (x ∷ xs) all =
           ∙ ap (λ (places : List Place). all_places w done ++ places) (sym (granted_then w a (write_places w xs) parts.1.0));
     }
 
-record Follows (w : World) (done : List Access) (input : Input) (rest : ℕ → Act) (all : List Access) : Type 0 where
-  value : ℕ
-  is : value_of w input ≡ Ok value
-  others : accesses_after w (and_read done input) (rest value) ≡ Some all
+pub record Follows (w : World) (done : List Access) (input : Input) (rest : ℕ → Act) (all : List Access) : Type 0 where
+  pub value : ℕ
+  pub is : value_of w input ≡ Ok value
+  pub others : accesses_after w (and_read done input) (rest value) ≡ Some all
 
-follow_by : (r : Result ℕ Event) (w : World) (done : List Access) (input : Input) (rest : ℕ → Act) (all : List Access) →
+pub follow_by : (r : Result ℕ Event) (w : World) (done : List Access) (input : Input) (rest : ℕ → Act) (all : List Access) →
     r ≡ value_of w input →
     elim r as (λ _. Option (List Access)) [ Ok v ↦ accesses_after w (and_read done input) (rest v) | Err e ↦ None ] ≡ Some all →
     Follows w done input rest all

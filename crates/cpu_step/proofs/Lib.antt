@@ -11,3 +11,4 @@ pub mod SegmentWords
 pub mod SoundSteps
 pub mod SoundWritten
 pub mod WindowSteps
+pub mod WriteFlags

@@ -1,7 +1,7 @@
 -- The places that the client's next instruction touches, in the order of the accesses: the bytes that are fetched, what it reads, what it
 -- writes; and what its software interrupt pushes, and the vector that this reads. An access that faults names no place, and nothing is
 -- accessed after it. Source: own.
-use Rattle.std.specs.Prelude.{ℕ, zero, suc, ◌+◌, ◌*◌, ◌^◌, ◌≤◌, true, false, List, [], ◌∷◌, ◌++◌, Ok, Err, None, Some}
+use Rattle.std.specs.Prelude.{ℕ, zero, suc, ◌+◌, ◌*◌, ◌^◌, ◌≤◌, true, false, List, [], ◌∷◌, ◌++◌, Ok, Err, None, Some, if◌then◌else◌}
 use Rattle.std.specs.declared.result.Result.{Result}
 use Rattle.client_world.specs.declared.faults.Event.{Event}
 use Rattle.client_world.specs.declared.faults.Event.TheVariants.{Fault as fault, Soft}
@@ -85,6 +85,11 @@ touched_by_step w = touched_by_fetch w 0 code_room ++ touched_by_decoded w (deco
 abbrev pub touch_places : World → List Touch → List Place
 touch_places w [] = []
 touch_places w (t ∷ rest) = places_from w.blocks t.lin t.len ++ touch_places w rest
+
+-- the places of those touches that write
+abbrev pub written_touch_places : World → List Touch → List Place
+written_touch_places w [] = []
+written_touch_places w (t ∷ rest) = (if t.write then places_from w.blocks t.lin t.len else []) ++ written_touch_places w rest
 
 -- the run has no byte past the last address
 abbrev pub DoesNotWrap : Touch → Type 0

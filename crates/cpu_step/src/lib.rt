@@ -12,4 +12,4 @@ pub use laws::{
     a_step_has_one_outcome, every_step_is_sound, every_touch_is_an_access,
     every_touched_place_is_held, only_an_event_has_no_touches,
 };
-pub use steps::{has_big_code, move_behind, step, step_in_window};
+pub use steps::{find_window, has_big_code, move_past, step, step_in_window, step_raised};

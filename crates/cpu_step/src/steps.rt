@@ -26,8 +26,9 @@ pub fn has_big_code(m: &Machine) -> bool
 }
 
 /// Moves EIP past an instruction of `len` bytes, modulo 2^32.
+/// Source: 80386 Programmer's Reference Manual, ch. 2, "Instruction Pointer".
 #[inline(always)]
-pub fn move_behind(m: &mut Machine, len: u8)
+pub fn move_past(m: &mut Machine, len: u8)
     ensures { m.new ≡ view_with_next_eip len m.old }
 {
     m.set_eip(m.registers().eip.wrapping_add(u32::from(len)));
@@ -54,7 +55,7 @@ fn execute(m: &mut Machine, insn: &Insn, len: u8) -> Result<(), Raised>
     ensures { Follows m.old m.new result (after_instruction m.old insn.now len) }
 {
     let start = m.registers().eip;
-    move_behind(m, len);
+    move_past(m, len);
     match run(m, insn, len) {
         Ok(()) => Ok(()),
         Err(raised) => {
@@ -81,12 +82,15 @@ fn incomplete_fault(m: &Machine, bytes: &ArrayVec<u8, 15>) -> Fault
     }
 }
 
-// Decodes the client's next instruction and makes it.
+/// Makes the client's next instruction, or gives its event in one word, which leaves the machine as it was. The page of its code is noted
+/// before its bytes are fetched.
+/// Source: 80386 Programmer's Reference Manual, ch. 9, "Exception 6" and "Exception 13", and ch. 17.
 #[inline(never)]
 #[tactic(auto, unfolding(crate::specs::Step::client_step))]
-fn decode_and_step(m: &mut Machine) -> Result<(), Raised>
+pub fn step_raised(m: &mut Machine) -> Result<(), Raised>
     ensures { Follows m.old m.new result (client_step m.old) }
 {
+    m.warm(SegReg::Cs, m.registers().eip);
     let code = m.code();
     match decode(&code, has_big_code(m)) {
         Decoded::Whole(insn, len) => {
@@ -101,15 +105,25 @@ fn decode_and_step(m: &mut Machine) -> Result<(), Raised>
     }
 }
 
-/// Makes the client's next instruction, or gives its event, which leaves the machine as it was.
+/// Makes the client's next instruction, or gives its event, which leaves the machine as it was. `step_raised`, with the event's parts.
 /// Source: 80386 Programmer's Reference Manual, ch. 9, "Exception 6" and "Exception 13", and ch. 17.
 pub fn step(m: &mut Machine) -> Result<(), Event>
     ensures { Follows m.old m.new result (client_step m.old) }
 {
-    match decode_and_step(m) {
+    match step_raised(m) {
         Ok(()) => Ok(()),
         Err(raised) => Err(raised.event()),
     }
+}
+
+/// The window of code that has CS:EIP, whose page is noted, where a quick look shows it; one without starts says nothing. Source: own.
+#[inline(always)]
+pub fn find_window(m: &mut Machine) -> CodeWindow
+    ensures kept { m.new ≡ m.old }
+    ensures window { 0 < result.starts → IsWindow m.new result }
+{
+    m.warm(SegReg::Cs, m.registers().eip);
+    m.code_window()
 }
 
 // Where the memo looks for the instruction at that start of a window: the address of the code in the memory.
@@ -136,13 +150,14 @@ fn learn_and_step(
     let words = m.words_in(window, from);
     match memo.learn(key_of(window, from), words, window.big) {
         Some(entry) => execute(m, &entry.insn, entry.len),
-        None => decode_and_step(m),
+        None => step_raised(m),
     }
 }
 
-/// Makes the client's next instruction as `step` does, with a memo of the instructions that were decoded before, and the event in one word.
-/// The instruction is known to lie in a window of code, at that start of it. The window stays one of the machine's while CS holds what it
-/// held.
+/// Makes the client's next instruction as `step_raised` does, with a memo of the instructions that were decoded before. The instruction is
+/// known to lie in a window of code, at that start of it. An event leaves the machine as it was; else the window stays one of the machine's
+/// while CS holds what it held.
+/// Source: 80386 Programmer's Reference Manual, ch. 9, "Exception 6" and "Exception 13", and ch. 17; window and memo are own.
 #[inline(always)]
 #[tactic(auto, using(crate::proofs::KnownSteps::known_step), unfolding(crate::specs::Step::has_big_code))]
 pub fn step_in_window(

@@ -1,7 +1,10 @@
 // Worked rows: code bytes, and what a step makes of registers, stack and virtual interrupt flag, or its event.
+use accesses::{TOUCHED, compare_touches};
 use bytes::{BYTES, Bytes};
 use cases::{Done, Raises};
-use client_world::{Desc, Kind, Mode, Origin, Regs, Width, a_plain_descriptor_keeps_a_world_sound};
+use client_world::{
+    Desc, FarPtr, Kind, Mode, Origin, Regs, Width, a_plain_descriptor_keeps_a_world_sound,
+};
 use cpu_step::step;
 use guest_space::Machine;
 use protected::{PROTECTED_DONE, PROTECTED_RAISES};
@@ -9,6 +12,7 @@ use real::{REAL_CALLS, REAL_JUMPS, REAL_RAISES};
 use std::alloc::{AllocError, Global};
 use std::test::Fail;
 
+mod accesses;
 mod bytes;
 mod cases;
 mod instructions;
@@ -134,6 +138,14 @@ fn steps_that_write_many_bytes(rt: HostRuntime) -> Result<(), Fail> {
     Ok(())
 }
 
+#[test]
+fn what_instructions_touch(rt: HostRuntime) -> Result<(), Fail> {
+    let mut m = Machine::new(rt.alloc(), 1)?;
+    m.set_regs(cases::REAL);
+    assert_eq!(rt; compare_all(&mut m, &TOUCHED, compare_touches), Ok(()));
+    Ok(())
+}
+
 // Segments of 64 KB: the stack, and the code.
 const STACK_SEGMENT: Desc = Desc {
     base: STACK,
@@ -182,5 +194,48 @@ fn events_in_protected_mode(rt: HostRuntime) -> Result<(), Fail> {
         compare_all(&mut m, &PROTECTED_RAISES, compare_event),
         Ok(())
     );
+    Ok(())
+}
+
+// A byte of the stack's segment, and one of the code's, which may be read alone.
+const STACK_BYTE: FarPtr = FarPtr {
+    sel: 0x22F,
+    off: 0xFFFF,
+};
+
+const CODE_BYTE: FarPtr = FarPtr {
+    sel: 0x237,
+    off: 0x10,
+};
+
+// Puts a byte at a far pointer, and reads it again; `None` where it may not be written, or not be read.
+fn put_and_get(m: &mut Machine, p: FarPtr, v: u8) -> Option<u8> {
+    if !m.far_ok(p, 1, true) {
+        return None;
+    }
+    m.far_set8(p, v);
+    if m.far_ok(p, 1, false) {
+        Some(m.far_get8(p))
+    } else {
+        None
+    }
+}
+
+fn get(m: &Machine, p: FarPtr) -> Option<u8> {
+    if m.far_ok(p, 1, false) {
+        Some(m.far_get8(p))
+    } else {
+        None
+    }
+}
+
+#[test]
+fn bytes_at_far_pointers(rt: HostRuntime) -> Result<(), Fail> {
+    let mut m = protected_machine(rt.alloc())?;
+    m.set_dos8(CODE + 0x10, 0x5A);
+    let put = put_and_get(&mut m, STACK_BYTE, 0xA5);
+    let refused = put_and_get(&mut m, CODE_BYTE, 0xA5);
+    let found = (put, refused, get(&m, CODE_BYTE), m.dos8(STACK + 0xFFFF));
+    assert_eq!(rt; found, (Some(0xA5), None, Some(0x5A), 0xA5));
     Ok(())
 }

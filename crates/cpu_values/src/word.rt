@@ -24,7 +24,7 @@ impl<const W: u8> Model for Word<W> {
 }
 
 impl<const W: u8> Word<W> {
-    /// The number, from 0.
+    /// The number, from 0 to 2^W - 1. Source: own.
     pub fn get(self) -> u32
         ensures value { result ≡ self.entry }
         ensures in_range { result < 2 ^ W }
@@ -33,7 +33,7 @@ impl<const W: u8> Word<W> {
     }
 }
 
-/// The low W bits of a number: its remainder modulo 2^W.
+/// The low W bits of a number: its remainder modulo 2^W. Source: own.
 #[tactic(auto, using(std::proofs::lemmas::Nat::and_mask, std::proofs::lemmas::Nat::one_shl))]
 pub fn cut<const W: u8>(v: u64) -> Word<W>
     requires { IsWidth W }

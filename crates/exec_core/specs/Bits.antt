@@ -8,7 +8,7 @@ use Rattle.cpu_values.specs.Word.{cut}
 use Rattle.insn_forms.specs.declared.insn.Insn.{Insn}
 use Rattle.insn_forms.specs.declared.insn.MemForm.{MemForm}
 use Rattle.insn_forms.specs.declared.insn.Operand.{Operand}
-use Rattle.insn_forms.specs.declared.insn.Operand.TheVariants.{Empty, Reg, Seg, Mem, Imm, Far}
+use Rattle.insn_forms.specs.declared.insn.Operand.TheVariants.{Reg, Mem}
 use Rattle.insn_plan.specs.Act.{Act, ◌>>=◌, done, unchanged, with_flags}
 use Rattle.insn_plan.specs.Conditions.{condition}
 use Rattle.insn_plan.specs.Operands.{source, put_operand}
@@ -24,20 +24,12 @@ bit_distance width offset =
 
 -- the operand in which the bit at an offset is: memory moves with an offset in a register
 abbrev pub moved_place : Insn → MemForm → ℕ → Operand → Operand
-moved_place i f offset Empty = Mem f
 moved_place i f offset (Reg own number) = Mem (record f { disp = (f.disp + bit_distance i.width offset) % 2 ^ 32 })
-moved_place i f offset (Seg seg) = Mem f
-moved_place i f offset (Mem g) = Mem f
-moved_place i f offset (Imm v) = Mem f
-moved_place i f offset (Far pointer) = Mem f
+moved_place i f offset _ = Mem f
 
 abbrev pub bit_operand : Insn → ℕ → Operand → Operand
-bit_operand i offset Empty = Empty
-bit_operand i offset (Reg own number) = Reg own number
-bit_operand i offset (Seg seg) = Seg seg
 bit_operand i offset (Mem f) = moved_place i f offset i.second
-bit_operand i offset (Imm v) = Imm v
-bit_operand i offset (Far pointer) = Far pointer
+bit_operand i offset other = other
 
 -- the bit of a number
 abbrev pub bit_at : ℕ → ℕ → Bool

@@ -6,7 +6,7 @@ use Rattle.client_world.specs.World.{World}
 use Rattle.cpu_values.specs.Word.{cut}
 use Rattle.insn_forms.specs.declared.insn.Insn.{Insn}
 use Rattle.insn_forms.specs.declared.insn.Operand.{Operand}
-use Rattle.insn_forms.specs.declared.insn.Operand.TheVariants.{Empty, Reg, Seg, Mem, Imm, Far}
+use Rattle.insn_forms.specs.declared.insn.Operand.TheVariants.{Mem}
 use Rattle.insn_plan.specs.Act.{Act, ◌>>=◌, From, done, unchanged, with_regs}
 use Rattle.insn_plan.specs.Operands.{source, put_operand}
 use Rattle.insn_plan.specs.Registers.{register, with_register, cut_address, offset_of}
@@ -40,14 +40,10 @@ xchg w i = do
   b ← source w.regs i.addr32 i.width i.second
   done (put_operand w.regs i.addr32 i.width i.second a (put_operand w.regs i.addr32 i.width i.first b (unchanged w)))
 
--- the offset of an operand in memory
+-- the offset of an operand in memory; 0 of another
 abbrev pub operand_offset : World → Insn → Operand → ℕ
-operand_offset w i Empty = 0
-operand_offset w i (Reg own number) = 0
-operand_offset w i (Seg seg) = 0
 operand_offset w i (Mem f) = offset_of w.regs i.addr32 f
-operand_offset w i (Imm v) = 0
-operand_offset w i (Far pointer) = 0
+operand_offset w i _ = 0
 
 -- LEA: the destination becomes the offset of the source, of which nothing is read
 unfoldable pub lea : World → Insn → Act

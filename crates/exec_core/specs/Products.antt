@@ -10,7 +10,7 @@ use Rattle.cpu_alu.specs.Products.{imul_of}
 use Rattle.cpu_values.specs.Word.{cut}
 use Rattle.insn_forms.specs.declared.insn.Insn.{Insn}
 use Rattle.insn_forms.specs.declared.insn.Operand.{Operand}
-use Rattle.insn_forms.specs.declared.insn.Operand.TheVariants.{Empty, Reg, Seg, Mem, Imm, Far}
+use Rattle.insn_forms.specs.declared.insn.Operand.TheVariants.{Empty}
 use Rattle.insn_plan.specs.Act.{Act, ◌>>=◌, done, raise, unchanged, with_regs, with_flags}
 use Rattle.insn_plan.specs.Operands.{source, put_operand}
 use Rattle.insn_plan.specs.Registers.{register, with_register}
@@ -53,11 +53,7 @@ multiply_three w i = do
 -- the operand isn't there
 abbrev pub is_empty : Operand → Bool
 is_empty Empty = true
-is_empty (Reg own number) = false
-is_empty (Seg seg) = false
-is_empty (Mem f) = false
-is_empty (Imm v) = false
-is_empty (Far pointer) = false
+is_empty _ = false
 
 -- IMUL, by the number of its operands
 unfoldable pub imul : World → Insn → Act

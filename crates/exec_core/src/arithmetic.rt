@@ -50,7 +50,7 @@ macro_rules! change_first {
                 $(let $b = source_after::<$look>($m, $i.addr32, $second_width, &$i.second, ahead)?;)?
                 let $a = number.value;
                 let (v, flags) = $result;
-                $look::put_back($m, form.seg, $width, number, v)?;
+                $look::put_back($m, form.seg, $width, number.off, number.at, v)?;
                 $m.set_flags(flags);
                 Ok(())
             }
@@ -136,7 +136,7 @@ fn compare_at<const W: u8, L: Look, O: BinaryAt<W>>(
     Ok(())
 }
 
-/// CMP and TEST. Source: as above.
+/// CMP and TEST. Source: 80386 Programmer's Reference Manual, ch. 17.
 #[derive(Clone, Copy)]
 pub(crate) struct Comparison<O>(pub O);
 
@@ -185,7 +185,7 @@ fn unary_at<const W: u8, L: Look, O: UnaryAt<W>>(m: &mut Machine, i: &Insn) -> R
     change_first!(L, W, m, i, a => result_of_one::<W, O>(m, a))
 }
 
-/// INC, DEC, NEG, NOT. Source: as above.
+/// INC, DEC, NEG, NOT. Source: 80386 Programmer's Reference Manual, ch. 17.
 #[derive(Clone, Copy)]
 pub(crate) struct OneOperand<O>(pub O);
 

@@ -82,7 +82,7 @@ fn bit_at(v: u32, n: u8) -> bool
     v / (1u32 << n) % 2 == 1
 }
 
-/// BT. Source: as above.
+/// BT. Source: 80386 Programmer's Reference Manual, ch. 17.
 #[inline(never)]
 #[tactic(auto, unfolding(crate::specs::Bits::bit_test, insn_plan::specs::Plan::after_plan, insn_plan::specs::Plan::after_commit, //
 guest_space::specs::Pending::first_write_fault, guest_space::specs::Pending::after_writes))]
@@ -149,7 +149,7 @@ impl BitChange for Toggle {
     }
 }
 
-/// BTS, BTR, BTC. Source: as above.
+/// BTS, BTR, BTC. Source: 80386 Programmer's Reference Manual, ch. 17.
 #[inline(never)]
 #[tactic(auto, unfolding(crate::specs::Bits::bit_change, insn_plan::specs::Plan::after_plan))]
 pub(crate) fn bit_change<C: BitChange>(m: &mut Machine, i: &Insn) -> Result<(), Raised>
@@ -193,7 +193,7 @@ fn highest_bit(mut v: u32, width: u8) -> u32
     u32::from(width)
 }
 
-/// BSF. Source: as above.
+/// BSF. Source: 80386 Programmer's Reference Manual, ch. 17.
 #[inline(never)]
 #[tactic(auto, unfolding(crate::specs::Bits::bit_scan, insn_plan::specs::Plan::after_plan, insn_plan::specs::Plan::after_commit, //
 guest_space::specs::Pending::first_write_fault, guest_space::specs::Pending::after_writes))]
@@ -214,7 +214,7 @@ pub(crate) fn bit_scan_forward(m: &mut Machine, i: &Insn) -> Result<(), Raised>
     put_with_flags(m, flags, i.addr32, i.width, &i.first, place)
 }
 
-/// BSR. Source: as above.
+/// BSR. Source: 80386 Programmer's Reference Manual, ch. 17.
 #[inline(never)]
 #[tactic(auto, unfolding(crate::specs::Bits::bit_scan, insn_plan::specs::Plan::after_plan, insn_plan::specs::Plan::after_commit, //
 guest_space::specs::Pending::first_write_fault, guest_space::specs::Pending::after_writes))]

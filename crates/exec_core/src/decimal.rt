@@ -35,7 +35,7 @@ pub(crate) fn decimal_adjust_after_addition(m: &mut Machine) -> Result<(), Raise
     Ok(())
 }
 
-/// DAS. Source: as above.
+/// DAS. Source: 80386 Programmer's Reference Manual, ch. 17.
 #[inline(never)]
 pub(crate) fn decimal_adjust_after_subtraction(m: &mut Machine) -> Result<(), Raised>
     ensures { CarriesOut m.old m.new result (adjust das_of m.old.world) }
@@ -45,7 +45,7 @@ pub(crate) fn decimal_adjust_after_subtraction(m: &mut Machine) -> Result<(), Ra
     Ok(())
 }
 
-/// AAA. Source: as above.
+/// AAA. Source: 80386 Programmer's Reference Manual, ch. 17.
 #[inline(never)]
 pub(crate) fn adjust_after_addition(m: &mut Machine) -> Result<(), Raised>
     ensures { CarriesOut m.old m.new result (adjust aaa_of m.old.world) }
@@ -55,7 +55,7 @@ pub(crate) fn adjust_after_addition(m: &mut Machine) -> Result<(), Raised>
     Ok(())
 }
 
-/// AAS. Source: as above.
+/// AAS. Source: 80386 Programmer's Reference Manual, ch. 17.
 #[inline(never)]
 pub(crate) fn adjust_after_subtraction(m: &mut Machine) -> Result<(), Raised>
     ensures { CarriesOut m.old m.new result (adjust aas_of m.old.world) }
@@ -65,7 +65,7 @@ pub(crate) fn adjust_after_subtraction(m: &mut Machine) -> Result<(), Raised>
     Ok(())
 }
 
-/// AAD. Source: as above.
+/// AAD. Source: 80386 Programmer's Reference Manual, ch. 17.
 #[inline(never)]
 pub(crate) fn adjust_before_division(m: &mut Machine, i: &Insn) -> Result<(), Raised>
     ensures { CarriesOut m.old m.new result (aad m.old.world i.now) }
@@ -80,7 +80,7 @@ pub(crate) fn adjust_before_division(m: &mut Machine, i: &Insn) -> Result<(), Ra
     Ok(())
 }
 
-/// AAM; exception 0 for base 0. Source: as above.
+/// AAM; exception 0 for base 0. Source: 80386 Programmer's Reference Manual, ch. 17.
 #[inline(never)]
 pub(crate) fn adjust_after_product(m: &mut Machine, i: &Insn) -> Result<(), Raised>
     ensures { CarriesOut m.old m.new result (aam m.old.world i.now) }

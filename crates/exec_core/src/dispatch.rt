@@ -38,7 +38,7 @@ fn is_no_segment(operand: &Operand) -> bool
     !matches!(operand, Operand::Seg(_))
 }
 
-/// Whether the instruction is one of this crate.
+/// Whether the instruction is one of this crate. Source: own.
 #[tactic(auto, unfolding(crate::specs::Dispatch::is_core))]
 pub fn is_core(i: &Insn) -> bool
     ensures { result ≡ is_core i.now.op i.now.first i.now.second }
@@ -51,8 +51,8 @@ pub fn is_core(i: &Insn) -> bool
     }
 }
 
-/// Carries out an instruction of this crate, whose EIP is already after it. An event leaves the machine as it was. `None`: the instruction
-/// isn't one of this crate, and nothing is done.
+/// Carries out an instruction of this crate, of `len` bytes, whose EIP is already after it. An event, in one word, leaves the machine as it
+/// was. `None`: the instruction isn't one of this crate, and nothing is done.
 /// Source: 80386 Programmer's Reference Manual, ch. 17; that an instruction that faults changes nothing is own.
 #[inline(always)]
 #[tactic(auto, unfolding(crate::specs::Dispatch::is_core, crate::specs::Dispatch::core_row))]
@@ -138,7 +138,7 @@ pub fn carry_out_core(m: &mut Machine, insn: &Insn, len: u8) -> Option<Result<()
 }
 
 /// Runs an instruction of this crate, whose EIP is already after it. An event leaves the machine as it was.
-/// Source: as above.
+/// Source: 80386 Programmer's Reference Manual, ch. 17; that an instruction that faults changes nothing is own.
 pub fn run_core(m: &mut Machine, insn: &Insn, len: u8) -> Result<(), Event>
     requires core { IsCore insn.now }
     requires width { IsTrue (is_width insn.now.width) }

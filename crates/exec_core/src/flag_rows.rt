@@ -1,4 +1,9 @@
 // The flags, and WAIT.
+#![tactic(auto, unfolding(crate::specs::FlagRows::clc, crate::specs::FlagRows::stc, crate::specs::FlagRows::cmc, //
+crate::specs::FlagRows::cld, crate::specs::FlagRows::std, crate::specs::FlagRows::lahf, crate::specs::FlagRows::wait, //
+insn_plan::specs::Plan::after_plan, insn_plan::specs::Plan::after_commit, guest_space::specs::Pending::first_write_fault, //
+guest_space::specs::Pending::after_writes))]
+
 ghost use Rattle.exec_core.specs.FlagRows.{clc, stc, cmc, cld, std, lahf, sahf, wait};
 ghost use Rattle.insn_plan.specs.Plan.{CarriesOut};
 
@@ -9,8 +14,6 @@ use insn_plan::{Raised, put_register, register};
 
 /// CLC. Source: 80386 Programmer's Reference Manual, ch. 17.
 #[inline(always)]
-#[tactic(auto, unfolding(crate::specs::FlagRows::clc, insn_plan::specs::Plan::after_plan, insn_plan::specs::Plan::after_commit, //
-guest_space::specs::Pending::first_write_fault, guest_space::specs::Pending::after_writes))]
 pub(crate) fn clc(m: &mut Machine) -> Result<(), Raised>
     ensures { CarriesOut m.old m.new result (clc m.old.world) }
 {
@@ -21,10 +24,8 @@ pub(crate) fn clc(m: &mut Machine) -> Result<(), Raised>
     Ok(())
 }
 
-/// STC. Source: as above.
+/// STC. Source: 80386 Programmer's Reference Manual, ch. 17.
 #[inline(always)]
-#[tactic(auto, unfolding(crate::specs::FlagRows::stc, insn_plan::specs::Plan::after_plan, insn_plan::specs::Plan::after_commit, //
-guest_space::specs::Pending::first_write_fault, guest_space::specs::Pending::after_writes))]
 pub(crate) fn stc(m: &mut Machine) -> Result<(), Raised>
     ensures { CarriesOut m.old m.new result (stc m.old.world) }
 {
@@ -35,10 +36,8 @@ pub(crate) fn stc(m: &mut Machine) -> Result<(), Raised>
     Ok(())
 }
 
-/// CMC. Source: as above.
+/// CMC. Source: 80386 Programmer's Reference Manual, ch. 17.
 #[inline(always)]
-#[tactic(auto, unfolding(crate::specs::FlagRows::cmc, insn_plan::specs::Plan::after_plan, insn_plan::specs::Plan::after_commit, //
-guest_space::specs::Pending::first_write_fault, guest_space::specs::Pending::after_writes))]
 pub(crate) fn cmc(m: &mut Machine) -> Result<(), Raised>
     ensures { CarriesOut m.old m.new result (cmc m.old.world) }
 {
@@ -47,10 +46,8 @@ pub(crate) fn cmc(m: &mut Machine) -> Result<(), Raised>
     Ok(())
 }
 
-/// CLD. Source: as above.
+/// CLD. Source: 80386 Programmer's Reference Manual, ch. 17.
 #[inline(always)]
-#[tactic(auto, unfolding(crate::specs::FlagRows::cld, insn_plan::specs::Plan::after_plan, insn_plan::specs::Plan::after_commit, //
-guest_space::specs::Pending::first_write_fault, guest_space::specs::Pending::after_writes))]
 pub(crate) fn cld(m: &mut Machine) -> Result<(), Raised>
     ensures { CarriesOut m.old m.new result (cld m.old.world) }
 {
@@ -61,10 +58,8 @@ pub(crate) fn cld(m: &mut Machine) -> Result<(), Raised>
     Ok(())
 }
 
-/// STD. Source: as above.
+/// STD. Source: 80386 Programmer's Reference Manual, ch. 17.
 #[inline(always)]
-#[tactic(auto, unfolding(crate::specs::FlagRows::std, insn_plan::specs::Plan::after_plan, insn_plan::specs::Plan::after_commit, //
-guest_space::specs::Pending::first_write_fault, guest_space::specs::Pending::after_writes))]
 pub(crate) fn std(m: &mut Machine) -> Result<(), Raised>
     ensures { CarriesOut m.old m.new result (std m.old.world) }
 {
@@ -75,10 +70,8 @@ pub(crate) fn std(m: &mut Machine) -> Result<(), Raised>
     Ok(())
 }
 
-/// LAHF. Source: as above.
+/// LAHF. Source: 80386 Programmer's Reference Manual, ch. 17.
 #[inline(never)]
-#[tactic(auto, unfolding(crate::specs::FlagRows::lahf, insn_plan::specs::Plan::after_plan, insn_plan::specs::Plan::after_commit, //
-guest_space::specs::Pending::first_write_fault, guest_space::specs::Pending::after_writes))]
 pub(crate) fn lahf(m: &mut Machine) -> Result<(), Raised>
     ensures { CarriesOut m.old m.new result (lahf m.old.world) }
 {
@@ -87,7 +80,7 @@ pub(crate) fn lahf(m: &mut Machine) -> Result<(), Raised>
     Ok(())
 }
 
-/// SAHF. Source: as above.
+/// SAHF. Source: 80386 Programmer's Reference Manual, ch. 17.
 #[inline(never)]
 #[tactic(auto, using(crate::proofs::Parts::ah_fits), unfolding(crate::specs::FlagRows::sahf, insn_plan::specs::Plan::after_plan, //
 insn_plan::specs::Plan::after_commit, guest_space::specs::Pending::first_write_fault, guest_space::specs::Pending::after_writes))]
@@ -105,10 +98,8 @@ pub(crate) fn sahf(m: &mut Machine) -> Result<(), Raised>
     Ok(())
 }
 
-/// WAIT: nothing happens. Source: as above.
+/// WAIT: nothing happens. Source: 80386 Programmer's Reference Manual, ch. 17.
 #[inline(always)]
-#[tactic(auto, unfolding(crate::specs::FlagRows::wait, insn_plan::specs::Plan::after_plan, insn_plan::specs::Plan::after_commit, //
-guest_space::specs::Pending::first_write_fault, guest_space::specs::Pending::after_writes))]
 pub(crate) fn wait(m: &mut Machine) -> Result<(), Raised>
     ensures { CarriesOut m.old m.new result (wait m.old.world) }
 {

@@ -78,7 +78,7 @@ impl InsnRow for Mov {
     }
 }
 
-/// MOVZX. Source: as above.
+/// MOVZX. Source: 80386 Programmer's Reference Manual, ch. 17.
 #[inline(never)]
 #[tactic(auto, unfolding(crate::specs::Moves::movzx, insn_plan::specs::Plan::after_plan))]
 pub(crate) fn movzx(m: &mut Machine, i: &Insn, from: u8) -> Result<(), Raised>
@@ -105,7 +105,7 @@ fn sign_extended(from: u8, width: u8, v: u32) -> u32
     }
 }
 
-/// MOVSX. Source: as above.
+/// MOVSX. Source: 80386 Programmer's Reference Manual, ch. 17.
 #[inline(never)]
 #[tactic(auto, unfolding(crate::specs::Moves::movsx, insn_plan::specs::Plan::after_plan))]
 pub(crate) fn movsx(m: &mut Machine, i: &Insn, from: u8) -> Result<(), Raised>
@@ -118,7 +118,7 @@ pub(crate) fn movsx(m: &mut Machine, i: &Insn, from: u8) -> Result<(), Raised>
     put_operand(m, i.addr32, i.width, &i.first, v)
 }
 
-/// XCHG. Source: as above.
+/// XCHG. Source: 80386 Programmer's Reference Manual, ch. 17.
 #[inline(never)]
 #[tactic(auto, unfolding(crate::specs::Moves::xchg, insn_plan::specs::Plan::after_plan))]
 pub(crate) fn xchg(m: &mut Machine, i: &Insn) -> Result<(), Raised>
@@ -143,7 +143,7 @@ fn operand_offset(m: &Machine, i: &Insn, operand: &Operand) -> u32
     }
 }
 
-/// LEA. Source: as above.
+/// LEA. Source: 80386 Programmer's Reference Manual, ch. 17.
 #[inline(never)]
 #[tactic(auto, unfolding(crate::specs::Moves::lea, insn_plan::specs::Plan::after_plan))]
 pub(crate) fn lea(m: &mut Machine, i: &Insn) -> Result<(), Raised>
@@ -154,7 +154,7 @@ pub(crate) fn lea(m: &mut Machine, i: &Insn) -> Result<(), Raised>
     put_operand(m, i.addr32, i.width, &i.first, v)
 }
 
-/// XLAT. Source: as above.
+/// XLAT. Source: 80386 Programmer's Reference Manual, ch. 17.
 #[inline(never)]
 #[tactic(auto, unfolding(crate::specs::Moves::xlat, insn_plan::specs::Plan::after_plan, insn_plan::specs::Plan::after_commit, //
 guest_space::specs::Pending::first_write_fault, guest_space::specs::Pending::after_writes))]
@@ -176,7 +176,7 @@ fn half_width(width: u8) -> u8
     if width == 16 { 8 } else { 16 }
 }
 
-/// CBW and CWDE. Source: as above.
+/// CBW and CWDE. Source: 80386 Programmer's Reference Manual, ch. 17.
 #[inline(never)]
 #[tactic(auto, using(crate::proofs::Parts::half_fits), unfolding(crate::specs::Moves::cbw, insn_plan::specs::Plan::after_plan, //
 insn_plan::specs::Plan::after_commit, guest_space::specs::Pending::first_write_fault, guest_space::specs::Pending::after_writes))]
@@ -202,7 +202,7 @@ fn sign_bits(width: u8, v: u32) -> u32
     }
 }
 
-/// CWD and CDQ. Source: as above.
+/// CWD and CDQ. Source: 80386 Programmer's Reference Manual, ch. 17.
 #[inline(never)]
 #[tactic(auto, unfolding(crate::specs::Moves::cwd, insn_plan::specs::Plan::after_plan, insn_plan::specs::Plan::after_commit, //
 guest_space::specs::Pending::first_write_fault, guest_space::specs::Pending::after_writes))]

@@ -215,7 +215,7 @@ fn multiply_three(m: &mut Machine, i: &Insn) -> Result<(), Raised>
     put_low_product(m, i, a, b)
 }
 
-/// IMUL, by the number of its operands. Source: as above.
+/// IMUL, by the number of its operands. Source: 80386 Programmer's Reference Manual, ch. 17.
 #[inline(never)]
 #[tactic(auto, unfolding(crate::specs::Products::imul))]
 pub(crate) fn multiply_signed(m: &mut Machine, i: &Insn) -> Result<(), Raised>
@@ -231,7 +231,7 @@ pub(crate) fn multiply_signed(m: &mut Machine, i: &Insn) -> Result<(), Raised>
     }
 }
 
-/// DIV and IDIV; exception 0 where there is no quotient. Source: as above.
+/// DIV and IDIV; exception 0 where there is no quotient. Source: 80386 Programmer's Reference Manual, ch. 17.
 #[inline(never)]
 #[tactic(auto, unfolding(crate::specs::Products::divide, insn_plan::specs::Plan::after_plan, insn_plan::specs::Plan::after_commit, //
 guest_space::specs::Pending::first_write_fault, guest_space::specs::Pending::after_writes))]

@@ -107,7 +107,7 @@ impl DoubleShift for ShiftRightDouble {
     }
 }
 
-/// SHLD, SHRD. Source: as above.
+/// SHLD, SHRD. Source: 80386 Programmer's Reference Manual, ch. 17.
 #[inline(never)]
 #[tactic(auto, unfolding(crate::specs::Shifts::shift_in, insn_plan::specs::Plan::after_plan))]
 pub(crate) fn shift_in<O: DoubleShift>(m: &mut Machine, i: &Insn) -> Result<(), Raised>

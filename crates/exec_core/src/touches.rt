@@ -488,8 +488,9 @@ fn follow(a: &mut Accesses<'_>, insn: &Insn, len: u8) -> Result<(), Raised>
     }
 }
 
-/// The bytes that an instruction of this crate reads and writes, one touch for each access, reads first. The machine is at the instruction.
-/// `None` where the instruction faults, also where only a write is refused.
+/// The bytes that an instruction of this crate, of `len` bytes, reads and writes, one touch for each access, reads first. The machine is at
+/// the instruction. `None` where the instruction faults, also where only a write is refused.
+/// Source: 80386 Programmer's Reference Manual, ch. 17, "Operation"; that reads come first is own.
 #[tactic(auto, unfolding(insn_plan::specs::Accesses::touches))]
 pub fn touches_core(m: &Machine, insn: &Insn, len: u8) -> Option<ArrayVec<Touch, MAX_ACCESSES>>
     requires core { IsCore insn.now }

@@ -1,4 +1,5 @@
--- What ENTER accesses: the saved frame pointers that it reads, and its pushes, whatever their numbers are. Source: own.
+-- What ENTER accesses: the saved frame pointers that it reads, and its pushes, whatever their numbers are. The words of two loops; no
+-- public contract cites them, and what ENTER accesses follows from its row. Source: own.
 use Rattle.std.specs.Prelude.{ℕ, zero, suc, ◌+◌, List, Option, Ok, Err, None, Some}
 use Rattle.client_world.specs.declared.segments.SegReg.TheVariants.{Ss}
 use Rattle.client_world.specs.World.{World}

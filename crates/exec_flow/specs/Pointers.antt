@@ -5,18 +5,14 @@ use Rattle.client_world.specs.Registers.{low_half}
 use Rattle.client_world.specs.World.{World}
 use Rattle.insn_forms.specs.declared.insn.Insn.{Insn}
 use Rattle.insn_forms.specs.declared.insn.Operand.{Operand}
-use Rattle.insn_forms.specs.declared.insn.Operand.TheVariants.{Empty, Reg, Seg, Mem, Imm, Far}
+use Rattle.insn_forms.specs.declared.insn.Operand.TheVariants.{Mem, Far}
 use Rattle.insn_plan.specs.Act.{Given, From, Input}
 use Rattle.insn_plan.specs.Registers.{offset_of}
 
 -- an operand in memory read as n bytes; another operand has none
 unfoldable pub memory_bytes : World → Insn → ℕ → Operand → Input
-memory_bytes w i n Empty = Given 0
-memory_bytes w i n (Reg own number) = Given 0
-memory_bytes w i n (Seg seg) = Given 0
 memory_bytes w i n (Mem f) = From f.seg (offset_of w.regs i.addr32 f) n
-memory_bytes w i n (Imm v) = Given 0
-memory_bytes w i n (Far p) = Given 0
+memory_bytes w i n _ = Given 0
 
 -- the numbers above an offset of the operand size count units of this
 abbrev pub offset_range : Insn → ℕ
@@ -28,12 +24,9 @@ pointer_size i = if nat_eq i.width 16 then 4 else 6
 
 -- a far pointer as one number, the offset lowest: that of the instruction, or one in memory
 unfoldable pub pointer : World → Insn → Operand → Input
-pointer w i Empty = Given 0
-pointer w i (Reg own number) = Given 0
-pointer w i (Seg seg) = Given 0
 pointer w i (Mem f) = memory_bytes w i (pointer_size i) (Mem f)
-pointer w i (Imm v) = Given 0
 pointer w i (Far p) = Given (p.off + offset_range i * p.sel)
+pointer w i _ = Given 0
 
 -- its parts
 abbrev pub pointer_offset : Insn → ℕ → ℕ

@@ -8,7 +8,7 @@ use Rattle.client_world.specs.Registers.{low_half}
 use Rattle.client_world.specs.Segments.{with_selector}
 use Rattle.client_world.specs.World.{World}
 use Rattle.insn_forms.specs.declared.insn.Insn.{Insn}
-use Rattle.insn_forms.specs.declared.insn.Operand.TheVariants.{Empty, Reg, Seg, Mem, Imm, Far}
+use Rattle.insn_forms.specs.declared.insn.Operand.TheVariants.{Seg}
 use Rattle.insn_plan.specs.Act.{Act, ◌>>=◌, Pending, done, unchanged, unless_fault, with_regs}
 use Rattle.insn_plan.specs.Operands.{source, put_operand}
 use Rattle.insn_plan.specs.Stack.{with_pushed_number, stack_item, regs_after_pops}
@@ -34,11 +34,7 @@ mov_from_segment w i = do
 unfoldable pub mov_segment : World → Insn → Act
 mov_segment w i = elim i.first [
   | Seg seg ↦ mov_to_segment w i seg
-  | Empty ↦ mov_from_segment w i
-  | Reg own number ↦ mov_from_segment w i
-  | Mem f ↦ mov_from_segment w i
-  | Imm v ↦ mov_from_segment w i
-  | Far p ↦ mov_from_segment w i
+  | _ ↦ mov_from_segment w i
 ]
 
 -- PUSH of a segment register
@@ -57,11 +53,7 @@ pop_into w i seg = do
 unfoldable pub pop_segment : World → Insn → Act
 pop_segment w i = elim i.first [
   | Seg seg ↦ pop_into w i seg
-  | Empty ↦ done (unchanged w)
-  | Reg own number ↦ done (unchanged w)
-  | Mem f ↦ done (unchanged w)
-  | Imm v ↦ done (unchanged w)
-  | Far p ↦ done (unchanged w)
+  | _ ↦ done (unchanged w)
 ]
 
 -- LES, LDS, LSS, LFS, LGS: a far pointer from memory, its selector into the segment register and its offset into the first operand

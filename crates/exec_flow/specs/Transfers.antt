@@ -7,7 +7,7 @@ use Rattle.client_world.specs.Registers.{low_half}
 use Rattle.client_world.specs.World.{World}
 use Rattle.insn_forms.specs.declared.insn.Insn.{Insn}
 use Rattle.insn_forms.specs.declared.insn.Operand.{Operand}
-use Rattle.insn_forms.specs.declared.insn.Operand.TheVariants.{Empty, Reg, Seg, Mem, Imm, Far}
+use Rattle.insn_forms.specs.declared.insn.Operand.TheVariants.{Imm}
 use Rattle.insn_plan.specs.Act.{Act, ◌>>=◌, Given, Input, Pending, done, unchanged, unless_fault, with_regs}
 use Rattle.insn_plan.specs.Conditions.{condition}
 use Rattle.insn_plan.specs.Counter.{counter}
@@ -17,12 +17,8 @@ use Rattle.insn_plan.specs.Stack.{with_pushed_number, stack_item, regs_after_pop
 
 -- the target of a near transfer, before it is cut: a distance from the next instruction, or the number of an operand
 unfoldable pub target : World → Insn → Operand → Input
-target w i Empty = source w.regs i.addr32 i.width Empty
-target w i (Reg own number) = source w.regs i.addr32 i.width (Reg own number)
-target w i (Seg seg) = source w.regs i.addr32 i.width (Seg seg)
-target w i (Mem f) = source w.regs i.addr32 i.width (Mem f)
 target w i (Imm distance) = Given (w.regs.eip + distance)
-target w i (Far pointer) = source w.regs i.addr32 i.width (Far pointer)
+target w i operand = source w.regs i.addr32 i.width operand
 
 -- an instruction pointer at the operand size
 abbrev pub at_operand_size : Insn → ℕ → ℕ
@@ -72,12 +68,8 @@ call w i = do
 
 -- the number of an immediate; another operand has none, which is 0
 abbrev pub immediate : Operand → ℕ
-immediate Empty = 0
-immediate (Reg own number) = 0
-immediate (Seg seg) = 0
-immediate (Mem f) = 0
 immediate (Imm v) = v
-immediate (Far pointer) = 0
+immediate _ = 0
 
 -- the registers with n bytes more dropped from the stack
 abbrev pub regs_after_drop : World → ℕ → Regs → Regs

@@ -35,7 +35,9 @@ pub fn run_flow(m: &mut Machine, insn: &Insn, len: u8) -> Result<(), Event>
     }
 }
 
-/// The same, with the event in one word.
+/// Carries out an instruction of this crate, of `len` bytes, whose EIP is already after it. An event, in one word, leaves the machine as it
+/// was; a software interrupt is an event that names its number and the instruction's length.
+/// Source: 80386 Programmer's Reference Manual, ch. 17; that an instruction which faults changes nothing is own.
 #[inline(always)]
 #[tactic(auto, unfolding(crate::specs::Dispatch::is_flow, crate::specs::Dispatch::flow_row))]
 pub fn carry_out_flow(m: &mut Machine, insn: &Insn, len: u8) -> Result<(), Raised>

@@ -67,7 +67,7 @@ pub(crate) fn jump_far(m: &mut Machine, i: &Insn) -> Result<(), Raised>
     Ok(())
 }
 
-/// CALL far. Source: as above.
+/// CALL far. Source: 80386 Programmer's Reference Manual, ch. 17.
 #[inline(never)]
 #[tactic(auto, unfolding(crate::specs::FarTransfers::call_far, crate::specs::FarTransfers::far_transfer, //
 insn_plan::specs::Plan::after_plan))]
@@ -117,7 +117,7 @@ pub(crate) fn retf(m: &mut Machine, i: &Insn) -> Result<(), Raised>
 
 // A frame that an interrupt pushed.
 #[derive(Clone, Copy)]
-struct Frame {
+struct InterruptFrame {
     ip: u32,
     cs: u16,
     image: u32,
@@ -126,7 +126,7 @@ struct Frame {
 // Reads the frame at the stack's top, in items of n bits, to which a return may be made; or gives the event.
 #[inline(always)]
 #[tactic(auto, unfolding(crate::specs::FarTransfers::interrupt_frame_pop, crate::specs::FarTransfers::far_transfer))]
-fn frame_at_top(m: &Machine, bits: u8) -> Result<Frame, Raised>
+fn interrupt_frame_at_top(m: &Machine, bits: u8) -> Result<InterruptFrame, Raised>
     ensures { MatchResult result
         (λ frame. plan_result m.now.world (interrupt_frame_pop m.now.world bits)
         ≡ Ok (pending_of_interrupt_frame m.now.world bits frame.ip frame.cs frame.image))
@@ -136,14 +136,14 @@ fn frame_at_top(m: &Machine, bits: u8) -> Result<Frame, Raised>
     let cs = low_half(stack_item(m, bits, 1)?);
     let image = stack_item(m, bits, 2)?;
     check_transfer(m, cs, ip, true)?;
-    Ok(Frame { ip, cs, image })
+    Ok(InterruptFrame { ip, cs, image })
 }
 
 /// Whether the frame at the stack's top, in items of n bits, can be popped. Source: 80386 Programmer's Reference Manual, ch. 17, IRET.
 pub fn can_pop_frame(m: &Machine, bits: u8) -> bool
     ensures { result ≡ is_ok (plan_result m.now.world (interrupt_frame_pop m.now.world bits)) }
 {
-    frame_at_top(m, bits).is_ok()
+    interrupt_frame_at_top(m, bits).is_ok()
 }
 
 /// Pops a frame that an interrupt pushed, in items of n bits: the instruction pointer, CS and the flags image; or gives the event, which
@@ -153,7 +153,7 @@ pub fn can_pop_frame(m: &Machine, bits: u8) -> bool
 pub fn pop_frame(m: &mut Machine, bits: u8) -> Result<(), Raised>
     ensures { CarriesOut m.old m.new result (interrupt_frame_pop m.old.world bits) }
 {
-    let frame = frame_at_top(m, bits)?;
+    let frame = interrupt_frame_at_top(m, bits)?;
     let esp = popped_esp(m, bits, 3);
     enter_code(m, frame.cs, frame.ip);
     m.set_general(ESP, esp);

@@ -54,7 +54,7 @@ pub(crate) fn set_popped_flags(m: &mut Machine, image: u32)
     m.set_vif(on);
 }
 
-/// POPF. Source: as above.
+/// POPF. Source: 80386 Programmer's Reference Manual, ch. 17.
 #[inline(never)]
 #[tactic(auto, unfolding(crate::specs::FlagImages::popf, crate::specs::FlagImages::with_popped_flags, insn_plan::specs::Plan::after_plan, //
 insn_plan::specs::Plan::after_commit, guest_space::specs::Pending::first_write_fault, guest_space::specs::Pending::after_writes, //
@@ -79,7 +79,7 @@ pub(crate) fn cli(m: &mut Machine) -> Result<(), Raised>
     Ok(())
 }
 
-/// STI. Source: as above.
+/// STI. Source: 80386 Programmer's Reference Manual, ch. 17.
 #[inline(never)]
 #[tactic(auto, unfolding(crate::specs::FlagImages::sti, insn_plan::specs::Plan::after_plan, insn_plan::specs::Plan::after_commit, //
 guest_space::specs::Pending::first_write_fault, guest_space::specs::Pending::after_writes))]

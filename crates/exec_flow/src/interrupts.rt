@@ -20,7 +20,7 @@ pub(crate) fn int(i: &Insn, len: u8) -> Result<(), Raised>
     Err(Raised::soft((immediate(&i.first) % 0x100) as u8, len))
 }
 
-/// INT 3. Source: as above; that it is the client's interrupt 3 is own.
+/// INT 3. Source: 80386 Programmer's Reference Manual, ch. 17, INT; that it is the client's interrupt 3 is own.
 #[inline(never)]
 #[tactic(auto, unfolding(crate::specs::Interrupts::int3, insn_plan::specs::Plan::after_plan))]
 pub(crate) fn int3(len: u8) -> Result<(), Raised>
@@ -29,7 +29,7 @@ pub(crate) fn int3(len: u8) -> Result<(), Raised>
     Err(Raised::soft(3, len))
 }
 
-/// INTO. Source: as above; that it is the client's interrupt 4 is own.
+/// INTO. Source: 80386 Programmer's Reference Manual, ch. 17, INT; that it is the client's interrupt 4 is own.
 #[inline(never)]
 #[tactic(auto, unfolding(crate::specs::Interrupts::into, insn_plan::specs::Plan::after_plan, insn_plan::specs::Plan::after_commit, //
 guest_space::specs::Pending::first_write_fault, guest_space::specs::Pending::after_writes))]

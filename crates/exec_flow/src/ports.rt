@@ -26,7 +26,7 @@ pub(crate) fn input(m: &mut Machine, i: &Insn) -> Result<(), Raised>
     put_operand(m, i.addr32, i.width, &i.first, all_ones(i.width))
 }
 
-/// OUT. Source: as above.
+/// OUT. Source: 80386 Programmer's Reference Manual, ch. 17.
 #[inline(never)]
 #[tactic(auto, unfolding(crate::specs::Ports::output, insn_plan::specs::Plan::after_plan, insn_plan::specs::Plan::after_commit, //
 guest_space::specs::Pending::first_write_fault, guest_space::specs::Pending::after_writes))]

@@ -1,4 +1,8 @@
 // Questions about descriptors.
+#![tactic(auto, unfolding(crate::specs::Questions::verify, crate::specs::Questions::load_from_descriptor, crate::specs::Questions::arpl, //
+crate::specs::Raising::in_protected, crate::specs::Raising::invalid_opcode, insn_plan::specs::Plan::after_plan, //
+insn_plan::specs::Plan::after_commit, guest_space::specs::Pending::first_write_fault, guest_space::specs::Pending::after_writes))]
+
 ghost use Rattle.std.specs.Prelude.{◌≡◌, ◌<◌, ◌^◌, true, false};
 ghost use Rattle.client_world.specs.Descriptor.{byte_limit};
 ghost use Rattle.client_world.specs.Registers.{low_half};
@@ -18,14 +22,12 @@ ghost use Rattle.insn_plan.specs.Plan.{CarriesOut, Follows, after_commit};
 
 use crate::raising::exception;
 use client_world::faults::INVALID_OPCODE;
+use client_world::selectors::privilege_of;
 use client_world::{Desc, Flags, Mode, Origin, low_half};
 use desc_table::pack;
 use guest_space::Machine;
 use insn_forms::Insn;
 use insn_plan::{Raised, put_with_flags, source};
-
-// The number of privilege levels, 0 to 3.
-const PRIVILEGE_LEVELS: u32 = 4;
 
 // The flags with another ZF.
 fn with_zero(m: &Machine, zero_flag: bool) -> Flags
@@ -64,9 +66,6 @@ fn is_writable_row(row: Option<(Desc, Origin)>) -> bool
 
 /// VERR. Source: 80386 Programmer's Reference Manual, ch. 17.
 #[inline(never)]
-#[tactic(auto, unfolding(crate::specs::Questions::verify, crate::specs::Raising::in_protected, crate::specs::Raising::invalid_opcode, //
-insn_plan::specs::Plan::after_plan, insn_plan::specs::Plan::after_commit, guest_space::specs::Pending::first_write_fault, //
-guest_space::specs::Pending::after_writes))]
 pub(crate) fn verify_readable(m: &mut Machine, i: &Insn) -> Result<(), Raised>
     ensures { CarriesOut m.old m.new result (verify is_readable m.old.world i.now) }
 {
@@ -79,11 +78,8 @@ pub(crate) fn verify_readable(m: &mut Machine, i: &Insn) -> Result<(), Raised>
     Ok(())
 }
 
-/// VERW. Source: as above.
+/// VERW. Source: 80386 Programmer's Reference Manual, ch. 17.
 #[inline(never)]
-#[tactic(auto, unfolding(crate::specs::Questions::verify, crate::specs::Raising::in_protected, crate::specs::Raising::invalid_opcode, //
-insn_plan::specs::Plan::after_plan, insn_plan::specs::Plan::after_commit, guest_space::specs::Pending::first_write_fault, //
-guest_space::specs::Pending::after_writes))]
 pub(crate) fn verify_writable(m: &mut Machine, i: &Insn) -> Result<(), Raised>
     ensures { CarriesOut m.old m.new result (verify is_writable_row m.old.world i.now) }
 {
@@ -116,8 +112,6 @@ fn tell_number(m: &mut Machine, i: &Insn, v: u32) -> Result<(), Raised>
 }
 
 // Clears ZF.
-#[tactic(auto, unfolding(insn_plan::specs::Plan::after_commit, guest_space::specs::Pending::first_write_fault, //
-guest_space::specs::Pending::after_writes))]
 fn tell_nothing(m: &mut Machine) -> Result<(), Raised>
     ensures { Follows m.old m.new result (after_commit m.old (with_flags (with_zero m.old.world false) m.old.world)) }
 {
@@ -128,8 +122,6 @@ fn tell_nothing(m: &mut Machine) -> Result<(), Raised>
 
 /// LAR. Source: 80386 Programmer's Reference Manual, ch. 17; its mask is own.
 #[inline(never)]
-#[tactic(auto, unfolding(crate::specs::Questions::load_from_descriptor, crate::specs::Raising::in_protected, //
-crate::specs::Raising::invalid_opcode, insn_plan::specs::Plan::after_plan))]
 pub(crate) fn tell_access_rights(m: &mut Machine, i: &Insn) -> Result<(), Raised>
     ensures { CarriesOut m.old m.new result (load_from_descriptor access_rights m.old.world i.now) }
 {
@@ -145,8 +137,6 @@ pub(crate) fn tell_access_rights(m: &mut Machine, i: &Insn) -> Result<(), Raised
 
 /// LSL. Source: 80386 Programmer's Reference Manual, ch. 17.
 #[inline(never)]
-#[tactic(auto, unfolding(crate::specs::Questions::load_from_descriptor, crate::specs::Raising::in_protected, //
-crate::specs::Raising::invalid_opcode, insn_plan::specs::Plan::after_plan))]
 pub(crate) fn tell_byte_limit(m: &mut Machine, i: &Insn) -> Result<(), Raised>
     ensures { CarriesOut m.old m.new result (load_from_descriptor byte_limit m.old.world i.now) }
 {
@@ -160,17 +150,15 @@ pub(crate) fn tell_byte_limit(m: &mut Machine, i: &Insn) -> Result<(), Raised>
     }
 }
 
-/// The privilege level that a selector asks for.
-pub(crate) fn privilege_of(sel: u32) -> u32
+/// The privilege level, 0 to 3, that the low word of a number asks for as a selector.
+pub(crate) fn requested_privilege(sel: u32) -> u32
     ensures { result ≡ privilege_of sel }
 {
-    sel % PRIVILEGE_LEVELS
+    u32::from(privilege_of(low_half(sel)))
 }
 
-/// ARPL. Source: as above.
+/// ARPL. Source: 80386 Programmer's Reference Manual, ch. 17.
 #[inline(never)]
-#[tactic(auto, unfolding(crate::specs::Questions::arpl, crate::specs::Raising::in_protected, crate::specs::Raising::invalid_opcode, //
-insn_plan::specs::Plan::after_plan))]
 pub(crate) fn arpl(m: &mut Machine, i: &Insn) -> Result<(), Raised>
     ensures { CarriesOut m.old m.new result (arpl m.old.world i.now) }
 {
@@ -179,9 +167,10 @@ pub(crate) fn arpl(m: &mut Machine, i: &Insn) -> Result<(), Raised>
     }
     let a = source(m, i.addr32, 16, &i.first)?;
     let b = source(m, i.addr32, 16, &i.second)?;
-    if privilege_of(a) < privilege_of(b) {
+    let (own, asked) = (requested_privilege(a), requested_privilege(b));
+    if own < asked {
         let flags = with_zero(m, true);
-        let v = a - privilege_of(a) + privilege_of(b);
+        let v = a - own + asked;
         put_with_flags(m, flags, i.addr32, 16, &i.first, v)
     } else {
         tell_nothing(m)

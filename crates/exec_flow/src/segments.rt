@@ -1,7 +1,4 @@
 // Segment registers loaded and stored.
-ghost use Rattle.std.specs.Prelude.{◌≡◌, MatchResult, OnOk, IfErr, None, Some};
-ghost use Rattle.client_world.specs.Loading.{register_fault};
-ghost use Rattle.client_world.specs.Segments.{with_selector};
 ghost use Rattle.exec_flow.specs.Segments.{
   mov_to_segment,
   mov_from_segment,
@@ -11,40 +8,14 @@ ghost use Rattle.exec_flow.specs.Segments.{
   pop_segment,
   load_pointer,
 };
-ghost use Rattle.guest_space.specs.Registers.{with_registers};
 ghost use Rattle.insn_plan.specs.Plan.{CarriesOut};
 
 use crate::pointers::{pointer, pointer_offset, pointer_selector};
 use client_world::general::ESP;
-use client_world::{Fault, Mode, SegReg, low_half};
+use client_world::{SegReg, low_half};
 use guest_space::Machine;
 use insn_forms::{Insn, Operand};
 use insn_plan::{Raised, popped_esp, push_item, put_operand, source, top_item};
-
-/// Whether a selector may be loaded into a segment register; in real mode every word may.
-#[inline(always)]
-pub(crate) fn check_load(m: &Machine, seg: SegReg, sel: u16) -> Result<(), Fault>
-    ensures { MatchResult result (λ _. register_fault m.now.world seg sel ≡ None)
-        (λ fault. register_fault m.now.world seg sel ≡ Some fault) }
-{
-    match m.mode() {
-        Mode::Real => Ok(()),
-        Mode::Protected => m.loadable(seg, sel, 0, false),
-    }
-}
-
-// Loads a segment register, or gives the fault of the selector, which changes nothing.
-#[inline(always)]
-fn load_segment(m: &mut Machine, seg: SegReg, sel: u16) -> Result<(), Fault>
-    ensures allowed { OnOk result (register_fault m.old.world seg sel ≡ None) }
-    ensures loaded { OnOk result (m.new ≡ with_registers (with_selector m.old.world.regs seg sel) m.old) }
-    ensures refused { IfErr result (λ fault.
-        (register_fault m.old.world seg sel ≡ Some fault) × (m.new ≡ m.old)) }
-{
-    check_load(m, seg, sel)?;
-    m.set_selector(seg, sel);
-    Ok(())
-}
 
 // MOV into a segment register.
 #[inline(always)]
@@ -55,7 +26,7 @@ fn mov_to_segment(m: &mut Machine, i: &Insn, seg: SegReg) -> Result<(), Raised>
     ensures { CarriesOut m.old m.new result (mov_to_segment m.old.world i.now seg) }
 {
     let v = source(m, i.addr32, 16, &i.second)?;
-    load_segment(m, seg, low_half(v))?;
+    m.load_seg(seg, low_half(v))?;
     Ok(())
 }
 
@@ -85,7 +56,7 @@ pub(crate) fn mov_segment(m: &mut Machine, i: &Insn) -> Result<(), Raised>
     }
 }
 
-/// PUSH of a segment register. Source: as above.
+/// PUSH of a segment register. Source: 80386 Programmer's Reference Manual, ch. 17.
 #[inline(never)]
 #[tactic(auto, unfolding(crate::specs::Segments::push_segment, insn_plan::specs::Plan::after_plan))]
 pub(crate) fn push_segment(m: &mut Machine, i: &Insn) -> Result<(), Raised>
@@ -105,13 +76,13 @@ fn pop_into(m: &mut Machine, i: &Insn, seg: SegReg) -> Result<(), Raised>
 {
     let v = top_item(m, i.width)?;
     let sel = low_half(v);
-    check_load(m, seg, sel)?;
+    m.check_load(seg, sel)?;
     m.set_general(ESP, popped_esp(m, i.width, 1));
     m.set_selector(seg, sel);
     Ok(())
 }
 
-/// POP of a segment register. Source: as above.
+/// POP of a segment register. Source: 80386 Programmer's Reference Manual, ch. 17.
 #[inline(never)]
 #[tactic(auto, unfolding(crate::specs::Segments::pop_segment, insn_plan::specs::Plan::after_plan, insn_plan::specs::Plan::after_commit, //
 guest_space::specs::Pending::first_write_fault, guest_space::specs::Pending::after_writes))]
@@ -137,7 +108,7 @@ pub(crate) fn load_pointer(m: &mut Machine, i: &Insn, seg: SegReg) -> Result<(),
 {
     let p = pointer(m, i, &i.second)?;
     let sel = pointer_selector(i, p);
-    check_load(m, seg, sel)?;
+    m.check_load(seg, sel)?;
     put_operand(m, i.addr32, i.width, &i.first, pointer_offset(i, p))?;
     m.set_selector(seg, sel);
     Ok(())

@@ -21,9 +21,8 @@ ghost use Rattle.insn_plan.specs.Act.{IsCount, value_of};
 
 use crate::frames::{is_less_signed, saved_frame};
 use crate::pointers::{offset_range, pointer_offset, pointer_selector, pointer_size};
-use crate::questions::{privilege_of, row_of};
+use crate::questions::{requested_privilege, row_of};
 use crate::raising::exception;
-use crate::segments::check_load;
 use crate::transfers::{at_operand_size, immediate};
 use arrayvec::ArrayVec;
 use client_world::faults::{BOUNDS_CHECK, GENERAL_PROTECTION, INVALID_OPCODE};
@@ -56,7 +55,7 @@ fn check_register(a: &Accesses<'_>, seg: SegReg, sel: u16) -> Result<(), Fault>
     ensures { MatchResult result (λ _. register_fault a.now.world seg sel ≡ None)
         (λ fault. register_fault a.now.world seg sel ≡ Some fault) }
 {
-    check_load(a.machine(), seg, sel)
+    a.machine().check_load(seg, sel)
 }
 
 // Reads the target of a near transfer, before it is cut.
@@ -330,7 +329,7 @@ fn arpl(a: &mut Accesses<'_>, i: &Insn) -> Result<(), Raised>
     }
     let destination = a.operand(i.addr32, 16, &i.first)?;
     let source = a.operand(i.addr32, 16, &i.second)?;
-    if privilege_of(destination) < privilege_of(source) {
+    if requested_privilege(destination) < requested_privilege(source) {
         a.put(i.addr32, 16, &i.first);
     }
     Ok(())
@@ -558,8 +557,9 @@ fn follow(a: &mut Accesses<'_>, insn: &Insn, len: u8) -> Result<(), Raised>
     }
 }
 
-/// The bytes that an instruction of this crate reads and writes, one touch for each access, reads first. The machine is at the instruction.
-/// `None` where the instruction faults, also where only a write is refused, or is a software interrupt.
+/// The bytes that an instruction of this crate, of `len` bytes, reads and writes, one touch for each access, reads first. The machine is at
+/// the instruction. `None` where the instruction faults, also where only a write is refused, or is a software interrupt.
+/// Source: 80386 Programmer's Reference Manual, ch. 17, "Operation"; that reads come first is own.
 #[tactic(auto, unfolding(insn_plan::specs::Accesses::touches))]
 pub fn touches_flow(m: &Machine, insn: &Insn, len: u8) -> Option<ArrayVec<Touch, MAX_ACCESSES>>
     requires flow { IsFlow insn.now }

@@ -73,7 +73,7 @@ impl InsnRow for Jcc {
     }
 }
 
-/// JCXZ. Source: as above.
+/// JCXZ. Source: 80386 Programmer's Reference Manual, ch. 17.
 #[derive(Clone, Copy)]
 pub(crate) struct Jcxz;
 
@@ -100,7 +100,7 @@ fn count_down(m: &Machine, i: &Insn) -> u32
     cut_address(i.addr32, u64::from(counter(m, i)) + 0xFFFF_FFFF)
 }
 
-/// LOOP, and LOOPE and LOOPNE with whether their condition holds. Source: as above.
+/// LOOP, and LOOPE and LOOPNE with whether their condition holds. Source: 80386 Programmer's Reference Manual, ch. 17.
 #[derive(Clone, Copy)]
 pub(crate) struct Loop {
     pub holds: bool,
@@ -125,7 +125,7 @@ impl InsnRow for Loop {
     }
 }
 
-/// JMP. Source: as above.
+/// JMP. Source: 80386 Programmer's Reference Manual, ch. 17.
 #[derive(Clone, Copy)]
 pub(crate) struct Jmp;
 
@@ -142,7 +142,7 @@ impl InsnRow for Jmp {
     }
 }
 
-/// CALL. Source: as above.
+/// CALL. Source: 80386 Programmer's Reference Manual, ch. 17.
 #[derive(Clone, Copy)]
 pub(crate) struct Call;
 
@@ -173,7 +173,7 @@ pub(crate) fn immediate(operand: &Operand) -> u32
     }
 }
 
-/// RET. Source: as above.
+/// RET. Source: 80386 Programmer's Reference Manual, ch. 17.
 #[derive(Clone, Copy)]
 pub(crate) struct Ret;
 

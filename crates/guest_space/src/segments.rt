@@ -1,6 +1,5 @@
 // Segment registers: where an access through one begins, how it is refused before any page is asked, and which selectors one takes.
-ghost use Rattle.std.specs.Prelude.{◌≡◌, IfSome, IsTrue, None, Ok, false, ◌≢◌, ◌&&◌, ◌||◌, not, MatchResult, OnOk, IfErr, Some};
-ghost use Rattle.client_world.specs.declared.segments.SegReg.TheVariants.{Cs};
+ghost use Rattle.std.specs.Prelude.{◌≡◌, IfSome, IsTrue, None, Ok, false, ◌&&◌, ◌||◌, not, MatchResult, OnOk, IfErr, Some};
 ghost use Rattle.client_world.specs.Access.{fault_with, stack_or, suits_register, base_in_row, protected_base, segment_base};
 ghost use Rattle.client_world.specs.Selector.{row_of_selector};
 ghost use Rattle.client_world.specs.Loading.{transfer_fault, is_privileged, data_fault, stack_fault, code_fault, load_fault};
@@ -282,9 +281,11 @@ impl Machine {
         }
     }
 
-    // A load of a segment register, by the mode.
+    /// Whether a selector may be loaded into a segment register: in protected mode by its rules, in real mode every word; or the fault.
+    /// Source: 80386 Programmer's Reference Manual, ch. 17, MOV.
+    #[inline(always)]
     #[tactic(auto, unfolding(host_memory::specs::Layout::world_of))]
-    fn check_load(&self, seg: SegReg, sel: u16) -> Result<(), Fault>
+    pub fn check_load(&self, seg: SegReg, sel: u16) -> Result<(), Fault>
         ensures { MatchResult result (λ _. register_fault self.now.world seg sel ≡ None)
             (λ fault. register_fault self.now.world seg sel ≡ Some fault) }
     {
@@ -294,9 +295,10 @@ impl Machine {
         }
     }
 
-    /// Loads a segment register other than CS: in protected mode by its rules, in real mode every word.
+    /// Loads a segment register: in protected mode by its rules, in real mode every word; or gives the fault of the selector, which changes
+    /// nothing. CS is loaded by a far transfer, and no instruction loads it so. Source: 80386 Programmer's Reference Manual, ch. 17, MOV.
+    #[inline(always)]
     pub fn load_seg(&mut self, seg: SegReg, sel: u16) -> Result<(), Fault>
-        requires { seg ≢ Cs }
         ensures loaded { OnOk result (register_fault self.old.world seg sel ≡ None) }
         ensures world { OnOk result (self.new.world
             ≡ record self.old.world { regs = with_selector self.old.world.regs seg sel }) }

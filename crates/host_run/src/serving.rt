@@ -8,8 +8,8 @@ ghost use Rattle.dos_calls.specs.Multiplex.{multiplex_call};
 ghost use Rattle.host_run.specs.Windows.{HasWindow, IsFound};
 ghost use Rattle.interrupts.specs.Worlds.{world_step, world_after_iret};
 
-use client_world::{DosDone, Event, Exit};
-use cpu_step::{step, step_in_window};
+use client_world::{DosDone, Exit};
+use cpu_step::{step_in_window, step_raised};
 use dos_calls::{Console, Keys, every_dos_call_keeps_the_rest, int2f, int21};
 use fault_service::pop_iret;
 use guest_space::{CodeWindow, Machine};
@@ -18,18 +18,6 @@ use insn_plan::Raised;
 use interrupts::{
     a_real_frame_is_popped_where_it_fits, can_pop_iret, every_answer_depends_on_the_world_alone,
 };
-
-// The client's next instruction, found without a window.
-fn step_outside(m: &mut Machine) -> Result<(), Raised>
-    ensures { MatchResult result (λ _. client_step m.old ≡ Ok m.new)
-        (λ e. (client_step m.old ≡ Err e) × (m.new ≡ m.old)) }
-{
-    match step(m) {
-        Ok(()) => Ok(()),
-        Err(Event::Fault(f)) => Err(Raised::from(f)),
-        Err(Event::Soft { number, len }) => Err(Raised::soft(number, len)),
-    }
-}
 
 /// The client's next instruction, or its event, which leaves the machine. A window of code at whose start it lies stays one while CS holds
 /// what it held.
@@ -50,7 +38,7 @@ pub(crate) fn step_machine(
     every_answer_depends_on_the_world_alone();
     match from {
         Some(start) => step_in_window(m, memo, window, start),
-        None => step_outside(m),
+        None => step_raised(m),
     }
 }
 

@@ -13,8 +13,8 @@ use crate::ending::{Ended, Ending};
 use crate::host::Host;
 use crate::serving::step_machine;
 use crate::traps::{Trap, current_trap};
-use client_world::SegReg;
 use client_world::memory_map::{DOS_SIZE, ROM_START};
+use cpu_step::find_window;
 use fault_service::a_machine_changes_only_what_is_written;
 use guest_space::CodeWindow;
 
@@ -38,8 +38,7 @@ impl Host {
         ensures found { IfSome result (λ from.
             IsTrapFree (machine_view self.new) window.new × IsStart self.new.world.machine window.new from) }
     {
-        self.machine.warm(SegReg::Cs, self.machine.registers().eip);
-        *window = self.machine.code_window();
+        *window = find_window(&mut self.machine);
         if !is_outside(window.linear) {
             *window = CodeWindow::NONE;
         }

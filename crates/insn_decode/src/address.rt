@@ -11,7 +11,9 @@ use crate::stop::Stop;
 use client_world::SegReg;
 use insn_forms::{Addressing, Form, Head, MemForm, Prefixes, Row, row_of};
 
-/// ModRM, SIB and displacement, the row that they choose, and the bytes after them.
+/// ModRM, SIB and displacement, the row that they choose, and the bytes after them; or `More` where they end before, and `Invalid` where
+/// they begin no instruction.
+/// Source: 80386 Programmer's Reference Manual, ch. 17, "ModR/M and SIB Bytes".
 #[inline(always)]
 #[tactic(auto, unfolding(crate::specs::Reading::addressing_at))]
 pub fn addressing(addr32: bool, head: Head, bytes: &[u8]) -> Result<(Addressing, Row, &[u8]), Stop>
@@ -97,7 +99,7 @@ fn size_of_disp(addr32: bool, row: Row, modrm: u8, sib: u8) -> u8
     }
 }
 
-/// The place in memory that ModRM, SIB and displacement name.
+/// The place in memory that ModRM, SIB and displacement name. Source: 80386 Programmer's Reference Manual, ch. 17, "ModR/M and SIB Bytes".
 #[inline(always)]
 #[tactic(auto, unfolding(insn_forms::specs::Addressing::memory))]
 pub fn place_in_memory(prefixes: Prefixes, addr32: bool, address: Addressing) -> MemForm
@@ -135,7 +137,7 @@ fn distance(address: Addressing) -> u32
     }
 }
 
-/// The low byte of a number, sign-extended to 32 bits.
+/// The low byte of a number, sign-extended to 32 bits. Source: 80386 Programmer's Reference Manual, ch. 17, "ModR/M and SIB Bytes".
 #[inline(always)]
 pub fn extended(value: u32) -> u32
     ensures { result ≡ sign_extended_byte value }
@@ -145,6 +147,7 @@ pub fn extended(value: u32) -> u32
 }
 
 /// The place of these parts, in the segment of the prefixes or the default one.
+/// Source: 80386 Programmer's Reference Manual, ch. 2, "Segment Register Usage".
 #[inline(always)]
 pub fn place_of(
     seg: Option<SegReg>,

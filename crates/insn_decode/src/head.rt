@@ -10,7 +10,9 @@ use crate::stop::Stop;
 use client_world::SegReg;
 use insn_forms::{Form, Head, OpMap, Prefixes, Rep, Row, row_of};
 
-/// The prefixes and the opcode at the start, and the bytes after them.
+/// The prefixes and the opcode at the start, and the bytes after them; or `More` where they end before, and `Invalid` where they begin no
+/// instruction.
+/// Source: 80386 Programmer's Reference Manual, ch. 17, "Instruction Format".
 #[inline(always)]
 #[tactic(auto, unfolding(crate::specs::Reading::head_at))]
 pub fn head(bytes: &[u8]) -> Result<(Head, &[u8]), Stop>
@@ -188,7 +190,7 @@ fn is_in_group(head: Head) -> bool
     false
 }
 
-/// The size of the ModRM byte of an opcode: 1, or 0 where it has none.
+/// The size of the ModRM byte of an opcode in bytes: 1, or 0 where it has none. Source: 80386 Programmer's Reference Manual, appendix A.
 #[inline(always)]
 #[tactic(auto, unfolding(insn_forms::specs::Addressing::modrm_size))]
 pub fn size_of_modrm(map: OpMap, opcode: u8) -> u8
@@ -224,6 +226,7 @@ fn reads_modrm(form: Form) -> bool
 }
 
 /// Whether there is such a row with LOCK or without, with an operand in memory or in a register.
+/// Source: 80386 Programmer's Reference Manual, ch. 17, LOCK.
 #[inline(always)]
 #[tactic(auto, unfolding(insn_forms::specs::Operands::is_row))]
 pub fn row_stands(lock: bool, row: Row, memory: bool) -> bool

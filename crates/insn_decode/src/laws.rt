@@ -6,6 +6,7 @@ ghost use Rattle.insn_decode.specs.Decode.{decoded};
 ghost use Rattle.insn_decode.specs.declared.decoding.Decoded.TheVariants.{Whole, More, Invalid};
 
 /// Bytes encode at most one instruction, and no encoding begins another.
+/// Source: own, of 80386 Programmer's Reference Manual, ch. 17 and appendix A.
 pub fn an_encoding_is_of_one_instruction()
     ensures one { (big : Bool) (a b : AnInsn) (bytes : List ℕ) →
         Encoding big a bytes → Encoding big b bytes → a ≡ b }
@@ -14,6 +15,7 @@ pub fn an_encoding_is_of_one_instruction()
 {}
 
 /// Reading bytes from left to right, however many they are, is the grammar.
+/// Source: own, of 80386 Programmer's Reference Manual, ch. 17 and appendix A.
 pub fn reading_is_the_grammar()
     ensures whole { (big : Bool) (bytes : List ℕ) (insn : AnInsn) (len : ℕ) → AllBytes bytes →
         decoded big bytes ≡ Whole insn len → Encoding big insn (take len bytes) × (len ≤ length bytes) }

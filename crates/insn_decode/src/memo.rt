@@ -138,15 +138,16 @@ impl Entry {
 }
 
 impl Memo {
-    /// An empty memo.
+    /// An empty memo, or the error of its allocation. Source: own.
     #[tactic(auto, unfolding(insn_forms::specs::Kinds::operation))]
     pub fn new(alloc: Global) -> Result<Memo, AllocError> {
         let entries = vec![in alloc; Entry::NONE; PLACES]?;
         Ok(Memo { entries })
     }
 
-    /// The instruction of at most 8 bytes that code with this low word begins with, whatever follows it, where the memo has it. The key, an
-    /// address of the code, says where to look.
+    /// The instruction of at most 8 bytes that code with this low word begins with, whatever follows it, where the memo has it; `None` says
+    /// nothing. The key, an address of the code, says where to look. `big`: code of 32 bits.
+    /// Source: own.
     #[inline(always)]
     pub fn known(&self, key: u32, low: u64, big: bool) -> Option<&Entry>
         ensures decoded { IfSome result (λ e. (w : Words) → w.low ≡ low →
@@ -163,6 +164,7 @@ impl Memo {
 
     /// The instruction that these bytes begin with, of any length; `None` where they begin with none, and then nothing is kept. Unless the
     /// memo has it as one of more than 8 bytes, it is decoded, and kept where `known` looks for it.
+    /// Source: own.
     #[inline(never)]
     pub fn learn(&mut self, key: u32, words: CodeWords, big: bool) -> Option<&Entry>
         ensures decoded { IfSome result (λ e. decoded big (code_bytes words) ≡ Whole e.now.insn e.now.len) }

@@ -4,7 +4,8 @@ ghost use Rattle.insn_decode.specs.Reading.{IsReading, number_at};
 
 use crate::stop::Stop;
 
-/// The number of the first `size` bytes, and the bytes after them.
+/// The number of the first `size` bytes, least byte first, and the bytes after them; or `More` where there are fewer.
+/// Source: 80386 Programmer's Reference Manual, ch. 2, "Data Types".
 #[inline(always)]
 #[tactic(auto, unfolding(crate::specs::Reading::number_at))]
 pub fn number(size: u8, bytes: &[u8]) -> Result<(u64, &[u8]), Stop>
@@ -21,7 +22,7 @@ pub fn number(size: u8, bytes: &[u8]) -> Result<(u64, &[u8]), Stop>
     }
 }
 
-/// The first byte and the bytes after it, or 0 where the size is 0.
+/// The first byte and the bytes after it, or 0 where the size is 0; or `More` where there is none. Source: own.
 #[inline(always)]
 pub fn byte(size: u8, bytes: &[u8]) -> Result<(u8, &[u8]), Stop>
     requires { size ≤ 1 }

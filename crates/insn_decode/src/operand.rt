@@ -10,6 +10,7 @@ use client_world::{FarPtr, SegReg};
 use insn_forms::{Addressing, Form, Head, Insn, Op, Operand, Prefixes, Row};
 
 /// Whether a size is 32 bits: a prefix turns the default.
+/// Source: 80386 Programmer's Reference Manual, ch. 17, "Operand-Size and Address-Size Attributes".
 #[inline(always)]
 pub fn is_turned(prefix: bool, big: bool) -> bool
     ensures { result ≡ toggled prefix big }
@@ -17,7 +18,8 @@ pub fn is_turned(prefix: bool, big: bool) -> bool
     prefix != big
 }
 
-/// How many bytes of its own a form has.
+/// How many bytes of its own a form has, after ModRM, SIB and displacement: 0 to 6.
+/// Source: 80386 Programmer's Reference Manual, appendix A.
 #[inline(always)]
 pub fn size_of_own(wide: bool, addr32: bool, form: Form) -> u8
     ensures is { result ≡ imm_size wide addr32 form }
@@ -33,7 +35,7 @@ pub fn size_of_own(wide: bool, addr32: bool, form: Form) -> u8
     }
 }
 
-/// Writes what a form denotes, where its own bytes are the number `value`.
+/// Writes what a form denotes, where its own bytes are the number `value`. Source: 80386 Programmer's Reference Manual, appendix A.
 #[inline(never)]
 #[tactic(auto, unfolding(insn_forms::specs::Operands::operand))]
 pub fn put(
@@ -161,7 +163,7 @@ fn far(wide: bool, value: u64) -> FarPtr
     }
 }
 
-/// Makes the instruction of a row around its operands, which are there already.
+/// Makes the instruction of a row around its operands, which are there already. Source: own.
 #[inline(always)]
 #[tactic(auto, unfolding(insn_forms::specs::Operands::insn_of))]
 pub fn finish(out: &mut Insn, head: Head, wide: bool, addr32: bool, row: Row)

@@ -10,7 +10,9 @@ use crate::operand::{finish, is_turned, put, size_of_own};
 use crate::stop::Stop;
 use insn_forms::{Addressing, Form, Head, Insn, Operand, Row};
 
-/// Reads the instruction that some bytes start with, and returns the bytes after it.
+/// Reads the instruction that some bytes start with, and returns the bytes after it; or `More` where they end before, and `Invalid` where
+/// they begin no instruction.
+/// Source: 80386 Programmer's Reference Manual, ch. 17, "Instruction Format".
 #[inline(always)]
 #[tactic(auto, unfolding(crate::specs::Reading::insn_at))]
 pub fn insn<'a>(out: &mut Insn, big: bool, bytes: &'a [u8]) -> Result<&'a [u8], Stop>

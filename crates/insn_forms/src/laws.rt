@@ -3,7 +3,7 @@ ghost use Rattle.insn_forms.specs.Grammar.{IsInsn};
 ghost use Rattle.insn_forms.specs.Kinds.{IsWellFormed};
 ghost use Rattle.insn_forms.specs.declared.insn.Insn.{Insn as AnInsn};
 
-/// Every instruction that bytes encode has the operands, the width and the numbers of its operation.
+/// Every instruction that bytes encode has the operands, the width and the numbers of its operation. Source: own.
 pub fn every_instruction_is_well_formed()
     ensures { (insn : AnInsn) → IsInsn insn → IsWellFormed insn }
 {}

@@ -14,7 +14,7 @@ use Rattle.guest_space.specs.Pending.{byte_count}
 use Rattle.guest_space.specs.SegmentRows.{first_byte}
 use Rattle.guest_space.specs.Transfer.{access_fault}
 use Rattle.insn_forms.specs.declared.insn.Operand.{Operand}
-use Rattle.insn_forms.specs.declared.insn.Operand.TheVariants.{Empty, Reg, Seg, Mem, Imm, Far}
+use Rattle.insn_forms.specs.declared.insn.Operand.TheVariants.{Mem}
 use Rattle.insn_plan.specs.declared.accesses.Access.{Access}
 use Rattle.client_world.specs.declared.watchpoints.Touch.{Touch}
 use Rattle.insn_plan.specs.Act.{Act, End, Read, Done, Raise, Interrupt, Input, Given, From, value_of}
@@ -73,7 +73,7 @@ touches_where w (Some done) = touches_after w [] done
 unfoldable pub touches : World → Act → Option (List Touch)
 touches w act = touches_where w (accesses_after w [] act)
 
--- ---- what is followed
+-- ---- what is followed: the words of `Accesses`, which notes the accesses of a row one by one
 
 -- the access is to one byte at least
 abbrev pub HasBytes : Access → Type 0
@@ -86,13 +86,9 @@ pub record Followed : Type 0 where
 
 -- the accesses of what is put where an operand names, in memory at that width; its address is that of the registers r
 unfoldable pub and_put : Regs → Bool → ℕ → Operand → List Access → List Access
-and_put r addr32 width Empty done = done
-and_put r addr32 width (Reg own number) done = done
-and_put r addr32 width (Seg seg) done = done
 and_put r addr32 width (Mem f) done =
     done ++ record { seg = f.seg; off = offset_of r addr32 f; count = byte_count width; write = true } ∷ []
-and_put r addr32 width (Imm v) done = done
-and_put r addr32 width (Far pointer) done = done
+and_put r addr32 width _ done = done
 
 -- the stack pointer of an item of a width that is pushed at an ESP
 abbrev pub pushed_pointer : World → ℕ → ℕ → ℕ

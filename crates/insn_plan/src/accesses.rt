@@ -61,7 +61,7 @@ impl<'a> Model for Accesses<'a> {
 }
 
 impl<'a> Accesses<'a> {
-    /// No accesses yet, for an instruction of `len` bytes.
+    /// No accesses yet, for an instruction of `len` bytes. Source: own.
     pub fn new(machine: &'a Machine, len: u8) -> Accesses<'a>
         ensures { result ≡ record { world = with_next_eip len machine.now.world; accesses = [] } }
     {
@@ -90,7 +90,7 @@ impl<'a> Accesses<'a> {
         }
     }
 
-    /// Whether the stack pointer is ESP.
+    /// Whether the stack pointer is ESP. Source: 80386 Programmer's Reference Manual, ch. 16, "Stack-Segment Default Size".
     #[tactic(auto, unfolding(crate::specs::Stack::has_big_stack))]
     pub fn has_big_stack(&self) -> bool
         ensures { result ≡ has_big_stack self.now.world }
@@ -115,7 +115,9 @@ impl<'a> Accesses<'a> {
         });
     }
 
-    /// Reads 1, 2, 4, 6 or 8 bytes at an offset of a segment register, or gives the fault of the access.
+    /// Notes a read, and gives the number of its 1, 2, 4, 6 or 8 bytes at an offset of a segment register, or the fault of the access.
+    /// There is room for it.
+    /// Source: own.
     #[tactic(auto, using(crate::proofs::Moved::value_moved))]
     pub fn read(&mut self, seg: SegReg, off: u32, count: u8) -> Result<u64, Raised>
         requires count { IsCount count }
@@ -128,7 +130,8 @@ impl<'a> Accesses<'a> {
         read_number(self.machine, seg, off, count)
     }
 
-    /// Reads an operand, in memory at that width, or gives the fault of the access.
+    /// Reads an operand, in memory at a width of 8, 16 or 32 bits, and notes the read; or gives the fault of the access.
+    /// Source: 80386 Programmer's Reference Manual, ch. 17, "Operation".
     #[tactic(auto, using(crate::proofs::Moved::value_moved, crate::proofs::Moved::source_moved), unfolding(crate::specs::Operands::source))]
     pub fn operand(&mut self, addr32: bool, width: u8, operand: &Operand) -> Result<u32, Raised>
         requires { length self.old.accesses < MAX_ACCESSES }
@@ -147,7 +150,8 @@ impl<'a> Accesses<'a> {
         }
     }
 
-    /// The same, as the number of 1, 2 or 4 bytes.
+    /// Notes a read, and gives the number of its 1, 2 or 4 bytes at an offset of a segment register, or the fault of the access.
+    /// Source: own.
     #[tactic(auto, using(crate::proofs::Moved::value_moved))]
     pub fn read_width(&mut self, seg: SegReg, off: u32, count: u8) -> Result<u32, Raised>
         requires count { IsCountOfWidth count }
@@ -170,7 +174,8 @@ impl<'a> Accesses<'a> {
         cut_address(big, sp + u64::from(byte_count(width)) * u64::from(place))
     }
 
-    /// Reads the item of a width at a place of the stack, counted from the top, or gives the fault of the access.
+    /// Notes a read, and gives the item of a width at a place of the stack, counted in items from the top, or the fault of the access.
+    /// Source: 80386 Programmer's Reference Manual, ch. 17, POP.
     pub fn stack_item(&mut self, width: u8, place: u8) -> Result<u32, Raised>
         requires { length self.old.accesses < MAX_ACCESSES }
         ensures value { result ≡ value_of self.old.world (stack_item self.old.world width place) }
@@ -181,7 +186,8 @@ impl<'a> Accesses<'a> {
         self.read_width(SegReg::Ss, off, byte_count(width))
     }
 
-    /// Writes a number of a width at an offset of a segment register.
+    /// Notes a write of a number of a width, 8, 16 or 32 bits, at an offset of a segment register, whether it is allowed or not.
+    /// Source: own.
     pub fn write(&mut self, seg: SegReg, off: u32, width: u8)
         requires { length self.old.accesses < MAX_ACCESSES }
         ensures noted { self.new ≡ record self.old {
@@ -192,7 +198,8 @@ impl<'a> Accesses<'a> {
         self.note(seg, off, byte_count(width), true);
     }
 
-    /// Puts a number of a width where an operand names; its address is that of the registers `r`.
+    /// Notes the write of a number of a width where an operand names, if that is in memory; its address is that of the registers `r`.
+    /// Source: 80386 Programmer's Reference Manual, ch. 17, "Operation".
     #[tactic(auto, unfolding(crate::specs::Accesses::and_put))]
     pub fn put_with(&mut self, r: &Regs, addr32: bool, width: u8, operand: &Operand)
         requires { length self.old.accesses < MAX_ACCESSES }
@@ -204,7 +211,8 @@ impl<'a> Accesses<'a> {
         }
     }
 
-    /// Puts a number of a width where an operand names.
+    /// Notes the write of a number of a width where an operand names, if that is in memory.
+    /// Source: 80386 Programmer's Reference Manual, ch. 17, "Operation".
     pub fn put(&mut self, addr32: bool, width: u8, operand: &Operand)
         requires { length self.old.accesses < MAX_ACCESSES }
         ensures noted { self.new ≡ record self.old { accesses = and_put self.old.world.regs addr32 width operand.now self.old.accesses } }
@@ -214,7 +222,8 @@ impl<'a> Accesses<'a> {
         self.put_with(&r, addr32, width, operand);
     }
 
-    /// Pushes a number of a width at an ESP, and returns ESP after it.
+    /// Notes the push of a number of a width, 8, 16 or 32 bits, at an ESP, and returns ESP after it.
+    /// Source: 80386 Programmer's Reference Manual, ch. 17, PUSH.
     #[tactic(auto, unfolding(crate::specs::Stack::has_big_stack))]
     pub fn push(&mut self, width: u8, esp: u32) -> u32
         requires { length self.old.accesses < MAX_ACCESSES }
@@ -246,7 +255,7 @@ impl<'a> Accesses<'a> {
         })
     }
 
-    /// The touches of all of them, or none where one has a fault.
+    /// The touches of all of them, in their order; `None` where one has a fault. Source: own.
     pub fn touches(&self) -> Option<ArrayVec<Touch, MAX_ACCESSES>>
         ensures { MatchOption result (touches_after self.now.world [] self.now.accesses ≡ None)
             (λ list. touches_after self.now.world [] self.now.accesses ≡ Some list.items) }

@@ -17,7 +17,7 @@ ghost use Rattle.insn_plan.specs.Plan.{CarriesOut};
 ghost use Rattle.insn_plan.specs.Registers.{offset_of};
 
 use crate::operands::{
-    at_hand, given, memory_source, note_and_write, noted_place, shown, write_quickly, write_there,
+    at_hand, given, note_and_write, noted_place, shown, write_quickly, write_there,
 };
 use crate::raised::Raised;
 use crate::read::{note_and_read, number_there, read_quickly};
@@ -27,11 +27,11 @@ use client_world::{Fault, SegReg};
 use guest_space::Machine;
 use insn_forms::{Insn, MemForm, Operand};
 
-/// A number in memory that is read and written back: its offset, its address in the memory where the look knows it, and its value.
+/// A number in memory that is read and written back: its offset, where it is in the memory as far as the look knows, and its value.
 #[derive(Clone, Copy)]
-pub struct NumberInMemory {
+pub struct NumberInMemory<P> {
     pub off: u32,
-    pub at: u32,
+    pub at: P,
     pub value: u32,
 }
 
@@ -40,11 +40,14 @@ pub trait Look {
     /// What a look that misses returns.
     type Missed: Drop;
 
+    /// What a look that shows a number knows of where it is: its address in the memory, or nothing.
+    type Place: Copy;
+
     /// The fault that it reports, if any.
     ghost reported: { Self.Missed → Option AFault };
 
-    /// What the look knows of the address of a number of a width that it read, to be written back.
-    ghost knows: { MachineView → Segment → ℕ → ℕ → ℕ → Type 0 };
+    /// That a number of a width at an offset of a segment register is there, and may be read and written.
+    ghost knows: { MachineView → Segment → ℕ → ℕ → Self.Place → Type 0 };
 
     /// Reads a number of a width at an offset of a segment register.
     fn read(m: &mut Machine, seg: SegReg, off: u32, width: u8) -> Result<u32, Self::Missed>
@@ -77,7 +80,7 @@ pub trait Look {
         addr32: bool,
         width: u8,
         form: &MemForm,
-    ) -> Result<NumberInMemory, Self::Missed>
+    ) -> Result<NumberInMemory<Self::Place>, Self::Missed>
         ensures off { IfOk result (λ number. number.off ≡ offset_of m.old.world.regs addr32 form.now) }
         ensures at { IfOk result (λ number. knows m.old form.now.seg width number.off number.at) }
         ensures value { MatchResult result
@@ -91,11 +94,12 @@ pub trait Look {
         m: &mut Machine,
         seg: SegReg,
         width: u8,
-        number: NumberInMemory,
+        off: u32,
+        at: Self::Place,
         value: u32,
     ) -> Result<(), Self::Missed>
-        requires { knows m.old seg width number.off number.at }
-        ensures { Writes reported m.old m.new result (record { seg = seg; off = number.off; width = width; value = value }) };
+        requires { knows m.old seg width off at }
+        ensures { Writes reported m.old m.new result (record { seg = seg; off = off; width = width; value = value }) };
 
     /// Reads an operand ahead of a number in memory, so that it isn't read while that is kept; `None` where its look comes after it. Quick
     /// looks read it where it isn't in memory, and miss where it is.
@@ -127,6 +131,8 @@ pub(crate) struct Quick;
 
 impl Look for Quick {
     type Missed = Unshown;
+
+    type Place = u32;
 
     ghost reported = { λ missed. None };
 
@@ -162,7 +168,7 @@ impl Look for Quick {
         addr32: bool,
         width: u8,
         form: &MemForm,
-    ) -> Result<NumberInMemory, Unshown> {
+    ) -> Result<NumberInMemory<u32>, Unshown> {
         match noted_place(m, addr32, width, form) {
             Some((off, at)) => {
                 let value = number_there(m, form.seg, width, off, at);
@@ -177,10 +183,11 @@ impl Look for Quick {
         m: &mut Machine,
         seg: SegReg,
         width: u8,
-        number: NumberInMemory,
+        off: u32,
+        at: u32,
         value: u32,
     ) -> Result<(), Unshown> {
-        write_there(m, seg, width, number.off, number.at, value);
+        write_there(m, seg, width, off, at, value);
         Ok(())
     }
 
@@ -218,6 +225,8 @@ pub(crate) struct Tables;
 impl Look for Tables {
     type Missed = Fault;
 
+    type Place = ();
+
     ghost reported = { λ missed. Some missed };
 
     ghost knows = { λ v seg width off at. Unit };
@@ -231,7 +240,10 @@ impl Look for Tables {
     #[tactic(auto, unfolding(crate::specs::Operands::source, crate::specs::Act::value_of))]
     fn source(m: &mut Machine, addr32: bool, width: u8, operand: &Operand) -> Result<u32, Fault> {
         match operand {
-            Operand::Mem(form) => memory_source(m, addr32, width, form),
+            Operand::Mem(form) => {
+                let off = offset_of(m.registers(), addr32, form);
+                note_and_read(m, form.seg, off, width)
+            }
             _ => Ok(given(m.registers(), operand)),
         }
     }
@@ -247,10 +259,10 @@ impl Look for Tables {
         addr32: bool,
         width: u8,
         form: &MemForm,
-    ) -> Result<NumberInMemory, Fault> {
+    ) -> Result<NumberInMemory<()>, Fault> {
         let off = offset_of(m.registers(), addr32, form);
         let value = note_and_read(m, form.seg, off, width)?;
-        Ok(NumberInMemory { off, at: 0, value })
+        Ok(NumberInMemory { off, at: (), value })
     }
 
     #[inline(always)]
@@ -258,10 +270,11 @@ impl Look for Tables {
         m: &mut Machine,
         seg: SegReg,
         width: u8,
-        number: NumberInMemory,
+        off: u32,
+        at: (),
         value: u32,
     ) -> Result<(), Fault> {
-        note_and_write(m, seg, number.off, width, value)
+        note_and_write(m, seg, off, width, value)
     }
 
     #[inline(always)]
@@ -287,6 +300,7 @@ impl Look for Tables {
 
 /// The width of a register operand, `own`. Quick looks miss where it differs from the instruction's, so that elsewhere the compiler knows
 /// it.
+/// Source: own.
 #[inline(always)]
 pub fn register_width<L: Look>(width: u8, own: u8) -> Result<u8, L::Missed>
     ensures is { IfOk result (λ w. w ≡ own) }
@@ -299,7 +313,7 @@ pub fn register_width<L: Look>(width: u8, own: u8) -> Result<u8, L::Missed>
     Ok(own)
 }
 
-/// Reads an operand, unless a look ahead has read it.
+/// Reads an operand, unless a look ahead has read it; or gives what the look that misses returns. The machine stays. Source: own.
 #[inline(always)]
 pub fn source_after<L: Look>(
     m: &mut Machine,
@@ -342,6 +356,7 @@ fn carry_out_by_tables<R: InsnRow>(row: R, m: &mut Machine, i: &Insn) -> Result<
 }
 
 /// Carries out an instruction by its row, or gives its event, which changes nothing: quickly, and by the tables where a quick look misses.
+/// Source: own.
 #[inline(never)]
 pub fn run_row<R: InsnRow>(row: R, m: &mut Machine, i: &Insn) -> Result<(), Raised>
     requires { IsTrue (is_width i.now.width) }

@@ -50,7 +50,7 @@ impl Model for Next {
 }
 
 impl Next {
-    /// Nothing is changed.
+    /// Nothing is changed: the machine's registers and virtual interrupt flag, and no writes. Source: own.
     #[inline(always)]
     pub fn new(m: &Machine) -> Next
         ensures { result ≡ unchanged m.now.world }
@@ -95,7 +95,7 @@ impl Next {
         self.regs.esp = esp;
     }
 
-    /// Leaves one more write.
+    /// Leaves one more write, of a number of a width of 8, 16 or 32 bits; there is room for it. Source: own.
     #[inline(always)]
     pub fn write(&mut self, seg: SegReg, off: u32, width: u8, value: u32)
         requires { length self.old.writes < MAX_WRITES }
@@ -111,7 +111,8 @@ impl Next {
         self.write_count += 1;
     }
 
-    /// Puts a number where an operand names; its address is that of the registers `r`.
+    /// Puts a number where an operand names; its address is that of the registers `r`. There is room for a write.
+    /// Source: 80386 Programmer's Reference Manual, ch. 17, "Operation".
     #[tactic(auto, unfolding(crate::specs::Operands::put_operand))]
     pub fn put(&mut self, r: &Regs, addr32: bool, width: u8, operand: &Operand, v: u32)
         requires { length self.old.writes < MAX_WRITES }
@@ -125,15 +126,16 @@ impl Next {
         }
     }
 
-    /// The fault of the first of its writes that has one.
+    /// The fault of the first of its writes that has one, in their order. Source: own.
     pub fn refusal(&self, m: &Machine) -> Option<Fault>
         ensures { result ≡ first_write_fault m.now.world self.now.writes }
     {
         m.first_fault(&self.writes[..self.write_count])
     }
 
-    /// Makes all the writes, and then sets the registers and the virtual interrupt flag; or, where one of the writes has a fault, does
-    /// nothing at all.
+    /// Makes all the writes, and then sets the registers and the virtual interrupt flag; or gives the fault of the first write that has
+    /// one, and does nothing.
+    /// Source: own.
     #[tactic(auto, unfolding(crate::specs::Plan::after_commit))]
     pub fn settle(&self, m: &mut Machine) -> Result<(), Raised>
         ensures { Follows m.old m.new result (after_commit m.old self.now) }

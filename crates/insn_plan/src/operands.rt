@@ -1,51 +1,23 @@
 // Operands, read and written at once.
-ghost use Rattle.std.specs.Prelude.{◌≡◌, ◌∷◌, [], Err, OnOk, IfErr, IfSome, IfNone, MatchResult, Ok, Some};
-ghost use Rattle.client_world.specs.declared.faults.Event.TheVariants.{Fault as fault};
+ghost use Rattle.std.specs.Prelude.{◌≡◌, ◌∷◌, [], OnOk, IfErr, IfSome, IfNone, Ok, Some};
 ghost use Rattle.guest_space.specs.Pending.{byte_count, first_write_fault};
 ghost use Rattle.guest_space.specs.Registers.{with_registers};
 ghost use Rattle.guest_space.specs.WriteRuns.{IsRun};
-ghost use Rattle.insn_plan.specs.Act.{From, unchanged, value_of, with_flags};
+ghost use Rattle.insn_plan.specs.Act.{unchanged, value_of, with_flags};
 ghost use Rattle.insn_plan.specs.Operands.{and_write, given, put_operand, source};
 ghost use Rattle.insn_plan.specs.Plan.{Follows, after_commit};
 ghost use Rattle.insn_plan.specs.Registers.{offset_of, with_register};
 ghost use Rattle.insn_plan.specs.Written.{IsRefused, IsWritten};
 
 use crate::raised::Raised;
-use crate::read::{note_and_read, read_quickly};
+use crate::read::{read_quickly, read_width};
 use crate::registers::{offset_of, register};
 use client_world::{Fault, Flags, Regs, SegReg};
 use cpu_values::{put8, put16};
 use guest_space::{Machine, Write, byte_count};
 use insn_forms::{MemForm, Operand};
 
-// An operand in memory, where a quick look shows it; `None` says nothing.
-#[inline(always)]
-fn quick_source(m: &Machine, addr32: bool, width: u8, f: &MemForm) -> Option<u32>
-    ensures { IfSome result (λ v.
-        value_of m.now.world (From f.now.seg (offset_of m.now.world.regs addr32 f.now) (byte_count width)) ≡ Ok v) }
-{
-    let off = offset_of(m.registers(), addr32, f);
-    read_quickly(m, f.seg, off, width)
-}
-
-/// Reads an operand in memory by the tables.
-#[cold]
-#[inline(never)]
-pub(crate) fn memory_source(
-    m: &mut Machine,
-    addr32: bool,
-    width: u8,
-    f: &MemForm,
-) -> Result<u32, Fault>
-    ensures value { let value = value_of m.old.world (From f.now.seg (offset_of m.old.world.regs addr32 f.now) (byte_count width)) in
-        MatchResult result (λ v. value ≡ Ok v) (λ f. value ≡ Err (fault f)) }
-    ensures kept { m.new ≡ m.old }
-{
-    let off = offset_of(m.registers(), addr32, f);
-    note_and_read(m, f.seg, off, width)
-}
-
-/// What an operand gives that isn't in memory, and 0 for one that is.
+// What an operand gives that isn't in memory, and 0 for one that is.
 #[inline(always)]
 pub(crate) fn given(r: &Regs, operand: &Operand) -> u32
     ensures { result ≡ given r.now operand.now }
@@ -82,7 +54,8 @@ pub(crate) fn shown(m: &Machine, addr32: bool, width: u8, operand: &Operand) -> 
     ensures { IfSome result (λ v. value_of m.now.world (source m.now.world.regs addr32 width operand.now) ≡ Ok v) }
 {
     if let Operand::Mem(f) = operand {
-        return quick_source(m, addr32, width, f);
+        let off = offset_of(m.registers(), addr32, f);
+        return read_quickly(m, f.seg, off, width);
     }
     at_hand(m, addr32, width, operand)
 }
@@ -118,7 +91,8 @@ pub(crate) fn write_there(m: &mut Machine, seg: SegReg, width: u8, off: u32, at:
     );
 }
 
-/// Reads an operand, in memory at that width, or gives the fault of the access.
+/// Reads an operand, in memory at a width of 8, 16 or 32 bits, or gives the fault of the access; an operand that isn't there is 0.
+/// Source: 80386 Programmer's Reference Manual, ch. 17, "Operation".
 #[inline(always)]
 #[tactic(auto, unfolding(crate::specs::Operands::source, crate::specs::Act::value_of))]
 pub fn source(m: &mut Machine, addr32: bool, width: u8, operand: &Operand) -> Result<u32, Raised>
@@ -126,18 +100,16 @@ pub fn source(m: &mut Machine, addr32: bool, width: u8, operand: &Operand) -> Re
     ensures kept { m.new ≡ m.old }
 {
     match operand {
-        Operand::Reg { width, number } => Ok(register(m.registers(), *width, *number)),
-        Operand::Mem(f) => match quick_source(m, addr32, width, f) {
-            Some(v) => Ok(v),
-            None => Ok(memory_source(m, addr32, width, f)?),
-        },
-        Operand::Imm(v) => Ok(*v),
-        Operand::Seg(seg) => Ok(u32::from(m.registers().selector(*seg))),
-        Operand::Empty | Operand::Far(_) => Ok(0),
+        Operand::Mem(f) => {
+            let off = offset_of(m.registers(), addr32, f);
+            read_width(m, f.seg, off, width)
+        }
+        _ => Ok(given(m.registers(), operand)),
     }
 }
 
-/// Puts a number into a register of the machine at a width of 8, 16 or 32 bits; the other bits of the register are kept.
+/// Puts a number into a register of the machine at a width of 8, 16 or 32 bits, cut to the width; the other bits of the register are kept.
+/// Source: 80386 Programmer's Reference Manual, ch. 17, "reg".
 #[inline(always)]
 #[tactic(auto, unfolding(crate::specs::Registers::with_register))]
 pub fn put_register(m: &mut Machine, width: u8, n: u8, v: u32)
@@ -248,7 +220,9 @@ fn put_in_memory(
     Ok(())
 }
 
-/// Puts a number where an operand names and sets the flags, or gives the fault of the write, which changes nothing.
+/// Puts a number where an operand names, in memory at a width of 8, 16 or 32 bits, and sets the flags; or gives the fault of the write,
+/// which changes nothing.
+/// Source: 80386 Programmer's Reference Manual, ch. 17, "Operation".
 #[inline(always)]
 #[tactic(auto, unfolding(crate::specs::Operands::put_operand, crate::specs::Plan::after_commit, //
 guest_space::specs::Pending::first_write_fault, guest_space::specs::Pending::after_writes))]
@@ -277,7 +251,8 @@ pub fn put_with_flags(
     }
 }
 
-/// Puts a number where an operand names, or gives the fault of the write, which changes nothing.
+/// Puts a number where an operand names, in memory at a width of 8, 16 or 32 bits, or gives the fault of the write, which changes nothing.
+/// Source: 80386 Programmer's Reference Manual, ch. 17, "Operation".
 #[inline(always)]
 #[tactic(auto, unfolding(crate::specs::Operands::put_operand, crate::specs::Plan::after_commit, //
 guest_space::specs::Pending::first_write_fault, guest_space::specs::Pending::after_writes))]

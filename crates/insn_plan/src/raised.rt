@@ -33,7 +33,7 @@ impl From<Fault> for Raised {
 }
 
 impl Raised {
-    /// The software interrupt of a number, whose instruction has `len` bytes.
+    /// The software interrupt of a number, 0 to 255, whose instruction has `len` bytes. Source: own.
     pub fn soft(number: u8, len: u8) -> Raised
         ensures { result ≡ Soft number len }
     {
@@ -42,7 +42,7 @@ impl Raised {
         }
     }
 
-    /// The event.
+    /// The event, in its parts. Source: own.
     pub fn event(self) -> Event
         ensures { result ≡ self }
     {

@@ -21,7 +21,7 @@ fn byte(bytes: [u8; 1]) -> u32
 // The number of two bytes, least byte first.
 #[inline(always)]
 #[tactic(auto, using(crate::proofs::Numbers::number_of_two))]
-pub(crate) fn word(bytes: [u8; 2]) -> u32
+fn word(bytes: [u8; 2]) -> u32
     ensures { result ≡ little_endian bytes }
 {
     u32::from(u16::from_le_bytes(bytes))
@@ -30,7 +30,7 @@ pub(crate) fn word(bytes: [u8; 2]) -> u32
 // The number of four bytes, least byte first.
 #[inline(always)]
 #[tactic(auto, using(crate::proofs::Numbers::number_of_four))]
-pub(crate) fn doubleword(bytes: [u8; 4]) -> u32
+fn doubleword(bytes: [u8; 4]) -> u32
     ensures { result ≡ little_endian bytes }
 {
     u32::from_le_bytes(bytes)
@@ -69,7 +69,8 @@ fn number_or_fault(m: &Machine, seg: SegReg, off: u32, count: u8) -> Result<u32,
     }
 }
 
-/// The number of 1, 2 or 4 bytes at an offset of a segment register, or the fault of the access; the machine is only looked at.
+/// The number of 1, 2 or 4 bytes, least byte first, at an offset of a segment register, or the fault of the access. It notes no page.
+/// Source: own.
 #[inline(always)]
 pub fn number_at(m: &Machine, seg: SegReg, off: u32, count: u8) -> Result<u32, Raised>
     requires { IsCountOfWidth count }
@@ -117,8 +118,9 @@ pub(crate) fn note_and_read(m: &mut Machine, seg: SegReg, off: u32, width: u8) -
     number_or_fault(m, seg, off, byte_count(width))
 }
 
-/// Reads a number of a width at an offset of a segment register, or gives the fault of the access. Where a quick look doesn't show it, the
-/// page is noted.
+/// Reads a number of a width, 8, 16 or 32 bits, at an offset of a segment register, or gives the fault of the access. Where a quick look
+/// doesn't show it, the page is noted; nothing else changes.
+/// Source: own.
 #[inline(always)]
 pub fn read_width(m: &mut Machine, seg: SegReg, off: u32, width: u8) -> Result<u32, Raised>
     ensures value { result ≡ value_of m.old.world (From seg off (byte_count width)) }
@@ -130,7 +132,8 @@ pub fn read_width(m: &mut Machine, seg: SegReg, off: u32, width: u8) -> Result<u
     }
 }
 
-/// The number of 1, 2, 4, 6 or 8 bytes at an offset of a segment register, or the fault of the access.
+/// The number of 1, 2, 4, 6 or 8 bytes, least byte first, at an offset of a segment register, or the fault of the access. It notes no page.
+/// Source: own.
 #[tactic(auto, unfolding(crate::specs::Act::value_of))]
 pub fn read_number(m: &Machine, seg: SegReg, off: u32, count: u8) -> Result<u64, Raised>
     requires { IsCount count }

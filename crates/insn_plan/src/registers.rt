@@ -30,7 +30,8 @@ pub fn register(r: &Regs, width: u8, n: u8) -> u32
     }
 }
 
-/// Puts a number there, cut to the width; the other bits of the register are kept.
+/// Puts a number into the register of a number at a width of 8, 16 or 32 bits, cut to the width; the other bits of the register are kept.
+/// Source: 80386 Programmer's Reference Manual, ch. 17, "reg".
 #[inline(always)]
 #[tactic(auto, unfolding(crate::specs::Registers::with_register))]
 pub fn set_register(r: &mut Regs, width: u8, n: u8, v: u32)
@@ -49,7 +50,8 @@ pub fn set_register(r: &mut Regs, width: u8, n: u8, v: u32)
     }
 }
 
-/// A number at an address size of 16 or 32 bits.
+/// A number modulo 2^32 where addresses have 32 bits, else modulo 2^16.
+/// Source: 80386 Programmer's Reference Manual, ch. 2, "Effective-Address Computation".
 #[inline(always)]
 pub fn cut_address(addr32: bool, a: u64) -> u32
     ensures { result ≡ cut_address addr32 a }
@@ -61,7 +63,8 @@ pub fn cut_address(addr32: bool, a: u64) -> u32
     }
 }
 
-/// A register with another number of the address size in it: at 16 bits the upper half is kept.
+/// A register with another number of the address size in it: where addresses have 16 bits the upper half is kept.
+/// Source: 80386 Programmer's Reference Manual, ch. 2, "General Registers".
 #[inline(always)]
 pub fn with_address(addr32: bool, old: u32, v: u32) -> u32
     requires { IsTrue addr32 ⊎ (v < 2 ^ 16) }

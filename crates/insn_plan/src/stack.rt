@@ -1,5 +1,5 @@
 // The stack.
-ghost use Rattle.std.specs.Prelude.{◌≡◌, ◌+◌, ◌-◌, ◌<◌, ◌^◌, ◌⊎◌, IfSome, IsFalse, IsTrue, Ok, length, slice_index, ℕ};
+ghost use Rattle.std.specs.Prelude.{◌≡◌, ◌+◌, ◌-◌, ◌<◌, ◌^◌, ◌⊎◌, IsTrue, length};
 ghost use Rattle.client_world.specs.World.{World};
 ghost use Rattle.insn_plan.specs.Act.{Pending, unchanged, value_of};
 ghost use Rattle.insn_plan.specs.Looks.{FollowsBy, Shows};
@@ -20,7 +20,7 @@ ghost use Rattle.insn_plan.specs.declared.next.TheConstants.{MAX_WRITES};
 use crate::looks::{Look, Quick, Tables};
 use crate::next::Next;
 use crate::raised::Raised;
-use crate::read::{doubleword, number_at, read_width, word};
+use crate::read::{number_at, read_width};
 use crate::registers::{cut_address, with_address};
 use client_world::general::ESP;
 use client_world::{Regs, SegReg};
@@ -36,7 +36,8 @@ pub fn has_big_stack(m: &Machine) -> bool
     m.is_big(SegReg::Ss)
 }
 
-/// ESP with the stack pointer n bytes further up.
+/// ESP with the stack pointer n bytes further up: ESP where `big`, else SP, which wraps at 64 KB and leaves the upper half.
+/// Source: 80386 Programmer's Reference Manual, ch. 2, "Stack Implementation".
 #[inline(always)]
 pub fn esp_up(big: bool, n: u32, esp: u32) -> u32
     ensures { result ≡ esp_up big n esp }
@@ -48,7 +49,7 @@ pub fn esp_up(big: bool, n: u32, esp: u32) -> u32
     with_address(big, esp, sp)
 }
 
-/// ESP after n items of a width are popped.
+/// ESP after n items of a width, 8, 16 or 32 bits, are popped. Source: 80386 Programmer's Reference Manual, ch. 17, POP.
 #[inline(always)]
 #[tactic(auto, unfolding(crate::specs::Stack::regs_after_pops))]
 pub fn popped_esp(m: &Machine, width: u8, n: u8) -> u32
@@ -69,7 +70,8 @@ pub(crate) fn pointer_down(big: bool, n: u8, esp: u32) -> u32
     cut_address(big, top - u64::from(n))
 }
 
-/// The stack pointer of some registers.
+/// The stack pointer of some registers: ESP, or SP where the segment in SS has B = 0.
+/// Source: 80386 Programmer's Reference Manual, ch. 2, "Stack Implementation".
 #[inline(always)]
 pub fn stack_pointer(m: &Machine, r: &Regs) -> u32
     ensures { result ≡ stack_pointer m.now.world r.now }
@@ -77,7 +79,8 @@ pub fn stack_pointer(m: &Machine, r: &Regs) -> u32
     cut_address(has_big_stack(m), u64::from(r.esp))
 }
 
-/// Reads the item of a width at a place of the stack, counted from the top, or gives the fault of the access.
+/// Reads the item of a width, 8, 16 or 32 bits, at a place of the stack, counted in items from the top, or gives the fault of the access.
+/// Source: 80386 Programmer's Reference Manual, ch. 17, POP.
 #[inline(always)]
 #[tactic(auto, unfolding(crate::specs::Stack::stack_item))]
 pub fn stack_item(m: &Machine, width: u8, place: u8) -> Result<u32, Raised>
@@ -90,7 +93,9 @@ pub fn stack_item(m: &Machine, width: u8, place: u8) -> Result<u32, Raised>
     number_at(m, SegReg::Ss, off, count)
 }
 
-/// Reads the item of a width at the top of the stack, by a look.
+/// Reads the item of a width, 8, 16 or 32 bits, at the top of the stack, by a look; or gives what the look that misses returns. The machine
+/// stays.
+/// Source: 80386 Programmer's Reference Manual, ch. 17, POP.
 #[inline(always)]
 #[tactic(auto, using(crate::proofs::TopItem::top_item))]
 pub fn look_at_top<L: Look>(m: &mut Machine, width: u8) -> Result<u32, L::Missed>
@@ -101,7 +106,9 @@ pub fn look_at_top<L: Look>(m: &mut Machine, width: u8) -> Result<u32, L::Missed
     L::read(m, SegReg::Ss, sp, width)
 }
 
-/// Reads that item, or gives the fault of the access. Where a quick look doesn't show it, its page is noted.
+/// Reads the item of a width, 8, 16 or 32 bits, at the top of the stack, or gives the fault of the access. Where a quick look doesn't show
+/// it, its page is noted.
+/// Source: 80386 Programmer's Reference Manual, ch. 17, POP.
 #[inline(always)]
 #[tactic(auto, using(crate::proofs::TopItem::top_item))]
 pub fn top_item(m: &mut Machine, width: u8) -> Result<u32, Raised>
@@ -140,7 +147,8 @@ fn push_by_tables(m: &mut Machine, width: u8, v: u32) -> Result<(), Raised>
     Ok(())
 }
 
-/// Pushes a number of a width, or gives the fault of the write, which changes nothing. Source: as above.
+/// Pushes a number of a width, 8, 16 or 32 bits, or gives the fault of the write, which changes nothing.
+/// Source: 80386 Programmer's Reference Manual, ch. 17, PUSH.
 #[inline(always)]
 pub fn push_item(m: &mut Machine, width: u8, v: u32) -> Result<(), Raised>
     ensures { Follows m.old m.new result (after_commit m.old (with_pushed_number m.old.world width v (unchanged m.old.world))) }
@@ -151,7 +159,8 @@ pub fn push_item(m: &mut Machine, width: u8, v: u32) -> Result<(), Raised>
     }
 }
 
-/// The write of a number of a width that is pushed at an ESP, and ESP after it, where it is known whether the stack pointer is ESP or SP.
+/// The write of a number of a width that is pushed at an ESP, and ESP after it. `big` says that the stack pointer is ESP.
+/// Source: 80386 Programmer's Reference Manual, ch. 17, PUSH.
 #[inline(always)]
 #[tactic(auto, unfolding(crate::specs::Stack::with_pushed_number))]
 pub fn item_pushed(big: bool, width: u8, esp: u32, v: u32) -> (Write, u32)
@@ -168,7 +177,7 @@ pub fn item_pushed(big: bool, width: u8, esp: u32, v: u32) -> (Write, u32)
     (write, with_address(big, esp, sp))
 }
 
-/// Makes the writes of some pushes and then sets ESP; or, where one of them has a fault, does nothing at all.
+/// Makes the writes of some pushes and then sets ESP; or gives the fault of the first that has one, and does nothing. Source: own.
 #[inline(always)]
 #[tactic(auto, unfolding(crate::specs::Plan::after_commit, client_world::specs::General::with_general))]
 pub fn settle_pushes(m: &mut Machine, writes: &[Write], esp: u32) -> Result<(), Raised>
@@ -179,59 +188,9 @@ pub fn settle_pushes(m: &mut Machine, writes: &[Write], esp: u32) -> Result<(), 
     Ok(())
 }
 
-/// Makes the writes of some pushes and then sets ESP, where one look shows that none of the writes has a fault, and returns `true`; else it
-/// returns `false` and does nothing. Source: own.
-#[inline(always)]
-#[tactic(auto, unfolding(crate::specs::Plan::after_commit, client_world::specs::General::with_general))]
-pub fn settle_quickly(m: &mut Machine, writes: &[Write], esp: u32) -> bool
-    ensures made { IsTrue result → after_commit m.old (pending_of_pushes m.old.world writes.now esp) ≡ Ok m.new }
-    ensures kept { IsFalse result → m.new ≡ m.old }
-{
-    let made = m.write_quickly(writes);
-    if made {
-        m.set_general(ESP, esp);
-    }
-    made
-}
-
-/// The eight items of a width of 16 or 32 bits at the top of the stack, where one look shows all of them; `None` says nothing. Source: own.
-#[inline(always)]
-pub fn eight_items(m: &Machine, width: u8) -> Option<[u32; 8]>
-    ensures { IfSome result (λ items. (k : ℕ) → k < 8 →
-        value_of m.now.world (stack_item m.now.world width k) ≡ Ok (slice_index items k)) }
-{
-    let sp = cut_address(has_big_stack(m), u64::from(m.registers().esp));
-    if width == 16 {
-        let items = m.read_eight::<2>(SegReg::Ss, sp)?;
-        Some([
-            word(items[0]),
-            word(items[1]),
-            word(items[2]),
-            word(items[3]),
-            word(items[4]),
-            word(items[5]),
-            word(items[6]),
-            word(items[7]),
-        ])
-    } else if width == 32 {
-        let items = m.read_eight::<4>(SegReg::Ss, sp)?;
-        Some([
-            doubleword(items[0]),
-            doubleword(items[1]),
-            doubleword(items[2]),
-            doubleword(items[3]),
-            doubleword(items[4]),
-            doubleword(items[5]),
-            doubleword(items[6]),
-            doubleword(items[7]),
-        ])
-    } else {
-        None
-    }
-}
-
 impl Next {
-    /// Pushes a number of a width.
+    /// Pushes a number of a width, 8, 16 or 32 bits: one more write, and another ESP; there is room for the write.
+    /// Source: 80386 Programmer's Reference Manual, ch. 17, PUSH.
     #[tactic(auto, unfolding(crate::specs::Stack::with_pushed_number))]
     pub fn push(&mut self, m: &Machine, width: u8, v: u32)
         requires { length self.old.writes < MAX_WRITES }

@@ -6,7 +6,7 @@ use client_world::faults::GENERAL_PROTECTION;
 use client_world::{Fault, Mode, SegReg};
 use guest_space::Machine;
 
-/// Whether a transfer may go to an offset of a segment; in real mode the offset alone is asked.
+/// Whether a transfer may go to an offset of a segment, or its fault; in real mode the offset alone is asked.
 /// Source: 80386 Programmer's Reference Manual, ch. 17, JMP, CALL and RET.
 #[inline(always)]
 pub fn check_transfer(m: &Machine, sel: u16, off: u32, ret: bool) -> Result<(), Fault>
@@ -23,7 +23,7 @@ pub fn check_transfer(m: &Machine, sel: u16, off: u32, ret: bool) -> Result<(), 
     }
 }
 
-/// Whether a near transfer may go to an offset. Source: as above.
+/// Whether a near transfer may go to an offset, or its fault. Source: 80386 Programmer's Reference Manual, ch. 17, JMP and CALL.
 #[cold]
 #[inline(never)]
 pub(crate) fn check_near(m: &Machine, off: u32) -> Result<(), Fault>

@@ -15,7 +15,7 @@ ghost use Rattle.interrupts.specs.Delivery.{
 ghost use Rattle.interrupts.specs.Worlds.{world_interrupt};
 
 use client_world::{Event, FarPtr, Fault, Mode, SegReg};
-use cpu_step::move_behind;
+use cpu_step::move_past;
 use exec_flow::{code_selector, push_interrupt_frame};
 use guest_space::Machine;
 use insn_plan::{Next, check_transfer};
@@ -133,7 +133,7 @@ pub fn soft_int(m: &mut Machine, n: u8, len: u8) -> Result<(), Fault>
         (λ f. world_interrupt m.old.world n len ≡ Err f) }
 {
     let start = m.registers().eip;
-    move_behind(m, len);
+    move_past(m, len);
     match interrupt(m, n) {
         Ok(()) => Ok(()),
         Err(f) => {

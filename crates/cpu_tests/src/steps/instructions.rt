@@ -7,6 +7,7 @@ use crate::letters::flags;
 use cases::*;
 use client_world::{Event, Regs, SegReg};
 use exec_core::{is_core, run_core};
+use exec_flow::run_flow;
 use guest_space::Machine;
 use insn_forms::Insn;
 use rows::families;
@@ -18,18 +19,24 @@ mod rows;
 mod steps;
 
 // What an executing crate takes for granted of an instruction.
-fn has_width(i: &Insn) -> bool
+pub(crate) fn has_width(i: &Insn) -> bool
     ensures { result ≡ is_width i.now.width }
 {
     i.width == 8 || (i.width == 16 || i.width == 32)
 }
 
-// Whether an instruction of two bytes that is run has this event, or none.
+// Whether an instruction of two bytes that is run, by the crate that has it, has this event, or none.
+#[tactic(auto, using(cpu_step::proofs::CoreOrFlow::flow_where_not_core))]
 fn runs_to(m: &mut Machine, insn: &Insn, event: Option<Event>) -> bool {
-    is_core(insn)
-        && has_width(insn)
-        && insn.op.traits().numbered
-        && run_core(m, insn, 2).err() == event
+    if !has_width(insn) || !insn.op.traits().numbered {
+        return false;
+    }
+    let answer = if is_core(insn) {
+        run_core(m, insn, 2)
+    } else {
+        run_flow(m, insn, 2)
+    };
+    answer.err() == event
 }
 
 // The memory of a case, by the segments with which each begins.

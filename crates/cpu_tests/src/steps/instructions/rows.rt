@@ -1,11 +1,11 @@
 // The worked rows, by families. The values come from the manual's rules by hand.
 use super::cases::*;
 use crate::insns::*;
-use client_world::{Regs, SegReg};
+use client_world::{Event, Regs, SegReg};
 use insn_forms::{Insn, MemForm, Op, Operand, Rep};
 
 // The families of cases. Each begins on a machine of its own.
-pub(crate) fn families() -> [&'static [Case]; 8] {
+pub(crate) fn families() -> [&'static [Case]; 9] {
     [
         &MOVES,
         &ARITHMETIC,
@@ -15,6 +15,7 @@ pub(crate) fn families() -> [&'static [Case]; 8] {
         &STACKS,
         &STRINGS,
         &FAULTS,
+        &TRANSFERS,
     ]
 }
 
@@ -195,4 +196,23 @@ static FAULTS: [Case; 12] = [
         [],
         STACK_FAULT
     ),
+];
+
+// Rows of exec_flow. A relative jump counts from EIP, which is after the instruction.
+static TRANSFERS: [Case; 8] = [
+    case!(insn!(Op::Jmp, 16, Operand::Imm(0x10), NONE), [] b"", [eip: 0x60] b""),
+    case!(insn!(Op::Call, 16, Operand::Imm(0xFFFE), NONE), [] b"", [eip: 0x4E, esp: 0x2FE] b"", stack: 0x0B0A_0050),
+    case!(insn!(Op::Jcc(5), 16, Operand::Imm(0x10), NONE), [] b"Z", [] b"Z"),
+    case!(insn!(Op::Ret, 16, NONE, NONE), [] b"", [eip: 0x0B0A, esp: 0x302] b""),
+    case!(insn!(Op::Push, 16, Operand::Seg(SegReg::Es), NONE), [] b"", [esp: 0x2FE] b"", stack: 0x0B0A_2000),
+    case!(insn!(Op::Mov, 16, Operand::Seg(SegReg::Es), AX), [] b"", [es: 0x4321] b""),
+    refused!(
+        insn!(Op::Int, 8, Operand::Imm(0x21), NONE),
+        [],
+        Some(Event::Soft {
+            number: 0x21,
+            len: 2
+        })
+    ),
+    refused!(insn!(Op::Hlt, 16, NONE, NONE), [], LIMIT_FAULT),
 ];

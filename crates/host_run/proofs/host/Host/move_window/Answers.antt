@@ -7,7 +7,7 @@ use Rattle.host_run.proofs.host.Host.move_window.Goals.{then-not-is_outside, els
 
 pub returns-clause-window : goal.returns-clause-window
 returns-clause-window c = elim c.if-not-is_outside.branch [
-  | then-not-is_outside w ↦ no_starts c.warm.new.self c.if-not-is_outside.window (ap (λ (x : CodeWindow). x.starts) w.window-is)
-  | else-not-is_outside w ↦ subst (λ (x : CodeWindow). HasWindow c.warm.new.self x) (sym w.window-is)
-      (outside_rom c.warm.new.self c.code_window.result c.code_window.ensures (c.is_outside.ensures (search rules)))
+  | then-not-is_outside w ↦ no_starts c.find_window.new.m c.if-not-is_outside.window (ap (λ (x : CodeWindow). x.starts) w.window-is)
+  | else-not-is_outside w ↦ subst (λ (x : CodeWindow). HasWindow c.find_window.new.m x) (sym w.window-is)
+      (outside_rom c.find_window.new.m c.find_window.result c.find_window.ensures.window (c.is_outside.ensures (search rules)))
 ]

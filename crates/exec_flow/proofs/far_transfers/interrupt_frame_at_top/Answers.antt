@@ -1,6 +1,6 @@
 use Rattle.std.proofs.Common.{rules}
 use Rattle.exec_flow.specs.FarTransfers.{interrupt_frame_pop, far_transfer}
-use Rattle.exec_flow.proofs.far_transfers.frame_at_top.Goals as goal
+use Rattle.exec_flow.proofs.far_transfers.interrupt_frame_at_top.Goals as goal
 
 pub returns : goal.returns
 unfolding interrupt_frame_pop far_transfer

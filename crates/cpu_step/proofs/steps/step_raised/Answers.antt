@@ -1,4 +1,4 @@
-use Rattle.cpu_step.proofs.steps.decode_and_step.Goals as goal
+use Rattle.cpu_step.proofs.steps.step_raised.Goals as goal
 
 pub execute-requires : goal.execute-requires
 execute-requires c =

@@ -1,5 +1,0 @@
-use Rattle.std.proofs.Common.{rules}
-use Rattle.exec_flow.proofs.segments.check_load.Goals as goal
-
-pub returns-in-Protected : goal.returns-in-Protected
-returns-in-Protected c = search rules
