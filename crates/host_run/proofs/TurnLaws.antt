@@ -115,11 +115,12 @@ pub same_machine : (w : World) → IsSound w → IsNext w w
 same_machine w sound = record { sound = sound; calls = refl }
 
 -- the host that goes on has such a machine
-goes : (h after : HostWorld) → IsNext h.machine after.machine → AreBytes after.keys → after.lines ≤ h.lines + 2 →
-    TurnKeeps from_client h (goes_on after)
+goes : {source : InterruptSource} (h after : HostWorld) → IsNext h.machine after.machine → AreBytes after.keys →
+    after.lines ≤ h.lines + 2 → TurnKeeps source h (goes_on after)
 goes h after machine keys lines = record { sound = machine.sound; calls = kept machine.calls; keys = keys; lines = lines; leaves = tt }
 
-goes_with : (h : HostWorld) (w : World) → IsReached h → IsNext h.machine w → TurnKeeps from_client h (goes_on (record h { machine = w }))
+goes_with : {source : InterruptSource} (h : HostWorld) (w : World) → IsReached h → IsNext h.machine w →
+    TurnKeeps source h (goes_on (record h { machine = w }))
 goes_with h w s next = goes h (record h { machine = w }) next s.keys (omega arith)
 
 -- one that ends has its machine
@@ -146,8 +147,8 @@ told_keeps : (h : HostWorld) (line : TraceLine) (w : World) → IsReached h → 
 told_keeps h line w s next =
     goes h (record (with_trace_line line h) { machine = w }) next s.keys (omega arith)
 
-machine_keeps : (h : HostWorld) (r : Result World Exit) → IsReached h → IfOk r (IsNext h.machine) →
-    TurnKeeps from_client h (with_machine h r)
+machine_keeps : {source : InterruptSource} (h : HostWorld) (r : Result World Exit) → IsReached h → IfOk r (IsNext h.machine) →
+    TurnKeeps source h (with_machine h r)
 machine_keeps h (Ok w) s next = goes_with h w s next
 machine_keeps h (Err exit) s next = stops_same h exit s
 
@@ -437,8 +438,8 @@ call_return_by h (Err exit) is s = stops_same h exit s
 
 -- ---- exceptions of protected mode
 
-delivery_by : (h : HostWorld) (f : Fault) (r : Result World Exit) → world_protected_delivery h.machine f ≡ r → IsReached h →
-    h.machine.mode ≡ Protected → TurnKeeps from_client h (after_protected_delivery h f.number r)
+delivery_by : {source : InterruptSource} (h : HostWorld) (f : Fault) (r : Result World Exit) → world_protected_delivery h.machine f ≡ r →
+    IsReached h → h.machine.mode ≡ Protected → TurnKeeps source h (after_protected_delivery h f.number r)
 delivery_by h f (Ok w) is s mode =
     goes_changed h (record (with_trace_line (enter_line h.machine (whats.Exc f.number)) h) { machine = w }) s
     (faults.sound_world_delivery h.machine w f s.machine mode is)
@@ -486,8 +487,9 @@ callback_return_by h (Err exit) is s = stops_same h exit s
 
 -- ---- client instructions
 
-pub delivered_keeps : (m : Mode) (h : HostWorld) (f : Fault) → IsReached h → h.machine.mode ≡ m →
-    TurnKeeps from_client h (after_exception_in_mode m h f)
+-- whosever interrupts are reflected: an exception pushes no record of a reflection
+pub delivered_keeps : {source : InterruptSource} (m : Mode) (h : HostWorld) (f : Fault) → IsReached h → h.machine.mode ≡ m →
+    TurnKeeps source h (after_exception_in_mode m h f)
 delivered_keeps Real h f s mode =
     let r = world_delivery h.machine f in
     machine_keeps h r s (answer_next Exit h.machine r (λ u e. record {
@@ -497,8 +499,8 @@ delivered_keeps Real h f s mode =
 delivered_keeps Protected h f s mode =
     delivery_by h f (world_protected_delivery h.machine f) refl s mode
 
-pub interrupted_keeps : (h : HostWorld) (r : Result World Fault) → IsReached h → IfOk r (IsNext h.machine) →
-    TurnKeeps from_client h (after_interrupt h r)
+pub interrupted_keeps : {source : InterruptSource} (h : HostWorld) (r : Result World Fault) → IsReached h → IfOk r (IsNext h.machine) →
+    TurnKeeps source h (after_interrupt h r)
 interrupted_keeps h (Ok w) s next = goes_with h w s next
 interrupted_keeps h (Err f) s next = delivered_keeps h.machine.mode h f s refl
 
