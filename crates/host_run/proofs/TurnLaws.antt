@@ -57,6 +57,7 @@ use Rattle.translation.specs.HandOver.{IsPopped}
 use Rattle.translation.proofs.SoundCalls.{sound_begin, sound_reflect}
 use Rattle.translation.proofs.SoundReturns.{sound_end}
 use Rattle.translation.proofs.Stacked.{begin_pushes, end_pops, reflect_pushes}
+use Rattle.host_run.specs.declared.vectors.TheConstants.{DOS_INTERRUPT, DPMI_INTERRUPT, MULTIPLEX_INTERRUPT, TERMINATE_INTERRUPT}
 use Rattle.host_run.specs.declared.traps.Trap.{Trap}
 use Rattle.host_run.specs.declared.traps.Trap.TheVariants.{RealVector, Entry, ToProtected, RealState, CallReturn, Callback, ProtectedVector}
 use Rattle.host_run.specs.declared.traps.Trap.TheVariants.{ExceptionHandler, ToReal, ProtectedState, ExceptionReturn, CallbackReturn}
@@ -221,9 +222,9 @@ vector_keeps : (h : HostWorld) (n : ℕ) → IsReached h → h.machine.mode ≡ 
 unfolding after_default_vector
 vector_keeps h n s real can =
     if_keeps h (ends_client n) _ _ (stops_same h (exits.Fault n 0) s)
-    (if_keeps h (nat_eq n 0x20) _ _ (stops_noted h lines.Int20 (exits.Exited 0) s)
-    (if_keeps h (nat_eq n 0x21) _ _ (dos_keeps h s real can)
-    (if_keeps h (nat_eq n 0x2F) _ _ (multiplex_keeps_turn h s real can)
+    (if_keeps h (nat_eq n TERMINATE_INTERRUPT) _ _ (stops_noted h lines.Int20 (exits.Exited 0) s)
+    (if_keeps h (nat_eq n DOS_INTERRUPT) _ _ (dos_keeps h s real can)
+    (if_keeps h (nat_eq n MULTIPLEX_INTERRUPT) _ _ (multiplex_keeps_turn h s real can)
     (machine_keeps h (world_after_iret h.machine) s (next_popped h.machine h.machine (same_machine h.machine s.machine))))))
 
 reached_keeps : (h : HostWorld) (n : ℕ) (r : Result World Exit) → world_after_iret h.machine ≡ r → IsReached h → h.machine.mode ≡ Real →
@@ -412,7 +413,7 @@ protected_keeps h n (Ok w) is s mode =
     if_keeps h (is_exit_call h.machine n) _ _
     (stops_noted h (lines.Int21 (high_byte h.machine.regs.eax)) (exits.Exited (low_byte h.machine.regs.eax)) s)
     (if_keeps h (is_presence_call h.machine n) _ _ (presence_keeps h w s c.next)
-    (if_keeps h (nat_eq n 0x31) _ _ (int31_keeps h w s c) (reflection_by from_client h n w (reflect w n) refl s c)))
+    (if_keeps h (nat_eq n DPMI_INTERRUPT) _ _ (int31_keeps h w s c) (reflection_by from_client h n w (reflect w n) refl s c)))
 protected_keeps h n (Err exit) is s mode = stops_same h exit s
 
 protected_vector_keeps : (h : HostWorld) (n : ℕ) → IsReached h → h.machine.mode ≡ Protected →

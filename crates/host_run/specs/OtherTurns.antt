@@ -19,6 +19,7 @@ use Rattle.host_memory.specs.Blank.{host_pointer}
 use Rattle.host_run.specs.Footprint.{Footprint, interrupt_footprint, unsaid}
 use Rattle.host_run.specs.declared.traps.Trap.{Trap}
 use Rattle.host_run.specs.declared.traps.Trap.TheVariants.{ProtectedVector}
+use Rattle.host_run.specs.declared.vectors.TheConstants.{DPMI_INTERRUPT}
 use Rattle.host_run.specs.Traps.{current_trap}
 use Rattle.host_run.specs.Turn.{Outcome, after_interrupt, after_reflected_interrupt, after_service, after_exception, ends, after_outcome}
 use Rattle.host_run.specs.Turn.{with_turn_counted}
@@ -32,7 +33,7 @@ IsOneQuietTurn w v = (v.keys ≡ w.keys) × (v.console ≡ w.console) × (v.step
 
 -- the trap byte of INT 31h
 abbrev pub is_int31 : Trap → Bool
-is_int31 (ProtectedVector n) = nat_eq n 0x31
+is_int31 (ProtectedVector n) = nat_eq n DPMI_INTERRUPT
 is_int31 _ = false
 
 -- AX of the call of INT 31h at whose trap byte the machine is, where its frame can be popped

@@ -17,6 +17,7 @@ ghost use Rattle.host_run.specs.View.{ComesTo, HasRoom};
 use crate::host::Host;
 use crate::serving::{can_pop, pop_in_mode};
 use crate::traps::{Trap, current_trap};
+use crate::vectors::DPMI_INTERRUPT;
 use client_world::memory_map::ROM_START;
 use client_world::selectors::{HOST_CODE, selector_of};
 use client_world::traps::PROTECTED_VECTOR_TRAPS;
@@ -30,7 +31,7 @@ fn is_at_int31(m: &Machine) -> bool
     ensures { result ≡ is_int31 (current_trap m.now.world) }
 {
     match current_trap(m) {
-        Trap::ProtectedVector(n) => n == 0x31,
+        Trap::ProtectedVector(n) => n == DPMI_INTERRUPT,
         _ => false,
     }
 }
