@@ -23,7 +23,9 @@ fn ask(m: &mut Machine, ax: u16) -> Result<(), Refusal>
     }
 }
 
-/// Serves function 0303h or 0304h of INT 31h, for a client in protected mode. Source: DPMI 0.9, INT 31h functions 0303h and 0304h.
+/// Serves function 0303h or 0304h of INT 31h, for a client in protected mode. 0303h is refused where DS is no code selector or ES isn't
+/// held, else where no callback is free; 0304h where CX:DX is the address of none. Carry is set then, AX is the number of the first of
+/// these, and nothing else changes. Source: DPMI 0.9, INT 31h functions 0303h and 0304h; the numbers of the refusals are own.
 #[tactic(auto, using(service_rows::proofs::WidthLaws::protected_width), unfolding(crate::specs::Services::callback_service))]
 pub fn serve(m: &mut Machine, ax: u16) -> Carry
     requires { m.old.world.mode ≡ protected }

@@ -115,35 +115,34 @@ gives_summary_cut number w after e before now m n laws is ended part rose =
 -- ---- the laws over rows of hosts, for one run
 
 abbrev EachDepth : Type 0
-EachDepth = (source : InterruptSource) (w : ℕ → HostWorld) (n k : ℕ) → HasTurns source w n → k < n →
+EachDepth = (source : ℕ → InterruptSource) (w : ℕ → HostWorld) (n k : ℕ) → HasTurns source w n → k < n →
     (host_depth (w (k + 1)) ≤ host_depth (w k) + 1) × (host_depth (w k) ≤ host_depth (w (k + 1)) + 1)
 
 abbrev EachPartner : Type 0
-EachPartner = (source : InterruptSource) (w : ℕ → HostWorld) (n i j : ℕ) → HasTurns source w n → j < n → LastPush w i j → Matched w i j
+EachPartner = (source : ℕ → InterruptSource) (w : ℕ → HostWorld) (n i j : ℕ) → HasTurns source w n → j < n → LastPush w i j →
+    Matched w i j
 
 abbrev EachStays : Type 0
-EachStays = (source : InterruptSource) (w : ℕ → HostWorld) (n i j : ℕ) → HasTurns source w n → j < n → Matched w i j →
-    IsHandedOver source w i j
+EachStays = (source : ℕ → InterruptSource) (w : ℕ → HostWorld) (n i j : ℕ) → HasTurns source w n → j < n → Matched w i j →
+    IsHandedOver (source i) w i j
 
 abbrev EachHandsOver : Type 0
 EachHandsOver = (source : InterruptSource) (w : ℕ → HostWorld) (i j : ℕ) → IsSound (w i).machine → IsSound (w j).machine →
     (h : IsHandedOver source w i j) → HandsOver source (w i) (w (i + 1)) (w j) (w (j + 1)) h.innermost
 
-in_order : (source : InterruptSource) (r : RunSeen) → NestsByOneRecord source r → EachDepth → EachPartner → EachStays →
-    ReturnsInOrder source r
-in_order source r nests depth partner stays = record {
-  depth = λ k. depth source r.host (k + 1) k (λ i lt. nests i) (omega arith);
-  partner = λ i j last. partner source r.host (j + 1) i j (λ k lt. nests k) (omega arith) last;
-  record_stays = λ i j matched. stays source r.host (j + 1) i j (λ k lt. nests k) (omega arith) matched;
+in_order : (r : RunSeen) → NestsByOneRecord r → EachDepth → EachPartner → EachStays → ReturnsInOrder r
+in_order r nests depth partner stays = record {
+  depth = λ k. depth r.source r.host (k + 1) k (λ i lt. nests i) (omega arith);
+  partner = λ i j last. partner r.source r.host (j + 1) i j (λ k lt. nests k) (omega arith) last;
+  record_stays = λ i j matched. stays r.source r.host (j + 1) i j (λ k lt. nests k) (omega arith) matched;
 }
 
 -- a run of sound hosts whose instructions touch what the client holds and whose turns nest keeps them all
-pub keeps_the_laws : (source : InterruptSource) (r : RunSeen) → TouchesWhatIsHeld r → NestsByOneRecord source r →
-    ((n : ℕ) → IsSound (r.host n).machine) →
-    EachDepth → EachPartner → EachStays → EachHandsOver → KeepsTheLaws source r
-keeps_the_laws source r touches nests sound depth partner stays hands = record {
+pub keeps_the_laws : (r : RunSeen) → TouchesWhatIsHeld r → NestsByOneRecord r → ((n : ℕ) → IsSound (r.host n).machine) →
+    EachDepth → EachPartner → EachStays → EachHandsOver → KeepsTheLaws r
+keeps_the_laws r touches nests sound depth partner stays hands = record {
   every_touch_is_held = touches;
   every_turn_changes_the_innermost_record_at_most = nests;
-  nested_calls_return_in_order = in_order source r nests depth partner stays;
-  every_nested_call_hands_over = λ i j h. hands source r.host i j (sound i) (sound j) h;
+  nested_calls_return_in_order = in_order r nests depth partner stays;
+  every_nested_call_hands_over = λ i j h. hands (r.source i) r.host i j (sound i) (sound j) h;
 }

@@ -11,7 +11,8 @@ use client_world::{Exit, Fault, Mode};
 use guest_space::Machine;
 use interrupts::deliver_in_real_mode;
 
-/// Delivers an exception in either mode; or gives the exit, which leaves the machine as it was.
+/// Delivers an exception in either mode. `Deep` at the greatest depth in protected mode, else `Fault` of this exception where its handler
+/// can't be loaded, or in real mode where no vector serves it or its frame can't be pushed; an exit leaves the machine as it was.
 /// Source: 80386 Programmer's Reference Manual, ch. 9 and 15; DPMI 0.9, "Exceptions"; the exits are own.
 #[tactic(auto, unfolding(crate::specs::ByMode::delivery))]
 pub fn deliver(m: &mut Machine, f: Fault) -> Result<(), Exit>

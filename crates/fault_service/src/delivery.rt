@@ -30,9 +30,10 @@ fn exception_frame_start(m: &Machine) -> FarPtr
     frame_address(m, size)
 }
 
-// Writes the frame.
+// Writes the frame where it lies.
 #[tactic(auto, unfolding(crate::specs::Delivery::exception_frame))]
-fn write_frame(m: &mut Machine, f: Fault)
+fn write_frame(m: &mut Machine, f: Fault, at: FarPtr)
+    requires place { at ≡ exception_frame_start m.old.world }
     requires width { m.old.world.width ≢ None }
     requires depth { depth m.old.world < GREATEST_DEPTH }
     ensures { m.new ≡ after_far_write m.old (exception_frame_start m.old.world) (exception_frame_size m.old.world)
@@ -41,7 +42,6 @@ fn write_frame(m: &mut Machine, f: Fault)
     the_protected_stacks_are_reachable();
     m.soundness();
     let items = exception_items(m, f);
-    let at = exception_frame_start(m);
     if frame_bits(m) == 16 {
         m.write_bytes(at, &word_frame(&items));
     } else {
@@ -58,14 +58,15 @@ fn enter(m: &mut Machine, f: Fault, p: FarPtr)
     ensures { m.new ≡ after_delivery m.old f p }
 {
     every_write_changes_the_memory_alone();
+    let at = exception_frame_start(m);
     let handler = Regs {
         cs: code_selector(m, p.sel),
         eip: p.off,
         ss: selector_of(HOST_STACKS),
-        esp: exception_frame_start(m).off,
+        esp: at.off,
         ..m.regs()
     };
-    write_frame(m, f);
+    write_frame(m, f, at);
     let exception = Record::Exc {
         number: f.number,
         code: f.code,
@@ -92,8 +93,7 @@ fn handler(m: &Machine, number: u8) -> FarPtr
 }
 
 /// Delivers an exception of protected mode to its handler, with the frame on the host's stack of the depth. `Deep` at the greatest depth,
-/// else
-/// `Fault` of this exception where the handler's address can't be loaded; an exit leaves the machine as it was.
+/// else `Fault` of this exception where the handler's address can't be loaded; an exit leaves the machine as it was.
 /// Source: DPMI 0.9, "Exceptions"; the exits are own.
 #[tactic(auto, unfolding(crate::specs::Delivery::protected_delivery))]
 pub fn deliver_in_protected_mode(m: &mut Machine, f: Fault) -> Result<(), Exit>

@@ -1,6 +1,6 @@
 -- The client's part of a turn changes its footprint alone.
-use Rattle.std.proofs.Common.{◌≡◌, ℕ, List, refl, sym, subst, Result, Ok, Err}
-use Rattle.std.specs.Prelude.{OnOk}
+use Rattle.std.proofs.Common.{◌≡◌, ◌∙◌, ℕ, List, ap, refl, sym, subst, Result, Ok, Err}
+use Rattle.std.specs.Prelude.{MatchResult, OnOk}
 use Rattle.client_world.specs.declared.faults.Event.{Event}
 use Rattle.client_world.specs.declared.faults.Event.TheVariants as events
 use Rattle.client_world.specs.declared.faults.Fault.{Fault}
@@ -9,7 +9,7 @@ use Rattle.client_world.specs.declared.registers.Mode.{Mode}
 use Rattle.client_world.specs.declared.registers.Mode.TheVariants.{Real, Protected}
 use Rattle.cpu_step.specs.Step.{client_step}
 use Rattle.interrupts.specs.Delivery.{real_delivery, software_interrupt}
-use Rattle.interrupts.specs.Worlds.{world_of_result}
+use Rattle.interrupts.specs.Worlds.{world_interrupt, world_of_result}
 use Rattle.interrupts.proofs.Alone.{interrupt_alone, step_alone}
 use Rattle.host_memory.specs.View.{MachineView}
 use Rattle.host_memory.proofs.OnlyAtLaws.{only_start}
@@ -46,12 +46,16 @@ interrupt_changes : (v u : MachineView) (n len : ℕ) (r : Result MachineView Fa
 interrupt_changes v u n len (Ok x) laws is e = let same : x ≡ u = cc in laws.interrupt n len u (rw same at is)
 interrupt_changes v u n len (Err f) laws is e = delivery_changes v u f laws e
 
+pub interrupted_changes : (v u : MachineView) (n len : ℕ) → HasLaws v → after_client_interrupt v (software_interrupt v n len) ≡ Ok u →
+    ChangesOnly (interrupt_footprint v.world len (world_interrupt v.world n len)) v.bytes u.bytes
+interrupted_changes v u n len laws is =
+    rw (sym (interrupt_alone v n len)) (interrupt_changes v u n len (software_interrupt v n len) laws refl is)
+
 event_changes : (v u : MachineView) (r : Result MachineView Event) → HasLaws v → client_step v ≡ r → after_client_event v r ≡ Ok u →
     ChangesOnly (event_footprint v.world (world_of_result r)) v.bytes u.bytes
 event_changes v u (Ok x) laws is e = let same : x ≡ u = cc in laws.step u (rw same at is)
 event_changes v u (Err (events.Fault f)) laws is e = delivery_changes v u f laws e
-event_changes v u (Err (events.Soft n len)) laws is e =
-    rw (sym (interrupt_alone v n len)) (interrupt_changes v u n len (software_interrupt v n len) laws refl e)
+event_changes v u (Err (events.Soft n len)) laws is e = interrupted_changes v u n len laws e
 
 pub client_changes : (v u : MachineView) → HasLaws v → client_turn v ≡ Ok u → ChangesOnly (client_footprint v.world) v.bytes u.bytes
 unfolding client_turn client_footprint
@@ -73,3 +77,19 @@ pub changes_or_ends : (old new : HostView) (r : Result (Unit {0}) Exit) (o : Out
     ChangesOnly (client_footprint old.world.machine) old.bytes new.bytes
 changes_or_ends old new (Ok x) o laws comes is = client_changes (machine_view old) (machine_view new) laws is
 changes_or_ends old new (Err exit) o laws comes is = kept (client_footprint old.world.machine) old.bytes new.bytes comes.2.1
+
+pub interrupt_or_ends : (old new : HostView) (n len : ℕ) (r : Result (Unit {0}) Exit) (o : Outcome) → HasLaws (machine_view old) →
+    ComesTo old new r o →
+    OnOk r (after_client_interrupt (machine_view old) (software_interrupt (machine_view old) n len) ≡ Ok (machine_view new)) →
+    ChangesOnly (interrupt_footprint old.world.machine len (world_interrupt old.world.machine n len)) old.bytes new.bytes
+interrupt_or_ends old new n len (Ok x) o laws comes is = interrupted_changes (machine_view old) (machine_view new) n len laws is
+interrupt_or_ends old new n len (Err exit) o laws comes is = kept _ old.bytes new.bytes comes.2.1
+
+-- where the interrupt raises an exception, whose delivery ends the run or goes on
+pub raised_or_ends : (v : MachineView) (bytes : List ℕ) (new : HostView) (n len : ℕ) (f : Fault) (r : Result (Unit {0}) Exit)
+    (P : Type 0) (Q : Exit → Type 0) → HasLaws v → software_interrupt v n len ≡ Err f → OnOk r (delivery v f ≡ Ok (machine_view new)) →
+    MatchResult r (λ _. P) (λ exit. Q exit × (new.bytes ≡ bytes)) → bytes ≡ v.bytes →
+    ChangesOnly (interrupt_footprint v.world len (world_interrupt v.world n len)) v.bytes new.bytes
+raised_or_ends v bytes new n len f (Ok x) P Q laws raises is ends same =
+    interrupted_changes v (machine_view new) n len laws (ap (after_client_interrupt v) raises ∙ is)
+raised_or_ends v bytes new n len f (Err exit) P Q laws raises is ends same = kept _ v.bytes new.bytes (ends.1 ∙ same)

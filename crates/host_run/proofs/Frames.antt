@@ -18,6 +18,7 @@ use Rattle.interrupts.specs.Delivery.{after_iret, result_of_pop}
 use Rattle.interrupts.specs.RealFrames.{frame_fits}
 use Rattle.interrupts.specs.Worlds.{world_of_result, world_after_iret}
 use Rattle.host_memory.specs.View.{MachineView}
+use Rattle.host_run.specs.declared.vectors.TheConstants.{DPMI_INTERRUPT}
 use Rattle.host_run.specs.Turn.{Outcome, ends, after_exit_call, after_protected_pop, after_protected_call, is_exit_call, is_presence_call}
 use Rattle.host_run.specs.Turn.{after_default_vector, after_real_vector}
 
@@ -74,7 +75,7 @@ popped_bad h n fails = ap (after_protected_pop h n) (world_bad h.machine fails)
 
 -- an interrupt that is reflected, where calls are nested too deeply
 deep_call : (h : HostWorld) (n : ℕ) (w : World) → is_exit_call h.machine n ≡ false → is_presence_call h.machine n ≡ false →
-    nat_eq n 0x31 ≡ false → w.calls ≡ h.machine.calls → GREATEST_DEPTH ≤ depth h.machine → after_protected_call h n w ≡ ends h Deep
+    nat_eq n DPMI_INTERRUPT ≡ false → w.calls ≡ h.machine.calls → GREATEST_DEPTH ≤ depth h.machine → after_protected_call h n w ≡ ends h Deep
 unfolding after_protected_call reflect
 deep_call h n w exit presence other calls deep =
     let much : nat_le GREATEST_DEPTH (depth w) ≡ true =
@@ -82,14 +83,14 @@ deep_call h n w exit presence other calls deep =
     rw exit (rw presence (rw other (rw much refl)))
 
 deep_by : (h : HostWorld) (n : ℕ) (r : Result World Exit) → world_after_iret h.machine ≡ r → is_exit_call h.machine n ≡ false →
-    is_presence_call h.machine n ≡ false → nat_eq n 0x31 ≡ false → GREATEST_DEPTH ≤ depth h.machine → is_ok r ≡ true →
+    is_presence_call h.machine n ≡ false → nat_eq n DPMI_INTERRUPT ≡ false → GREATEST_DEPTH ≤ depth h.machine → is_ok r ≡ true →
     after_protected_pop h n r ≡ ends h Deep
 deep_by h n (Ok w) is exit presence other deep can =
     deep_call h n w exit presence other (ap (λ (x : World). x.calls) (kept_world_popped h.machine w is)) deep
 deep_by h n (Err e) is exit presence other deep can = absurd cc
 
 pub popped_deep : (h : HostWorld) (n : ℕ) → is_exit_call h.machine n ≡ false → is_presence_call h.machine n ≡ false →
-    nat_eq n 0x31 ≡ false → GREATEST_DEPTH ≤ depth h.machine → is_ok (world_after_iret h.machine) ≡ true →
+    nat_eq n DPMI_INTERRUPT ≡ false → GREATEST_DEPTH ≤ depth h.machine → is_ok (world_after_iret h.machine) ≡ true →
     after_protected_pop h n (world_after_iret h.machine) ≡ ends h Deep
 popped_deep h n exit presence other deep can = deep_by h n (world_after_iret h.machine) refl exit presence other deep can
 

@@ -31,6 +31,7 @@ use Rattle.mode_gates.specs.FarFrames.{world_after_far_return}
 use Rattle.mode_gates.specs.Switches.{world_after_switch_to_protected}
 use Rattle.fault_service.specs.Worlds.{world_exception_return, world_protected_delivery}
 use Rattle.translation.specs.SimulatedCall.{begin_call, end_call, reflect}
+use Rattle.host_run.specs.declared.vectors.TheConstants.{DOS_INTERRUPT, DPMI_INTERRUPT, MULTIPLEX_INTERRUPT, TERMINATE_INTERRUPT}
 use Rattle.host_run.specs.declared.traps.Trap.{Trap}
 use Rattle.host_run.specs.declared.traps.Trap.TheVariants.{RealVector, Entry, ToProtected, RealState, CallReturn, Callback, ProtectedVector}
 use Rattle.host_run.specs.declared.traps.Trap.TheVariants.{ExceptionHandler, ToReal, ProtectedState, ExceptionReturn, CallbackReturn}
@@ -96,9 +97,9 @@ vector_grows : (h : HostWorld) (n : ℕ) → Grows h (after_default_vector h n)
 unfolding after_default_vector
 vector_grows h n =
     if_grows h (ends_client n) _ _ (still h _ refl refl)
-    (if_grows h (nat_eq n 0x20) _ _ (still h _ refl refl)
-    (if_grows h (nat_eq n 0x21) _ _ (dos_grows h)
-    (if_grows h (nat_eq n 0x2F) _ _ (multiplex_grows h) (with_machine_grows h (world_after_iret h.machine)))))
+    (if_grows h (nat_eq n TERMINATE_INTERRUPT) _ _ (still h _ refl refl)
+    (if_grows h (nat_eq n DOS_INTERRUPT) _ _ (dos_grows h)
+    (if_grows h (nat_eq n MULTIPLEX_INTERRUPT) _ _ (multiplex_grows h) (with_machine_grows h (world_after_iret h.machine)))))
 
 reached_grows : (h : HostWorld) (n : ℕ) (r : Result World Exit) →
     Grows h (elim r [ Ok w ↦ after_default_vector h n | Err exit ↦ ends h exit ])
@@ -144,7 +145,7 @@ unfolding after_protected_call
 protected_grows h n (Ok w) =
     if_grows h (is_exit_call h.machine n) _ _ (still h _ refl refl)
     (if_grows h (is_presence_call h.machine n) _ _ (still h _ refl refl)
-    (if_grows h (nat_eq n 0x31) _ _ (int31_grows h w) (reflection_grows h n w (reflect w n))))
+    (if_grows h (nat_eq n DPMI_INTERRUPT) _ _ (int31_grows h w) (reflection_grows h n w (reflect w n))))
 protected_grows h n (Err exit) = still h _ refl refl
 
 protected_vector_grows : (h : HostWorld) (n : ℕ) → Grows h (after_protected_vector h n)

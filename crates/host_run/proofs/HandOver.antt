@@ -18,7 +18,7 @@ use Rattle.host_run.specs.HandOver.{HandsOver, HandsOverCall, HandsOverRealCall}
 use Rattle.host_run.specs.Keys.{HasKeys}
 use Rattle.host_run.specs.Nested.{IsHandedOver, PopsRecord, PushesRecord}
 use Rattle.host_run.specs.RealCalls.{InterruptSource, ReflectedFrom, ReturnsFromCall, StartsCall, StartsRealCall, from_anywhere}
-use Rattle.host_run.specs.RealCalls.{from_client}
+use Rattle.host_run.specs.RealCalls.{from_client, from_outside}
 use Rattle.host_run.specs.Run.{turns}
 use Rattle.host_run.proofs.HandedExceptions.{has_delivered, has_resumed}
 use Rattle.host_run.proofs.Sound.{turns_sound}
@@ -72,6 +72,7 @@ call_by w v x y call r starts ends pushes pops innermost =
 -- the machine that an interrupt is reflected from is sound
 sound_client : (source : InterruptSource) (w client : World) → IsSound w → ReflectedFrom source w client → IsSound client
 sound_client from_client w client sound pops = sound_world_popped w client sound pops
+sound_client from_outside w client sound same = subst IsSound (sym same) sound
 sound_client from_anywhere w client sound (inl pops) = sound_world_popped w client sound pops
 sound_client from_anywhere w client sound (inr same) = subst IsSound (sym same) sound
 

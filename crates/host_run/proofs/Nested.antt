@@ -8,10 +8,10 @@ use Rattle.client_world.specs.declared.calls.Call.{Call}
 use Rattle.client_world.specs.declared.calls.Call.TheVariants.{Int, Far, Iret, Reflect}
 use Rattle.client_world.specs.declared.calls.Record.{Record}
 use Rattle.client_world.specs.declared.calls.Record.TheVariants.{Sim, Back, Exc}
-use Rattle.client_world.specs.World.{HostWorld}
+use Rattle.client_world.specs.World.{HostWorld, World}
 use Rattle.host_run.specs.Nested.{PushesRecord, HasTurns, IsHandedOver, LastPush, PopsRecord, Matched, Stacked, host_depth, kept, popped}
 use Rattle.host_run.specs.Nested.{pushed}
-use Rattle.host_run.specs.RealCalls.{InterruptSource, StartsRealCall, from_anywhere, from_client}
+use Rattle.host_run.specs.RealCalls.{InterruptSource, ReflectedFrom, StartsRealCall, from_anywhere, from_client, from_outside}
 
 -- a turn that stays above a depth keeps the records up to it
 pub turn_stays : {source : InterruptSource} (w v : HostWorld) (n : ℕ) → Stacked source w v → n ≤ host_depth w → n ≤ host_depth v →
@@ -21,14 +21,14 @@ turn_stays w v n (pushed r e h) a b = ap (take n) e ∙ take-append-le n w.machi
 turn_stays w v n (popped r e h) a b = sym (ap (take n) e ∙ take-append-le n v.machine.calls (r ∷ []) b)
 
 -- what stays after turn i stays until turn j
-pub stays : {source : InterruptSource} (w : ℕ → HostWorld) (n i j d : ℕ) → HasTurns source w n → j < n → ((k : ℕ) → i < k → k ≤ j →
+pub stays : (source : ℕ → InterruptSource) (w : ℕ → HostWorld) (n i j d : ℕ) → HasTurns source w n → j < n → ((k : ℕ) → i < k → k ≤ j →
     d < host_depth (w k)) → (m k : ℕ) → k ≡ m + (i + 1) → k ≤ j → take (d + 1) (w k).machine.calls ≡ take (d + 1) (w (i + 1)).machine.calls
-stays w n i j d turns jn above zero k e le = let f : k ≡ i + 1 = omega arith in ap (λ (q : ℕ). take (d + 1) (w q).machine.calls) f
-stays w n i j d turns jn above (suc m) k e le =
+stays source w n i j d turns jn above zero k e le = let f : k ≡ i + 1 = omega arith in ap (λ (q : ℕ). take (d + 1) (w q).machine.calls) f
+stays source w n i j d turns jn above (suc m) k e le =
     let p : ℕ = m + (i + 1) in
     let f : k ≡ p + 1 = omega arith in
     let so_far : take (d + 1) (w p).machine.calls ≡ take (d + 1) (w (i + 1)).machine.calls =
-    stays w n i j d turns jn above m p refl (omega arith) in
+    stays source w n i j d turns jn above m p refl (omega arith) in
     let here : d < host_depth (w p) = above p (omega arith) (omega arith) in
     let there : d < host_depth (w (p + 1)) = above (p + 1) (omega arith) (omega arith) in
     let turn = turns p (omega arith) in
@@ -49,11 +49,11 @@ pub record Crossing (w : ℕ → HostWorld) (d a b : ℕ) : Type 0 where
   pub below : host_depth (w at) ≡ d
   pub pushes : host_depth (w (at + 1)) ≡ host_depth (w at) + 1
 
-pub crossing : {source : InterruptSource} (w : ℕ → HostWorld) (n d a : ℕ) → HasTurns source w n → host_depth (w a) ≤ d → (m b : ℕ) →
+pub crossing : (source : ℕ → InterruptSource) (w : ℕ → HostWorld) (n d a : ℕ) → HasTurns source w n → host_depth (w a) ≤ d → (m b : ℕ) →
     b ≡ m + a → b ≤ n → d < host_depth (w b) → Crossing w d a b
-crossing w n d a turns low zero b e le high =
+crossing source w n d a turns low zero b e le high =
     absurd (let f : host_depth (w b) ≡ host_depth (w a) = ap (λ (q : ℕ). host_depth (w q)) (omega arith) in omega arith)
-crossing w n d a turns low (suc m) b e le high =
+crossing source w n d a turns low (suc m) b e le high =
     let p : ℕ = m + a in
     let f : b ≡ p + 1 = omega arith in
     let top : d < host_depth (w (p + 1)) = subst (λ (q : ℕ). d < host_depth (w q)) f high in
@@ -62,33 +62,33 @@ crossing w n d a turns low (suc m) b e le high =
     elim (cases_lt d (host_depth (w p))) [
       | inr below ↦ record { at = p; from = omega arith; to = omega arith; below = omega (arith, move); pushes = omega (arith, move) }
       | inl above ↦
-          let c : Crossing w d a p = crossing w n d a turns low m p refl (omega arith) above in
+          let c : Crossing w d a p = crossing source w n d a turns low m p refl (omega arith) above in
           record { at = c.at; from = c.from; to = omega arith; below = c.below; pushes = c.pushes }
     ]
 
-pub matched : {source : InterruptSource} (w : ℕ → HostWorld) (n i j : ℕ) → HasTurns source w n → j < n → LastPush w i j → Matched w i j
-matched w n i j turns jn p = record {
+pub matched : (source : ℕ → InterruptSource) (w : ℕ → HostWorld) (n i j : ℕ) → HasTurns source w n → j < n → LastPush w i j → Matched w i j
+matched source w n i j turns jn p = record {
   before = p.before;
   above = λ (k : ℕ) (ik : i < k) (kj : k ≤ j). elim (cases_lt (host_depth (w i)) (host_depth (w k))) [
     | inl high ↦ high
     | inr low ↦
         let c : Crossing w (host_depth (w i)) k j =
-        crossing w n (host_depth (w i)) k turns low (j - k) j (omega arith) (omega arith) (omega (arith, p.pops, p.level)) in
+        crossing source w n (host_depth (w i)) k turns low (j - k) j (omega arith) (omega arith) (omega (arith, p.pops, p.level)) in
         absurd (p.last c.at (omega (arith, c.from)) c.to c.below c.pushes)
   ];
   after = sym p.level;
 }
 
-handed_from : {source : InterruptSource} (w : ℕ → HostWorld) (n i j : ℕ) → HasTurns source w n → j < n → Matched w i j → (r : Record) →
-    (w (i + 1)).machine.calls ≡ (w i).machine.calls ++ (r ∷ []) → PushesRecord source (w i) r (w (i + 1)) → (s : Record) →
-    (w j).machine.calls ≡ (w (j + 1)).machine.calls ++ (s ∷ []) → PopsRecord (w j) s (w (j + 1)) → IsHandedOver source w i j
-handed_from w n i j turns jn m r e h s f g =
+handed_from : (source : ℕ → InterruptSource) (w : ℕ → HostWorld) (n i j : ℕ) → HasTurns source w n → j < n → Matched w i j → (r : Record) →
+    (w (i + 1)).machine.calls ≡ (w i).machine.calls ++ (r ∷ []) → PushesRecord (source i) (w i) r (w (i + 1)) → (s : Record) →
+    (w j).machine.calls ≡ (w (j + 1)).machine.calls ++ (s ∷ []) → PopsRecord (w j) s (w (j + 1)) → IsHandedOver (source i) w i j
+handed_from source w n i j turns jn m r e h s f g =
     let d : ℕ = host_depth (w i) in
     let first : take (d + 1) (w (i + 1)).machine.calls ≡ (w i).machine.calls ++ (r ∷ []) =
     ap (take (d + 1)) e ∙ (ap (λ (q : ℕ). take q ((w i).machine.calls ++ (r ∷ []))) (sym (length_push (w i).machine.calls r))
     ∙ take-length ((w i).machine.calls ++ (r ∷ []))) in
     let held : (k : ℕ) → i < k → k ≤ j → take (d + 1) (w k).machine.calls ≡ (w i).machine.calls ++ (r ∷ []) =
-    λ (k : ℕ) (ik : i < k) (kj : k ≤ j). stays w n i j d turns jn m.above (k - (i + 1)) k (omega arith) kj ∙ first in
+    λ (k : ℕ) (ik : i < k) (kj : k ≤ j). stays source w n i j d turns jn m.above (k - (i + 1)) k (omega arith) kj ∙ first in
     let full : host_depth (w j) ≡ d + 1 = ap length f ∙ (length_push (w (j + 1)).machine.calls s ∙ ap (λ (q : ℕ). q + 1) m.after) in
     let all : (w j).machine.calls ≡ (w i).machine.calls ++ (r ∷ []) =
     sym (ap (λ (q : ℕ). take q (w j).machine.calls) (sym full) ∙ take-length (w j).machine.calls) ∙ held j m.before (omega arith) in
@@ -104,9 +104,9 @@ handed_from w n i j turns jn m r e h s f g =
       rest = same.0;
     }
 
-pub handed_over : {source : InterruptSource} (w : ℕ → HostWorld) (n i j : ℕ) → HasTurns source w n → j < n → Matched w i j →
-    IsHandedOver source w i j
-handed_over w n i j turns jn m =
+pub handed_over : (source : ℕ → InterruptSource) (w : ℕ → HostWorld) (n i j : ℕ) → HasTurns source w n → j < n → Matched w i j →
+    IsHandedOver (source i) w i j
+handed_over source w n i j turns jn m =
     let up : host_depth (w i) < host_depth (w (i + 1)) = m.above (i + 1) (omega arith) (omega (arith, m.before)) in
     let down : host_depth (w (j + 1)) < host_depth (w j) = omega (arith, m.after, m.above j m.before (omega arith)) in
     elim (turns i (omega (arith, m.before))) [
@@ -116,7 +116,7 @@ handed_over w n i j turns jn m =
           elim (turns j jn) [
             | kept f ↦ absurd (omega (arith, ap length f))
             | pushed s f g ↦ absurd (omega (arith, ap length f, length_push (w j).machine.calls s))
-            | popped s f g ↦ handed_from w n i j turns jn m r e h s f g
+            | popped s f g ↦ handed_from source w n i j turns jn m r e h s f g
           ]
     ]
 
@@ -124,26 +124,38 @@ by_one : {source : InterruptSource} (w v : HostWorld) → Stacked source w v →
     × (host_depth w ≤ host_depth v + 1)
 by_one w v turn = let move = moves w v turn in (omega (arith, move), omega (arith, move))
 
-pub changes_by_one : {source : InterruptSource} (w : ℕ → HostWorld) (n k : ℕ) → HasTurns source w n → k < n →
+pub changes_by_one : (source : ℕ → InterruptSource) (w : ℕ → HostWorld) (n k : ℕ) → HasTurns source w n → k < n →
     (host_depth (w (k + 1)) ≤ host_depth (w k) + 1) × (host_depth (w k) ≤ host_depth (w (k + 1)) + 1)
-changes_by_one w n k turns less = by_one (w k) (w (k + 1)) (turns k less)
+changes_by_one source w n k turns less = by_one (w k) (w (k + 1)) (turns k less)
 
--- ---- what holds of the client's interrupts alone holds of all
+-- ---- what holds of one source holds of either
 
-starts_anywhere : (w v : HostWorld) (call : Call) (r : Record) → StartsRealCall from_client w call r v →
+from_either : (source : InterruptSource) (w client : World) → ReflectedFrom source w client → ReflectedFrom from_anywhere w client
+from_either from_client w client from = inl from
+from_either from_outside w client from = inr from
+from_either from_anywhere w client from = from
+
+starts_anywhere : (source : InterruptSource) (w v : HostWorld) (call : Call) (r : Record) → StartsRealCall source w call r v →
     StartsRealCall from_anywhere w call r v
-starts_anywhere w v (Int n) r h = h
-starts_anywhere w v Far r h = h
-starts_anywhere w v Iret r h = h
-starts_anywhere w v (Reflect n) r h =
-    record { client = h.client; from = inl h.from; mode = h.mode; vif = h.vif; starts = h.starts; keeps = h.keeps; lines = h.lines }
+starts_anywhere source w v (Int n) r h = h
+starts_anywhere source w v Far r h = h
+starts_anywhere source w v Iret r h = h
+starts_anywhere source w v (Reflect n) r h = record {
+  client = h.client;
+  from = from_either source w.machine h.client h.from;
+  mode = h.mode;
+  vif = h.vif;
+  starts = h.starts;
+  keeps = h.keeps;
+  lines = h.lines;
+}
 
-pushes_anywhere : (w v : HostWorld) (r : Record) → PushesRecord from_client w r v → PushesRecord from_anywhere w r v
-pushes_anywhere w v (Sim call saved vif at) h = starts_anywhere w v call (Sim call saved vif at) h
-pushes_anywhere w v (Back slot at) h = h
-pushes_anywhere w v (Exc number code) h = h
+pushes_anywhere : (source : InterruptSource) (w v : HostWorld) (r : Record) → PushesRecord source w r v → PushesRecord from_anywhere w r v
+pushes_anywhere source w v (Sim call saved vif at) h = starts_anywhere source w v call (Sim call saved vif at) h
+pushes_anywhere source w v (Back slot at) h = h
+pushes_anywhere source w v (Exc number code) h = h
 
-pub anywhere : (w v : HostWorld) → Stacked from_client w v → Stacked from_anywhere w v
-anywhere w v (kept e) = kept e
-anywhere w v (pushed r e h) = pushed r e (pushes_anywhere w v r h)
-anywhere w v (popped r e h) = popped r e h
+pub anywhere : (source : InterruptSource) (w v : HostWorld) → Stacked source w v → Stacked from_anywhere w v
+anywhere source w v (kept e) = kept e
+anywhere source w v (pushed r e h) = pushed r e (pushes_anywhere source w v r h)
+anywhere source w v (popped r e h) = popped r e h

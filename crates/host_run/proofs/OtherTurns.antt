@@ -1,5 +1,5 @@
 -- What the turns keep that are made in place of the host's own.
-use Rattle.std.proofs.Common.{arith, ◌≡◌, ap, ℕ, Bool, true, false, refl, inr, Option, None, Some, Ok, Err}
+use Rattle.std.proofs.Common.{arith, ◌≡◌, ap, ℕ, Bool, true, false, refl, Option, None, Some, Ok, Err}
 use Rattle.std.specs.Prelude.{IfOk, IsSome, if◌then◌else◌}
 use Rattle.std.specs.declared.result.Result.{Result}
 use Rattle.client_world.specs.declared.faults.Fault.{Fault}
@@ -22,13 +22,12 @@ use Rattle.host_run.specs.Keys.{HasKeys}
 use Rattle.host_run.specs.Nested.{Stacked, kept}
 use Rattle.host_run.specs.OtherTurns.{IsOneQuietTurn, after_answer, with_answer, exception_turn, int31_turn, interrupt_turn}
 use Rattle.host_run.specs.OtherTurns.{after_interrupt_in_mode, is_hosts_vector, with_interrupts_off}
-use Rattle.host_run.specs.RealCalls.{InterruptSource, from_anywhere, from_client}
+use Rattle.host_run.specs.RealCalls.{InterruptSource, from_client, from_outside}
 use Rattle.host_run.specs.Run.{with_bound_exit}
 use Rattle.host_run.specs.Turn.{Outcome, after_interrupt, after_protected_delivery, after_reflected_interrupt, after_exception_in_mode}
-use Rattle.host_run.specs.Turn.{after_outcome, turn, with_machine, with_turn_counted}
-use Rattle.host_run.proofs.Nested.{anywhere}
+use Rattle.host_run.specs.Turn.{after_outcome, with_machine, with_turn_counted}
 use Rattle.host_run.proofs.TurnLaws.{IsNext, IsReached, KeepsTurn, TurnKeeps, answer_next, counted_reached, delivered_keeps}
-use Rattle.host_run.proofs.TurnLaws.{interrupted_keeps, reflection_by, same_machine, service_keeps, settled_keeps, stops_same, turn_keeps}
+use Rattle.host_run.proofs.TurnLaws.{interrupted_keeps, reflection_by, same_machine, service_keeps, settled_keeps, stops_same}
 use Rattle.host_run.proofs.TurnLaws.{with_regs_sound}
 
 -- ---- what such a turn leaves of the world around the machine
@@ -153,10 +152,6 @@ exception_keeps w f s =
 
 -- ---- an interrupt
 
-anywhere_keeps : (h : HostWorld) (o : Outcome) → TurnKeeps from_client h o → TurnKeeps from_anywhere h o
-anywhere_keeps h o k =
-    record { sound = k.sound; calls = anywhere h o.host k.calls; keys = k.keys; lines = k.lines; leaves = k.leaves }
-
 interrupt_next : (w : World) (n : ℕ) → IsSound w → IfOk (world_interrupt w n 0) (IsNext w)
 interrupt_next w n sound = answer_next Fault w (world_interrupt w n 0) (λ u e. record {
   sound = sound_world_interrupt w u n 0 sound e;
@@ -167,34 +162,27 @@ off_next : (w : World) (r : Result World Fault) → IfOk r (IsNext w) → IfOk (
 off_next w (Ok u) next = record { sound = IsSound-vif u false next.sound; calls = next.calls }
 off_next w (Err f) next = tt
 
-either_keeps : (h : HostWorld) (b : Bool) (x y : Outcome) → TurnKeeps from_anywhere h x → TurnKeeps from_anywhere h y →
-    TurnKeeps from_anywhere h (if b then x else y)
+either_keeps : (h : HostWorld) (b : Bool) (x y : Outcome) → TurnKeeps from_outside h x → TurnKeeps from_outside h y →
+    TurnKeeps from_outside h (if b then x else y)
 either_keeps h true x y p q = p
 either_keeps h false x y p q = q
 
 interrupt_in_keeps : (mode : Mode) (h : HostWorld) (n : ℕ) → IsReached h → h.machine.mode ≡ mode →
-    TurnKeeps from_anywhere h (after_interrupt_in_mode mode h n)
-interrupt_in_keeps Real h n s is =
-    anywhere_keeps h _ (interrupted_keeps h (world_interrupt h.machine n 0) s (interrupt_next h.machine n s.machine))
+    TurnKeeps from_outside h (after_interrupt_in_mode mode h n)
+interrupt_in_keeps Real h n s is = interrupted_keeps h (world_interrupt h.machine n 0) s (interrupt_next h.machine n s.machine)
 interrupt_in_keeps Protected h n s is =
     either_keeps h (is_hosts_vector h.machine n) _ _
-    (reflection_by from_anywhere h n h.machine (reflect h.machine n) refl s
-    (record { next = same_machine h.machine s.machine; mode = is; was = is; vif = refl; from = inr refl }))
-    (anywhere_keeps h _ (interrupted_keeps h (with_interrupts_off (world_interrupt h.machine n 0)) s
-    (off_next h.machine (world_interrupt h.machine n 0) (interrupt_next h.machine n s.machine))))
+    (reflection_by from_outside h n h.machine (reflect h.machine n) refl s
+    (record { next = same_machine h.machine s.machine; mode = is; was = is; vif = refl; from = refl }))
+    (interrupted_keeps h (with_interrupts_off (world_interrupt h.machine n 0)) s
+    (off_next h.machine (world_interrupt h.machine n 0) (interrupt_next h.machine n s.machine)))
 
-pub interrupt_keeps : (w : HostWorld) (n : ℕ) → IsReached w → KeepsTurn from_anywhere w (interrupt_turn w n)
+pub interrupt_keeps : (w : HostWorld) (n : ℕ) → IsReached w → KeepsTurn from_outside w (interrupt_turn w n)
 unfolding interrupt_turn
 interrupt_keeps w n s =
     let h = with_turn_counted w in
-    settled_keeps from_anywhere w _ (interrupt_in_keeps w.machine.mode h n (counted_reached w s) refl)
+    settled_keeps from_outside w _ (interrupt_in_keeps w.machine.mode h n (counted_reached w s) refl)
     (interrupted_quiet w.machine.mode h n).steps
-
--- a turn of the host's own, among them
-pub turn_keeps_anywhere : (w : HostWorld) → IsReached w → KeepsTurn from_anywhere w (turn w)
-turn_keeps_anywhere w s =
-    let k = turn_keeps w s in
-    record { reached = k.reached; calls = anywhere w (turn w) k.calls; lines = k.lines; leaves = k.leaves }
 
 -- ---- the bound
 

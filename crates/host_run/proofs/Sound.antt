@@ -1,6 +1,6 @@
 -- What crates above may cite of a run: from a sound world with keys that are bytes each turn leads to such a one and leaves the records of
 -- calls or adds or takes away the innermost one.
-use Rattle.std.proofs.Common.{arith, ◌≡◌, ◌≢◌, ◌≤◌, ◌+◌, ◌*◌, ℕ, zero, suc, List, None, Some, sym, subst}
+use Rattle.std.proofs.Common.{arith, ◌≡◌, ◌≢◌, ◌≤◌, ◌+◌, ◌*◌, ℕ, zero, suc, List, None, Some, refl, sym, subst}
 use Rattle.std.specs.Prelude.{IsSome}
 use Rattle.std.specs.declared.option.Option.{Option}
 use Rattle.client_world.specs.declared.outcome.Exit.{Exit}
@@ -31,9 +31,18 @@ turn_lines : (w : HostWorld) → IsReached w → HasFewLines w → HasFewLines (
 turn_lines w s few = omega (arith, few, (turn_keeps w s).lines)
 
 -- a turn that ends the run leaves the machine, and but for a full console the keystrokes and the console too
-machine_by : (w after : HostWorld) (e : Option Exit) → LeavesBy w after e → IsSome e → after.machine ≡ w.machine
+pub machine_by : (w after : HostWorld) (e : Option Exit) → LeavesBy w after e → IsSome e → after.machine ≡ w.machine
 machine_by w after None l is = cc
 machine_by w after (Some exit) l is = l.machine
+
+pub outside_by : (w after : HostWorld) (e : Option Exit) (exit : Exit) → LeavesBy w after e → e ≡ Some exit → exit ≢ ConsoleFull →
+    (after.keys ≡ w.keys) × (after.console ≡ w.console)
+outside_by w after e exit l is other = (let all : LeavesAll w after exit = subst (LeavesBy w after) is l in all.outside) other
+
+-- a host leaves itself
+pub leaves_itself : (w : HostWorld) (e : Option Exit) → LeavesBy w w e
+leaves_itself w None = tt
+leaves_itself w (Some exit) = record { machine = refl; outside = λ _. (refl, refl) }
 
 pub exit_leaves_machine : (w : HostWorld) → IsSound w.machine → HasKeys w → IsSome (turn w).exit → (turn w).machine ≡ w.machine
 exit_leaves_machine w sound keys ended =
@@ -42,8 +51,7 @@ exit_leaves_machine w sound keys ended =
 pub exit_leaves_outside : (w : HostWorld) (exit : Exit) → IsSound w.machine → HasKeys w → (turn w).exit ≡ Some exit → exit ≢ ConsoleFull →
     ((turn w).keys ≡ w.keys) × ((turn w).console ≡ w.console)
 exit_leaves_outside w exit sound keys is other =
-    (let l : LeavesAll w (turn w) exit = subst (LeavesBy w (turn w)) is (turn_keeps w (record { machine = sound; keys = keys })).leaves in
-    l.outside) other
+    outside_by w (turn w) (turn w).exit exit (turn_keeps w (record { machine = sound; keys = keys })).leaves is other
 
 -- so does any number of turns
 pub turns_sound : (w : HostWorld) (n : ℕ) → IsReached w → IsReached (turns w n)

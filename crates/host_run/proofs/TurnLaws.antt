@@ -57,6 +57,7 @@ use Rattle.translation.specs.HandOver.{IsPopped}
 use Rattle.translation.proofs.SoundCalls.{sound_begin, sound_reflect}
 use Rattle.translation.proofs.SoundReturns.{sound_end}
 use Rattle.translation.proofs.Stacked.{begin_pushes, end_pops, reflect_pushes}
+use Rattle.host_run.specs.declared.vectors.TheConstants.{DOS_INTERRUPT, DPMI_INTERRUPT, MULTIPLEX_INTERRUPT, TERMINATE_INTERRUPT}
 use Rattle.host_run.specs.declared.traps.Trap.{Trap}
 use Rattle.host_run.specs.declared.traps.Trap.TheVariants.{RealVector, Entry, ToProtected, RealState, CallReturn, Callback, ProtectedVector}
 use Rattle.host_run.specs.declared.traps.Trap.TheVariants.{ExceptionHandler, ToReal, ProtectedState, ExceptionReturn, CallbackReturn}
@@ -115,11 +116,12 @@ pub same_machine : (w : World) → IsSound w → IsNext w w
 same_machine w sound = record { sound = sound; calls = refl }
 
 -- the host that goes on has such a machine
-goes : (h after : HostWorld) → IsNext h.machine after.machine → AreBytes after.keys → after.lines ≤ h.lines + 2 →
-    TurnKeeps from_client h (goes_on after)
+goes : {source : InterruptSource} (h after : HostWorld) → IsNext h.machine after.machine → AreBytes after.keys →
+    after.lines ≤ h.lines + 2 → TurnKeeps source h (goes_on after)
 goes h after machine keys lines = record { sound = machine.sound; calls = kept machine.calls; keys = keys; lines = lines; leaves = tt }
 
-goes_with : (h : HostWorld) (w : World) → IsReached h → IsNext h.machine w → TurnKeeps from_client h (goes_on (record h { machine = w }))
+goes_with : {source : InterruptSource} (h : HostWorld) (w : World) → IsReached h → IsNext h.machine w →
+    TurnKeeps source h (goes_on (record h { machine = w }))
 goes_with h w s next = goes h (record h { machine = w }) next s.keys (omega arith)
 
 -- one that ends has its machine
@@ -146,8 +148,8 @@ told_keeps : (h : HostWorld) (line : TraceLine) (w : World) → IsReached h → 
 told_keeps h line w s next =
     goes h (record (with_trace_line line h) { machine = w }) next s.keys (omega arith)
 
-machine_keeps : (h : HostWorld) (r : Result World Exit) → IsReached h → IfOk r (IsNext h.machine) →
-    TurnKeeps from_client h (with_machine h r)
+machine_keeps : {source : InterruptSource} (h : HostWorld) (r : Result World Exit) → IsReached h → IfOk r (IsNext h.machine) →
+    TurnKeeps source h (with_machine h r)
 machine_keeps h (Ok w) s next = goes_with h w s next
 machine_keeps h (Err exit) s next = stops_same h exit s
 
@@ -220,9 +222,9 @@ vector_keeps : (h : HostWorld) (n : ℕ) → IsReached h → h.machine.mode ≡ 
 unfolding after_default_vector
 vector_keeps h n s real can =
     if_keeps h (ends_client n) _ _ (stops_same h (exits.Fault n 0) s)
-    (if_keeps h (nat_eq n 0x20) _ _ (stops_noted h lines.Int20 (exits.Exited 0) s)
-    (if_keeps h (nat_eq n 0x21) _ _ (dos_keeps h s real can)
-    (if_keeps h (nat_eq n 0x2F) _ _ (multiplex_keeps_turn h s real can)
+    (if_keeps h (nat_eq n TERMINATE_INTERRUPT) _ _ (stops_noted h lines.Int20 (exits.Exited 0) s)
+    (if_keeps h (nat_eq n DOS_INTERRUPT) _ _ (dos_keeps h s real can)
+    (if_keeps h (nat_eq n MULTIPLEX_INTERRUPT) _ _ (multiplex_keeps_turn h s real can)
     (machine_keeps h (world_after_iret h.machine) s (next_popped h.machine h.machine (same_machine h.machine s.machine))))))
 
 reached_keeps : (h : HostWorld) (n : ℕ) (r : Result World Exit) → world_after_iret h.machine ≡ r → IsReached h → h.machine.mode ≡ Real →
@@ -411,7 +413,7 @@ protected_keeps h n (Ok w) is s mode =
     if_keeps h (is_exit_call h.machine n) _ _
     (stops_noted h (lines.Int21 (high_byte h.machine.regs.eax)) (exits.Exited (low_byte h.machine.regs.eax)) s)
     (if_keeps h (is_presence_call h.machine n) _ _ (presence_keeps h w s c.next)
-    (if_keeps h (nat_eq n 0x31) _ _ (int31_keeps h w s c) (reflection_by from_client h n w (reflect w n) refl s c)))
+    (if_keeps h (nat_eq n DPMI_INTERRUPT) _ _ (int31_keeps h w s c) (reflection_by from_client h n w (reflect w n) refl s c)))
 protected_keeps h n (Err exit) is s mode = stops_same h exit s
 
 protected_vector_keeps : (h : HostWorld) (n : ℕ) → IsReached h → h.machine.mode ≡ Protected →
@@ -437,8 +439,8 @@ call_return_by h (Err exit) is s = stops_same h exit s
 
 -- ---- exceptions of protected mode
 
-delivery_by : (h : HostWorld) (f : Fault) (r : Result World Exit) → world_protected_delivery h.machine f ≡ r → IsReached h →
-    h.machine.mode ≡ Protected → TurnKeeps from_client h (after_protected_delivery h f.number r)
+delivery_by : {source : InterruptSource} (h : HostWorld) (f : Fault) (r : Result World Exit) → world_protected_delivery h.machine f ≡ r →
+    IsReached h → h.machine.mode ≡ Protected → TurnKeeps source h (after_protected_delivery h f.number r)
 delivery_by h f (Ok w) is s mode =
     goes_changed h (record (with_trace_line (enter_line h.machine (whats.Exc f.number)) h) { machine = w }) s
     (faults.sound_world_delivery h.machine w f s.machine mode is)
@@ -486,8 +488,9 @@ callback_return_by h (Err exit) is s = stops_same h exit s
 
 -- ---- client instructions
 
-pub delivered_keeps : (m : Mode) (h : HostWorld) (f : Fault) → IsReached h → h.machine.mode ≡ m →
-    TurnKeeps from_client h (after_exception_in_mode m h f)
+-- whosever interrupts are reflected: an exception pushes no record of a reflection
+pub delivered_keeps : {source : InterruptSource} (m : Mode) (h : HostWorld) (f : Fault) → IsReached h → h.machine.mode ≡ m →
+    TurnKeeps source h (after_exception_in_mode m h f)
 delivered_keeps Real h f s mode =
     let r = world_delivery h.machine f in
     machine_keeps h r s (answer_next Exit h.machine r (λ u e. record {
@@ -497,8 +500,8 @@ delivered_keeps Real h f s mode =
 delivered_keeps Protected h f s mode =
     delivery_by h f (world_protected_delivery h.machine f) refl s mode
 
-pub interrupted_keeps : (h : HostWorld) (r : Result World Fault) → IsReached h → IfOk r (IsNext h.machine) →
-    TurnKeeps from_client h (after_interrupt h r)
+pub interrupted_keeps : {source : InterruptSource} (h : HostWorld) (r : Result World Fault) → IsReached h → IfOk r (IsNext h.machine) →
+    TurnKeeps source h (after_interrupt h r)
 interrupted_keeps h (Ok w) s next = goes_with h w s next
 interrupted_keeps h (Err f) s next = delivered_keeps h.machine.mode h f s refl
 

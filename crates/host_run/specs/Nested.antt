@@ -38,9 +38,9 @@ pub data Stacked (source : InterruptSource) (w v : HostWorld) : Type 0 where
 abbrev pub host_depth : HostWorld → ℕ
 host_depth w = depth w.machine
 
--- the first n turns of a run, given the host before each turn
-abbrev pub HasTurns : InterruptSource → (ℕ → HostWorld) → ℕ → Type 0
-HasTurns source w n = (k : ℕ) → k < n → Stacked source (w k) (w (k + 1))
+-- the first n turns of a run, given the host before each turn, and whose interrupt the turn may reflect
+abbrev pub HasTurns : (ℕ → InterruptSource) → (ℕ → HostWorld) → ℕ → Type 0
+HasTurns source w n = (k : ℕ) → k < n → Stacked (source k) (w k) (w (k + 1))
 
 -- turn j is the first to come back to the depth before turn i: between them the depth is greater
 pub record Matched (w : ℕ → HostWorld) (i j : ℕ) : Type 0 where

@@ -16,8 +16,10 @@ use Rattle.client_world.specs.World.{World, HostWorld}
 use Rattle.interrupts.specs.Worlds.{world_interrupt, world_after_iret}
 use Rattle.guest_space.specs.VectorLists.{vector_at}
 use Rattle.host_memory.specs.Blank.{host_pointer}
+use Rattle.host_run.specs.Footprint.{Footprint, interrupt_footprint, unsaid}
 use Rattle.host_run.specs.declared.traps.Trap.{Trap}
 use Rattle.host_run.specs.declared.traps.Trap.TheVariants.{ProtectedVector}
+use Rattle.host_run.specs.declared.vectors.TheConstants.{DPMI_INTERRUPT}
 use Rattle.host_run.specs.Traps.{current_trap}
 use Rattle.host_run.specs.Turn.{Outcome, after_interrupt, after_reflected_interrupt, after_service, after_exception, ends, after_outcome}
 use Rattle.host_run.specs.Turn.{with_turn_counted}
@@ -31,7 +33,7 @@ IsOneQuietTurn w v = (v.keys ≡ w.keys) × (v.console ≡ w.console) × (v.step
 
 -- the trap byte of INT 31h
 abbrev pub is_int31 : Trap → Bool
-is_int31 (ProtectedVector n) = nat_eq n 0x31
+is_int31 (ProtectedVector n) = nat_eq n DPMI_INTERRUPT
 is_int31 _ = false
 
 -- AX of the call of INT 31h at whose trap byte the machine is, where its frame can be popped
@@ -81,6 +83,15 @@ after_interrupt_in_mode Real h n = after_interrupt h (world_interrupt h.machine 
 after_interrupt_in_mode Protected h n =
     if is_hosts_vector h.machine n then after_reflected_interrupt h n h.machine (reflect h.machine n)
     else after_interrupt h (with_interrupts_off (world_interrupt h.machine n 0))
+
+-- the bytes of the memory that it may change: those that it pushes, or of the exception that a push or the load raises. Where it is
+-- reflected nothing is said
+abbrev pub footprint_in_mode : Mode → World → ℕ → Footprint
+footprint_in_mode Real w n = interrupt_footprint w 0 (world_interrupt w n 0)
+footprint_in_mode Protected w n = if is_hosts_vector w n then unsaid else interrupt_footprint w 0 (world_interrupt w n 0)
+
+abbrev pub outside_interrupt_footprint : World → ℕ → Footprint
+outside_interrupt_footprint w n = footprint_in_mode w.mode w n
 
 unfoldable pub interrupt_turn : HostWorld → ℕ → HostWorld
 interrupt_turn h n = after_outcome (after_interrupt_in_mode h.machine.mode (with_turn_counted h) n)

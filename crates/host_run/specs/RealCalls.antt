@@ -34,14 +34,16 @@ pub record StartsCall (w : HostWorld) (call : Call) (r : Record) (v : HostWorld)
   pub keeps : r ≡ Sim call popped.regs popped.vif (es_di popped)
   pub lines : HasMoreLines w (Int31 (low_half popped.regs.eax) Clear ∷ call_enter_line popped call v.machine ∷ []) v
 
--- whose interrupts are reflected: the client's alone, each of which has pushed its frame; or also those from outside, which push none
+-- whose interrupt a turn may reflect: the client's, which has pushed its frame; one from outside, which pushes none; or either
 pub data InterruptSource : Type 0 where
   from_client : InterruptSource
+  from_outside : InterruptSource
   from_anywhere : InterruptSource
 
 -- the machine that an interrupt is reflected from: with the frame popped that the interrupt pushed; or as it is, where it pushed none
 abbrev pub ReflectedFrom : InterruptSource → World → World → Type 0
 ReflectedFrom from_client w client = world_after_iret w ≡ Ok client
+ReflectedFrom from_outside w client = client ≡ w
 ReflectedFrom from_anywhere w client = (world_after_iret w ≡ Ok client) ⊎ (client ≡ w)
 
 -- an interrupt that no handler of the client takes is reflected; `client` is the machine that it is reflected from

@@ -39,6 +39,7 @@ use Rattle.host_run.specs.declared.traps.Trap.{Trap}
 use Rattle.host_run.specs.declared.traps.Trap.TheVariants.{RealVector, Entry, ToProtected, RealState, CallReturn, Callback, ProtectedVector}
 use Rattle.host_run.specs.declared.traps.Trap.TheVariants.{ExceptionHandler, ToReal, ProtectedState, ExceptionReturn, CallbackReturn}
 use Rattle.host_run.specs.declared.traps.Trap.TheVariants.{NoTrap}
+use Rattle.host_run.specs.declared.vectors.TheConstants.{DOS_INTERRUPT, DPMI_INTERRUPT, MULTIPLEX_INTERRUPT, TERMINATE_INTERRUPT}
 use Rattle.host_run.specs.Families.{service}
 use Rattle.host_run.specs.Traps.{current_trap}
 
@@ -102,9 +103,9 @@ ends_client n = nat_eq n DIVIDE_ERROR || nat_eq n INVALID_OPCODE || nat_eq n COP
 unfoldable pub after_default_vector : HostWorld → ℕ → Outcome
 after_default_vector h n =
     if ends_client n then ends h (exits.Fault n 0) else
-    if nat_eq n 0x20 then ends (with_trace_line lines.Int20 h) (exits.Exited 0) else
-    if nat_eq n 0x21 then after_dos_call h else
-    if nat_eq n 0x2F then after_multiplex_call h else
+    if nat_eq n TERMINATE_INTERRUPT then ends (with_trace_line lines.Int20 h) (exits.Exited 0) else
+    if nat_eq n DOS_INTERRUPT then after_dos_call h else
+    if nat_eq n MULTIPLEX_INTERRUPT then after_multiplex_call h else
     after_frame_pop h
 
 -- it is asked first whether the frame can be popped
@@ -197,17 +198,17 @@ after_reflected_interrupt h n w (Err exit) = ends h exit
 
 -- INT 21h function 4Ch, and INT 2Fh AX = 1686h
 abbrev pub is_exit_call : World → ℕ → Bool
-is_exit_call w n = nat_eq n 0x21 && nat_eq (high_byte w.regs.eax) 0x4C
+is_exit_call w n = nat_eq n DOS_INTERRUPT && nat_eq (high_byte w.regs.eax) 0x4C
 
 abbrev pub is_presence_call : World → ℕ → Bool
-is_presence_call w n = nat_eq n 0x2F && nat_eq (low_half w.regs.eax) 0x1686
+is_presence_call w n = nat_eq n MULTIPLEX_INTERRUPT && nat_eq (low_half w.regs.eax) 0x1686
 
 -- the default vector n of a host; w is the machine after its frame is popped
 unfoldable pub after_protected_call : HostWorld → ℕ → World → Outcome
 after_protected_call h n w =
     if is_exit_call h.machine n then after_exit_call h else
     if is_presence_call h.machine n then after_presence_call h w else
-    if nat_eq n 0x31 then after_int31 h w else
+    if nat_eq n DPMI_INTERRUPT then after_int31 h w else
     after_reflected_interrupt h n w (reflect w n)
 
 -- the frame is popped first; an exit leaves the machine as it was before

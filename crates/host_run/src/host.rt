@@ -65,8 +65,9 @@ impl Model for Host {
 }
 
 impl Host {
-    /// A host that has run nothing, on blank memory: with that page budget, those keystrokes, and a trace that keeps so
-    /// many lines at most.
+    /// A host that has run nothing, on blank memory: with a budget of that many pages, from 1 to 16,384; those keystrokes, at most 65,536
+    /// bytes; and a trace that keeps that many lines at most, up to 10,000. `AllocError` when out of memory: all of the host's memory is
+    /// taken here. Source: own.
     pub fn new(alloc: Global, pages: u32, keys: &[u8], keep: u32) -> Result<Host, AllocError>
         requires some_pages { 0 < pages }
         requires pages { pages ≤ MAX_PAGES }
@@ -92,8 +93,8 @@ impl Host {
         })
     }
 
-    /// Loads a client's file into a new host. It is refused for the first reason in the order of `LoadFault`,
-    /// and nothing is changed then.
+    /// Loads a client's file into a host that has run nothing. It is refused for the first reason in the order of `LoadFault`, and nothing
+    /// changes then. Source: MS-DOS Programmer's Reference, "Loading .EXE files", by `mz_loader`.
     pub fn load(&mut self, file: &[u8]) -> Result<(), LoadFault>
         requires { IsBlank self.old.world }
         ensures taken { OnOk result (refusal file.now ≡ None) }
@@ -147,7 +148,8 @@ impl Host {
     }
 
     /// One turn: it serves a trap byte, or runs one client instruction with its software interrupt, or delivers its
-    /// exception. Of the memory it changes the bytes of its footprint alone. After an exit it returns that exit again and changes nothing.
+    /// exception. Of the memory it changes the bytes of its footprint alone. Where it ends the run it returns the exit, and leaves the
+    /// machine as it was. After an exit it returns that exit again and changes nothing. Source: own.
     #[tactic(auto, unfolding(crate::specs::Turn::turn))]
     pub fn turn(&mut self) -> Result<(), Exit>
         requires { self.old.world.exit ≡ None → self.old.world.steps < MAX_STEPS }
@@ -165,7 +167,7 @@ impl Host {
     }
 
     /// Turns up to an exit, or as many as the bound, with the exit `Bound` then. After an exit it returns that exit
-    /// again and changes nothing.
+    /// again and changes nothing. Source: own.
     pub fn run(&mut self, bound: u32) -> Exit
         requires { self.old.world.exit ≡ None → self.old.world.steps + bound ≤ MAX_STEPS }
         ensures world { self.new.world ≡ run self.old.world bound }

@@ -21,7 +21,7 @@ ghost use Rattle.host_run.specs.Footprint.{ChangesOnly, client_footprint, client
 ghost use Rattle.host_run.specs.HandOver.{HandsOver};
 ghost use Rattle.host_run.specs.Keys.{HasKeys};
 ghost use Rattle.host_run.specs.Nested.{HasTurns, IsHandedOver, LastPush, Matched, Stacked, host_depth};
-ghost use Rattle.host_run.specs.RealCalls.{InterruptSource, from_anywhere, from_client};
+ghost use Rattle.host_run.specs.RealCalls.{InterruptSource, from_anywhere, from_client, from_outside};
 ghost use Rattle.host_run.specs.OtherTurns.{IsOneQuietTurn, exception_turn, int31_turn, interrupt_turn};
 ghost use Rattle.host_run.specs.Run.{with_bound_exit, turns, run};
 ghost use Rattle.host_run.specs.Start.{blank, host_at_start};
@@ -80,23 +80,23 @@ pub fn every_run_is_sound()
 
 /// A turn leaves the records of the nested calls as they are, or adds one as it starts a call of real mode or a callback or delivers an
 /// exception of protected mode, or takes the innermost one away as its call, callback or exception returns; and so does each turn of a run.
-/// A turn that meets this where only the client's interrupts are reflected meets it where interrupts from outside are reflected too.
+/// A turn that meets this where the client's interrupts alone are reflected, or those from outside alone, meets it where either are.
 pub fn every_turn_changes_the_innermost_record_at_most()
     ensures turn { (w : HostWorld) → IsSound w.machine → HasKeys w → Stacked from_client w (turn w) }
     ensures turns { (w : HostWorld) → IsSound w.machine → HasKeys w → (n : ℕ) → Stacked from_client (turns w n) (turns w (n + 1)) }
-    ensures anywhere { (w v : HostWorld) → Stacked from_client w v → Stacked from_anywhere w v }
+    ensures anywhere { (source : InterruptSource) (w v : HostWorld) → Stacked source w v → Stacked from_anywhere w v }
 {}
 
 /// Calls return in order. In each row of hosts that follow one another as turns leave them, the depth changes by one at most. A turn that
 /// takes a record away has a partner: the last turn before it that added one at that depth. It takes the record away that its partner
-/// added, and until then that record stayed in its place, with those below it.
+/// added, and until then that record stayed in its place, with those below it. Of each turn is given whose interrupt it may reflect.
 pub fn nested_calls_return_in_order()
-    ensures depth { (source : InterruptSource) (w : ℕ → HostWorld) (n k : ℕ) → HasTurns source w n → k < n →
+    ensures depth { (source : ℕ → InterruptSource) (w : ℕ → HostWorld) (n k : ℕ) → HasTurns source w n → k < n →
         (host_depth (w (k + 1)) ≤ host_depth (w k) + 1) × (host_depth (w k) ≤ host_depth (w (k + 1)) + 1) }
-    ensures partner { (source : InterruptSource) (w : ℕ → HostWorld) (n i j : ℕ) → HasTurns source w n → j < n → LastPush w i j →
+    ensures partner { (source : ℕ → InterruptSource) (w : ℕ → HostWorld) (n i j : ℕ) → HasTurns source w n → j < n → LastPush w i j →
         Matched w i j }
-    ensures record_stays { (source : InterruptSource) (w : ℕ → HostWorld) (n i j : ℕ) → HasTurns source w n → j < n → Matched w i j →
-        IsHandedOver source w i j }
+    ensures record_stays { (source : ℕ → InterruptSource) (w : ℕ → HostWorld) (n i j : ℕ) → HasTurns source w n → j < n →
+        Matched w i j → IsHandedOver (source i) w i j }
 {}
 
 /// A call of real mode, a callback and an exception hand over what they should, whatever is nested in them. The procedure of a call starts
@@ -122,16 +122,16 @@ pub fn every_turn_extends_the_console()
 {}
 
 /// The turns made in place of the host's own change the innermost record at most, too. So every sequence of hosts made by these turns and
-/// the host's own nests.
+/// the host's own nests. An interrupt from outside is reflected, where it is, from the machine as it is: no frame is popped.
 pub fn every_other_turn_changes_the_innermost_record_at_most()
     ensures int31 { (w : HostWorld) (r : AnyRegs) (carry : ACarry) → Stacked from_client w (int31_turn w r carry) }
     ensures exception { (w : HostWorld) (f : AFault) → IsSound w.machine → HasKeys w → Stacked from_client w (exception_turn w f) }
-    ensures interrupt { (w : HostWorld) (n : ℕ) → IsSound w.machine → HasKeys w → Stacked from_anywhere w (interrupt_turn w n) }
+    ensures interrupt { (w : HostWorld) (n : ℕ) → IsSound w.machine → HasKeys w → Stacked from_outside w (interrupt_turn w n) }
     ensures bound { (w : HostWorld) → Stacked from_client w (with_bound_exit w) }
 {}
 
-/// They lead from a sound host to a sound host. Each is counted as one turn, takes no keystroke and adds nothing to the console. One that
-/// ends the run leaves the machine as it was.
+/// The turns made in place of the host's own lead from a sound host to a sound host. Each is counted as one turn, takes no keystroke and
+/// adds nothing to the console. One that ends the run leaves the machine as it was.
 pub fn every_other_turn_is_sound()
     ensures int31 { (w : HostWorld) (r : AnyRegs) (carry : ACarry) → IsSoundHost w → HasKeys w → IsSoundHost (int31_turn w r carry) }
     ensures exception { (w : HostWorld) (f : AFault) → IsSoundHost w → HasKeys w → IsSoundHost (exception_turn w f) }

@@ -2,6 +2,7 @@
 ghost use Rattle.std.specs.Prelude.{◌≡◌, ◌||◌, true, false, nat_eq};
 ghost use Rattle.client_world.specs.declared.registers.Mode.TheVariants.{Protected as protected, Real as real};
 ghost use Rattle.interrupts.specs.Worlds.{world_after_iret};
+ghost use Rattle.host_run.specs.declared.vectors.TheConstants.{DPMI_INTERRUPT as dpmi_interrupt};
 ghost use Rattle.host_run.specs.View.{ComesTo, HasRoom};
 ghost use Rattle.client_world.specs.Services.{is_set};
 ghost use Rattle.host_run.specs.Turn.{
@@ -21,6 +22,7 @@ use crate::calls::asked_call;
 use crate::families::serve_function;
 use crate::host::Host;
 use crate::serving::{can_pop, pop_in_mode};
+use crate::vectors::{DOS_INTERRUPT, DPMI_INTERRUPT, MULTIPLEX_INTERRUPT};
 use client_world::limits::GREATEST_DEPTH;
 use client_world::{Carry, Exit, Regs, TraceLine};
 use cpu_values::{part8, put16};
@@ -32,14 +34,14 @@ use mode_stack::depth;
 fn is_exit_call(m: &Machine, n: u8) -> bool
     ensures { result ≡ is_exit_call m.now.world n }
 {
-    n == 0x21 && part8(m.regs().eax, true) == 0x4C
+    n == DOS_INTERRUPT && part8(m.regs().eax, true) == 0x4C
 }
 
 // INT 2Fh AX = 1686h, which asks for the mode.
 fn is_presence_call(m: &Machine, n: u8) -> bool
     ensures { result ≡ is_presence_call m.now.world n }
 {
-    n == 0x2F && m.regs().ax() == 0x1686
+    n == MULTIPLEX_INTERRUPT && m.regs().ax() == 0x1686
 }
 
 // The line of the trace of a call of the entry.
@@ -143,7 +145,7 @@ impl Host {
     fn pop_and_serve(&mut self, n: u8) -> Result<(), Exit>
         requires mode { self.old.world.machine.mode ≡ protected }
         requires exit { is_exit_call self.old.world.machine n ≡ false }
-        requires served { (is_presence_call self.old.world.machine n || nat_eq n 0x31) ≡ true }
+        requires served { (is_presence_call self.old.world.machine n || nat_eq n dpmi_interrupt) ≡ true }
         requires room { HasRoom self.old.world }
         ensures { ComesTo self.old self.new result
             (after_protected_pop self.old.world n (world_after_iret self.old.world.machine)) }
@@ -166,7 +168,7 @@ impl Host {
         requires mode { self.old.world.machine.mode ≡ protected }
         requires exit { is_exit_call self.old.world.machine n ≡ false }
         requires presence { is_presence_call self.old.world.machine n ≡ false }
-        requires other { nat_eq n 0x31 ≡ false }
+        requires other { nat_eq n dpmi_interrupt ≡ false }
         requires room { HasRoom self.old.world }
         ensures { ComesTo self.old self.new result
             (after_protected_pop self.old.world n (world_after_iret self.old.world.machine)) }
@@ -194,7 +196,7 @@ impl Host {
         if is_exit_call(&self.machine, n) {
             return self.end_client(n);
         }
-        if is_presence_call(&self.machine, n) || n == 0x31 {
+        if is_presence_call(&self.machine, n) || n == DPMI_INTERRUPT {
             return self.pop_and_serve(n);
         }
         self.pop_and_reflect(n)

@@ -156,7 +156,7 @@ pub(crate) fn current_trap(m: &Machine) -> Trap
     }
 }
 
-/// Whether the machine is at a trap, which the host serves in place of an instruction.
+/// Whether CS:EIP is at a trap byte, which the host serves in place of an instruction. Source: own.
 pub fn is_at_trap(m: &Machine) -> bool
     ensures { result ≡ is_trap (current_trap m.now.world) }
 {

@@ -13,6 +13,18 @@ use client_world::{DosDone, Exit, TraceLine};
 use cpu_values::part8;
 use fault_service::pop_iret;
 
+/// The interrupt that ends a client of real mode. Source: MS-DOS Programmer's Reference, "Interrupt 20h".
+pub const TERMINATE_INTERRUPT: u8 = 0x20;
+
+/// The interrupt of the DOS calls, whose function is in AH. Source: MS-DOS Programmer's Reference, "Interrupt 21h".
+pub const DOS_INTERRUPT: u8 = 0x21;
+
+/// The multiplex interrupt, whose function is in AX. Source: MS-DOS Programmer's Reference, "Interrupt 2Fh".
+pub const MULTIPLEX_INTERRUPT: u8 = 0x2F;
+
+/// The interrupt of the services of protected mode, whose function is in AX. Source: DPMI 0.9, INT 31h.
+pub const DPMI_INTERRUPT: u8 = 0x31;
+
 impl Host {
     // The interrupt's frame is popped.
     fn pop_interrupt_frame(&mut self) -> Result<(), Exit>
@@ -61,14 +73,14 @@ impl Host {
         if ends_client(n) {
             return Err(Exit::Fault(n, 0));
         }
-        if n == 0x20 {
+        if n == TERMINATE_INTERRUPT {
             self.note(TraceLine::Int20);
             return Err(Exit::Exited(0));
         }
-        if n == 0x21 {
+        if n == DOS_INTERRUPT {
             return self.serve_dos_call();
         }
-        if n == 0x2F {
+        if n == MULTIPLEX_INTERRUPT {
             return self.serve_multiplex_call();
         }
         self.pop_interrupt_frame()

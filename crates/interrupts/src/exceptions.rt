@@ -19,8 +19,8 @@ fn has_real_vector(number: u8) -> bool
         || number == COPROCESSOR_NOT_AVAILABLE
 }
 
-/// Delivers an exception of real mode to the client, with the instruction pointer of its instruction; or gives the exit, which leaves the
-/// machine as it was: nothing serves the exception, or its frame can't be pushed.
+/// Delivers an exception of real mode to the client, with the instruction pointer of its instruction. `Fault` of this exception where no
+/// vector serves it, or where its frame can't be pushed, which leaves the machine as it was.
 /// Source: 80386 Programmer's Reference Manual, ch. 9, "Exceptions and Interrupts", and ch. 15; which exceptions end the client is own.
 #[tactic(auto, unfolding(crate::specs::Delivery::real_delivery))]
 pub fn deliver_in_real_mode(m: &mut Machine, f: Fault) -> Result<(), Exit>

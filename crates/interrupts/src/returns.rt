@@ -7,15 +7,16 @@ use client_world::Exit;
 use exec_flow::{can_pop_frame, frame_bits, pop_frame};
 use guest_space::Machine;
 
-/// Whether the frame at the stack's top can be popped. Source: 80386 Programmer's Reference Manual, ch. 17, IRET.
+/// Whether the frame at the stack's top, which an interrupt pushed, can be popped. Source: 80386 Programmer's Reference Manual, ch. 17,
+/// IRET.
 pub fn can_pop_iret(m: &Machine) -> bool
     ensures { result ≡ is_ok (after_iret m.now) }
 {
     can_pop_frame(m, frame_bits(m))
 }
 
-/// Pops the frame at the stack's top, which an interrupt pushed, in both modes; or gives the exit, which leaves the machine as it was.
-/// Source: as above; that a frame which can't be popped ends the client is own.
+/// Pops the frame at the stack's top, which an interrupt pushed, in both modes. `BadFrame` where it can't be popped, which leaves the
+/// machine as it was. Source: 80386 Programmer's Reference Manual, ch. 17, IRET; that a frame which can't be popped ends the client is own.
 #[tactic(auto, unfolding(crate::specs::Delivery::after_iret))]
 pub fn pop_iret(m: &mut Machine) -> Result<(), Exit>
     ensures machine { MatchResult result (λ _. after_iret m.old ≡ Ok m.new)

@@ -184,8 +184,9 @@ fn enter(m: &mut Machine, width: Width)
 }
 
 /// Serves a call of the entry to protected mode: the return address is popped, and the first call makes the client's descriptors and its
-/// width, and goes on in protected mode; a later one sets carry and goes on in real mode. Or gives the exit, which leaves the machine as it
-/// was. Source: DPMI 0.9, INT 2Fh function 1687h; that a later call is refused is own.
+/// width, and goes on in protected mode; a later one sets carry and goes on in real mode. `BadFrame` where the return address can't be
+/// popped, which leaves the machine as it was.
+/// Source: DPMI 0.9, INT 2Fh function 1687h; that a later call is refused, and the exit, are own.
 #[tactic(auto, unfolding(crate::specs::Entry::entry))]
 pub fn entry(m: &mut Machine) -> Result<Carry, Exit>
     requires { m.old.world.mode ≡ real }

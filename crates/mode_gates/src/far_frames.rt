@@ -6,8 +6,8 @@ use client_world::Exit;
 use exec_flow::{frame_bits, pop_far_frame};
 use guest_space::Machine;
 
-/// Pops the frame at the stack's top that a far call pushed, in both modes; or gives the exit, which leaves the machine as it was.
-/// Source: 80386 Programmer's Reference Manual, ch. 17, RET; that a frame which can't be popped ends the client is own.
+/// Pops the frame at the stack's top that a far call pushed, in both modes. `BadFrame` where it can't be popped, which leaves the machine
+/// as it was. Source: 80386 Programmer's Reference Manual, ch. 17, RET; that a frame which can't be popped ends the client is own.
 #[tactic(auto, unfolding(crate::specs::FarFrames::after_far_return))]
 pub fn pop_far(m: &mut Machine) -> Result<(), Exit>
     ensures machine { MatchResult result (λ _. after_far_return m.old ≡ Ok m.new)

@@ -87,8 +87,9 @@ pub fn to_real(m: &mut Machine) -> Result<(), Exit>
     Ok(())
 }
 
-/// Switches to protected mode: as to real mode, with (E)BX and (E)DI. `Stray` before the entry; `BadSwitch` where a selector can't be
-/// loaded, CS as by a far jump. An exit leaves the machine as it was. Source: DPMI 0.9, INT 31h function 0306h; the exits are own.
+/// Switches to protected mode: DS, ES, SS and CS become AX, CX, DX and SI, (E)SP becomes (E)BX and (E)IP becomes (E)DI; FS and GS become 0,
+/// and all other registers stay. `Stray` before the entry; `BadSwitch` where a selector can't be loaded, CS as by a far jump. An exit
+/// leaves the machine as it was. Source: DPMI 0.9, INT 31h function 0306h; the exits are own.
 #[tactic(auto, unfolding(crate::specs::Switches::world_after_switch_to_protected, crate::specs::Switches::after_switch))]
 pub fn to_protected(m: &mut Machine) -> Result<(), Exit>
     requires { m.old.world.mode ≡ real }
@@ -180,7 +181,8 @@ fn ask(m: &mut Machine, ax: u16) -> Result<(), Refusal>
     }
 }
 
-/// Serves function 0305h or 0306h of INT 31h, for a client in protected mode. Source: DPMI 0.9, INT 31h functions 0305h and 0306h.
+/// Serves function 0305h or 0306h of INT 31h, for a client in protected mode, which can't fail. For any other number it sets carry and
+/// changes nothing. Source: DPMI 0.9, INT 31h functions 0305h and 0306h.
 #[tactic(auto, using(crate::proofs::SwitchLaws::only_unsupported), unfolding(crate::specs::Switches::gate_service))]
 pub fn serve(m: &mut Machine, ax: u16) -> Carry
     requires { m.old.world.mode ≡ protected }

@@ -1,11 +1,13 @@
 -- What rounds keep, count and write. Each is the timer's interrupt, or a turn with watchpoints.
-use Rattle.std.proofs.Common.{arith, ◌≡◌, ◌∙◌, ◌+◌, ℕ, zero, suc, Bool, true, false, List, [], ◌∷◌, ◌++◌, length, Option, None, Some, refl}
+use Rattle.std.proofs.Common.{arith, ◌≡◌, ◌≢◌, ◌∙◌, ◌+◌, ℕ, zero, suc, Bool, true, false, List, [], ◌∷◌, ◌++◌, length, Option, None, Some}
+use Rattle.std.proofs.Common.{refl}
 use Rattle.std.proofs.Common.{sym, ap, subst}
-use Rattle.std.specs.Prelude.{All, if◌then◌else◌}
+use Rattle.std.specs.Prelude.{All, IsSome, if◌then◌else◌}
 use Rattle.std.proofs.lemmas.List.{append-nil, length_push, same_from_push}
 use Rattle.std.proofs.lemmas.List.Elements.{All-nil}
 use Rattle.client_world.specs.declared.calls.Record.{Record}
 use Rattle.client_world.specs.declared.outcome.Exit.{Exit}
+use Rattle.client_world.specs.declared.outcome.Exit.TheVariants.{ConsoleFull}
 use Rattle.client_world.specs.Access.{IsHeld}
 use Rattle.client_world.specs.Console.{Extends}
 use Rattle.client_world.specs.Soundness.{IsSound, IsSoundHost}
@@ -14,13 +16,13 @@ use Rattle.client_world.specs.World.{HostWorld}
 use Rattle.host_run.specs.Keys.{HasKeys}
 use Rattle.host_run.specs.Nested.{IsHandedOver, PushesRecord, Stacked, kept, popped, pushed}
 use Rattle.host_run.specs.OtherTurns.{interrupt_turn}
-use Rattle.host_run.specs.RealCalls.{from_anywhere, from_client}
-use Rattle.host_run.proofs.Nested.{anywhere}
+use Rattle.host_run.specs.RealCalls.{InterruptSource, from_anywhere, from_client, from_outside}
 use Rattle.host_run.proofs.OtherTurns.{bounded_sound, host_sound, interrupt_keeps, interrupt_quiet, reached}
-use Rattle.host_run.proofs.TurnLaws.{IsReached}
+use Rattle.host_run.proofs.Sound.{leaves_itself, machine_by, outside_by}
+use Rattle.host_run.proofs.TurnLaws.{IsReached, LeavesBy}
 use Rattle.timer_run.specs.declared.timer.TheConstants.{TIMER_INTERRUPT}
-use Rattle.timer_run.specs.Rounds.{TimedWorld, after_part, is_interrupt, round_with_timer, rounds, timed_rounds, timed_run, timed_turns}
-use Rattle.timer_run.specs.Rounds.{timer_of, touched_by_round, with_new_timer}
+use Rattle.timer_run.specs.Rounds.{TimedWorld, after_part, is_interrupt, round_with_timer, rounds, source_of_round, timed_rounds, timed_run}
+use Rattle.timer_run.specs.Rounds.{timed_turns, timer_of, touched_by_round, with_new_timer}
 use Rattle.timer_run.specs.Timer.{TimerPart, TimerState, timer_part}
 use Rattle.timer_run.proofs.Parts.{part_has}
 use Rattle.timer_run.proofs.RoundParts.{round_on, round_over}
@@ -63,39 +65,65 @@ round_extends every w =
 
 -- ---- soundness, and the records of calls
 
--- what a round keeps of the host
-record KeepsRound (h after : HostWorld) : Type 0 where
+-- what a round keeps of the host, given whose interrupt it may reflect
+record KeepsRound (source : InterruptSource) (h after : HostWorld) : Type 0 where
   reached : IsReached after
-  calls : Stacked from_anywhere h after
+  calls : Stacked source h after
   sound : IsSoundHost h → IsSoundHost after
+  leaves : LeavesBy h after after.exit
 
-same_keeps : (h : HostWorld) → IsReached h → KeepsRound h h
-same_keeps h s = record { reached = s; calls = kept refl; sound = λ sound. sound }
+same_keeps : (source : InterruptSource) (h : HostWorld) → IsReached h → KeepsRound source h h
+same_keeps source h s = record { reached = s; calls = kept refl; sound = λ sound. sound; leaves = leaves_itself h h.exit }
 
-interrupt_round : (h : HostWorld) → IsReached h → KeepsRound h (interrupt_turn h TIMER_INTERRUPT)
+interrupt_round : (h : HostWorld) → IsReached h → KeepsRound from_outside h (interrupt_turn h TIMER_INTERRUPT)
 interrupt_round h s =
     let k = interrupt_keeps h TIMER_INTERRUPT s in
-    record { reached = k.reached; calls = k.calls; sound = λ sound. host_sound h (interrupt_turn h TIMER_INTERRUPT) sound k }
+    record {
+      reached = k.reached;
+      calls = k.calls;
+      sound = λ sound. host_sound h (interrupt_turn h TIMER_INTERRUPT) sound k;
+      leaves = k.leaves;
+    }
 
-turn_round : (w : WatchWorld) → IsReached w.host → KeepsRound w.host (turn_with_watchpoints w).host
+turn_round : (w : WatchWorld) → IsReached w.host → KeepsRound from_client w.host (turn_with_watchpoints w).host
 turn_round w s =
     let k = turn_keeps_all w s in
-    record { reached = k.reached; calls = anywhere w.host (turn_with_watchpoints w).host k.calls; sound = k.sound }
+    record { reached = k.reached; calls = k.calls; sound = k.sound; leaves = k.leaves }
 
-part_keeps : (t : TimerState) (h : HostWorld) → IsReached h → KeepsRound h (timer_part t h).host
+part_keeps : (t : TimerState) (h : HostWorld) → IsReached h → KeepsRound from_outside h (timer_part t h).host
 part_keeps t h s =
-    part_has (λ p. KeepsRound h p.host) t h (λ _ _. same_keeps h s) (λ _. interrupt_round h s) (λ _. same_keeps h s)
+    part_has (λ p. KeepsRound from_outside h p.host) t h (λ _ _. same_keeps from_outside h s) (λ _. interrupt_round h s)
+    (λ _. same_keeps from_outside h s)
 
 pub part_sound : (t : TimerState) (h : HostWorld) → IsSoundHost h → HasKeys h → IsSoundHost (timer_part t h).host
 part_sound t h s keys = (part_keeps t h (reached h s keys)).sound s
 
-pub part_calls : (t : TimerState) (h : HostWorld) → IsSoundHost h → HasKeys h → Stacked from_anywhere h (timer_part t h).host
+pub part_calls : (t : TimerState) (h : HostWorld) → IsSoundHost h → HasKeys h → Stacked from_outside h (timer_part t h).host
 part_calls t h s keys = (part_keeps t h (reached h s keys)).calls
 
-round_keeps : (every : ℕ) (w : TimedWorld) → IsReached w.watched.host → KeepsRound w.watched.host (round_with_timer every w).watched.host
-round_keeps every w s =
-    let h = w.watched.host in
-    round_has (KeepsRound h) every w (λ _ _. same_keeps h s) (interrupt_round h s) (turn_round w.watched s)
+-- by whether the timer's part was the whole round
+abbrev source_by : Bool → InterruptSource
+source_by taken = if taken then from_outside else from_client
+
+part_round : (w : TimedWorld) (p : TimerPart) (taken : Bool) → p.taken ≡ taken → KeepsRound from_outside w.watched.host p.host →
+    KeepsRound from_client w.watched.host (turn_with_watchpoints w.watched).host →
+    KeepsRound (source_by taken) w.watched.host (after_part w p).watched.host
+part_round w p true is interrupt turn = rw is interrupt
+part_round w p false is interrupt turn = rw is turn
+
+round_keeps_by : (every : ℕ) (w : TimedWorld) (o : Option Exit) → w.watched.host.exit ≡ o → IsReached w.watched.host →
+    KeepsRound (source_of_round every w) w.watched.host (round_with_timer every w).watched.host
+round_keeps_by every w (Some exit) is s =
+    subst (λ (v : TimedWorld). KeepsRound (source_of_round every w) w.watched.host v.watched.host) (sym (round_over every w exit is))
+    (same_keeps (source_of_round every w) w.watched.host s)
+round_keeps_by every w None is s =
+    subst (λ (v : TimedWorld). KeepsRound (source_of_round every w) w.watched.host v.watched.host) (sym (round_on every w is))
+    (part_round w (timer_part (timer_of every w) w.watched.host) (is_interrupt every w) refl
+    (part_keeps (timer_of every w) w.watched.host s) (turn_round w.watched s))
+
+round_keeps : (every : ℕ) (w : TimedWorld) → IsReached w.watched.host →
+    KeepsRound (source_of_round every w) w.watched.host (round_with_timer every w).watched.host
+round_keeps every w s = round_keeps_by every w w.watched.host.exit refl s
 
 pub round_sound : (every : ℕ) (w : TimedWorld) → IsSoundHost w.watched.host → HasKeys w.watched.host →
     IsSoundHost (round_with_timer every w).watched.host
@@ -105,30 +133,34 @@ pub round_keys : (every : ℕ) (w : TimedWorld) → IsSound w.watched.host.machi
     HasKeys (round_with_timer every w).watched.host
 round_keys every w sound keys = (round_keeps every w (record { machine = sound; keys = keys })).reached.keys
 
--- ---- a round that isn't the interrupt
+pub round_exit : (every : ℕ) (w : TimedWorld) → IsSound w.watched.host.machine → HasKeys w.watched.host →
+    IsSome (round_with_timer every w).watched.host.exit → (round_with_timer every w).watched.host.machine ≡ w.watched.host.machine
+round_exit every w sound keys ended =
+    let after = (round_with_timer every w).watched.host in
+    machine_by w.watched.host after after.exit (round_keeps every w (record { machine = sound; keys = keys })).leaves ended
 
-abbrev IsClients : TimedWorld → TimedWorld → Type 0
-IsClients w after = Stacked from_client w.watched.host after.watched.host
+pub round_exit_outside : (every : ℕ) (w : TimedWorld) (exit : Exit) → IsSound w.watched.host.machine → HasKeys w.watched.host →
+    (round_with_timer every w).watched.host.exit ≡ Some exit → exit ≢ ConsoleFull →
+    ((round_with_timer every w).watched.host.keys ≡ w.watched.host.keys)
+    × ((round_with_timer every w).watched.host.console ≡ w.watched.host.console)
+round_exit_outside every w exit sound keys is other =
+    let after = (round_with_timer every w).watched.host in
+    outside_by w.watched.host after after.exit exit (round_keeps every w (record { machine = sound; keys = keys })).leaves is other
 
-turn_made : (w : TimedWorld) (p : TimerPart) (taken : Bool) → p.taken ≡ taken → taken ≡ false →
-    Stacked from_client w.watched.host (turn_with_watchpoints w.watched).host → IsClients w (after_part w p)
-turn_made w p true is off turn = absurd cc
-turn_made w p false is off turn = rw is turn
+-- ---- a round that is the interrupt, and one that isn't
 
-clients_by : (every : ℕ) (w : TimedWorld) (o : Option Exit) → w.watched.host.exit ≡ o → is_interrupt every w ≡ false →
-    Stacked from_client w.watched.host (turn_with_watchpoints w.watched).host → IsClients w (round_with_timer every w)
-clients_by every w (Some exit) is off turn = subst (IsClients w) (sym (round_over every w exit is)) (kept refl)
-clients_by every w None is off turn =
-    subst (IsClients w) (sym (round_on every w is))
-    (turn_made w (timer_part (timer_of every w) w.watched.host) (is_interrupt every w) refl off turn)
+abbrev RoundCalls : ℕ → TimedWorld → InterruptSource → Type 0
+RoundCalls every w source = Stacked source w.watched.host (round_with_timer every w).watched.host
 
-pub round_clients : (every : ℕ) (w : TimedWorld) → IsReached w.watched.host → is_interrupt every w ≡ false →
-    IsClients w (round_with_timer every w)
-round_clients every w s off = clients_by every w w.watched.host.exit refl off (turn_keeps_all w.watched s).calls
+pub round_interrupt : (every : ℕ) (w : TimedWorld) → IsSound w.watched.host.machine → HasKeys w.watched.host → is_interrupt every w ≡ true →
+    RoundCalls every w from_outside
+round_interrupt every w sound keys is =
+    subst (λ (b : Bool). RoundCalls every w (source_by b)) is (round_keeps every w (record { machine = sound; keys = keys })).calls
 
 pub round_turn : (every : ℕ) (w : TimedWorld) → IsSound w.watched.host.machine → HasKeys w.watched.host → is_interrupt every w ≡ false →
-    Stacked from_client w.watched.host (round_with_timer every w).watched.host
-round_turn every w sound keys off = round_clients every w (record { machine = sound; keys = keys }) off
+    RoundCalls every w from_client
+round_turn every w sound keys is =
+    subst (λ (b : Bool). RoundCalls every w (source_by b)) is (round_keeps every w (record { machine = sound; keys = keys })).calls
 
 -- ---- runs
 
@@ -161,40 +193,33 @@ unfolding timed_run
 run_sound_host every h n s keys = bounded_sound (timed_turns every h n) (timed_sound_host every h n s keys)
 
 pub timed_calls : (every : ℕ) (h : HostWorld) (n : ℕ) → IsSound h.machine → HasKeys h →
-    Stacked from_anywhere (timed_turns every h n) (timed_turns every h (n + 1))
+    Stacked (source_of_round every (timed_rounds every h n)) (timed_turns every h n) (timed_turns every h (n + 1))
 timed_calls every h n sound keys =
-    let w = rounds every (with_new_timer (host_without_watches h)) n in
-    subst (λ (v : TimedWorld). Stacked from_anywhere w.watched.host v.watched.host)
+    let w = timed_rounds every h n in
+    subst (λ (v : TimedWorld). Stacked (source_of_round every w) w.watched.host v.watched.host)
     (sym (one_more every (with_new_timer (host_without_watches h)) n))
     (round_keeps every w (timed_reached every h n sound keys)).calls
 
-pub timed_turn_calls : (every : ℕ) (h : HostWorld) (n : ℕ) → IsSound h.machine → HasKeys h →
-    is_interrupt every (timed_rounds every h n) ≡ false →
-    Stacked from_client (timed_turns every h n) (timed_turns every h (n + 1))
-timed_turn_calls every h n sound keys off =
-    let w = timed_rounds every h n in
-    subst (λ (v : TimedWorld). Stacked from_client w.watched.host v.watched.host)
-    (sym (one_more every (with_new_timer (host_without_watches h)) n))
-    (round_clients every w (timed_reached every h n sound keys) off)
-
--- the record that such a round adds is one of the client's
-pub pushed_by : (w v : HostWorld) (r : Record) → v.machine.calls ≡ w.machine.calls ++ r ∷ [] → Stacked from_client w v →
-    PushesRecord from_client w r v
-pushed_by w v r is (kept same) = absurd (let e = ap length (sym same ∙ is) in let more = length_push w.machine.calls r in omega arith)
-pushed_by w v r is (pushed s e pushes) =
+-- the record that a turn adds is one that the turn may add
+pub pushed_by : (source : InterruptSource) (w v : HostWorld) (r : Record) → v.machine.calls ≡ w.machine.calls ++ r ∷ [] →
+    Stacked source w v → PushesRecord source w r v
+pushed_by source w v r is (kept same) =
+    absurd (let e = ap length (sym same ∙ is) in let more = length_push w.machine.calls r in omega arith)
+pushed_by source w v r is (pushed s e pushes) =
     let same = (same_from_push w.machine.calls w.machine.calls s r (sym e ∙ is)).1 in
-    subst (λ (x : Record). PushesRecord from_client w x v) same pushes
-pushed_by w v r is (popped s e pops) =
+    subst (λ (x : Record). PushesRecord source w x v) same pushes
+pushed_by source w v r is (popped s e pops) =
     absurd (let less = ap length e in let one = length_push v.machine.calls s in let more = length_push w.machine.calls r in
     let all = ap length is in omega arith)
 
-abbrev pub clients_match : (every : ℕ) (h : HostWorld) (i j : ℕ) → IsSound h.machine → HasKeys h →
-    is_interrupt every (timed_rounds every h i) ≡ false →
-    (m : IsHandedOver from_anywhere (timed_turns every h) i j) → IsHandedOver from_client (timed_turns every h) i j
-clients_match every h i j sound keys off m = record {
+abbrev pub matched_by_source : (every : ℕ) (h : HostWorld) (i j : ℕ) → IsSound h.machine → HasKeys h →
+    (m : IsHandedOver from_anywhere (timed_turns every h) i j) →
+    IsHandedOver (source_of_round every (timed_rounds every h i)) (timed_turns every h) i j
+matched_by_source every h i j sound keys m = record {
   innermost = m.innermost;
   push = m.push;
-  pushes = pushed_by (timed_turns every h i) (timed_turns every h (i + 1)) m.innermost m.push (timed_turn_calls every h i sound keys off);
+  pushes = pushed_by (source_of_round every (timed_rounds every h i)) (timed_turns every h i) (timed_turns every h (i + 1)) m.innermost
+      m.push (timed_calls every h i sound keys);
   stays = m.stays;
   pop = m.pop;
   pops = m.pops;

@@ -4,9 +4,9 @@ use Rattle.std.specs.Prelude.{if◌then◌else◌}
 use Rattle.client_world.specs.declared.outcome.Exit.{Exit}
 use Rattle.client_world.specs.WatchWorld.{WatchWorld}
 use Rattle.client_world.specs.World.{HostWorld}
-use Rattle.host_run.specs.Footprint.{ChangesOnly, Footprint, unsaid}
+use Rattle.host_run.specs.Footprint.{ChangesOnly, Footprint}
 use Rattle.timer_run.specs.Rounds.{TimedWorld, after_part, round_footprint, round_with_timer, timed, timer_of}
-use Rattle.timer_run.specs.Timer.{TimerPart, TimerState, timer_answer, timer_part}
+use Rattle.timer_run.specs.Timer.{TimerPart, TimerState, timer_answer, timer_footprint, timer_part}
 use Rattle.timer_run.proofs.Parts.{answered_exit, answered_on, part_ended, part_passed, part_was_on}
 use Rattle.watch_run.specs.Turn.{turn_with_watchpoints, watch_footprint}
 
@@ -84,7 +84,7 @@ turn_made t next w h after timer host answer made =
 turn_footprint_is : (t : TimerState) (w : WatchWorld) → Ok false ≡ timer_answer (timer_part t w.host) →
     round_footprint t.every (timed t w) ≡ watch_footprint w
 turn_footprint_is t w answer =
-    ap (λ (taken : Bool). if taken then unsaid else watch_footprint w) (answered_on (timer_part t w.host) false answer).1
+    ap (λ (taken : Bool). if taken then timer_footprint w.host else watch_footprint w) (answered_on (timer_part t w.host) false answer).1
 
 pub turn_changes : (t : TimerState) (w : WatchWorld) (h : HostWorld) (old before new : List ℕ) → h ≡ (timer_part t w.host).host →
     Ok false ≡ timer_answer (timer_part t w.host) → before ≡ old → ChangesOnly (watch_footprint (record w { host = h })) before new →

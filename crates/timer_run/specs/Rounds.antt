@@ -5,11 +5,12 @@ use Rattle.client_world.specs.declared.outcome.Exit.{Exit}
 use Rattle.client_world.specs.declared.place.Place.{Place}
 use Rattle.client_world.specs.WatchWorld.{WatchWorld, Watching, host_without_watches}
 use Rattle.client_world.specs.World.{HostWorld}
-use Rattle.host_run.specs.Footprint.{Footprint, unsaid}
+use Rattle.host_run.specs.Footprint.{Footprint}
 use Rattle.host_run.specs.MakesTurn.{MakesTurn}
+use Rattle.host_run.specs.RealCalls.{InterruptSource, from_client, from_outside}
 use Rattle.host_run.specs.Run.{with_bound_exit}
 use Rattle.host_run.specs.View.{HostView}
-use Rattle.timer_run.specs.Timer.{TimerPart, TimerState, timer_part}
+use Rattle.timer_run.specs.Timer.{TimerPart, TimerState, timer_footprint, timer_part}
 use Rattle.watch_run.specs.Turn.{touched_by_watch_turn, turn_with_watchpoints, watch_footprint}
 
 -- a host with watchpoints, how many rounds the timer has counted, and whether its interrupt waits
@@ -56,13 +57,17 @@ rounds every w (suc n) = round_with_timer every (rounds every w n)
 abbrev pub is_interrupt : ℕ → TimedWorld → Bool
 is_interrupt every w = (timer_part (timer_of every w) w.watched.host).taken
 
+-- whose interrupt a round may reflect: the timer's, which has pushed no frame, where the round is the interrupt; else the client's
+abbrev pub source_of_round : ℕ → TimedWorld → InterruptSource
+source_of_round every w = if is_interrupt every w then from_outside else from_client
+
 -- the places that the client instruction of a round touches: none where the round is the interrupt
 abbrev pub touched_by_round : ℕ → TimedWorld → List Place
 touched_by_round every w = if is_interrupt every w then [] else touched_by_watch_turn w.watched
 
--- the bytes of the memory that a round may change: where it is the interrupt nothing is said; otherwise those of the turn
+-- the bytes of the memory that a round may change: those of the interrupt, or those of the turn
 abbrev pub round_footprint : ℕ → TimedWorld → Footprint
-round_footprint every w = if is_interrupt every w then unsaid else watch_footprint w.watched
+round_footprint every w = if is_interrupt every w then timer_footprint w.watched.host else watch_footprint w.watched
 
 -- such a round, of a host with these watchpoints and this timer before and after it
 abbrev pub MakesRound : HostView → HostView → Watching → Watching → TimerState → TimerState → Result (Unit {0}) Exit → Type 0

@@ -5,7 +5,8 @@ use Rattle.client_world.specs.declared.limits.TheConstants.{GREATEST_DEPTH}
 use Rattle.client_world.specs.declared.outcome.Exit.{Exit}
 use Rattle.client_world.specs.declared.registers.Mode.TheVariants.{Real, Protected}
 use Rattle.client_world.specs.World.{World, HostWorld, depth}
-use Rattle.host_run.specs.OtherTurns.{interrupt_turn}
+use Rattle.host_run.specs.Footprint.{Footprint}
+use Rattle.host_run.specs.OtherTurns.{interrupt_turn, outside_interrupt_footprint}
 use Rattle.timer_run.specs.declared.timer.TheConstants.{TIMER_INTERRUPT}
 
 -- a timer: after how many rounds its interrupt becomes due, how many of these have passed, and whether an interrupt waits
@@ -38,6 +39,10 @@ after_tick t h =
 -- after an exit nothing changes
 unfoldable pub timer_part : TimerState → HostWorld → TimerPart
 timer_part t h = elim h.exit [ Some _ ↦ record { timer = t; host = h; taken = false } | None ↦ after_tick (with_round_counted t) h ]
+
+-- the bytes of the memory that the interrupt may change
+abbrev pub timer_footprint : HostWorld → Footprint
+timer_footprint h = outside_interrupt_footprint h.machine TIMER_INTERRUPT
 
 -- whether the round was the interrupt, or the exit that there is
 abbrev pub timer_answer : TimerPart → Result Bool Exit

@@ -3,7 +3,8 @@ ghost use Rattle.std.specs.Prelude.{◌≡◌, ◌≢◌, ◌≤◌, ◌<◌, tr
 ghost use Rattle.client_world.specs.declared.limits.TheConstants.{GREATEST_DEPTH, GREATEST_TIMER, MAX_STEPS};
 ghost use Rattle.client_world.specs.declared.registers.Mode.TheVariants.{Protected as protected};
 ghost use Rattle.client_world.specs.World.{depth};
-ghost use Rattle.timer_run.specs.Timer.{TimerState, takes_interrupts, with_round_counted, timer_answer, timer_part};
+ghost use Rattle.host_run.specs.Footprint.{ChangesOnly};
+ghost use Rattle.timer_run.specs.Timer.{TimerState, takes_interrupts, timer_answer, timer_footprint, timer_part, with_round_counted};
 
 use client_world::limits::GREATEST_DEPTH;
 use client_world::{Exit, Mode};
@@ -73,7 +74,8 @@ impl Timer {
     }
 
     /// The timer's part of a round: whether the round was its interrupt, or the turn is still to be made; or the exit that ended the run.
-    /// After an exit nothing changes. The memory changes only where the interrupt was taken.
+    /// After an exit nothing changes. The memory changes only where the interrupt was taken, and then the bytes of its footprint alone.
+    /// Source: own.
     #[tactic(auto, unfolding(crate::specs::Timer::timer_part))]
     pub fn before(&mut self, host: &mut Host) -> Result<bool, Exit>
         requires { host.old.world.exit ≡ None → host.old.world.steps < MAX_STEPS }
@@ -81,6 +83,7 @@ impl Timer {
         ensures host { host.new.world ≡ (timer_part self.old host.old.world).host }
         ensures answer { result ≡ timer_answer (timer_part self.old host.old.world) }
         ensures kept { result ≢ Ok true → host.new.bytes ≡ host.old.bytes }
+        ensures bytes { result ≡ Ok true → ChangesOnly (timer_footprint host.old.world) host.old.bytes host.new.bytes }
     {
         if let Some(exit) = host.exit() {
             return Err(exit);
@@ -97,6 +100,7 @@ impl Timer {
         ensures host { host.new.world ≡ (timer_part self.old host.old.world).host }
         ensures answer { result ≡ timer_answer (timer_part self.old host.old.world) }
         ensures kept { result ≢ Ok true → host.new.bytes ≡ host.old.bytes }
+        ensures bytes { result ≡ Ok true → ChangesOnly (timer_footprint host.old.world) host.old.bytes host.new.bytes }
     {
         self.tick();
         if self.waits && takes_interrupts(host.machine()) {

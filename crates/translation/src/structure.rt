@@ -56,7 +56,7 @@ fn regs_of(bytes: &[u8; 0x32]) -> Regs
     }
 }
 
-/// Reads the structure at a pointer.
+/// Reads the call structure at a pointer, of 32h bytes. Source: DPMI 0.9, INT 31h function 0300h.
 pub fn read_structure(m: &Machine, at: FarPtr) -> CallStructure
     requires { IsTrue (is_reachable m.now.world at STRUCTURE_SIZE false) }
     ensures regs { result.regs ≡ structure_regs (structure_bytes m.now.world at) }
@@ -70,7 +70,7 @@ pub fn read_structure(m: &Machine, at: FarPtr) -> CallStructure
     }
 }
 
-/// EDI, ESI and EBP, as a structure begins with them.
+/// The 0Ch bytes of EDI, ESI and EBP, as a call structure begins with them. Source: DPMI 0.9, INT 31h function 0300h.
 #[tactic(auto, unfolding(crate::specs::Structure::index_results))]
 pub fn index_results(r: &Regs) -> [u8; 0x0C]
     ensures { result ≡ index_results r.now }
@@ -82,7 +82,8 @@ pub fn index_results(r: &Regs) -> [u8; 0x0C]
     bytes
 }
 
-/// EBX, EDX, ECX, EAX, the flags with a virtual interrupt flag, ES, DS, FS and GS, as a structure has them from 10h on.
+/// The 1Ah bytes of EBX, EDX, ECX, EAX, the flags with a virtual interrupt flag, ES, DS, FS and GS, as a call structure has them from 10h
+/// on. Source: DPMI 0.9, INT 31h function 0300h.
 #[tactic(auto, unfolding(crate::specs::Structure::other_results))]
 pub fn other_results(r: &Regs, vif: bool) -> [u8; 0x1A]
     ensures { result ≡ other_results r.now vif }

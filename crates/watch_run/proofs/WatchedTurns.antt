@@ -1,11 +1,13 @@
 -- What turns with watchpoints keep, count and write. Each is an exception that delivers a hit, a function that is served, or the host's own
 -- turn.
-use Rattle.std.proofs.Common.{arith, ◌≡◌, ◌∙◌, ◌≤◌, ◌+◌, ◌*◌, ℕ, zero, suc, Bool, true, false, ◌||◌, [], None, Some, Option, refl, ap, sym}
+use Rattle.std.proofs.Common.{arith, ◌≡◌, ◌≢◌, ◌∙◌, ◌≤◌, ◌+◌, ◌*◌, ℕ, zero, suc, Bool, true, false, ◌||◌, [], None, Some, Option, refl, ap}
+use Rattle.std.proofs.Common.{sym}
 use Rattle.std.proofs.Common.{subst, add-one}
 use Rattle.std.specs.Prelude.{All, IsSome, if◌then◌else◌}
 use Rattle.std.proofs.lemmas.List.Elements.{All-nil}
 use Rattle.client_world.specs.declared.faults.TheConstants.{DEBUG}
 use Rattle.client_world.specs.declared.outcome.Exit.{Exit}
+use Rattle.client_world.specs.declared.outcome.Exit.TheVariants.{ConsoleFull}
 use Rattle.client_world.specs.declared.registers.Regs.{Regs}
 use Rattle.client_world.specs.declared.services.Carry.{Carry}
 use Rattle.client_world.specs.Access.{IsHeld, fault_with}
@@ -22,7 +24,8 @@ use Rattle.host_run.specs.Touched.{touched_by_turn}
 use Rattle.host_run.specs.Turn.{turn}
 use Rattle.host_run.proofs.Growth.{turn_console, turn_counted}
 use Rattle.host_run.proofs.OtherTurns.{bounded_sound, exception_keeps, exception_quiet, host_sound, int31_keeps_turn, int31_quiet, reached}
-use Rattle.host_run.proofs.TurnLaws.{IsReached, KeepsTurn, turn_keeps}
+use Rattle.host_run.proofs.Sound.{leaves_itself, machine_by, outside_by}
+use Rattle.host_run.proofs.TurnLaws.{IsReached, KeepsTurn, LeavesBy, turn_keeps}
 use Rattle.watch_run.specs.Services.{watch_service}
 use Rattle.watch_run.specs.Turn.{after_watch_call, after_hit_exception, is_watch_call, delivers_hit, touched_by_watch_turn}
 use Rattle.watch_run.specs.Turn.{turn_with_watchpoints, after_turn_or_call, turns_with_watchpoints, watches_after, watched_run}
@@ -95,13 +98,26 @@ pub record Keeps (h after : HostWorld) : Type 0 where
   pub calls : Stacked from_client h after
   pub sound : IsSoundHost h → IsSoundHost after
   pub lines : after.lines + 2 * h.steps ≤ h.lines + 2 * after.steps
+  pub leaves : LeavesBy h after after.exit
 
 of_turn : (h after : HostWorld) → KeepsTurn from_client h after → Keeps h after
-of_turn h after k = record { reached = k.reached; calls = k.calls; sound = λ s. host_sound h after s k; lines = k.lines }
+of_turn h after k = record {
+  reached = k.reached;
+  calls = k.calls;
+  sound = λ s. host_sound h after s k;
+  lines = k.lines;
+  leaves = k.leaves;
+}
 
 pub turn_keeps_all : (w : WatchWorld) → IsReached w.host → Keeps w.host (turn_with_watchpoints w).host
 turn_keeps_all w s =
-    has (Keeps w.host) w (record { reached = s; calls = kept refl; sound = λ sound. sound; lines = omega arith })
+    has (Keeps w.host) w (record {
+      reached = s;
+      calls = kept refl;
+      sound = λ sound. sound;
+      lines = omega arith;
+      leaves = leaves_itself w.host w.host.exit;
+    })
     (of_turn w.host _ (exception_keeps w.host (fault_with DEBUG 0) s))
     (λ r c. of_turn w.host (int31_turn w.host r c) (int31_keeps_turn w.host r c s))
     (of_turn w.host (turn w.host) (turn_keeps w.host s))
@@ -114,6 +130,19 @@ from_machine h machine keys = record { machine = machine; keys = keys }
 
 pub turn_calls : (w : WatchWorld) → IsSound w.host.machine → HasKeys w.host → Stacked from_client w.host (turn_with_watchpoints w).host
 turn_calls w sound keys = (turn_keeps_all w (from_machine w.host sound keys)).calls
+
+pub turn_exit : (w : WatchWorld) → IsSound w.host.machine → HasKeys w.host → IsSome (turn_with_watchpoints w).host.exit →
+    (turn_with_watchpoints w).host.machine ≡ w.host.machine
+turn_exit w sound keys ended =
+    let after = (turn_with_watchpoints w).host in
+    machine_by w.host after after.exit (turn_keeps_all w (from_machine w.host sound keys)).leaves ended
+
+pub turn_exit_outside : (w : WatchWorld) (exit : Exit) → IsSound w.host.machine → HasKeys w.host →
+    (turn_with_watchpoints w).host.exit ≡ Some exit → exit ≢ ConsoleFull →
+    ((turn_with_watchpoints w).host.keys ≡ w.host.keys) × ((turn_with_watchpoints w).host.console ≡ w.host.console)
+turn_exit_outside w exit sound keys is other =
+    let after = (turn_with_watchpoints w).host in
+    outside_by w.host after after.exit exit (turn_keeps_all w (from_machine w.host sound keys)).leaves is other
 
 turns_reached : (w : WatchWorld) (n : ℕ) → IsReached w.host → IsReached (turns_with_watchpoints w n).host
 unfolding turns_with_watchpoints

@@ -155,7 +155,8 @@ impl Watches {
         }
     }
 
-    /// The handles that the instruction at CS:EIP hits: bit h − 1 is set exactly for each such handle h.
+    /// The handles that the instruction at CS:EIP hits: bit h − 1 is set exactly for each such handle h, from 1 to 16. None is where the
+    /// instruction is an event. Source: DPMI 0.9, INT 31h function 0B00h; what an instruction accesses is own.
     #[tactic(auto, using(crate::proofs::HitLaws::bits_none, crate::proofs::HitLaws::bits_start, crate::proofs::HitLaws::bits_next, //
     crate::proofs::HitLaws::bits_room, crate::proofs::HitLaws::bits_all))]
     pub fn hits(&self, m: &Machine) -> u16

@@ -1,5 +1,7 @@
 // What holds of every turn and run with watchpoints. Each is a function with nothing to do: its contract is the law.
-ghost use Rattle.std.specs.Prelude.{ℕ, ◌≡◌, ◌<◌, ◌+◌, ◌++◌, All, IsErr, IsOk, List, None, Some, false};
+ghost use Rattle.std.specs.Prelude.{ℕ, ◌≡◌, ◌≢◌, ◌<◌, ◌+◌, ◌++◌, All, IsErr, IsOk, IsSome, List, None, Some, false};
+ghost use Rattle.client_world.specs.declared.outcome.Exit.{Exit as AnExit};
+ghost use Rattle.client_world.specs.declared.outcome.Exit.TheVariants.{ConsoleFull};
 ghost use Rattle.client_world.specs.declared.watchpoints.Touch.{Touch as ATouch};
 ghost use Rattle.client_world.specs.Access.{IsHeld};
 ghost use Rattle.client_world.specs.Console.{Extends};
@@ -40,20 +42,26 @@ pub fn every_watched_turn_is_sound()
     ensures host_end { (h : HostWorld) (n : ℕ) → IsSoundHost h → HasKeys h → IsSoundHost (watched_run h n) }
 {}
 
-/// It changes the innermost record of a call at most, as the host's own turn does; and so does each turn of a run.
+/// A turn with watchpoints changes the innermost record of a call at most, as the host's own turn does; and so does each turn of a run.
 pub fn every_watched_turn_changes_the_innermost_record_at_most()
     ensures turn { (w : WatchWorld) → IsSound w.host.machine → HasKeys w.host → Stacked from_client w.host (turn_with_watchpoints w).host }
     ensures turns { (h : HostWorld) (n : ℕ) → IsSound h.machine → HasKeys h →
         Stacked from_client (watched_turns h n) (watched_turns h (n + 1)) }
 {}
 
-/// It is counted as one turn, unless there is an exit, and adds bytes at the console's end alone.
+/// A turn with watchpoints is counted as one turn, unless there is an exit, and adds bytes at the console's end alone. One after which
+/// there is an exit leaves the machine as it was, and but for a full console the keystrokes and the console too.
 pub fn every_watched_turn_is_counted()
     ensures counted { (w : WatchWorld) → w.host.exit ≡ None → (turn_with_watchpoints w).host.steps ≡ w.host.steps + 1 }
     ensures console { (w : WatchWorld) → Extends w.host.console (turn_with_watchpoints w).host.console }
+    ensures exit { (w : WatchWorld) → IsSound w.host.machine → HasKeys w.host → IsSome (turn_with_watchpoints w).host.exit →
+        (turn_with_watchpoints w).host.machine ≡ w.host.machine }
+    ensures outside { (w : WatchWorld) (exit : AnExit) → IsSound w.host.machine → HasKeys w.host →
+        (turn_with_watchpoints w).host.exit ≡ Some exit → exit ≢ ConsoleFull →
+        ((turn_with_watchpoints w).host.keys ≡ w.host.keys) × ((turn_with_watchpoints w).host.console ≡ w.host.console) }
 {}
 
-/// Each place that its client instruction touches lies in memory that the client holds.
+/// Each place that the client instruction of a turn with watchpoints touches lies in memory that the client holds.
 pub fn every_touch_of_a_watched_turn_is_held()
     ensures { (w : WatchWorld) → All (IsHeld w.host.machine) (touched_by_watch_turn w) }
 {

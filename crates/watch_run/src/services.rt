@@ -153,7 +153,9 @@ impl Watches {
         Ok(r)
     }
 
-    /// Serves the function in AX, and returns the registers after it and the carry. Source: DPMI 0.9, INT 31h functions 0B00h to 0B03h.
+    /// Serves the function in AX, and returns the registers after it and the carry. 0B00h is refused for a value in DL or DH that means
+    /// nothing, else for bytes past FFFFFFFFh, else where no handle is free; the others where BX isn't held. AX is the number of the
+    /// refusal then, and nothing else changes. Source: DPMI 0.9, INT 31h functions 0B00h to 0B03h; the numbers of the refusals are own.
     #[tactic(auto, unfolding(crate::specs::Services::watch_service))]
     pub fn serve(&mut self, m: &Machine) -> (Regs, Carry)
         requires { IsTrue (is_watch_function (low_half m.now.world.regs.eax)) }

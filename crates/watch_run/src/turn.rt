@@ -116,7 +116,8 @@ fn watching_turn_in(h: &mut Host, w: &mut Watches, window: &mut CodeWindow) -> R
     }
 }
 
-/// The turn of a client that has not ended, with a window of code that turns hand on.
+/// One turn, as `watch_turn` makes it, of a client that has not ended, with a window of code that turns hand on. It answers only whether
+/// the run has ended. Source: own.
 #[inline(always)]
 #[tactic(auto, unfolding(crate::specs::Turn::turn_with_watchpoints), using(crate::proofs::TurnParts::none_watched, //
 crate::proofs::TurnParts::not_called))]
@@ -161,7 +162,8 @@ pub fn watch_turn(h: &mut Host, w: &mut Watches) -> Result<(), Exit>
     }
 }
 
-/// Turns up to an exit, or as many as the bound, with the exit `Bound` then. Source: own.
+/// Turns with watchpoints up to an exit, or as many as the bound, with the exit `Bound` then. After an exit it returns that exit again and
+/// changes nothing. Source: own.
 pub fn run_with_watchpoints(h: &mut Host, w: &mut Watches, bound: u32) -> Exit
     requires { h.old.world.exit ≡ None → h.old.world.steps + bound ≤ MAX_STEPS }
     ensures world { record { host = h.new.world; watching = w.new }
@@ -180,7 +182,8 @@ pub fn run_with_watchpoints(h: &mut Host, w: &mut Watches, bound: u32) -> Exit
     h.end_run()
 }
 
-/// The same, from a host whose client has set no watchpoint.
+/// Turns with watchpoints up to an exit, or as many as the bound, with the exit `Bound` then, from a host whose client has set no
+/// watchpoint. Source: own.
 #[tactic(auto, unfolding(crate::specs::Turn::watched_run), using(crate::proofs::TurnParts::host_part))]
 pub fn watched_run(h: &mut Host, bound: u32) -> Exit
     requires { h.old.world.exit ≡ None → h.old.world.steps + bound ≤ MAX_STEPS }

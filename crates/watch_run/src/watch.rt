@@ -31,7 +31,7 @@ impl Model for Watches {
 }
 
 impl Watches {
-    /// None is held, and nothing is due.
+    /// No watchpoint is held, and no hit is due.
     pub fn new() -> Watches
         ensures { result ≡ no_watches }
     {

@@ -1,4 +1,4 @@
-use Rattle.timer_run.proofs.RoundLaws.{part_calls, round_turn, timed_calls, timed_turn_calls}
+use Rattle.timer_run.proofs.RoundLaws.{part_calls, round_interrupt, round_turn, timed_calls}
 use Rattle.timer_run.proofs.laws.every_round_changes_the_innermost_record_at_most.Goals as goal
 
 pub returns-clause-part : goal.returns-clause-part
@@ -10,5 +10,5 @@ returns-clause-rounds c = timed_calls
 pub returns-clause-turn : goal.returns-clause-turn
 returns-clause-turn c = round_turn
 
-pub returns-clause-turns : goal.returns-clause-turns
-returns-clause-turns c = timed_turn_calls
+pub returns-clause-interrupt : goal.returns-clause-interrupt
+returns-clause-interrupt c = round_interrupt

@@ -3,14 +3,14 @@ use Rattle.std.specs.Prelude.{IfErr, if◌then◌else◌}
 use Rattle.client_world.specs.declared.limits.TheConstants.{MAX_STEPS}
 use Rattle.client_world.specs.WatchWorld.{WatchWorld}
 use Rattle.client_world.specs.World.{HostWorld}
-use Rattle.host_run.specs.Footprint.{ChangesOnly, unsaid}
+use Rattle.host_run.specs.Footprint.{ChangesOnly}
 use Rattle.host_run.specs.MakesTurn.{turn_answer}
 use Rattle.host_run.specs.Windows.{HasWindow}
 use Rattle.host_run.proofs.Answered.{by_exit}
 use Rattle.host_run.proofs.ClientChanges.{kept}
 use Rattle.host_run.proofs.WindowStarts.{no_starts}
 use Rattle.timer_run.specs.Rounds.{MakesRound, round_footprint, timed}
-use Rattle.timer_run.specs.Timer.{TimerState, timer_answer, timer_part}
+use Rattle.timer_run.specs.Timer.{TimerState, timer_answer, timer_footprint, timer_part}
 use Rattle.timer_run.proofs.Parts.{answered_exit, answered_on, part_every, part_steps}
 use Rattle.timer_run.proofs.RoundParts.{exit_made, interrupt_made, turn_changes, turn_from, turn_made}
 use Rattle.timer_run.proofs.rounds.next_round.Goals as goal
@@ -27,8 +27,9 @@ returns-in-Ok-true-clause-round c =
     let made : MakesRound c.args.host.now c.begin_round.new.host c.args.watches.now c.args.watches.now t c.begin_round.new.self (Ok tt) =
     record {
       world = interrupt_made t c.begin_round.new.self w c.begin_round.new.host.world c.begin_round.ensures.timer host answer;
-      bytes = subst (λ (b : Bool). ChangesOnly (if b then unsaid else watch_footprint w) c.args.host.now.bytes c.begin_round.new.host.bytes)
-          (sym on.1) tt;
+      bytes = subst (λ (b : Bool).
+          ChangesOnly (if b then timer_footprint w.host else watch_footprint w) c.args.host.now.bytes c.begin_round.new.host.bytes)
+          (sym on.1) (c.in-Ok-true.ensures.bytes (cc c.in-Ok-true.field-0-test));
       kept = tt;
       goes_on = ap (λ (h : HostWorld). h.exit) host ∙ on.0;
       ends = tt;
