@@ -2,7 +2,8 @@
 ;@ f-block-32 -DW=32
 ;@ f-pages -DW=16 -DPAGES=16
 ; 0500h to 0503h refused: the number of each reason and their order, but for 8012h and 8016h (f-norun, f-handles).
-; f-pages has a budget of 16 pages: 0501h of 65,536 bytes is clear, of 1 byte gives 8013h.
+; f-pages has a budget of 16 pages: 0501h of 65,536 bytes is clear, of 1 byte gives 8013h. After 0502h of handle 1 the same block is made
+; again. Nothing was written into it: that used pages come back with zeros is shown by block-grown and m-blocks, which write first.
 %include "refuse.inc"
 %ifndef PAGES
  %define PAGES 1024

@@ -7,15 +7,21 @@ use sha2::{Digest, Sha256};
 use std::alloc::{AllocError, Global};
 use std::process::Abort;
 use std::test::Fail;
-use tables_1_to_3::{TABLE_1, TABLE_2, TABLE_3};
-use tables_4_to_6::{TABLE_4, TABLE_5, TABLE_6};
+use tables_1_to_2::{TABLE_1, TABLE_2};
+use tables_3_to_4::{TABLE_3, TABLE_4};
+use tables_5_to_6::{TABLE_5, TABLE_6};
+use tables_7::TABLE_7;
 
 mod case;
-mod clients_a_to_e;
-mod clients_f_to_g;
+mod clients_a_to_b;
+mod clients_c_to_e;
+mod clients_f;
+mod clients_g;
 mod clients_h_to_z;
-mod tables_1_to_3;
-mod tables_4_to_6;
+mod tables_1_to_2;
+mod tables_3_to_4;
+mod tables_5_to_6;
+mod tables_7;
 
 // What differs from a case's row.
 #[derive(Clone, Copy, Debug, PartialEq)]
@@ -106,5 +112,11 @@ fn clients_of_table_5_have_their_texts(rt: HostRuntime) -> Result<(), Fail> {
 #[test]
 fn clients_of_table_6_have_their_texts(rt: HostRuntime) -> Result<(), Fail> {
     run_all(&rt, rt.alloc(), &TABLE_6)?;
+    Ok(())
+}
+
+#[test]
+fn clients_of_table_7_have_their_texts(rt: HostRuntime) -> Result<(), Fail> {
+    run_all(&rt, rt.alloc(), &TABLE_7)?;
     Ok(())
 }

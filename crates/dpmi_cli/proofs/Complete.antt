@@ -60,12 +60,11 @@ verdict_map words None v P holds (first, (second, has)) =
 verdict_map words (Some fs) v P holds has = some_map (verdict words fs) v P holds has
 
 -- the answer to the verdict that was prepared is one to the words
-pub answers_prepared : (words : List (List ℕ)) (files : Option Files) (p q : Prepared) (before now : Shown) (m n result : ℕ) → p ≡ q →
-    Answers (verdict_in q) before now m n result → HasVerdict words files (λ v. v ≡ verdict_in p) →
+pub answers_prepared : (words : List (List ℕ)) (files : Option Files) (p : Prepared) (before now : Shown) (m n result : ℕ) →
+    Answers (verdict_in p) before now m n result → HasVerdict words files (λ v. v ≡ verdict_in p) →
     HasVerdict words files (λ v. Answers v before now m n result)
-answers_prepared words files p q before now m n result is gives has =
-    verdict_map words files (verdict_in p) (λ v. Answers v before now m n result)
-    (subst (λ r. Answers (verdict_in r) before now m n result) (sym is) gives) has
+answers_prepared words files p before now m n result gives has =
+    verdict_map words files (verdict_in p) (λ v. Answers v before now m n result) gives has
 
 verdict_sure : (found : Option Verdict) (N : Type 0) (before now : Shown) (m n result : ℕ) →
     (result ≡ 3 → N ⊎ (option_map answer_to found ≡ None)) →

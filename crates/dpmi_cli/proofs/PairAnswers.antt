@@ -1,6 +1,6 @@
 -- The turns of a host as those of a client of a pair, and the answer that a pair gives.
-use Rattle.std.proofs.Common.{◌≡◌, ◌≤◌, ◌+◌, ◌++◌, ℕ, zero, suc, None, Some, refl, sym, ◌∙◌, ap, subst}
-use Rattle.std.specs.Prelude.{IsSome, max}
+use Rattle.std.proofs.Common.{◌≡◌, ◌≤◌, ◌+◌, ℕ, zero, suc, None, Some, refl, sym, ◌∙◌, ap, subst}
+use Rattle.std.specs.Prelude.{IsSome, Result, Ok, Err, OnOk, max}
 use Rattle.std.specs.declared.option.Option.{Option}
 use Rattle.client_world.specs.declared.outcome.Exit.{Exit}
 use Rattle.client_world.specs.declared.outcome.Exit.TheVariants.{Bound}
@@ -8,8 +8,7 @@ use Rattle.client_world.specs.World.{HostWorld}
 use Rattle.host_run.specs.Run.{with_bound_exit}
 use Rattle.dpmi_io.specs.Causes.{Rose}
 use Rattle.dpmi_io.specs.Content.{Shown, Gains, GainsPart}
-use Rattle.dpmi_io.proofs.Output.{gains_then, part_longer, part_then}
-use Rattle.pair_run.specs.declared.lines.Letter.TheVariants.{A, B}
+use Rattle.dpmi_io.specs.Puts.{Puts}
 use Rattle.pair_run.specs.Slices.{OwnRun, own_run, slices_text}
 use Rattle.pair_run.specs.Run.{IsFirst, closed_by, run_of, turns_of}
 use Rattle.client_world.specs.WatchWorld.{WatchWorld, Watching, no_watches, host_without_watches}
@@ -18,7 +17,7 @@ use Rattle.dpmi_cli.specs.Answer.{StartsPair, pair_status, run_status}
 use Rattle.dpmi_cli.specs.Causes.{Answers}
 use Rattle.dpmi_cli.specs.Laws.{RunKeepsTheLaws}
 use Rattle.dpmi_cli.specs.Load.{IsReady}
-use Rattle.dpmi_cli.specs.Pairs.{client_part, host_with_bound_exit, host_console, host_exit, host_steps, pair_text, sliced}
+use Rattle.dpmi_cli.specs.Pairs.{host_with_bound_exit, host_console, host_exit, host_steps, pair_text, sliced}
 use Rattle.watch_run.specs.Turn.{run_with_watchpoints, turn_with_watchpoints, turns_with_watchpoints, watched_run}
 use Rattle.watch_run.proofs.WatchedTurns.{counts, extends, stays}
 use Rattle.dpmi_cli.proofs.RunAnswers.{cut, whole}
@@ -116,52 +115,14 @@ same_slices slice bound a b s t none_a none_b =
     ap (λ x. slices_text slice (sliced_from bound a x) (sliced_from bound b t)) none_a
     ∙ ap (λ x. slices_text slice (sliced bound a) (sliced_from bound b x)) none_b
 
-pub slices_gained : (slice bound : ℕ) (a b : HostWorld) (s t : Watching) (x y : Shown) → s ≡ no_watches → t ≡ no_watches →
-    Gains x y (slices_text slice (sliced_from bound a s) (sliced_from bound b t)) →
-    Gains x y (slices_text slice (sliced bound a) (sliced bound b))
-slices_gained slice bound a b s t x y none_a none_b whole = subst (λ l. Gains x y l) (same_slices slice bound a b s t none_a none_b) whole
+pub slices_put : {O A E : Type 0} {r : Result A E} {taken : O → Shown} {faults : O → ℕ} {x y : O} (slice bound : ℕ) (a b : HostWorld)
+    (s t : Watching) → s ≡ no_watches → t ≡ no_watches →
+    Puts r taken faults x y (slices_text slice (sliced_from bound a s) (sliced_from bound b t)) →
+    Puts r taken faults x y (slices_text slice (sliced bound a) (sliced bound b))
+slices_put {r = r} {taken = taken} {faults = faults} {x = x} {y = y} slice bound a b s t none_a none_b put =
+    subst (λ l. Puts r taken faults x y l) (same_slices slice bound a b s t none_a none_b) put
 
-pub slices_part : (slice bound : ℕ) (a b : HostWorld) (s t : Watching) (x y : Shown) → s ≡ no_watches → t ≡ no_watches →
-    GainsPart x y (slices_text slice (sliced_from bound a s) (sliced_from bound b t)) →
-    GainsPart x y (slices_text slice (sliced bound a) (sliced bound b))
-slices_part slice bound a b s t x y none_a none_b part = subst (λ l. GainsPart x y l) (same_slices slice bound a b s t none_a none_b) part
-
--- ---- the text of a pair, in its three parts
-
-pub pair_written : (slice bound : ℕ) (a b end_a end_b : HostWorld) (x y z u : Shown) → end_a ≡ watched_run a bound →
-    end_b ≡ watched_run b bound →
-    Gains x y (slices_text slice (sliced bound a) (sliced bound b)) → Gains y z (client_part A end_a) → Gains z u (client_part B end_b) →
-    Gains x u (pair_text slice bound a b)
-pair_written slice bound a b end_a end_b x y z u is_a is_b slices first_text second_text =
-    gains_then x y u (slices_text slice (sliced bound a) (sliced bound b))
-    (client_part A (watched_run a bound) ++ client_part B (watched_run b bound)) slices
-    (gains_then y z u (client_part A (watched_run a bound)) (client_part B (watched_run b bound))
-    (subst (λ (w : HostWorld). Gains y z (client_part A w)) is_a first_text)
-    (subst (λ (w : HostWorld). Gains z u (client_part B w)) is_b second_text))
-
-pub slices_cut : (slice bound : ℕ) (a b : HostWorld) (x y : Shown) → GainsPart x y (slices_text slice (sliced bound a) (sliced bound b)) →
-    GainsPart x y (pair_text slice bound a b)
-slices_cut slice bound a b x y part =
-    part_longer x y (slices_text slice (sliced bound a) (sliced bound b))
-    (client_part A (watched_run a bound) ++ client_part B (watched_run b bound)) part
-
-pub first_cut : (slice bound : ℕ) (a b end_a : HostWorld) (x y z : Shown) → end_a ≡ watched_run a bound →
-    Gains x y (slices_text slice (sliced bound a) (sliced bound b)) → GainsPart y z (client_part A end_a) →
-    GainsPart x z (pair_text slice bound a b)
-first_cut slice bound a b end_a x y z is_a slices part =
-    part_then x y z (slices_text slice (sliced bound a) (sliced bound b))
-    (client_part A (watched_run a bound) ++ client_part B (watched_run b bound)) slices
-    (part_longer y z (client_part A (watched_run a bound)) (client_part B (watched_run b bound))
-    (subst (λ (w : HostWorld). GainsPart y z (client_part A w)) is_a part))
-
-pub second_cut : (slice bound : ℕ) (a b end_a end_b : HostWorld) (x y z u : Shown) → end_a ≡ watched_run a bound →
-    end_b ≡ watched_run b bound →
-    Gains x y (slices_text slice (sliced bound a) (sliced bound b)) → Gains y z (client_part A end_a) →
-    GainsPart z u (client_part B end_b) →
-    GainsPart x u (pair_text slice bound a b)
-second_cut slice bound a b end_a end_b x y z u is_a is_b slices first_text part =
-    part_then x y u (slices_text slice (sliced bound a) (sliced bound b))
-    (client_part A (watched_run a bound) ++ client_part B (watched_run b bound)) slices
-    (part_then y z u (client_part A (watched_run a bound)) (client_part B (watched_run b bound))
-    (subst (λ (w : HostWorld). Gains y z (client_part A w)) is_a first_text)
-    (subst (λ (w : HostWorld). GainsPart z u (client_part B w)) is_b part))
+-- a fact holds in particular where a call succeeds
+pub when_ok : {A E P : Type 0} (r : Result A E) → P → OnOk r P
+when_ok (Ok x) p = p
+when_ok (Err e) p = tt

@@ -5,7 +5,7 @@ use Rattle.client_world.specs.declared.outcome.Exit.{Exit}
 use Rattle.client_world.specs.declared.outcome.Exit.TheVariants.{Bound}
 use Rattle.client_world.specs.World.{HostWorld}
 use Rattle.watch_run.specs.Turn.{turn_with_watchpoints, watched_run}
-use Rattle.dpmi_report.specs.Lines.{line_end}
+use Rattle.dpmi_io.specs.LineEnd.{line_end}
 use Rattle.dpmi_report.specs.Text.{text}
 use Rattle.pair_run.specs.declared.lines.Letter.{Letter}
 use Rattle.pair_run.specs.declared.lines.Letter.TheVariants.{A, B}

@@ -2,7 +2,7 @@
 use Rattle.std.specs.Prelude.{ℕ, List, [], ◌++◌, codes}
 use Rattle.client_world.specs.declared.outcome.LoadFault.{LoadFault}
 use Rattle.client_world.specs.declared.outcome.LoadFault.TheVariants as fault
-use Rattle.dpmi_report.specs.Lines.{line_end}
+use Rattle.dpmi_io.specs.LineEnd.{line_end}
 use Rattle.pair_run.specs.Slices.{letter_text}
 use Rattle.dpmi_cli.specs.declared.prepare.Reason.{Reason}
 use Rattle.dpmi_cli.specs.declared.prepare.Reason.TheVariants.{Words, FileTooLong, KeysTooLong, Load, FileTooLongOf, LoadOf}

@@ -1,13 +1,13 @@
 // The command.
-ghost use Rattle.std.specs.Prelude.{◌≡◌, ◌≢◌, ◌≤◌, ◌<◌, ◌⊎◌, map, string_bytes, IfSome};
+ghost use Rattle.std.specs.Prelude.{◌≡◌, ◌≢◌, ◌≤◌, ◌<◌, ◌⊎◌, map, string_bytes, Some, IfSome};
 ghost use Rattle.client_world.specs.WatchWorld.{no_watches};
 ghost use Rattle.dpmi_words.specs.Meaning.{meaning};
 ghost use Rattle.dpmi_io.specs.Causes.{Rose};
-ghost use Rattle.dpmi_io.specs.Content.{Gains};
+ghost use Rattle.dpmi_io.specs.Content.{Gains, Number};
 ghost use Rattle.dpmi_cli.specs.Answer.{answer, run_status};
 ghost use Rattle.dpmi_cli.specs.Answer.Verdict.{Refuses, Starts, StartsMade, StartsPair};
 ghost use Rattle.dpmi_cli.specs.Causes.{NamedFailed, IsAbsent, HasVerdict, Answers};
-ghost use Rattle.dpmi_cli.specs.Load.{IsNew};
+ghost use Rattle.dpmi_cli.specs.Load.{IsNew, verdict_in};
 
 use crate::laws::every_run_keeps_the_laws;
 use crate::pairs::write_turns;
@@ -17,7 +17,7 @@ use crate::runs::run_to_end;
 use crate::status::{ENDED_OTHERWISE, FILE_FAILED, NO_MEMORY, OUTPUT_FAILED, REFUSED};
 use crate::watched_host::WatchedHost;
 use client_world::limits::DEFAULT_BOUND;
-use dpmi_io::{Shelf, Sink};
+use dpmi_io::{Shelf, Sink, SureShelf, SureSink};
 use dpmi_report::{exit_status, write_all_of, write_summary};
 use host_run::Host;
 use pair_run::{
@@ -121,33 +121,19 @@ fn run_pair<O: Sink>(a: Host, b: Host, slice: u32, bound: u32, out: &mut O) -> u
     run_in_turns(&mut a, &mut b, slice, bound, out)
 }
 
-// Does what the words mean.
-fn answer_words<F: Shelf, O: Sink>(
-    alloc: Global,
-    words: &[String],
-    shelf: &mut F,
-    out: &mut O,
-) -> u8
-    ensures answers { result ≢ FILE_FAILED → result ≢ NO_MEMORY →
-        HasVerdict (map string_bytes words.now) (F.files shelf.old)
-        (λ v. Answers v (O.taken out.old) (O.taken out.new) (O.faults out.old) (O.faults out.new) result) }
-    ensures file_failure_has_cause { result ≡ FILE_FAILED →
-        NamedFailed (map string_bytes words.now) (F.faults shelf.old) (F.faults shelf.new) (F.blamed shelf.new)
-        ⊎ IsAbsent (map string_bytes words.now) (F.files shelf.old) }
-    ensures output_failure_has_cause { result ≡ OUTPUT_FAILED → Rose (O.faults out.old) (O.faults out.new) }
-    ensures nothing_written { (result ≡ FILE_FAILED) ⊎ (result ≡ NO_MEMORY) →
-        O.taken out.new ≡ O.taken out.old }
-    ensures a_failure_is_answered { result ≢ FILE_FAILED → F.faults shelf.new ≡ F.faults shelf.old }
-    ensures a_run_is_put_without_failure { result < REFUSED → O.faults out.new ≡ O.faults out.old }
-    ensures known { result ≤ NO_MEMORY }
+// Answers what the words and the files came to.
+fn answer_prepared<O: Sink>(prepared: Prepared, out: &mut O) -> u8
+    requires { IsNew (verdict_in prepared) }
+    ensures answers { Answers (verdict_in prepared) (O.taken out.old) (O.taken out.new) (O.faults out.old) (O.faults out.new) result }
+    ensures status { result ≤ OUTPUT_FAILED }
+    ensures no_file_failed { result ≢ FILE_FAILED }
+    ensures put { result < REFUSED → O.faults out.new ≡ O.faults out.old }
 {
-    match prepare(alloc, words, shelf) {
-        Ok(Prepared::Refused(reason)) => refuse(reason, out),
-        Ok(Prepared::Run(mut host, timer, bound)) => run_client(&mut host, timer, bound, out),
-        Ok(Prepared::Soak(mut host, number)) => run_made_client(&mut host, number, out),
-        Ok(Prepared::Pair(a, b, slice, bound)) => run_pair(a, b, slice, bound, out),
-        Err(Stop::Shelf) => FILE_FAILED,
-        Err(Stop::Memory) => NO_MEMORY,
+    match prepared {
+        Prepared::Refused(reason) => refuse(reason, out),
+        Prepared::Run(mut host, timer, bound) => run_client(&mut host, timer, bound, out),
+        Prepared::Soak(mut host, number) => run_made_client(&mut host, number, out),
+        Prepared::Pair(a, b, slice, bound) => run_pair(a, b, slice, bound, out),
     }
 }
 
@@ -187,5 +173,24 @@ pub fn dpmi<F: Shelf, O: Sink>(alloc: Global, words: &[String], shelf: &mut F, o
         ⊎ Answers (Refuses Reason.Words)
         (O.taken out.old) (O.taken out.new) (O.faults out.old) (O.faults out.new) result }
 {
-    answer_words(alloc, words, shelf, out)
+    match prepare(alloc, words, shelf) {
+        Ok(prepared) => answer_prepared(prepared, out),
+        Err(Stop::Shelf) => FILE_FAILED,
+        Err(Stop::Memory) => NO_MEMORY,
+    }
+}
+
+/// `dpmi` over one file that is there under every name, and an output that takes every byte: no call of these fails. The status is that of
+/// the answer, 0, 1 or 2, or 5 where memory runs out. Source: own.
+pub fn dpmi_without_failure(
+    alloc: Global,
+    words: &[String],
+    shelf: &mut SureShelf,
+    out: &mut SureSink,
+) -> u8
+    ensures status { (result ≤ REFUSED) ⊎ (result ≡ NO_MEMORY) }
+    ensures answers { IfSome (answer (map string_bytes words.now) (λ _. Some shelf.old.bytes)) (λ a. (result ≡ NO_MEMORY)
+        ⊎ ((result ≡ a.status) × Gains (Number out.old) (Number out.new) a.text)) }
+{
+    dpmi(alloc, words, shelf, out)
 }

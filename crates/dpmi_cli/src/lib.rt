@@ -15,5 +15,5 @@ mod runs;
 pub mod status;
 mod watched_host;
 
-pub use command::dpmi;
+pub use command::{dpmi, dpmi_without_failure};
 pub use laws::every_run_keeps_the_laws;

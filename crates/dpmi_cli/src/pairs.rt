@@ -1,10 +1,8 @@
 // Two hosts that take turns, and what they write.
-ghost use Rattle.std.specs.Prelude.{◌≡◌, OnOk, OnErr, IsSome};
-ghost use Rattle.dpmi_io.specs.Causes.{Rose};
-ghost use Rattle.dpmi_io.specs.Content.{Gains, GainsPart};
+ghost use Rattle.std.specs.Prelude.{◌≡◌, OnOk, IsSome};
 ghost use Rattle.client_world.specs.WatchWorld.{no_watches};
 ghost use Rattle.watch_run.specs.Turn.{watched_run};
-ghost use Rattle.dpmi_report.specs.Puts.{Puts};
+ghost use Rattle.dpmi_io.specs.Puts.{Puts};
 ghost use Rattle.dpmi_cli.specs.Answer.Verdict.{StartsPair};
 ghost use Rattle.dpmi_cli.specs.Load.{IsNew};
 ghost use Rattle.dpmi_cli.specs.Pairs.{client_line, client_part, pair_text};
@@ -59,21 +57,9 @@ pub fn write_turns<O: Sink>(
     requires watches { (a.old.watches ≡ no_watches) × (b.old.watches ≡ no_watches) }
     ensures end_a { OnOk result (a.new.host.world ≡ watched_run a.old.host.world bound) }
     ensures end_b { OnOk result (b.new.host.world ≡ watched_run b.old.host.world bound) }
-    ensures whole { OnOk result (Gains (O.taken out.old) (O.taken out.new) (pair_text slice bound a.old.host.world b.old.host.world)) }
-    ensures part { OnErr result (GainsPart (O.taken out.old) (O.taken out.new) (pair_text slice bound a.old.host.world b.old.host.world)) }
-    ensures quiet { OnOk result (O.faults out.new ≡ O.faults out.old) }
-    ensures failed { OnErr result (Rose (O.faults out.old) (O.faults out.new)) }
+    ensures puts { Puts result O.taken O.faults out.old out.new (pair_text slice bound a.old.host.world b.old.host.world) }
 {
-    match pair(a, b, slice, bound, out) {
-        Ok(()) => {}
-        Err(fail) => return Err(fail),
-    }
-    match write_client(Letter::A, &a.host, out) {
-        Ok(()) => {}
-        Err(fail) => return Err(fail),
-    }
-    match write_client(Letter::B, &b.host, out) {
-        Ok(()) => Ok(()),
-        Err(fail) => Err(fail),
-    }
+    pair(a, b, slice, bound, out)?;
+    write_client(Letter::A, &a.host, out)?;
+    write_client(Letter::B, &b.host, out)
 }

@@ -325,8 +325,8 @@ fn prepare_soak(alloc: Global, number: u64) -> Result<Prepared, AllocError>
     }
 }
 
-/// Reads the words and the files that they name, takes the memory, and loads the client, or the two clients of a pair.
-/// `Memory`: an allocation was refused. `Shelf`: a file failed or isn't there.
+/// Reads the words and the files that they name, takes the memory, and loads the client, or the two clients of a pair. `Memory`: an
+/// allocation was refused. `Shelf`: a file failed or isn't there. Source: own.
 pub fn prepare<F: Shelf>(alloc: Global, words: &[String], shelf: &mut F) -> Result<Prepared, Stop>
     ensures verdict { IfOk result (λ p.
         HasVerdict (map string_bytes words.now) (F.files shelf.old) (λ v. v ≡ verdict_in p)) }

@@ -1,6 +1,6 @@
 // The line of a refusal.
 ghost use Rattle.std.specs.Prelude.{◌≡◌, ◌≤◌, length};
-ghost use Rattle.dpmi_report.specs.Puts.{Puts};
+ghost use Rattle.dpmi_io.specs.Puts.{Puts};
 ghost use Rattle.dpmi_cli.specs.Text.{client_text, fault_text, line_of_refusal, reason_text};
 
 use crate::prepare::Reason;
@@ -61,7 +61,8 @@ fn refusal_line(reason: Reason) -> Line
     line
 }
 
-/// Writes the line of a refusal. It takes no memory.
+/// Writes the line of a refusal. It takes no memory. Where it fails a prefix of the line was written, and the output's count of faults
+/// rose. Source: own.
 pub fn write_refusal<O: Sink>(reason: Reason, out: &mut O) -> Result<(), SinkFail>
     ensures { Puts result O.taken O.faults out.old out.new (line_of_refusal reason) }
 {

@@ -3,9 +3,10 @@ ghost use Rattle.std.specs.Prelude.{◌≡◌};
 ghost use Rattle.client_world.specs.WatchWorld.{no_watches};
 
 use client_world::Exit;
-use host_run::Host;
+use guest_space::CodeWindow;
+use host_run::{Ended, Host};
 use pair_run::Turns;
-use watch_run::{Watches, watch_turn};
+use watch_run::{Watches, next_watched_turn};
 
 /// A host that takes turns with another one, and its client's watchpoints.
 #[derive(Drop)]
@@ -45,10 +46,15 @@ impl Turns for WatchedHost {
 
     ghost steps_of = { host_steps };
 
+    // The turns of a slice hand on one window of code.
     fn go(&mut self, n: u32) -> Option<Exit> {
+        if let Some(exit) = self.host.exit() {
+            return Some(exit);
+        }
+        let mut window = CodeWindow::NONE;
         for count in 0..n {
-            if let Err(exit) = watch_turn(&mut self.host, &mut self.watches) {
-                return Some(exit);
+            if let Err(Ended) = next_watched_turn(&mut self.host, &mut self.watches, &mut window) {
+                return self.host.exit();
             }
         }
         self.host.exit()

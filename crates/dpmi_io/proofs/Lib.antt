@@ -1,4 +1,5 @@
 pub mod Decimal
 mod Input
 pub mod Output
+pub mod Putting
 mod Stored

@@ -2,7 +2,9 @@ pub mod Causes
 pub mod Content
 pub mod FaultPlan
 pub mod FileShelf
+pub mod LineEnd
 pub mod MemShelf
 pub mod MemSink
+pub mod Puts
 pub mod StoredFiles
 pub mod SureShelf

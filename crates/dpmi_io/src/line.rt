@@ -10,9 +10,9 @@ pub const LINE_ROOM: usize = 256;
 /// A line of text as it is made.
 pub type Line = ArrayVec<u8, LINE_ROOM>;
 
-/// Adds bytes to a line.
+/// Adds bytes to a line that has room for them. Source: own.
 pub fn add(line: &mut Line, bytes: &[u8])
-    requires { length line.old.items + length bytes.now ≤ 256 }
+    requires { length line.old.items + length bytes.now ≤ LINE_ROOM }
     ensures added { line.new.items ≡ line.old.items ++ bytes.now }
     ensures len { length line.new.items ≡ length line.old.items + length bytes.now }
 {
@@ -21,11 +21,11 @@ pub fn add(line: &mut Line, bytes: &[u8])
     }
 }
 
-/// Adds a number in decimal digits.
+/// Adds a number in decimal digits, 20 at most, to a line that has room for them. Source: own.
 #[tactic(auto, using(crate::proofs::Decimal::decimal_more, crate::proofs::Decimal::decimal_more_length, //
 crate::proofs::Decimal::decimal_one))]
 pub fn add_decimal(line: &mut Line, n: u64)
-    requires { length line.old.items + length (decimal n) ≤ 256 }
+    requires { length line.old.items + length (decimal n) ≤ LINE_ROOM }
     ensures added { line.new.items ≡ line.old.items ++ decimal n }
     ensures len { length line.new.items ≡ length line.old.items + length (decimal n) }
 {

@@ -144,7 +144,7 @@ impl MemShelf {
     ghost use Rattle.dpmi_io.specs.FaultPlan.{after_listing};
     ghost use Rattle.dpmi_io.specs.MemShelf.{new_shelf, after_add};
 
-    /// A shelf with no files.
+    /// A shelf with no files, of which no call is to fail. Source: own.
     pub fn new(alloc: Global) -> MemShelf
         ensures { result ≡ new_shelf }
     {
@@ -157,8 +157,8 @@ impl MemShelf {
         }
     }
 
-    /// Adds a file, or gives the one of that name these bytes.
-    /// A file that is open goes on at its place in the new bytes.
+    /// Adds a file, or gives the one of that name these bytes. A file that is open goes on at its place in the new bytes. Fails where
+    /// memory is out; the shelf is then as it was. Source: own.
     pub fn add(&mut self, name: &str, bytes: &[u8]) -> Result<(), AllocError>
         ensures ok { OnOk result (self.new ≡ after_add self.old name.now bytes.now) }
         ensures err { OnErr result (self.new ≡ self.old) }
@@ -169,7 +169,8 @@ impl MemShelf {
         Ok(())
     }
 
-    /// Lists a call that isn't made yet: it will fail.
+    /// Lists a call that isn't made yet, counted from 1: it will fail. Fails itself where memory is out; the shelf is then as it was.
+    /// Source: own.
     pub fn fail_at(&mut self, call: u64) -> Result<(), AllocError>
         requires { self.old.plan.calls < call }
         ensures ok { OnOk result (self.new ≡ record self.old { plan = after_listing self.old.plan call }) }

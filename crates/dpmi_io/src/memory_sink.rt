@@ -73,7 +73,7 @@ impl MemSink {
     ghost use Rattle.dpmi_io.specs.FaultPlan.{after_listing};
     ghost use Rattle.dpmi_io.specs.MemSink.{new_sink};
 
-    /// A sink with room for that many bytes, which takes at most `piece` of them at a put.
+    /// A sink with room for that many bytes, which takes at most `piece` of them at a put. Fails where memory is out. Source: own.
     pub fn new(alloc: Global, room: usize, piece: usize) -> Result<MemSink, AllocError>
         requires { 0 < piece }
         ensures { IfOk result (λ s. s ≡ new_sink room piece) }
@@ -86,7 +86,8 @@ impl MemSink {
         })
     }
 
-    /// Lists a put that isn't made yet: it will fail, and take nothing.
+    /// Lists a put that isn't made yet, counted from 1: it will fail, and take nothing. Fails itself where memory is out; the sink is then
+    /// as it was. Source: own.
     pub fn fail_at(&mut self, call: u64) -> Result<(), AllocError>
         requires { self.old.plan.calls < call }
         ensures ok { OnOk result (self.new ≡ record self.old { plan = after_listing self.old.plan call }) }
@@ -95,7 +96,7 @@ impl MemSink {
         self.plan.fail_at(call)
     }
 
-    /// The bytes taken, from the first on.
+    /// The bytes taken, from the first on. Source: own.
     pub fn bytes(&self) -> &[u8]
         ensures { result.now ≡ self.now.taken }
     {

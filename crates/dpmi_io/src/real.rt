@@ -39,7 +39,7 @@ impl<'a, R: Files> Model for FileShelf<'a, R> {
 }
 
 impl<'a, R: Files> FileShelf<'a, R> {
-    /// A shelf with no open file and no failure.
+    /// A shelf with no open file and no failure. Source: own.
     pub fn new(rt: &'a R) -> FileShelf<'a, R>
         ensures { result ≡ record { current = None; blamed = None; faults = 0 } }
     {
@@ -110,7 +110,7 @@ impl<W: Write> Model for StdoutSink<W> {
 }
 
 impl<W: Write> StdoutSink<W> {
-    /// A sink over the writer, with no failure.
+    /// A sink over the writer, with no failure. Source: own.
     pub fn new(writer: W) -> StdoutSink<W>
         ensures { result ≡ 0 }
     {

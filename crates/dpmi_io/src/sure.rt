@@ -27,7 +27,7 @@ impl Model for SureShelf {
 }
 
 impl SureShelf {
-    /// A shelf whose one file has these bytes, with no file open.
+    /// A shelf whose one file has these bytes, with no file open. Fails where memory is out. Source: own.
     pub fn new(alloc: Global, bytes: &[u8]) -> Result<SureShelf, AllocError>
         ensures { IfOk result (λ s. s ≡ record { bytes = bytes.now; current = None }) }
     {
@@ -97,14 +97,14 @@ impl Model for SureSink {
 }
 
 impl SureSink {
-    /// A sink that has taken nothing.
+    /// A sink that has taken nothing. Source: own.
     pub fn new() -> SureSink
         ensures { result ≡ 0 }
     {
         SureSink { taken: 0 }
     }
 
-    /// How many bytes it took, at most the greatest u64.
+    /// How many bytes it took, at most the greatest u64. Source: own.
     pub fn count(&self) -> u64
         ensures { result ≡ self.now }
     {

@@ -1,17 +1,13 @@
 // Whole texts put, and files read to their end or to the end of a buffer.
 ghost use Rattle.std.specs.Prelude.{◌≡◌, ◌≤◌, length, take, IfOk, OnOk, OnErr, IfSome, IsErrOf, IsSome};
 ghost use Rattle.dpmi_io.specs.Causes.{Rose};
-ghost use Rattle.dpmi_io.specs.Content.{Gains, GainsPart};
+ghost use Rattle.dpmi_io.specs.Puts.{Puts};
 
 use crate::{Shelf, ShelfFail, Sink, SinkFail};
 
-/// Puts all of the bytes. It takes no memory.
-/// Where it fails some of the first bytes were taken, and the count of faults rose.
+/// Puts all of the bytes. It takes no memory. Where it fails a prefix of them was taken, and the count of faults rose. Source: own.
 pub fn put_all<O: Sink>(out: &mut O, bytes: &[u8]) -> Result<(), SinkFail>
-    ensures whole { OnOk result (Gains (O.taken out.old) (O.taken out.new) bytes.now) }
-    ensures part { OnErr result (GainsPart (O.taken out.old) (O.taken out.new) bytes.now) }
-    ensures quiet { OnOk result (O.faults out.new ≡ O.faults out.old) }
-    ensures failed { OnErr result (Rose (O.faults out.old) (O.faults out.new)) }
+    ensures puts { Puts result O.taken O.faults out.old out.new bytes.now }
     ensures later { O.faults out.old ≤ O.faults out.new }
 {
     let mut done = 0;
@@ -24,8 +20,8 @@ pub fn put_all<O: Sink>(out: &mut O, bytes: &[u8]) -> Result<(), SinkFail>
     Ok(())
 }
 
-/// Reads the open file to its end, or the buffer full, and returns the number of bytes.
-/// It fails as `Failed` alone, and the count of faults then rose.
+/// Reads the open file to its end, or the buffer full, and returns the number of bytes. It fails as `Failed` alone, and the count of faults
+/// then rose. Source: own.
 pub fn read_whole<F: Shelf>(shelf: &mut F, buf: &mut [u8]) -> Result<usize, ShelfFail>
     requires { IsSome (F.open_name shelf.old) }
     ensures files { F.files shelf.new ≡ F.files shelf.old }

@@ -1,5 +1,4 @@
 mod BlockBytes
 mod Counts
 mod Pieces
-pub mod Putting
 mod Sequence

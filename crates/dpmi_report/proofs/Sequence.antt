@@ -1,7 +1,12 @@
 -- Lines written one after another.
 use Rattle.std.proofs.Common.{arith, ◌≡◌, ◌<◌, ◌+◌, ◌-◌, ℕ, zero, suc, List, ◌++◌, refl, sym, subst, add-one}
+use Rattle.std.specs.Prelude.{Result, Err}
+use Rattle.std.specs.Result.{IsErr}
+use Rattle.dpmi_io.specs.Causes.{Rose}
 use Rattle.dpmi_io.specs.Content.{Shown, Gains, GainsPart}
+use Rattle.dpmi_io.specs.Puts.{Puts}
 use Rattle.dpmi_io.proofs.Output.{gained-none, gains_then, part_then, part_longer}
+use Rattle.dpmi_io.proofs.Putting.{puts_failed}
 use Rattle.dpmi_report.specs.Rows.{up_to}
 
 up_to_next : (f : ℕ → List ℕ) (n : ℕ) → up_to f (n + 1) ≡ up_to f n ++ f n
@@ -31,3 +36,11 @@ row_failed f n total a b c lt g h =
     let one : GainsPart a c (up_to f (n + 1)) =
     subst (λ l. GainsPart a c l) (sym (up_to_next f n)) (part_then a b c (up_to f n) (f n) g h) in
     subst (λ k. GainsPart a c (up_to f k)) (omega arith) (longer f (n + 1) (total - (n + 1)) a c one)
+
+-- a row failed, after others
+pub row_cut : {O A B E F : Type 0} {e : E} {taken : O → Shown} {faults : O → ℕ} {a b c : O} (f : ℕ → List ℕ) (n total : ℕ)
+    (r : Result B F) → IsErr r → n < total →
+    Gains (taken a) (taken b) (up_to f n) → faults b ≡ faults a → Puts {O = O} {A = A} {E = E} (Err e) taken faults b c (f n) →
+    Puts r taken faults a c (up_to f total)
+row_cut {faults = faults} {c = c} f n total r is lt so_far same row =
+    puts_failed r is (row_failed f n total _ _ _ lt so_far row.part) (subst (λ from. Rose from (faults c)) same row.failed)

@@ -1,7 +1,6 @@
 pub mod Digits
 pub mod Exits
 pub mod Lines
-pub mod Puts
 pub mod Rows
 pub mod Summary
 pub mod Text

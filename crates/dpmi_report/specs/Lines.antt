@@ -16,12 +16,9 @@ use Rattle.client_world.specs.Descriptor.{access_byte, flags_byte, byte_limit}
 use Rattle.client_world.specs.Registers.{flags_image}
 use Rattle.client_world.specs.Selector.{Row, row_at_index, selector_of}
 use Rattle.client_world.specs.World.{MemoryBlock, block_at}
+use Rattle.dpmi_io.specs.LineEnd.{line_end}
 use Rattle.dpmi_report.specs.Digits.{hex_digit, hex_byte, hex_word, hex_doubleword}
 use Rattle.dpmi_report.specs.Exits.{exit_text}
-
--- the end of a line
-abbrev pub line_end : List ℕ
-line_end = 0x0A ∷ []
 
 -- the lines of how a run ended, and after how many turns
 abbrev pub exit_part : Exit → ℕ → List ℕ

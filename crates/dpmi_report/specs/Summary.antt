@@ -9,7 +9,8 @@ use Rattle.client_world.specs.declared.trace.TraceLine.{TraceLine}
 use Rattle.client_world.specs.declared.trace.TraceLine.TheVariants.{Int31, Int21, Int2f, Int20, Entry, EntryRefused, ToProtected, ToReal}
 use Rattle.client_world.specs.declared.trace.TraceLine.TheVariants.{Enter, Leave}
 use Rattle.client_world.specs.World.{HostWorld}
-use Rattle.dpmi_report.specs.Lines.{line_end, exit_part, dos_line}
+use Rattle.dpmi_io.specs.LineEnd.{line_end}
+use Rattle.dpmi_report.specs.Lines.{exit_part, dos_line}
 
 -- the number of the client
 abbrev pub soak_head : ℕ → List ℕ

@@ -7,7 +7,8 @@ use Rattle.client_world.specs.declared.outcome.Exit.{Exit}
 use Rattle.client_world.specs.declared.registers.Mode.{Mode}
 use Rattle.client_world.specs.declared.registers.Regs.{Regs}
 use Rattle.client_world.specs.World.{World, HostWorld, depth}
-use Rattle.dpmi_report.specs.Lines.{line_end, exit_part, mode_text, regs_text, desc_row, block_row, dos_line}
+use Rattle.dpmi_io.specs.LineEnd.{line_end}
+use Rattle.dpmi_report.specs.Lines.{exit_part, mode_text, regs_text, desc_row, block_row, dos_line}
 use Rattle.dpmi_report.specs.Rows.{up_to}
 use Rattle.dpmi_report.specs.Trace.{trace_row}
 

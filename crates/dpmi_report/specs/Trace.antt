@@ -15,7 +15,8 @@ use Rattle.client_world.specs.declared.trace.TraceLine.{TraceLine}
 use Rattle.client_world.specs.declared.trace.TraceLine.TheVariants.{Int31, Int21, Int2f, Int20, Entry, EntryRefused, ToProtected, ToReal}
 use Rattle.client_world.specs.declared.trace.TraceLine.TheVariants.{Enter, Leave}
 use Rattle.dpmi_report.specs.Digits.{hex_byte, hex_word}
-use Rattle.dpmi_report.specs.Lines.{line_end, regs_text}
+use Rattle.dpmi_io.specs.LineEnd.{line_end}
+use Rattle.dpmi_report.specs.Lines.{regs_text}
 
 -- what was called
 abbrev pub call_text : Call → List ℕ

@@ -3,8 +3,8 @@ ghost use Rattle.std.specs.Prelude.{◌≡◌, ◌<◌, Some, None, count_by, is
 ghost use Rattle.client_world.specs.declared.limits.TheConstants.{MAX_BLOCKS};
 ghost use Rattle.client_world.specs.World.{block_at};
 ghost use Rattle.block_memory.specs.BlockSizes.{locks_of_block, row_seen};
+ghost use Rattle.dpmi_io.specs.Puts.{Puts};
 ghost use Rattle.dpmi_report.specs.Lines.{block_text, block_row};
-ghost use Rattle.dpmi_report.specs.Puts.{Puts};
 ghost use Rattle.dpmi_report.specs.Rows.{up_to};
 ghost use Rattle.dpmi_report.specs.Text.{blocks_head, blocks_part};
 
@@ -113,7 +113,7 @@ fn put_blocks_head<O: Sink>(machine: &Machine, out: &mut O) -> Result<(), SinkFa
     put_all(out, line.as_slice())
 }
 
-/// Puts the memory blocks' part.
+/// Puts the memory blocks' part. Where it fails a first part of it was put, and the output's count of faults rose. Source: own.
 pub fn put_blocks<O: Sink>(machine: &Machine, out: &mut O) -> Result<(), SinkFail>
     ensures { Puts result O.taken O.faults out.old out.new (blocks_part machine.now.world) }
 {

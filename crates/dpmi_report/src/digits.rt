@@ -13,7 +13,7 @@ fn digit(n: u8) -> u8
     b"0123456789abcdef"[n as usize]
 }
 
-/// Adds a number below 16 in one hexadecimal digit.
+/// Adds a number below 16 in one hexadecimal digit. Source: own.
 pub fn add_hex_digit(line: &mut Line, n: u8)
     requires small { n < 16 }
     requires room { length line.old.items + 1 ≤ 256 }
@@ -23,7 +23,7 @@ pub fn add_hex_digit(line: &mut Line, n: u8)
     add(line, &[digit(n)]);
 }
 
-/// Adds a byte in two hexadecimal digits.
+/// Adds a byte in two hexadecimal digits. Source: own.
 pub fn add_hex_byte(line: &mut Line, n: u8)
     requires { length line.old.items + 2 ≤ 256 }
     ensures added { line.new.items ≡ line.old.items ++ hex_byte n }
@@ -34,7 +34,7 @@ pub fn add_hex_byte(line: &mut Line, n: u8)
     add(line, &digits);
 }
 
-/// Adds a word in four hexadecimal digits.
+/// Adds a word in four hexadecimal digits. Source: own.
 pub fn add_hex_word(line: &mut Line, n: u16)
     requires { length line.old.items + 4 ≤ 256 }
     ensures added { line.new.items ≡ line.old.items ++ hex_word n }
@@ -45,7 +45,7 @@ pub fn add_hex_word(line: &mut Line, n: u16)
     add(line, &digits);
 }
 
-/// Adds a doubleword in eight hexadecimal digits.
+/// Adds a doubleword in eight hexadecimal digits. Source: own.
 pub fn add_hex_doubleword(line: &mut Line, n: u32)
     requires { length line.old.items + 8 ≤ 256 }
     ensures added { line.new.items ≡ line.old.items ++ hex_doubleword n }
@@ -56,7 +56,7 @@ pub fn add_hex_doubleword(line: &mut Line, n: u32)
     add(line, &digits);
 }
 
-/// Adds a digest in 64 hexadecimal digits.
+/// Adds a digest in 64 hexadecimal digits. Source: own.
 pub fn add_digest(line: &mut Line, digest: &[u8; 32])
     requires { length line.old.items + 64 ≤ 256 }
     ensures added { line.new.items ≡ line.old.items ++ encode_lower digest.now }

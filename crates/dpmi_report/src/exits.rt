@@ -29,7 +29,7 @@ fn row(word: &'static [u8], status: u8) -> ExitRow
     ExitRow { word, status }
 }
 
-/// The row of an exit.
+/// The row of an exit: its word and its status. Source: own.
 pub fn exit_row(exit: Exit) -> ExitRow
     ensures word { result.word.now ≡ (exit_row exit).word }
     ensures short { length result.word.now ≤ 13 }
@@ -49,7 +49,7 @@ pub fn exit_row(exit: Exit) -> ExitRow
     }
 }
 
-/// The status of the program after an exit.
+/// The status of the program after an exit: 0 where the client ended itself, else 1. Source: own.
 pub fn exit_status(exit: Exit) -> u8
     ensures { result ≡ exit_status exit }
 {
@@ -85,7 +85,7 @@ fn add_numbers(line: &mut Line, exit: Exit)
     }
 }
 
-/// Adds how a run ended: its exit's word, and its numbers.
+/// Adds how a run ended: its exit's word, and its numbers. Source: own.
 pub fn add_exit(line: &mut Line, exit: Exit)
     requires { length line.old.items ≤ 100 }
     ensures added { line.new.items ≡ line.old.items ++ exit_text exit }

@@ -18,5 +18,5 @@ mod tests;
 mod trace;
 
 pub use exits::{ENDED_OTHERWISE, EXITED, exit_status};
-pub use report::{write_all_of, write_memory, write_run, write_state};
+pub use report::write_all_of;
 pub use summary::write_summary;

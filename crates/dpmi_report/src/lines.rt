@@ -13,7 +13,7 @@ use client_world::{Desc, Exit, Mode, Origin, Regs};
 use desc_table::pack;
 use dpmi_io::{Line, add, add_decimal};
 
-/// The line before the console's bytes.
+/// The line before the console's bytes. Source: own.
 #[tactic(auto, using(dpmi_io::proofs::Decimal::decimal_short))]
 pub fn console_line(count: u32) -> Line
     ensures { result.items ≡ console_head count }
@@ -25,7 +25,7 @@ pub fn console_line(count: u32) -> Line
     line
 }
 
-/// The line before the trace.
+/// The line before the trace. Source: own.
 #[tactic(auto, using(dpmi_io::proofs::Decimal::decimal_short))]
 pub fn trace_line(kept: u32, lines: u32) -> Line
     ensures { result.items ≡ trace_head kept lines }
@@ -53,7 +53,7 @@ fn add_exit_lines(lines: &mut Line, exit: Exit, steps: u32)
     add(lines, b"\n");
 }
 
-/// The lines of the exit and of the turns.
+/// The lines of the exit and of the turns. Source: own.
 pub fn exit_lines(exit: Exit, steps: u32) -> Line
     ensures { result.items ≡ exit_part exit steps }
 {
@@ -62,7 +62,7 @@ pub fn exit_lines(exit: Exit, steps: u32) -> Line
     lines
 }
 
-/// The lines of the report's head, of the exit and of the turns.
+/// The lines of the report's head, of the exit and of the turns. Source: own.
 pub fn end_lines(exit: Exit, steps: u32) -> Line
     ensures { result.items ≡ end_part exit steps }
 {
@@ -136,7 +136,7 @@ fn add_narrow_regs(line: &mut Line, r: &Regs, vif: bool)
     add_narrow(line, b" gs=", r.gs);
 }
 
-/// Adds all registers: 171 bytes at most.
+/// Adds all registers: 171 bytes at most. Source: own.
 pub fn add_regs(line: &mut Line, r: &Regs, vif: bool)
     requires { length line.old.items ≤ 80 }
     ensures added { line.new.items ≡ line.old.items ++ regs_text r.now vif }
@@ -174,7 +174,7 @@ fn access_and_flags(d: &Desc) -> (u8, u8)
     (bytes[5], bytes[6] / 16)
 }
 
-/// The line of the descriptor of a selector.
+/// The line of the descriptor of a selector. Source: own.
 pub fn descriptor_line(selector: u16, d: &Desc, origin: Origin) -> Line
     requires { d.now.limit < 2 ^ 20 }
     ensures { result.items ≡ desc_line selector d.now origin }
@@ -194,7 +194,7 @@ pub fn descriptor_line(selector: u16, d: &Desc, origin: Origin) -> Line
     line
 }
 
-/// The line before the descriptors.
+/// The line before the descriptors. Source: own.
 #[tactic(auto, using(dpmi_io::proofs::Decimal::decimal_short))]
 pub fn descriptors_line(count: u32) -> Line
     ensures { result.items ≡ descs_head count }
@@ -206,7 +206,7 @@ pub fn descriptors_line(count: u32) -> Line
     line
 }
 
-/// The line before the memory blocks.
+/// The line before the memory blocks. Source: own.
 #[tactic(auto, using(dpmi_io::proofs::Decimal::decimal_short))]
 pub fn blocks_line(count: u32) -> Line
     ensures { result.items ≡ blocks_head count }
@@ -218,7 +218,7 @@ pub fn blocks_line(count: u32) -> Line
     line
 }
 
-/// The line of the DOS megabyte, from its digest.
+/// The line of the DOS megabyte, from its digest. Source: own.
 pub fn dos_line(digest: &[u8; 32]) -> Line
     ensures { result.items ≡ digest_line digest.now }
 {
@@ -229,7 +229,7 @@ pub fn dos_line(digest: &[u8; 32]) -> Line
     line
 }
 
-/// The lines of the mode, the depth and the registers.
+/// The lines of the mode, the depth and the registers. Source: own.
 #[tactic(auto, using(dpmi_io::proofs::Decimal::decimal_byte))]
 pub fn processor_lines(mode: Mode, depth: u8, regs: &Regs, vif: bool) -> Line
     ensures { result.items ≡ processor_text mode depth regs.now vif }
@@ -247,7 +247,7 @@ pub fn processor_lines(mode: Mode, depth: u8, regs: &Regs, vif: bool) -> Line
     lines
 }
 
-/// The line of the number of a made client.
+/// The line of the number of a made client. Source: own.
 #[tactic(auto, using(dpmi_io::proofs::Decimal::decimal_long))]
 pub fn soak_line(number: u64) -> Line
     ensures { result.items ≡ soak_head number }
@@ -259,7 +259,7 @@ pub fn soak_line(number: u64) -> Line
     line
 }
 
-/// The line of the services of INT 31h, and of those that were refused.
+/// The line of the services of INT 31h, and of those that were refused. Source: own.
 #[tactic(auto, using(dpmi_io::proofs::Decimal::decimal_short))]
 pub fn services_line(services: u32, carries: u32) -> Line
     ensures { result.items ≡ services_text services carries }
@@ -273,7 +273,7 @@ pub fn services_line(services: u32, carries: u32) -> Line
     line
 }
 
-/// The line of the console: the number of its bytes, and their digest.
+/// The line of the console: the number of its bytes, and their digest. Source: own.
 #[tactic(auto, using(dpmi_io::proofs::Decimal::decimal_short))]
 pub fn console_digest_line(count: u32, digest: &[u8; 32]) -> Line
     ensures { result.items ≡ console_digest_text count digest.now }
@@ -287,7 +287,7 @@ pub fn console_digest_line(count: u32, digest: &[u8; 32]) -> Line
     line
 }
 
-/// The line of a memory block: its handle, base, pages, locked pages, and the digest of its bytes.
+/// The line of a memory block: its handle, base, pages, locked pages, and the digest of its bytes. Source: own.
 #[tactic(auto, using(dpmi_io::proofs::Decimal::decimal_short))]
 pub fn block_line(handle: u32, base: u32, pages: u32, locked: u32, digest: &[u8; 32]) -> Line
     ensures { result.items ≡ block_line_with handle base pages locked digest.now }

@@ -1,8 +1,9 @@
 // The parts of the text. None takes memory; where one fails, a first part of its text was put, and the count of faults rose.
 ghost use Rattle.std.specs.Prelude.{◌≡◌, ◌<◌, length, count_by, is_some};
 ghost use Rattle.client_world.specs.declared.host_frames.TheConstants.{DESCRIPTORS};
-ghost use Rattle.dpmi_report.specs.Lines.{line_end, exit_part, desc_row, dos_line};
-ghost use Rattle.dpmi_report.specs.Puts.{Puts};
+ghost use Rattle.dpmi_io.specs.LineEnd.{line_end};
+ghost use Rattle.dpmi_io.specs.Puts.{Puts};
+ghost use Rattle.dpmi_report.specs.Lines.{exit_part, desc_row, dos_line};
 ghost use Rattle.dpmi_report.specs.Rows.{up_to};
 ghost use Rattle.dpmi_report.specs.Text.{console_head, console_part, trace_head, trace_part, end_part, processor_part};
 ghost use Rattle.dpmi_report.specs.Text.{descs_head, descs_part};
@@ -107,7 +108,7 @@ fn put_events<O: Sink>(host: &Host, out: &mut O) -> Result<(), SinkFail>
     put_first_events(host, host.kept(), out)
 }
 
-/// Puts the trace's part.
+/// Puts the trace's part. Where it fails a first part of it was put, and the output's count of faults rose. Source: own.
 pub fn put_trace<O: Sink>(host: &Host, out: &mut O) -> Result<(), SinkFail>
     ensures { Puts result O.taken O.faults out.old out.new (trace_part host.now.world) }
 {
@@ -138,7 +139,8 @@ fn end_lines_of(host: &Host, exit: Exit) -> Line
     end_lines(exit, host.steps())
 }
 
-/// Puts how the run ended, and after how many turns.
+/// Puts how the run ended, and after how many turns. Where it fails a first part of that was put, and the output's count of faults rose.
+/// Source: own.
 pub fn put_end<O: Sink>(host: &Host, exit: Exit, out: &mut O) -> Result<(), SinkFail>
     ensures { Puts result O.taken O.faults out.old out.new (end_part exit host.now.world.steps) }
 {
@@ -154,7 +156,8 @@ fn processor_lines_of(machine: &Machine) -> Line
     processor_lines(machine.mode(), depth(machine), &regs, machine.vif())
 }
 
-/// Puts the mode, the depth and the registers.
+/// Puts the mode, the depth and the registers. Where it fails a first part of them was put, and the output's count of faults rose. Source:
+/// own.
 pub fn put_processor<O: Sink>(machine: &Machine, out: &mut O) -> Result<(), SinkFail>
     ensures { Puts result O.taken O.faults out.old out.new (processor_part machine.now.world) }
 {
@@ -215,7 +218,7 @@ fn put_rows<O: Sink>(machine: &Machine, out: &mut O) -> Result<(), SinkFail>
     Ok(())
 }
 
-/// Puts the descriptors' part.
+/// Puts the descriptors' part. Where it fails a first part of it was put, and the output's count of faults rose. Source: own.
 pub fn put_descriptors<O: Sink>(machine: &Machine, out: &mut O) -> Result<(), SinkFail>
     ensures { Puts result O.taken O.faults out.old out.new (descs_part machine.now.world) }
 {
@@ -230,7 +233,7 @@ fn dos_line_of(machine: &Machine) -> Line
     dos_line(&dos_digest(machine))
 }
 
-/// Puts the line of the DOS megabyte.
+/// Puts the line of the DOS megabyte. Where it fails a first part of it was put, and the output's count of faults rose. Source: own.
 pub fn put_dos<O: Sink>(machine: &Machine, out: &mut O) -> Result<(), SinkFail>
     ensures { Puts result O.taken O.faults out.old out.new (dos_line machine.now.world.dos) }
 {

@@ -1,6 +1,6 @@
 // The text, put in its order.
 ghost use Rattle.std.specs.Prelude.{◌≡◌, Some, IsSome};
-ghost use Rattle.dpmi_report.specs.Puts.{Puts};
+ghost use Rattle.dpmi_io.specs.Puts.{Puts};
 ghost use Rattle.dpmi_report.specs.Text.{memory_part, run_part, state_part, text, text_at};
 
 use crate::blocks::put_blocks;
@@ -10,9 +10,9 @@ use dpmi_io::{Sink, SinkFail};
 use guest_space::Machine;
 use host_run::Host;
 
-/// Writes what a run that ended so wrote and noted: the console, the trace, how it ended, and after how many turns. It takes no memory.
-/// Where it fails a first part of the text was written, and the output's count of faults rose. Source: own.
-pub fn write_run<O: Sink>(host: &Host, exit: Exit, out: &mut O) -> Result<(), SinkFail>
+// Writes what a run that ended so wrote and noted: the console, the trace, how it ended, and after how many turns. It takes no memory.
+// Where it fails a first part of the text was written, and the output's count of faults rose.
+fn write_run<O: Sink>(host: &Host, exit: Exit, out: &mut O) -> Result<(), SinkFail>
     requires { host.now.world.exit ≡ Some exit }
     ensures { Puts result O.taken O.faults out.old out.new (run_part host.now.world exit) }
 {
@@ -21,18 +21,18 @@ pub fn write_run<O: Sink>(host: &Host, exit: Exit, out: &mut O) -> Result<(), Si
     put_end(host, exit, out)
 }
 
-/// Writes the state of the processor and the descriptors. It takes no memory.
-/// Where it fails a first part of the text was written, and the output's count of faults rose. Source: own.
-pub fn write_state<O: Sink>(machine: &Machine, out: &mut O) -> Result<(), SinkFail>
+// Writes the state of the processor and the descriptors. It takes no memory.
+// Where it fails a first part of the text was written, and the output's count of faults rose.
+fn write_state<O: Sink>(machine: &Machine, out: &mut O) -> Result<(), SinkFail>
     ensures { Puts result O.taken O.faults out.old out.new (state_part machine.now.world) }
 {
     put_processor(machine, out)?;
     put_descriptors(machine, out)
 }
 
-/// Writes the memory blocks and the digest of the DOS megabyte. It takes no memory.
-/// Where it fails a first part of the text was written, and the output's count of faults rose. Source: own.
-pub fn write_memory<O: Sink>(machine: &Machine, out: &mut O) -> Result<(), SinkFail>
+// Writes the memory blocks and the digest of the DOS megabyte. It takes no memory.
+// Where it fails a first part of the text was written, and the output's count of faults rose.
+fn write_memory<O: Sink>(machine: &Machine, out: &mut O) -> Result<(), SinkFail>
     ensures { Puts result O.taken O.faults out.old out.new (memory_part machine.now.world) }
 {
     put_blocks(machine, out)?;

@@ -1,6 +1,6 @@
 // The lines of the trace.
 ghost use Rattle.std.specs.Prelude.{◌≡◌, ◌≤◌, ◌+◌, ◌++◌, length};
-ghost use Rattle.dpmi_report.specs.Lines.{line_end};
+ghost use Rattle.dpmi_io.specs.LineEnd.{line_end};
 ghost use Rattle.dpmi_report.specs.Trace.{call_text, what_text, carry_text, width_text, record_text, event_text};
 
 use crate::digits::{add_hex_byte, add_hex_word};
@@ -140,7 +140,7 @@ fn add_event(line: &mut Line, event: &TraceLine)
     }
 }
 
-/// The line of an event.
+/// The line of an event. Source: own.
 pub fn event_line(event: &TraceLine) -> Line
     ensures { result.items ≡ event_text event.now ++ line_end }
 {

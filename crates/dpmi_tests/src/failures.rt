@@ -1,9 +1,6 @@
 // The command over files and an output of which one call fails, at their limits, and over those that never fail.
-ghost use Rattle.std.specs.Prelude.{◌≡◌, ◌≤◌, ◌⊎◌};
-
 use crate::files::{LETTER_TEXT, ONE_LETTER, answer, is_first_of, owned_words};
-use dpmi_cli::dpmi;
-use dpmi_cli::status::{NO_MEMORY, REFUSED};
+use dpmi_cli::dpmi_without_failure;
 use dpmi_io::{MemShelf, MemSink, SureShelf, SureSink};
 use std::alloc::{AllocError, Global};
 use std::test::Fail;
@@ -169,13 +166,6 @@ fn each_put_of_a_pair_fails_in_turn(rt: HostRuntime) -> Result<(), Fail> {
     Ok(())
 }
 
-// The command over files and an output that never fail.
-fn answer_surely(alloc: Global, words: &[String], shelf: &mut SureShelf, out: &mut SureSink) -> u8
-    ensures { (result ≤ REFUSED) ⊎ (result ≡ NO_MEMORY) }
-{
-    dpmi(alloc, words, shelf, out)
-}
-
 // Words, the status, and how many bytes are written.
 const SURE_RUNS: [(&[&str], u8, u64); 4] = [
     (&["run", "A.EXE"], 0, 361),
@@ -191,7 +181,7 @@ fn nothing_fails_where_nothing_can(rt: HostRuntime) -> Result<(), Fail> {
         let given = owned_words(rt.alloc(), *texts)?;
         let mut shelf = SureShelf::new(rt.alloc(), &ONE_LETTER)?;
         let mut out = SureSink::new();
-        let answered = answer_surely(rt.alloc(), given.as_slice(), &mut shelf, &mut out);
+        let answered = dpmi_without_failure(rt.alloc(), given.as_slice(), &mut shelf, &mut out);
         if answered != *status || out.count() != *count {
             wrong = Some(row);
         }

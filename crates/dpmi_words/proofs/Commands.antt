@@ -19,7 +19,7 @@ use Rattle.clap.proofs.WalkLemmas.{first_value-rows}
 use Rattle.dpmi_words.specs.Options.{pair_options, run_options, soak_options}
 use Rattle.dpmi_words.specs.Reading.{Text, Reading, nothing_read, is_option_name, one_operand, pair_operands, reads, finished, finished_by}
 use Rattle.dpmi_words.specs.Reading.{given_by, value_given}
-use Rattle.dpmi_words.specs.Command.{pair_app, run_app, soak_app, Assigns}
+use Rattle.dpmi_words.specs.Command.{pair_app, run_app, soak_app, Assigns, TakesItsWords}
 use Rattle.dpmi_words.proofs.Walks.{Rules, built_option, Operands, Tied, Idle, row, walk_at, all_steps}
 
 -- ---- the command of `run`
@@ -49,7 +49,7 @@ has_rules names c long by_id = record {
   by_id = each_name _ names (equal_each (arg_by_id c) (λ n. Some (built_option n)) names by_id);
 }
 
-pub run_simple : is_simple run_app ≡ true
+run_simple : is_simple run_app ≡ true
 unfolding clap_on_literals
 run_simple = refl
 
@@ -61,7 +61,7 @@ run_operands = (refl, refl, tt)
 
 -- ---- the command of `soak`
 
-pub soak_simple : is_simple soak_app ≡ true
+soak_simple : is_simple soak_app ≡ true
 unfolding clap_on_literals
 soak_simple = refl
 
@@ -73,7 +73,7 @@ soak_operands = (refl, refl, tt)
 
 -- ---- the command of `pair`
 
-pub pair_simple : is_simple pair_app ≡ true
+pair_simple : is_simple pair_app ≡ true
 unfolding clap_on_literals
 pair_simple = refl
 
@@ -137,7 +137,7 @@ walk_ends names operands app rules places again words given e =
 
 -- ---- what the commands take and assign
 
-pub run_takes : (words : List Text) (given : List (Text × Text)) → given_by run_options one_operand words ≡ Some given →
+run_takes : (words : List Text) (given : List (Text × Text)) → given_by run_options one_operand words ≡ Some given →
     takes run_app words ≡ true
 run_takes words given e =
     let ends = walk_ends run_options one_operand run_app run_rules run_operands refl words given e in
@@ -145,7 +145,7 @@ run_takes words given e =
     rw (ends.passes, ends.is, ends.idle_now.passes) refl in
     rw run_simple (leaf_takes (built run_app) nothing_held words refl level)
 
-pub run_matches : (words : List Text) (given : List (Text × Text)) → given_by run_options one_operand words ≡ Some given →
+run_matches : (words : List Text) (given : List (Text × Text)) → given_by run_options one_operand words ≡ Some given →
     matches_of run_app words ≡ map row given
 run_matches words given e =
     let ends = walk_ends run_options one_operand run_app run_rules run_operands refl words given e in
@@ -153,7 +153,7 @@ run_matches words given e =
     ∙ no_defaults (built run_app).top.rules _ refl
     ∙ ends.idle_now.rows
 
-pub soak_takes : (words : List Text) (given : List (Text × Text)) → given_by soak_options one_operand words ≡ Some given →
+soak_takes : (words : List Text) (given : List (Text × Text)) → given_by soak_options one_operand words ≡ Some given →
     takes soak_app words ≡ true
 soak_takes words given e =
     let ends = walk_ends soak_options one_operand soak_app soak_rules soak_operands refl words given e in
@@ -161,7 +161,7 @@ soak_takes words given e =
     rw (ends.passes, ends.is, ends.idle_now.passes) refl in
     rw soak_simple (leaf_takes (built soak_app) nothing_held words refl level)
 
-pub soak_matches : (words : List Text) (given : List (Text × Text)) → given_by soak_options one_operand words ≡ Some given →
+soak_matches : (words : List Text) (given : List (Text × Text)) → given_by soak_options one_operand words ≡ Some given →
     matches_of soak_app words ≡ map row given
 soak_matches words given e =
     let ends = walk_ends soak_options one_operand soak_app soak_rules soak_operands refl words given e in
@@ -169,7 +169,7 @@ soak_matches words given e =
     ∙ no_defaults (built soak_app).top.rules _ refl
     ∙ ends.idle_now.rows
 
-pub pair_takes : (words : List Text) (given : List (Text × Text)) → given_by pair_options pair_operands words ≡ Some given →
+pair_takes : (words : List Text) (given : List (Text × Text)) → given_by pair_options pair_operands words ≡ Some given →
     takes pair_app words ≡ true
 pair_takes words given e =
     let ends = walk_ends pair_options pair_operands pair_app pair_rules pair_both refl words given e in
@@ -177,7 +177,7 @@ pair_takes words given e =
     rw (ends.passes, ends.is, ends.idle_now.passes) refl in
     rw pair_simple (leaf_takes (built pair_app) nothing_held words refl level)
 
-pub pair_matches : (words : List Text) (given : List (Text × Text)) → given_by pair_options pair_operands words ≡ Some given →
+pair_matches : (words : List Text) (given : List (Text × Text)) → given_by pair_options pair_operands words ≡ Some given →
     matches_of pair_app words ≡ map row given
 pair_matches words given e =
     let ends = walk_ends pair_options pair_operands pair_app pair_rules pair_both refl words given e in
@@ -210,5 +210,24 @@ if_given None P h = tt
 if_given (Some given) P h = h given refl
 
 -- a parse that found these rows assigns these values
-pub rows_assign : (found : Found) (given : List (Text × Text)) → rows_of found ≡ map row given → Assigns given found
+rows_assign : (found : Found) (given : List (Text × Text)) → rows_of found ≡ map row given → Assigns given found
 rows_assign found given rows name = first_value-rows found name ∙ ap (first_of name) rows ∙ first_given name given
+
+takes_words : (app : App) (names operands : List Text) → is_simple app ≡ true →
+    ((words : List Text) (given : List (Text × Text)) → given_by names operands words ≡ Some given → takes app words ≡ true) →
+    ((words : List Text) (given : List (Text × Text)) → given_by names operands words ≡ Some given → matches_of app words ≡ map row given) →
+    TakesItsWords app names operands
+takes_words app names operands simple passes finds = record {
+  simple = simple;
+  takes_all = passes;
+  assigns_all = λ words given found e rows. rows_assign found given (rows ∙ finds words given e);
+}
+
+pub run_takes_words : TakesItsWords run_app run_options one_operand
+run_takes_words = takes_words run_app run_options one_operand run_simple run_takes run_matches
+
+pub soak_takes_words : TakesItsWords soak_app soak_options one_operand
+soak_takes_words = takes_words soak_app soak_options one_operand soak_simple soak_takes soak_matches
+
+pub pair_takes_words : TakesItsWords pair_app pair_options pair_operands
+pair_takes_words = takes_words pair_app pair_options pair_operands pair_simple pair_takes pair_matches

@@ -1,12 +1,13 @@
 -- The commands of `clap` that assign the words, and what they assign. Source: own.
 use Rattle.std.specs.Prelude.{◌≡◌, true, List, [], codes, Some}
 use Rattle.std.specs.List.{fold}
-use Rattle.clap.specs.Walk.{Rule}
+use Rattle.clap.specs.Walk.{Rule, rows_of}
 use Rattle.clap.specs.Matches.{first_value}
 use Rattle.clap.specs.declared.parser.matches.Found.{Found}
-use Rattle.clap.specs.Simple.{App, new_rule, new_shape, with_rule}
+use Rattle.clap.specs.Simple.{App, is_simple, matches_of, new_rule, new_shape, with_rule}
+use Rattle.clap.specs.Takes.{takes}
 use Rattle.dpmi_words.specs.Options.{pair_options, run_options, soak_options}
-use Rattle.dpmi_words.specs.Reading.{Text, one_operand, pair_operands, value_given}
+use Rattle.dpmi_words.specs.Reading.{Text, given_by, one_operand, pair_operands, value_given}
 
 -- an option with a value
 abbrev pub option_rule : Text → Rule
@@ -41,3 +42,10 @@ pair_app = command_app (codes "pair") pair_options pair_operands
 -- each value was assigned that the words give, and no other
 abbrev pub Assigns : List (Text × Text) → Found → Type 0
 Assigns given found = (name : Text) → first_value found name ≡ value_given name given
+
+-- the command takes all words that break no rule of these options and operands, and assigns the values that they give
+pub record TakesItsWords (app : App) (options operands : List Text) : Type 0 where
+  pub simple : is_simple app ≡ true
+  pub takes_all : (words : List Text) (given : List (Text × Text)) → given_by options operands words ≡ Some given → takes app words ≡ true
+  pub assigns_all : (words : List Text) (given : List (Text × Text)) (found : Found) → given_by options operands words ≡ Some given →
+      rows_of found ≡ matches_of app words → Assigns given found

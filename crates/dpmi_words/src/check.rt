@@ -185,8 +185,8 @@ fn is_finished(seen: &Seen<'_>) -> bool
     seen.waiting.is_none() && seen.left.is_empty()
 }
 
-/// Whether the words give values as the rules ask, where these are the options, and the operands have these names.
-/// Fails where memory is out.
+/// Whether the words give values as the rules ask, where these are the options, and the operands have these names. Fails where memory is
+/// out. Source: own.
 #[tactic(auto, using(crate::proofs::InTurn::reads_none, crate::proofs::InTurn::reads_more))]
 pub fn passes<'a>(
     alloc: Global,

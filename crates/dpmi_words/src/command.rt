@@ -5,13 +5,11 @@ ghost use Rattle.clap.specs.Simple.{app_of, new_rule, with_rule};
 ghost use Rattle.clap.specs.Walk.{rule_of};
 ghost use Rattle.clap.specs.Values.{kind_of};
 ghost use Rattle.clap.specs.Matches.{found_of};
-ghost use Rattle.dpmi_words.specs.Options.{pair_options, run_options, soak_options};
-ghost use Rattle.dpmi_words.specs.Reading.{given_by, one_operand, pair_operands};
-ghost use Rattle.dpmi_words.specs.Command.{command_app, quiet_app, option_rule, Assigns};
+ghost use Rattle.dpmi_words.specs.Reading.{given_by};
+ghost use Rattle.dpmi_words.specs.Command.{command_app, quiet_app, option_rule, Assigns, TakesItsWords};
 ghost use Rattle.dpmi_words.specs.Seen.{names_of, texts};
 
-use crate::check::{ONE_OPERAND, PAIR_OPERANDS};
-use crate::options::{CommandOption, pair_options, run_options, soak_options};
+use crate::options::CommandOption;
 use clap::error::ErrorKind;
 use clap::{Arg, ArgMatches, Command, Error};
 use std::alloc::{AllocError, Global};
@@ -68,35 +66,22 @@ fn command_of<'a>(
     Ok(command)
 }
 
-/// Assigns the words after `run`. Of words that break no rule it fails only where memory is out.
-pub fn assign_run<'a>(alloc: Global, words: &'a [String]) -> Result<ArgMatches<'a>, Error>
-    ensures values { IfSome (given_by run_options one_operand (map string_bytes words.now)) (λ given.
+/// Assigns the words after the first one, which is the name, where these are its options and the names of its operands. Of words that break
+/// no rule it fails only where memory is out. Source: own.
+pub fn assign<'a>(
+    alloc: Global,
+    name: &'a str,
+    options: &[CommandOption],
+    operands: &[&'a str],
+    words: &'a [String],
+) -> Result<ArgMatches<'a>, Error>
+    requires { TakesItsWords (command_app name.now (names_of options.now) (texts operands.now)) (names_of options.now)
+        (texts operands.now) }
+    ensures values { IfSome (given_by (names_of options.now) (texts operands.now) (map string_bytes words.now)) (λ given.
         IfOk result (λ matches. Assigns given (found_of matches))) }
-    ensures memory { IfSome (given_by run_options one_operand (map string_bytes words.now)) (λ given.
+    ensures memory { IfSome (given_by (names_of options.now) (texts operands.now) (map string_bytes words.now)) (λ given.
         IfErr result (λ e. kind_of e ≡ ErrorKind.OutOfMemory)) }
 {
-    let command = command_of(alloc, "run", &run_options(), &ONE_OPERAND)?;
-    command.try_get_matches_from(words)
-}
-
-/// Assigns the words after `soak`. Of words that break no rule it fails only where memory is out.
-pub fn assign_soak<'a>(alloc: Global, words: &'a [String]) -> Result<ArgMatches<'a>, Error>
-    ensures values { IfSome (given_by soak_options one_operand (map string_bytes words.now)) (λ given.
-        IfOk result (λ matches. Assigns given (found_of matches))) }
-    ensures memory { IfSome (given_by soak_options one_operand (map string_bytes words.now)) (λ given.
-        IfErr result (λ e. kind_of e ≡ ErrorKind.OutOfMemory)) }
-{
-    let command = command_of(alloc, "soak", &soak_options(), &ONE_OPERAND)?;
-    command.try_get_matches_from(words)
-}
-
-/// Assigns the words after `pair`. Of words that break no rule it fails only where memory is out.
-pub fn assign_pair<'a>(alloc: Global, words: &'a [String]) -> Result<ArgMatches<'a>, Error>
-    ensures values { IfSome (given_by pair_options pair_operands (map string_bytes words.now)) (λ given.
-        IfOk result (λ matches. Assigns given (found_of matches))) }
-    ensures memory { IfSome (given_by pair_options pair_operands (map string_bytes words.now)) (λ given.
-        IfErr result (λ e. kind_of e ≡ ErrorKind.OutOfMemory)) }
-{
-    let command = command_of(alloc, "pair", &pair_options(), &PAIR_OPERANDS)?;
+    let command = command_of(alloc, name, options, operands)?;
     command.try_get_matches_from(words)
 }

@@ -22,7 +22,7 @@ ghost use Rattle.dpmi_words.specs.Meaning.{
 ghost use Rattle.dpmi_words.specs.Options.{row_of};
 
 use crate::check::{ONE_OPERAND, OPERAND, PAIR_OPERANDS, passes};
-use crate::command::{assign_pair, assign_run, assign_soak};
+use crate::command::assign;
 use crate::number::{number_if_given, optional_number, seed};
 use crate::options::{
     BOUND, CommandOption, KEYS, KEYS_FILE, PAGES, PAGES_A, PAGES_B, SLICE, TIMER, TRACE, ValueKind,
@@ -186,10 +186,11 @@ fn pair_of<'a>(values: &ArgMatches<'a>) -> Option<Pair<'a>>
 fn read_run<'a>(alloc: Global, words: &'a [String]) -> Result<Option<Run<'a>>, AllocError>
     ensures { IfOk result (λ r. option_map run_in r ≡ run_meaning (map string_bytes words.now)) }
 {
-    if !passes(alloc, &run_options(), &ONE_OPERAND, words)? {
+    let options = run_options();
+    if !passes(alloc, &options, &ONE_OPERAND, words)? {
         return Ok(None);
     }
-    match assign_run(alloc, words) {
+    match assign(alloc, "run", &options, &ONE_OPERAND, words) {
         Ok(values) => run_of(alloc, &values),
         Err(_) => Err(AllocError),
     }
@@ -199,10 +200,11 @@ fn read_run<'a>(alloc: Global, words: &'a [String]) -> Result<Option<Run<'a>>, A
 fn read_soak(alloc: Global, words: &[String]) -> Result<Option<u64>, AllocError>
     ensures { IfOk result (λ r. r ≡ soak_meaning (map string_bytes words.now)) }
 {
-    if !passes(alloc, &soak_options(), &ONE_OPERAND, words)? {
+    let options = soak_options();
+    if !passes(alloc, &options, &ONE_OPERAND, words)? {
         return Ok(None);
     }
-    match assign_soak(alloc, words) {
+    match assign(alloc, "soak", &options, &ONE_OPERAND, words) {
         Ok(values) => Ok(soak_of(&values)),
         Err(_) => Err(AllocError),
     }
@@ -212,10 +214,11 @@ fn read_soak(alloc: Global, words: &[String]) -> Result<Option<u64>, AllocError>
 fn read_pair<'a>(alloc: Global, words: &'a [String]) -> Result<Option<Pair<'a>>, AllocError>
     ensures { IfOk result (λ r. option_map pair_in r ≡ pair_meaning (map string_bytes words.now)) }
 {
-    if !passes(alloc, &pair_options(), &PAIR_OPERANDS, words)? {
+    let options = pair_options();
+    if !passes(alloc, &options, &PAIR_OPERANDS, words)? {
         return Ok(None);
     }
-    match assign_pair(alloc, words) {
+    match assign(alloc, "pair", &options, &PAIR_OPERANDS, words) {
         Ok(values) => Ok(pair_of(&values)),
         Err(_) => Err(AllocError),
     }

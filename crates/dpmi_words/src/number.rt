@@ -26,7 +26,7 @@ fn in_range(n: u32, least: u32, most: u32) -> Option<u32>
     }
 }
 
-/// The number that the text is: 1 to 10 decimal digits, with a value in the range.
+/// The number that the text is: 1 to 10 decimal digits, with a value in the range; else `None`. Source: own.
 pub fn number(text: &str, least: u32, most: u32) -> Option<u32>
     ensures { result ≡ number_in_text 10 least most text.now }
 {
@@ -39,7 +39,7 @@ pub fn number(text: &str, least: u32, most: u32) -> Option<u32>
     }
 }
 
-/// The number of the text, or the usual one where there is no text.
+/// The number of the text, or the usual one where there is no text; `None` where the text is no number in the range. Source: own.
 pub fn optional_number(text: Option<&str>, usual: u32, least: u32, most: u32) -> Option<u32>
     ensures { result ≡ number_or usual least most (option_map (λ s. s.now) text.entry) }
 {
@@ -49,7 +49,7 @@ pub fn optional_number(text: Option<&str>, usual: u32, least: u32, most: u32) ->
     }
 }
 
-/// Where no text is given, Some(None); else the number of the text, or None where it isn't a number in the range.
+/// Where no text is given, `Some(None)`; else the number of the text, or `None` where it isn't a number in the range. Source: own.
 pub fn number_if_given(text: Option<&str>, least: u32, most: u32) -> Option<Option<u32>>
     ensures { result ≡ number_if_given least most (option_map (λ s. s.now) text.entry) }
 {
@@ -62,7 +62,7 @@ pub fn number_if_given(text: Option<&str>, least: u32, most: u32) -> Option<Opti
     }
 }
 
-/// The number of 64 bits that the text is: 1 to 20 decimal digits.
+/// The number of 64 bits that the text is: 1 to 20 decimal digits; else `None`. Source: own.
 pub fn seed(text: &str) -> Option<u64>
     ensures { result ≡ number_in_text 20 0 (2 ^ 64 - 1) text.now }
 {

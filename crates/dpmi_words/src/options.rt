@@ -84,7 +84,7 @@ pub const PAGES_B: CommandOption = CommandOption {
     kind: ValueKind::Number(1, MAX_PAIR_PAGES, DEFAULT_PAGES),
 };
 
-/// The options of `run`.
+/// The options of `run`. Source: own.
 pub fn run_options() -> [CommandOption; 6]
     ensures rows { map row_of result ≡ run_rows }
     ensures names { names_of result ≡ run_options }
@@ -92,7 +92,7 @@ pub fn run_options() -> [CommandOption; 6]
     [KEYS, KEYS_FILE, BOUND, PAGES, TRACE, TIMER]
 }
 
-/// The options of `soak`.
+/// The options of `soak`: none. Source: own.
 pub fn soak_options() -> [CommandOption; 0]
     ensures rows { map row_of result ≡ soak_rows }
     ensures names { names_of result ≡ soak_options }
@@ -100,7 +100,7 @@ pub fn soak_options() -> [CommandOption; 0]
     []
 }
 
-/// The options of `pair`.
+/// The options of `pair`. Source: own.
 pub fn pair_options() -> [CommandOption; 4]
     ensures rows { map row_of result ≡ pair_rows }
     ensures names { names_of result ≡ pair_options }

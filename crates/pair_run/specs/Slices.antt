@@ -1,6 +1,7 @@
 -- What two clients in turns write: the bytes that each one's console gains, slice by slice of its own run. Source: own.
 use Rattle.std.specs.Prelude.{ℕ, zero, suc, ◌+◌, ◌-◌, ◌*◌, ◌/◌, ◌++◌, List, [], ◌∷◌, Bool, true, false, length, drop, min, max, codes}
 use Rattle.std.specs.Fmt.{decimal}
+use Rattle.dpmi_io.specs.LineEnd.{line_end}
 use Rattle.pair_run.specs.declared.lines.Letter.{Letter}
 use Rattle.pair_run.specs.declared.lines.Letter.TheVariants.{A, B}
 use Rattle.pair_run.specs.Run.{turns_of}
@@ -57,10 +58,6 @@ both_lines n a b k = slice_line n A a k ++ slice_line n B b k
 -- slice by slice, to the last slice of either
 abbrev pub pair_lines : ℕ → OwnRun → OwnRun → List SliceLine
 pair_lines n a b = lines_up_to (both_lines n a b) (max (slices n a) (slices n b))
-
--- the end of a line
-abbrev pub line_end : List ℕ
-line_end = 0x0A ∷ []
 
 abbrev pub letter_text : Letter → List ℕ
 letter_text A = codes "a"

@@ -1,8 +1,7 @@
 // Two clients that take turns in slices.
 ghost use Rattle.std.specs.Prelude.{◌≡◌, ◌≤◌, ◌<◌, ◌+◌, ℕ, length, drop, is_some, None, IfOk, OnOk, OnErr, IsSome};
 ghost use Rattle.client_world.specs.declared.limits.TheConstants.{MAX_SLICE, MAX_STEPS};
-ghost use Rattle.dpmi_io.specs.Causes.{Rose};
-ghost use Rattle.dpmi_io.specs.Content.{Gains, GainsPart};
+ghost use Rattle.dpmi_io.specs.Puts.{Puts};
 ghost use Rattle.pair_run.specs.Run.{IsFirst, run_of, turns_of};
 ghost use Rattle.pair_run.specs.Slices.{lines_text, own_run, pair_head, pair_lines, slice_head, slices_text, line_if_any};
 
@@ -12,10 +11,7 @@ use dpmi_io::{Sink, SinkFail, put_all};
 
 // Puts the first line.
 fn put_head<O: Sink>(slice: u32, out: &mut O) -> Result<(), SinkFail>
-    ensures whole { OnOk result (Gains (O.taken out.old) (O.taken out.new) (pair_head slice)) }
-    ensures part { OnErr result (GainsPart (O.taken out.old) (O.taken out.new) (pair_head slice)) }
-    ensures quiet { OnOk result (O.faults out.new ≡ O.faults out.old) }
-    ensures failed { OnErr result (Rose (O.faults out.old) (O.faults out.new)) }
+    ensures { Puts result O.taken O.faults out.old out.new (pair_head slice) }
 {
     let line = pair_head(slice);
     put_all(out, line.as_slice())
@@ -28,10 +24,7 @@ fn put_slice_head<O: Sink>(
     count: u64,
     out: &mut O,
 ) -> Result<(), SinkFail>
-    ensures whole { OnOk result (Gains (O.taken out.old) (O.taken out.new) (slice_head number client count)) }
-    ensures part { OnErr result (GainsPart (O.taken out.old) (O.taken out.new) (slice_head number client count)) }
-    ensures quiet { OnOk result (O.faults out.new ≡ O.faults out.old) }
-    ensures failed { OnErr result (Rose (O.faults out.old) (O.faults out.new)) }
+    ensures { Puts result O.taken O.faults out.old out.new (slice_head number client count) }
 {
     let line = slice_head(number, client, count);
     put_all(out, line.as_slice())
@@ -44,10 +37,7 @@ fn put_slice<O: Sink>(
     bytes: &[u8],
     out: &mut O,
 ) -> Result<(), SinkFail>
-    ensures whole { OnOk result (Gains (O.taken out.old) (O.taken out.new) (lines_text (line_if_any number client bytes.now))) }
-    ensures part { OnErr result (GainsPart (O.taken out.old) (O.taken out.new) (lines_text (line_if_any number client bytes.now))) }
-    ensures quiet { OnOk result (O.faults out.new ≡ O.faults out.old) }
-    ensures failed { OnErr result (Rose (O.faults out.old) (O.faults out.new)) }
+    ensures { Puts result O.taken O.faults out.old out.new (lines_text (line_if_any number client bytes.now)) }
 {
     if bytes.is_empty() {
         return Ok(());
@@ -76,12 +66,8 @@ fn make_slice<T: Turns, O: Sink>(
     requires { T.exit_of (T.world client.old) ≡ None → T.steps_of (T.world client.old) + turns ≤ MAX_STEPS }
     ensures world { T.world client.new ≡ turns_of T.turn turns (T.world client.old) }
     ensures ended { IfOk result (λ ended. ended ≡ is_some (T.exit_of (T.world client.new))) }
-    ensures whole { OnOk result (Gains (O.taken out.old) (O.taken out.new) (lines_text
-        (line_if_any number letter (drop (length (T.console_of (T.world client.old))) (T.console_of (T.world client.new)))))) }
-    ensures part { OnErr result (GainsPart (O.taken out.old) (O.taken out.new) (lines_text
-        (line_if_any number letter (drop (length (T.console_of (T.world client.old))) (T.console_of (T.world client.new)))))) }
-    ensures quiet { OnOk result (O.faults out.new ≡ O.faults out.old) }
-    ensures failed { OnErr result (Rose (O.faults out.old) (O.faults out.new)) }
+    ensures puts { Puts result O.taken O.faults out.old out.new (lines_text
+        (line_if_any number letter (drop (length (T.console_of (T.world client.old))) (T.console_of (T.world client.new))))) }
 {
     let before = client.console().len();
     let ended = client.go(turns).is_some();
@@ -115,12 +101,8 @@ fn run_slices<T: Turns, O: Sink>(
     ensures ran_b { OnOk result (T.world b.new ≡ turns_of T.turn bound (T.world b.old)) }
     ensures some_a { OnErr result ((n : ℕ) × (n ≤ bound) × (T.world a.new ≡ turns_of T.turn n (T.world a.old))) }
     ensures some_b { OnErr result ((n : ℕ) × (n ≤ bound) × (T.world b.new ≡ turns_of T.turn n (T.world b.old))) }
-    ensures whole { OnOk result (Gains (O.taken out.old) (O.taken out.new) (lines_text (pair_lines slice
-        (own_run T.turn T.console_of T.steps_of bound (T.world a.old)) (own_run T.turn T.console_of T.steps_of bound (T.world b.old))))) }
-    ensures part { OnErr result (GainsPart (O.taken out.old) (O.taken out.new) (lines_text (pair_lines slice
-        (own_run T.turn T.console_of T.steps_of bound (T.world a.old)) (own_run T.turn T.console_of T.steps_of bound (T.world b.old))))) }
-    ensures quiet { OnOk result (O.faults out.new ≡ O.faults out.old) }
-    ensures failed { OnErr result (Rose (O.faults out.old) (O.faults out.new)) }
+    ensures puts { Puts result O.taken O.faults out.old out.new (lines_text (pair_lines slice
+        (own_run T.turn T.console_of T.steps_of bound (T.world a.old)) (own_run T.turn T.console_of T.steps_of bound (T.world b.old)))) }
 {
     let mut number = 0;
     let mut done = 0;
@@ -158,12 +140,8 @@ pub fn pair<T: Turns, O: Sink>(
     ensures exits { OnOk result (IsSome (T.exit_of (T.world a.new)) × IsSome (T.exit_of (T.world b.new))) }
     ensures some_a { OnErr result ((n : ℕ) × (n ≤ bound) × (T.world a.new ≡ turns_of T.turn n (T.world a.old))) }
     ensures some_b { OnErr result ((n : ℕ) × (n ≤ bound) × (T.world b.new ≡ turns_of T.turn n (T.world b.old))) }
-    ensures whole { OnOk result (Gains (O.taken out.old) (O.taken out.new) (slices_text slice
-        (own_run T.turn T.console_of T.steps_of bound (T.world a.old)) (own_run T.turn T.console_of T.steps_of bound (T.world b.old)))) }
-    ensures part { OnErr result (GainsPart (O.taken out.old) (O.taken out.new) (slices_text slice
-        (own_run T.turn T.console_of T.steps_of bound (T.world a.old)) (own_run T.turn T.console_of T.steps_of bound (T.world b.old)))) }
-    ensures quiet { OnOk result (O.faults out.new ≡ O.faults out.old) }
-    ensures failed { OnErr result (Rose (O.faults out.old) (O.faults out.new)) }
+    ensures puts { Puts result O.taken O.faults out.old out.new (slices_text slice
+        (own_run T.turn T.console_of T.steps_of bound (T.world a.old)) (own_run T.turn T.console_of T.steps_of bound (T.world b.old))) }
 {
     put_head(slice, out)?;
     run_slices(a, b, slice, bound, out)?;

@@ -7,6 +7,7 @@ use dpmi_io::{
     SureSink, put_all, read_whole,
 };
 use std::alloc::{AllocError, Global};
+use std::fs;
 use std::test::Fail;
 
 // What each put of three bytes answers, in pieces of two, with room for five, where the second is listed; and the bytes after it.
@@ -126,5 +127,19 @@ fn the_system_fails_as_failed(rt: HostRuntime) -> Result<(), Fail> {
     let full = sink.put(b"ed");
     same("bytes without room", full == Err(SinkFail))?;
     same("text", room.as_slice() == b"exit".as_slice())?;
+    Ok(())
+}
+
+// The name under which the test keeps a file of its own.
+const OWN_FILE: &str = "file of a test";
+
+#[test]
+fn a_file_of_the_system_is_read(rt: HostRuntime) -> Result<(), Fail> {
+    fs::write(&rt, OWN_FILE, "file")?;
+    let mut shelf = FileShelf::new(&rt);
+    shelf.open(String::from_str(rt.alloc(), OWN_FILE)?)?;
+    let read = compare_file(&mut shelf, b"file");
+    fs::remove_file(&rt, OWN_FILE)?;
+    read?;
     Ok(())
 }

@@ -1,14 +1,19 @@
-use Rattle.std.proofs.Common.{arith, ◌∙◌, refl}
+use Rattle.std.proofs.Common.{arith, ◌∙◌, refl, subst}
 use Rattle.std.proofs.lemmas.Grind.{common_steps}
+use Rattle.dpmi_io.specs.Causes.{Rose}
 use Rattle.dpmi_io.proofs.Output.{gained-none, gains_piece, part_piece}
 use Rattle.dpmi_io.proofs.whole.put_all.Goals as goal
 
 pub loop-done-init : goal.loop-done-init
 loop-done-init g c = (omega arith, gained-none _, refl)
 
-pub returns-in-Err-clause-part : goal.returns-in-Err-clause-part
-returns-in-Err-clause-part g c =
-    part_piece _ _ _ c.args.bytes.now c.loop-done.done c.loop-done.invariant.1 c.in-Err.ensures.part
+pub returns-in-Err-clause-puts : goal.returns-in-Err-clause-puts
+returns-in-Err-clause-puts g c = record {
+  whole = tt;
+  part = part_piece _ _ _ c.args.bytes.now c.loop-done.done c.loop-done.invariant.1 c.in-Err.ensures.part;
+  quiet = tt;
+  failed = subst (λ from. Rose from (g.O.Sink.faults c.put.new.self)) c.loop-done.invariant.2 c.in-Err.ensures.failed;
+}
 
 pub loop-done-preserved : goal.loop-done-preserved
 loop-done-preserved g c = (

@@ -1,8 +1,6 @@
 use Rattle.std.proofs.Common.{◌∙◌}
-use Rattle.dpmi_report.proofs.Putting.{puts_piece}
+use Rattle.dpmi_io.proofs.Putting.{puts_text}
 use Rattle.dpmi_report.proofs.parts.put_end.Goals as goal
 
 pub returns : goal.returns
-returns g c =
-    let put = c.put_all.ensures in
-    puts_piece (c.as_slice.ensures.value ∙ c.end_lines_of-lines.ensures) put.whole put.part put.quiet put.failed
+returns g c = puts_text (c.as_slice.ensures.value ∙ c.end_lines_of-lines.ensures) c.put_all.ensures.puts

@@ -1,7 +1,6 @@
 use Rattle.std.proofs.Common.{◌∙◌, refl}
 use Rattle.dpmi_report.specs.Trace.{trace_row}
-use Rattle.dpmi_report.proofs.Putting.{row_cut}
-use Rattle.dpmi_report.proofs.Sequence.{gains_none, row_gained}
+use Rattle.dpmi_report.proofs.Sequence.{gains_none, row_cut, row_gained}
 use Rattle.dpmi_report.proofs.parts.put_first_events.Goals as goal
 
 pub loop-i-init : goal.loop-i-init

@@ -1,8 +1,7 @@
 use Rattle.std.proofs.Common.{◌∙◌, refl}
 use Rattle.client_world.specs.declared.host_frames.TheConstants.{DESCRIPTORS}
 use Rattle.dpmi_report.specs.Lines.{desc_row}
-use Rattle.dpmi_report.proofs.Putting.{row_cut}
-use Rattle.dpmi_report.proofs.Sequence.{gains_none, row_gained}
+use Rattle.dpmi_report.proofs.Sequence.{gains_none, row_cut, row_gained}
 use Rattle.dpmi_report.proofs.parts.put_rows.Goals as goal
 
 pub loop-index-init : goal.loop-index-init

@@ -1,15 +1,22 @@
-use Rattle.std.proofs.Common.{◌∙◌, sym, map}
+use Rattle.std.proofs.Common.{◌∙◌, codes, sym, subst, map}
 use Rattle.std.specs.String.{string_bytes}
 use Rattle.std.proofs.lemmas.Result.{IfOk-weaker}
 use Rattle.clap.specs.Matches.{found_of}
+use Rattle.dpmi_words.specs.Command.{TakesItsWords, command_app}
 use Rattle.dpmi_words.specs.Meaning.{run_of_values}
 use Rattle.dpmi_words.specs.Options.{run_options}
 use Rattle.dpmi_words.specs.Reading.{given_by, one_operand}
-use Rattle.dpmi_words.proofs.Commands.{of_assigned}
+use Rattle.dpmi_words.proofs.Commands.{of_assigned, run_takes_words}
 use Rattle.dpmi_words.proofs.meaning.read_run.Goals as goal
+
+pub assign-requires : goal.assign-requires
+assign-requires c =
+    subst (λ names. TakesItsWords (command_app (codes "run") names one_operand) names one_operand) (sym c.run_options-options.ensures.names)
+    run_takes_words
 
 pub returns-in-Ok : goal.returns-in-Ok
 returns-in-Ok c =
     let words = map string_bytes c.args.words.now in
     IfOk-weaker c.run_of.result _ _ (λ r h. h ∙ of_assigned run_of_values (given_by run_options one_operand words) (found_of c.in-Ok.values)
-    (sym (rw c.run_options.ensures.names at c.in_ok-passes.ensures) ∙ c.if-not-branch.false) c.in-Ok.ensures.values) c.run_of.ensures
+    (sym (rw c.run_options-options.ensures.names at c.in_ok-passes.ensures) ∙ c.if-not-branch.false)
+    (rw c.run_options-options.ensures.names at c.in-Ok.ensures.values)) c.run_of.ensures

@@ -1,7 +1,7 @@
 use Rattle.std.proofs.Common.{arith, sym, subst}
 use Rattle.std.specs.Prelude.{IsSome}
 use Rattle.client_world.specs.declared.outcome.Exit.TheVariants.{Bound}
-use Rattle.dpmi_io.proofs.Output.{gains_then, part_longer, part_then}
+use Rattle.dpmi_io.proofs.Putting.{puts_cut, puts_returned, puts_then}
 use Rattle.pair_run.proofs.OwnRuns.{client_of, closed_ends, room, run_ends, turns_none}
 use Rattle.pair_run.proofs.PairTexts.{when_err}
 use Rattle.pair_run.proofs.slices.pair.Goals as goal
@@ -14,12 +14,13 @@ pub returns-in_err-put_head-clause-some_b : goal.returns-in_err-put_head-clause-
 returns-in_err-put_head-clause-some_b g c =
     when_err c.from_residual.result (0, omega arith, sym (turns_none g.T.Turns.turn (g.T.Turns.world c.args.b.now)))
 
-pub returns-in_err-put_head-clause-part : goal.returns-in_err-put_head-clause-part
-returns-in_err-put_head-clause-part g c = when_err c.from_residual.result (part_longer _ _ _ _ c.in_err-put_head.ensures.part)
+pub returns-in_err-put_head-clause-puts : goal.returns-in_err-put_head-clause-puts
+returns-in_err-put_head-clause-puts g c = puts_cut _ _ c.from_residual.ensures.0 c.in_err-put_head.ensures
 
-pub returns-in_err-run_slices-clause-part : goal.returns-in_err-run_slices-clause-part
-returns-in_err-run_slices-clause-part g c =
-    when_err c.from_residual-in_err-run_slices.result (part_then _ _ _ _ _ c.in_ok-put_head.ensures.whole c.in_err-run_slices.ensures.part)
+pub returns-in_err-run_slices-clause-puts : goal.returns-in_err-run_slices-clause-puts
+returns-in_err-run_slices-clause-puts g c =
+    puts_returned _ c.from_residual-in_err-run_slices.ensures.0
+    (puts_then _ c.in_ok-put_head.ensures c.in_err-run_slices.ensures.puts)
 
 pub end_run-requires : goal.end_run-requires
 end_run-requires g c none =
@@ -54,5 +55,5 @@ returns-clause-exits g c =
       subst (λ w. IsSome (g.T.Turns.exit_of w)) (sym c.end_run-2.ensures) (ends _),
     )
 
-pub returns-clause-whole : goal.returns-clause-whole
-returns-clause-whole g c = gains_then _ _ _ _ _ c.in_ok-put_head.ensures.whole c.in_ok-run_slices.ensures.whole
+pub returns-clause-puts : goal.returns-clause-puts
+returns-clause-puts g c = puts_then _ c.in_ok-put_head.ensures c.in_ok-run_slices.ensures.puts

@@ -1,4 +1,6 @@
-use Rattle.std.proofs.Common.{arith, refl, sym, ap, ◌∙◌, ◌≡◌, ◌≤◌, ◌+◌}
+use Rattle.std.proofs.Common.{arith, refl, sym, subst, ap, ◌∙◌, ◌≡◌, ◌≤◌, ◌+◌}
+use Rattle.dpmi_io.specs.Causes.{Rose}
+use Rattle.dpmi_io.proofs.Putting.{puts_done, puts_failed}
 use Rattle.pair_run.specs.declared.lines.Letter.TheVariants.{A, B}
 use Rattle.pair_run.specs.Run.{turns_of}
 use Rattle.pair_run.specs.Slices.{own_run}
@@ -48,8 +50,8 @@ returns-in_err-a_ended-clause-some_a g c =
           c.loop-done.done c.min-turns.result c.loop-done.invariant.a c.in_err-a_ended.ensures.world,
     )
 
-pub returns-in_err-a_ended-clause-part : goal.returns-in_err-a_ended-clause-part
-returns-in_err-a_ended-clause-part g c =
+pub returns-in_err-a_ended-clause-puts : goal.returns-in_err-a_ended-clause-puts
+returns-in_err-a_ended-clause-puts g c =
     let made : Made g.T.Turns.turn (g.T.Turns.world c.args.a.now) (g.T.Turns.world c.loop-done.a) (g.T.Turns.world c.make_slice.new.client)
     c.args.slice c.args.bound c.loop-done.number c.loop-done.done c.min-turns.result = record {
       begins = c.loop-done.invariant.begins;
@@ -58,12 +60,13 @@ returns-in_err-a_ended-clause-part g c =
       was = c.loop-done.invariant.a;
       is = c.in_err-a_ended.ensures.world;
     } in
-    when_err c.from_residual.result
+    puts_failed c.from_residual.result c.from_residual.ensures.0
     (a_failed (client_of g.met.T.Turns.ended_stays g.met.T.Turns.turn_is_counted g.met.T.Turns.console_extends)
     (g.T.Turns.world c.args.a.now) (g.T.Turns.world c.args.b.now) c.args.slice c.args.bound c.loop-done.number
     (g.O.Sink.taken c.args.out.now) (g.O.Sink.taken c.loop-done.out) (g.O.Sink.taken c.make_slice.new.out)
     c.requires.some_turns c.requires.first_a.no_steps c.requires.first_b.no_steps c.loop-done.invariant.text
-    (line_failed g.T.Turns.console_of g.T.Turns.steps_of A _ _ made c.in_err-a_ended.ensures.part))
+    (line_failed g.T.Turns.console_of g.T.Turns.steps_of A _ _ made c.in_err-a_ended.ensures.puts.part))
+    (subst (λ from. Rose from (g.O.Sink.faults c.make_slice.new.out)) c.loop-done.invariant.quiet c.in_err-a_ended.ensures.puts.failed)
 
 pub returns-in_err-b_ended-clause-some_a : goal.returns-in_err-b_ended-clause-some_a
 returns-in_err-b_ended-clause-some_a g c =
@@ -84,8 +87,8 @@ returns-in_err-b_ended-clause-some_b g c =
           c.loop-done.done c.min-turns.result c.loop-done.invariant.b c.in_err-b_ended.ensures.world,
     )
 
-pub returns-in_err-b_ended-clause-part : goal.returns-in_err-b_ended-clause-part
-returns-in_err-b_ended-clause-part g c =
+pub returns-in_err-b_ended-clause-puts : goal.returns-in_err-b_ended-clause-puts
+returns-in_err-b_ended-clause-puts g c =
     let ends = next_begins c.args.slice c.args.bound c.loop-done.number c.loop-done.done c.min-turns.result
     c.loop-done.invariant.begins c.loop-done-test.true c.min-turns.ensures in
     let made_a : Made g.T.Turns.turn (g.T.Turns.world c.args.a.now) (g.T.Turns.world c.loop-done.a)
@@ -96,14 +99,16 @@ returns-in_err-b_ended-clause-part g c =
     (g.T.Turns.world c.make_slice-in-loop-done.new.client)
     c.args.slice c.args.bound c.loop-done.number c.loop-done.done c.min-turns.result =
     record { begins = c.loop-done.invariant.begins; ends = ends; was = c.loop-done.invariant.b; is = c.in_err-b_ended.ensures.world } in
-    when_err c.from_residual-in_err-b_ended.result
+    puts_failed c.from_residual-in_err-b_ended.result c.from_residual-in_err-b_ended.ensures.0
     (b_failed (client_of g.met.T.Turns.ended_stays g.met.T.Turns.turn_is_counted g.met.T.Turns.console_extends)
     (g.T.Turns.world c.args.a.now) (g.T.Turns.world c.args.b.now) c.args.slice c.args.bound c.loop-done.number
     (g.O.Sink.taken c.args.out.now) (g.O.Sink.taken c.loop-done.out) (g.O.Sink.taken c.make_slice.new.out)
     (g.O.Sink.taken c.make_slice-in-loop-done.new.out)
     c.requires.some_turns c.requires.first_a.no_steps c.requires.first_b.no_steps c.loop-done.invariant.text
-    (line_gained g.T.Turns.console_of g.T.Turns.steps_of A _ _ made_a c.in_ok-a_ended.ensures.whole)
-    (line_failed g.T.Turns.console_of g.T.Turns.steps_of B _ _ made_b c.in_err-b_ended.ensures.part))
+    (line_gained g.T.Turns.console_of g.T.Turns.steps_of A _ _ made_a c.in_ok-a_ended.ensures.puts.whole)
+    (line_failed g.T.Turns.console_of g.T.Turns.steps_of B _ _ made_b c.in_err-b_ended.ensures.puts.part))
+    (subst (λ from. Rose from (g.O.Sink.faults c.make_slice-in-loop-done.new.out))
+    (c.in_ok-a_ended.ensures.puts.quiet ∙ c.loop-done.invariant.quiet) c.in_err-b_ended.ensures.puts.failed)
 
 pub loop-done-preserved : goal.loop-done-preserved
 loop-done-preserved g c =
@@ -138,9 +143,9 @@ loop-done-preserved g c =
           (g.O.Sink.taken c.args.out.now) (g.O.Sink.taken c.loop-done.out) (g.O.Sink.taken c.make_slice.new.out)
           (g.O.Sink.taken c.make_slice-in-loop-done.new.out)
           c.loop-done.invariant.text
-          (line_gained g.T.Turns.console_of g.T.Turns.steps_of A _ _ made_a c.in_ok-a_ended.ensures.whole)
-          (line_gained g.T.Turns.console_of g.T.Turns.steps_of B _ _ made_b c.in_ok-b_ended.ensures.whole);
-      quiet = c.in_ok-b_ended.ensures.quiet ∙ c.in_ok-a_ended.ensures.quiet ∙ c.loop-done.invariant.quiet;
+          (line_gained g.T.Turns.console_of g.T.Turns.steps_of A _ _ made_a c.in_ok-a_ended.ensures.puts.whole)
+          (line_gained g.T.Turns.console_of g.T.Turns.steps_of B _ _ made_b c.in_ok-b_ended.ensures.puts.whole);
+      quiet = c.in_ok-b_ended.ensures.puts.quiet ∙ c.in_ok-a_ended.ensures.puts.quiet ∙ c.loop-done.invariant.quiet;
     }
 
 -- both clients have ended
@@ -159,8 +164,8 @@ returns-else-not-ended-clause-ran_b g c =
     (g.T.Turns.world c.args.b.now) (g.T.Turns.world c.loop-done.b) c.loop-done.done c.args.bound c.loop-done.invariant.b (omega arith)
     (c.loop-done.invariant.b_ended c.if-not-ended.false))
 
-pub returns-else-not-ended-clause-whole : goal.returns-else-not-ended-clause-whole
-returns-else-not-ended-clause-whole g c =
+pub returns-else-not-ended-clause-puts : goal.returns-else-not-ended-clause-puts
+returns-else-not-ended-clause-puts g c =
     let client = client_of g.met.T.Turns.ended_stays g.met.T.Turns.turn_is_counted g.met.T.Turns.console_extends in
     let a_over =
     over client (g.T.Turns.world c.args.a.now) (g.T.Turns.world c.loop-done.a) c.loop-done.done c.args.bound c.loop-done.invariant.a
@@ -168,22 +173,26 @@ returns-else-not-ended-clause-whole g c =
     let b_over =
     over client (g.T.Turns.world c.args.b.now) (g.T.Turns.world c.loop-done.b) c.loop-done.done c.args.bound c.loop-done.invariant.b
     (omega arith) (c.loop-done.invariant.b_ended c.if-not-ended.false) in
-    pair_whole client (g.T.Turns.world c.args.a.now) (g.T.Turns.world c.args.b.now) c.args.slice c.args.bound c.loop-done.number
+    puts_done
+    (pair_whole client (g.T.Turns.world c.args.a.now) (g.T.Turns.world c.args.b.now) c.args.slice c.args.bound c.loop-done.number
     c.loop-done.done
     (g.O.Sink.taken c.args.out.now) (g.O.Sink.taken c.loop-done.out) c.requires.some_turns c.requires.first_a.no_steps
     c.requires.first_b.no_steps
-    c.loop-done.invariant.begins a_over b_over c.loop-done.invariant.text
+    c.loop-done.invariant.begins a_over b_over c.loop-done.invariant.text)
+    c.loop-done.invariant.quiet
 
 -- both have made all of their turns
 
-pub returns-after-loop-done-clause-whole : goal.returns-after-loop-done-clause-whole
-returns-after-loop-done-clause-whole g c =
+pub returns-after-loop-done-clause-puts : goal.returns-after-loop-done-clause-puts
+returns-after-loop-done-clause-puts g c =
     let all : c.args.bound ≡ c.loop-done.done = omega (arith, c.loop-done.invariant.begins, c.loop-done-test.false) in
-    pair_whole (client_of g.met.T.Turns.ended_stays g.met.T.Turns.turn_is_counted g.met.T.Turns.console_extends)
+    puts_done
+    (pair_whole (client_of g.met.T.Turns.ended_stays g.met.T.Turns.turn_is_counted g.met.T.Turns.console_extends)
     (g.T.Turns.world c.args.a.now) (g.T.Turns.world c.args.b.now) c.args.slice c.args.bound c.loop-done.number c.loop-done.done
     (g.O.Sink.taken c.args.out.now) (g.O.Sink.taken c.loop-done.out) c.requires.some_turns c.requires.first_a.no_steps
     c.requires.first_b.no_steps
     c.loop-done.invariant.begins
     (ap (λ n. turns_of g.T.Turns.turn n (g.T.Turns.world c.args.a.now)) all)
     (ap (λ n. turns_of g.T.Turns.turn n (g.T.Turns.world c.args.b.now)) all)
-    c.loop-done.invariant.text
+    c.loop-done.invariant.text)
+    c.loop-done.invariant.quiet

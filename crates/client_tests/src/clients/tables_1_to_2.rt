@@ -1,22 +1,17 @@
 // The marked cases of clients/suite in their order, as `tools/suite --table` writes them. Bytes cost the prover less than texts, and
 // short tables less than long ones.
 use super::case::Case;
-use super::clients_a_to_e::{
+use super::clients_a_to_b::{
     B_LOST_OUTER, BASE_MOVED, BLOCK_AFTER_END, BLOCK_FREED_CODE, BLOCK_FREED_POP, BLOCK_FREED_READ,
-    BLOCK_FREED_WRITE, BLOCK_GROWN, BLOCK_KEPT, BLOCK_MOVED, BLOCK_SHRUNK, C_USUAL_32,
-    CALL_ENDLESS, CALL_ENTRY_AGAIN, CALL_SEGMENTS, CALL_STACK_OVER_EAX, CALL_STACK_OVER_STRUCTURE,
-    CALL_STACK_WRAPS, CALL_STRUCTURE_ROM, CALLBACK_FREED_INSIDE, CALLBACK_PRINTS,
-    CALLBACK_SHORT_STRUCTURE, CALLBACK_STRUCTURES, D_BYTES_16, D_MINIMAL_32, DESCRIPTORS_ALL,
-    DOS_BLOCK,
+    BLOCK_FREED_WRITE, BLOCK_GROWN, BLOCK_KEPT, BLOCK_MOVED, BLOCK_SHRUNK,
 };
-use super::clients_f_to_g::{
-    F_DESC_16, F_PAGES, F_UNKNOWN_16, FLAT_BLOCK, FRAME_CS_NULL, FRAME_FLAGS_ALL, FRAME_FLAGS_NONE,
-    FRAME_SS_CODE, FRAME_SS_OTHER, FREED_CODE, FREED_DATA, FREED_STACK, G_BACK_16, G_DEEP_EVEN_16,
-    G_INFO_16, G_ROW_6,
+use super::clients_c_to_e::{
+    C_USUAL_32, CALL_ENDLESS, CALL_ENTRY_AGAIN, CALL_SEGMENTS, CALL_STACK_OVER_EAX,
+    CALL_STACK_OVER_STRUCTURE, CALL_STACK_WRAPS, CALL_STRUCTURE_ROM, CALLBACK_FREED_INSIDE,
+    CALLBACK_PRINTS, CALLBACK_SHORT_STRUCTURE, CALLBACK_STRUCTURES, CODE_OVER_ITSELF,
 };
-use super::clients_h_to_z::{HANDLER_FREED, HANDLER_FREES_CODE};
 
-pub(super) static TABLE_1: [Case; 15] = [
+pub(super) static TABLE_1: [Case; 17] = [
     Case {
         name: "b-lost-outer",
         a: Some(B_LOST_OUTER),
@@ -152,9 +147,6 @@ pub(super) static TABLE_1: [Case; 15] = [
         digest: b"\xF8\xF6\xB4\x43\x2A\x94\xD6\x17\xC4\xF5\x08\x3D\x65\xB6\x27\x15\
             \x62\x4A\xF0\xCD\x07\x20\xB5\x58\xDC\x37\xE9\xDA\xEB\xB7\x35\xFA",
     },
-];
-
-pub(super) static TABLE_2: [Case; 15] = [
     Case {
         name: "call-stack-over-eax",
         a: Some(CALL_STACK_OVER_EAX),
@@ -173,6 +165,9 @@ pub(super) static TABLE_2: [Case; 15] = [
         digest: b"\xD7\xB3\x09\x52\x2B\xC8\x3F\x32\x43\xAF\x8F\x86\xF4\x99\xEA\x1A\
             \xCC\x0E\xE7\xA1\x47\x2C\x2A\x7E\x41\x4B\xCC\xBF\x0F\x59\xC4\xCE",
     },
+];
+
+pub(super) static TABLE_2: [Case; 7] = [
     Case {
         name: "call-stack-wraps",
         a: Some(CALL_STACK_WRAPS),
@@ -228,204 +223,12 @@ pub(super) static TABLE_2: [Case; 15] = [
             \x4D\x50\x77\xB1\x41\x9B\x30\x0B\xD1\xB4\xB5\x2A\x9C\x93\xDE\xE5",
     },
     Case {
-        name: "d-bytes-16",
-        a: Some(D_BYTES_16),
+        name: "code-over-itself",
+        a: Some(CODE_OVER_ITSELF),
         b: None,
         words: "run A.EXE",
         status: 0,
-        digest: b"\xEA\x52\xE9\xE1\x56\xF3\xED\x96\xAE\xA2\xDE\x69\xBC\x39\x82\xA0\
-            \xA5\xA6\x55\xC0\xE3\x3F\xC9\xF5\xED\x23\x0C\xDE\xFE\xE6\x63\x8D",
-    },
-    Case {
-        name: "d-minimal-32",
-        a: Some(D_MINIMAL_32),
-        b: None,
-        words: "run A.EXE",
-        status: 0,
-        digest: b"\x5E\xC7\xB3\xD6\xBC\xD9\x70\x0E\xCC\x9B\xC0\x89\x0B\x7C\x9F\x2D\
-            \x0C\xB2\x64\x3C\xA9\x2A\x19\x81\x8A\x16\x6F\xC2\x17\x63\xF6\x61",
-    },
-    Case {
-        name: "descriptors-all",
-        a: Some(DESCRIPTORS_ALL),
-        b: None,
-        words: "run A.EXE",
-        status: 0,
-        digest: b"\x31\x02\xAA\xBA\xD3\xD8\xA7\x42\xEB\xFD\x93\x48\x32\x4A\x4C\xAD\
-            \xED\xD4\x45\x01\xE2\x5C\x63\xAA\xB8\x58\x4F\xF7\x5A\x8E\xE6\xD2",
-    },
-    Case {
-        name: "dos-block",
-        a: Some(DOS_BLOCK),
-        b: None,
-        words: "run A.EXE",
-        status: 0,
-        digest: b"\x00\x3E\xBC\xCC\x98\x38\xB1\x06\x51\x3D\x9E\x58\x38\x0F\xA9\x8B\
-            \xFB\x82\xD5\xF7\xDD\x0E\xC1\x31\xB1\xCA\x21\xF0\x7A\x67\x64\xAC",
-    },
-    Case {
-        name: "f-desc-16",
-        a: Some(F_DESC_16),
-        b: None,
-        words: "run A.EXE --trace 40",
-        status: 0,
-        digest: b"\x7A\xBD\xC7\x0E\xAD\x34\x72\xBA\xBB\x26\x57\x24\x04\x7B\x81\x28\
-            \xFA\x80\xAF\xCF\x4A\x83\xA1\x77\x1F\x84\xA9\xE9\x24\xE1\x6C\x36",
-    },
-    Case {
-        name: "f-pages",
-        a: Some(F_PAGES),
-        b: None,
-        words: "run A.EXE --pages 16 --trace 100",
-        status: 0,
-        digest: b"\x13\x8B\x0D\x42\xAF\x5C\xED\x43\x06\x16\x77\xEE\x45\x43\xB7\x61\
-            \x8D\x8E\xA2\x30\x7A\xD8\x3C\xFD\x6D\xB3\xEE\xE3\x09\xF6\x41\x08",
-    },
-    Case {
-        name: "f-unknown-16",
-        a: Some(F_UNKNOWN_16),
-        b: None,
-        words: "run A.EXE --trace 40",
-        status: 0,
-        digest: b"\x3A\xF7\xCC\xB6\xDA\x45\x29\xC1\x7F\x02\xF5\xAC\x27\x44\x3B\x8B\
-            \x9E\x39\x1D\xD3\x69\x68\x88\xC2\x5C\x36\xBB\x0E\xBD\xEF\x6B\xB3",
-    },
-];
-
-pub(super) static TABLE_3: [Case; 15] = [
-    Case {
-        name: "flat-block",
-        a: Some(FLAT_BLOCK),
-        b: None,
-        words: "run A.EXE",
-        status: 0,
-        digest: b"\xFF\x3E\xE7\xD6\x5E\x0F\x6A\xD2\x71\xAD\xCE\x1E\xF8\x4F\xCF\x61\
-            \x4F\x8F\x99\x87\xE9\x70\x76\xFA\x32\xEA\x3C\xD6\x65\x97\x9E\x72",
-    },
-    Case {
-        name: "frame-cs-null",
-        a: Some(FRAME_CS_NULL),
-        b: None,
-        words: "run A.EXE",
-        status: 1,
-        digest: b"\x7B\xA1\x3A\xB4\x44\x14\xC6\xD2\x01\x45\x15\x54\xC3\xF7\x0B\xE4\
-            \x9B\x97\xCD\xDF\x83\x59\x19\x07\x7A\xAB\x84\x4C\x2D\xF9\x2D\x54",
-    },
-    Case {
-        name: "frame-flags-all",
-        a: Some(FRAME_FLAGS_ALL),
-        b: None,
-        words: "run A.EXE",
-        status: 0,
-        digest: b"\x13\x3C\x24\x66\x75\x2C\x10\xDF\x67\x78\xB5\xAC\x97\x00\x83\x95\
-            \x85\x3B\xEF\x2D\x61\x80\xA9\x36\x5D\x33\x97\x8B\xF2\x07\x98\xE5",
-    },
-    Case {
-        name: "frame-flags-none",
-        a: Some(FRAME_FLAGS_NONE),
-        b: None,
-        words: "run A.EXE",
-        status: 0,
-        digest: b"\xA0\xAE\x9E\x1D\x67\xF0\x33\x33\x30\x76\x49\x5B\xF6\xF0\x50\x75\
-            \x13\xF7\x0F\xC7\x03\x8B\xE0\x08\xFF\x24\xE1\x69\x41\x5B\xD2\x81",
-    },
-    Case {
-        name: "frame-ss-code",
-        a: Some(FRAME_SS_CODE),
-        b: None,
-        words: "run A.EXE",
-        status: 1,
-        digest: b"\x3C\x10\xA5\x96\xBD\xE9\xE5\xB4\x70\x5F\x18\x7A\xA3\x47\x68\x1C\
-            \x63\x8E\x13\x1F\xD5\x5F\xE9\xC6\x0D\xE6\xEC\x60\x98\xFE\x38\xE4",
-    },
-    Case {
-        name: "frame-ss-other",
-        a: Some(FRAME_SS_OTHER),
-        b: None,
-        words: "run A.EXE",
-        status: 0,
-        digest: b"\xB0\x2A\xD9\xA5\xD7\x8E\xF0\x08\x95\x8A\x3F\x66\xF5\xB7\x7E\x95\
-            \xE9\xF4\x4F\xFA\x3D\xAA\x83\x84\x87\x2B\x23\x0A\x2D\xBD\x03\xF6",
-    },
-    Case {
-        name: "freed-code",
-        a: Some(FREED_CODE),
-        b: None,
-        words: "run A.EXE",
-        status: 1,
-        digest: b"\xC1\x6F\xF1\xE5\xA1\x3D\x23\x9D\xE9\xAB\x0A\xBA\x61\xEE\x76\xD6\
-            \xFA\x91\xE1\x88\x9C\x1B\x58\xBB\xF2\x8E\xC1\xEB\xD3\xED\xC7\xF2",
-    },
-    Case {
-        name: "freed-data",
-        a: Some(FREED_DATA),
-        b: None,
-        words: "run A.EXE",
-        status: 1,
-        digest: b"\x15\x89\x80\xD6\x76\x2E\x66\xFB\x6E\x23\xE6\x9E\xE5\x99\x73\x04\
-            \x81\x6F\x05\xBC\x13\x12\x86\x36\x94\x3F\x7F\x9F\xB4\x79\x46\x17",
-    },
-    Case {
-        name: "freed-stack",
-        a: Some(FREED_STACK),
-        b: None,
-        words: "run A.EXE",
-        status: 1,
-        digest: b"\x1F\x47\x0F\x6F\xBB\x9E\xEB\xBA\x6D\xB6\x0D\x36\x69\xC4\x0F\x8B\
-            \xBE\xBC\xB8\x2B\xE4\x8C\x9A\xF2\x57\xBB\x07\x34\xD2\x01\x83\xF0",
-    },
-    Case {
-        name: "g-back-16",
-        a: Some(G_BACK_16),
-        b: None,
-        words: "run A.EXE --trace 150",
-        status: 0,
-        digest: b"\x81\xB1\xBE\xC0\xFE\x2C\x34\x82\x17\x13\x76\x7B\xB9\xD7\xE9\xC6\
-            \xD1\xC9\x0E\xAB\x49\xF0\x7A\xA7\x0D\x28\x2B\xE8\x3E\x38\x46\xB3",
-    },
-    Case {
-        name: "g-deep-even-16",
-        a: Some(G_DEEP_EVEN_16),
-        b: None,
-        words: "run A.EXE --trace 150",
-        status: 1,
-        digest: b"\x9A\x69\x90\xF8\x0E\xCB\xA3\x25\x9F\x4B\x75\xC2\x8E\x1C\x9D\x7F\
-            \x56\x4C\x37\xD7\x25\x00\x97\x54\x28\x45\xBA\x25\xC2\x42\xE0\x39",
-    },
-    Case {
-        name: "g-info-16",
-        a: Some(G_INFO_16),
-        b: None,
-        words: "run A.EXE --trace 150",
-        status: 0,
-        digest: b"\xCC\x50\x92\x66\x72\x97\xA2\x7D\x14\xED\x0A\x34\x3C\x3A\xAF\x85\
-            \xE7\x5E\x0F\xD5\xDD\x0C\x63\x3B\x6B\x4B\x5F\xFF\x4E\xEF\x87\x7F",
-    },
-    Case {
-        name: "g-row-6",
-        a: Some(G_ROW_6),
-        b: None,
-        words: "run A.EXE --trace 150",
-        status: 0,
-        digest: b"\x62\x8D\x45\xAB\xE6\x42\x11\xEE\xDB\x50\x9C\x09\xE1\x3C\x0E\x34\
-            \xFE\xC0\xE9\x52\x31\xB6\x25\x2E\x20\x5D\xC3\xA0\x8C\x17\x46\xA9",
-    },
-    Case {
-        name: "handler-freed",
-        a: Some(HANDLER_FREED),
-        b: None,
-        words: "run A.EXE",
-        status: 1,
-        digest: b"\xEC\x03\x8F\xED\x1D\xD9\xF6\x11\xAE\x3C\xED\x9D\x17\xDD\x38\xE6\
-            \x61\x2F\xEA\x25\xC2\xB7\xAD\xC2\xA3\x47\xF9\x3E\x0E\xDB\x42\xC0",
-    },
-    Case {
-        name: "handler-frees-code",
-        a: Some(HANDLER_FREES_CODE),
-        b: None,
-        words: "run A.EXE",
-        status: 1,
-        digest: b"\x19\xE9\xD3\x3E\xD7\x7B\x3A\x3F\xBB\x96\xCE\xDB\xFA\x75\xAF\x67\
-            \xFF\x01\xBB\x5B\xF3\x74\xC7\x81\x17\xE1\xB1\xF6\x83\x15\x75\x5E",
+        digest: b"\x9B\x71\x78\x29\xF9\x33\xDB\x95\x1B\x6B\xFE\x79\x3B\x02\x94\x51\
+            \x16\x6C\x7C\x51\xFA\xAB\x0B\x9B\x9E\x12\xE5\x99\x43\xDB\x91\x86",
     },
 ];

@@ -1,0 +1,6 @@
+-- How a line of text ends. Source: own.
+use Rattle.std.specs.Prelude.{ℕ, List, [], ◌∷◌}
+
+-- the end of a line
+abbrev pub line_end : List ℕ
+line_end = 0x0A ∷ []

@@ -1,0 +1,11 @@
+use Rattle.std.proofs.Common.{codes, sym, subst}
+use Rattle.dpmi_words.specs.Command.{TakesItsWords, command_app}
+use Rattle.dpmi_words.specs.Reading.{one_operand}
+use Rattle.dpmi_words.proofs.Commands.{soak_takes_words}
+use Rattle.dpmi_words.proofs.meaning.read_soak.Goals as goal
+
+pub assign-requires : goal.assign-requires
+assign-requires c =
+    subst (λ names. TakesItsWords (command_app (codes "soak") names one_operand) names one_operand)
+    (sym c.soak_options-options.ensures.names)
+    soak_takes_words
