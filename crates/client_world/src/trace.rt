@@ -26,14 +26,16 @@ pub enum TraceLine {
     ToProtected,
     /// A raw switch to real mode.
     ToReal,
-    /// A nested call starts: the depth before it, and the registers with which it starts.
+    /// A nested call starts: the depth before it, and registers: those with which a call of real mode or a reflection starts, those of the
+    /// caller of a callback as it called, those of the client at an exception.
     Enter {
         depth: u8,
         what: What,
         regs: Regs,
         vif: bool,
     },
-    /// A nested call returns: the depth after it, and the registers with which it returns.
+    /// A nested call returns: the depth after it, and registers: those that a call of real mode or a reflection left, those with which the
+    /// caller of a callback, or the client after an exception, goes on.
     Leave {
         depth: u8,
         what: What,
