@@ -1,5 +1,5 @@
 // PUSH and POP of general registers and memory, PUSHA and POPA.
-ghost use Rattle.std.specs.Prelude.{◌≡◌, ◌≢◌, ◌<◌, ℕ, Ok, slice_index};
+ghost use Rattle.std.specs.Prelude.{◌≡◌, ◌≢◌, ◌<◌, ℕ, Ok, false, slice_index};
 ghost use Rattle.exec_core.specs.Stacks.{push, pop, pusha, popa};
 ghost use Rattle.insn_plan.specs.Act.{done, value_of};
 ghost use Rattle.insn_plan.specs.Looks.{CarriesOutBy};
@@ -13,8 +13,9 @@ use client_world::{Regs, SegReg};
 use guest_space::{Machine, Write, byte_count};
 use insn_forms::{Insn, Operand};
 use insn_plan::{
-    InsnRow, Look, Raised, esp_up, has_big_stack, item_pushed, look_at_top, offset_of, popped_esp,
-    push_number, put_register, register, register_width, settle_pushes, stack_item,
+    InsnRow, Look, Raised, eight_items, esp_up, has_big_stack, item_pushed, look_at_top, offset_of,
+    popped_esp, push_number, put_register, register, register_width, settle_pushes, settle_quickly,
+    stack_item,
 };
 
 // The row of PUSH at a width.
@@ -99,14 +100,46 @@ fn eight_pushes(m: &Machine, width: u8, big: bool) -> ([Write; 8], u32)
     ([ax, cx, dx, bx, sp, bp, si, di], esp)
 }
 
-/// PUSHA. Source: 80386 Programmer's Reference Manual, ch. 17.
+// PUSHA at any width, on any stack.
 #[inline(never)]
 #[tactic(auto, unfolding(insn_plan::specs::Plan::after_plan))]
-pub(crate) fn pusha(m: &mut Machine, i: &Insn) -> Result<(), Raised>
+fn pusha_in_general(m: &mut Machine, i: &Insn) -> Result<(), Raised>
     ensures { CarriesOut m.old m.new result (pusha m.old.world i.now) }
 {
     let (writes, esp) = eight_pushes(m, i.width, has_big_stack(m));
     settle_pushes(m, &writes, esp)
+}
+
+// PUSHA at a width that is known, where the stack pointer is SP.
+#[inline(always)]
+#[tactic(auto, unfolding(insn_plan::specs::Plan::after_plan))]
+fn pusha_of_width(m: &mut Machine, i: &Insn, width: u8) -> Result<(), Raised>
+    requires width { width ≡ i.now.width }
+    requires small { has_big_stack m.old.world ≡ false }
+    ensures { CarriesOut m.old m.new result (pusha m.old.world i.now) }
+{
+    let (writes, esp) = eight_pushes(m, width, false);
+    if settle_quickly(m, &writes, esp) {
+        Ok(())
+    } else {
+        pusha_in_general(m, i)
+    }
+}
+
+/// PUSHA. Source: 80386 Programmer's Reference Manual, ch. 17.
+#[inline(never)]
+pub(crate) fn pusha(m: &mut Machine, i: &Insn) -> Result<(), Raised>
+    ensures { CarriesOut m.old m.new result (pusha m.old.world i.now) }
+{
+    if has_big_stack(m) {
+        pusha_in_general(m, i)
+    } else if i.width == 16 {
+        pusha_of_width(m, i, 16)
+    } else if i.width == 32 {
+        pusha_of_width(m, i, 32)
+    } else {
+        pusha_in_general(m, i)
+    }
 }
 
 // Sets the registers to the items that POPA reads, by their places on the stack, and ESP; the item at place 3 is passed over.
@@ -114,12 +147,12 @@ pub(crate) fn pusha(m: &mut Machine, i: &Insn) -> Result<(), Raised>
 #[tactic(auto, unfolding(crate::specs::Stacks::popa, insn_plan::specs::Stack::regs_after_pops, insn_plan::specs::Plan::after_plan, //
 insn_plan::specs::Plan::after_commit, guest_space::specs::Pending::first_write_fault, guest_space::specs::Pending::after_writes, //
 client_world::specs::General::with_general))]
-fn set_popped(m: &mut Machine, i: &Insn, items: [u32; 8])
-    requires { (k : ℕ) → k < 8 → k ≢ 3 →
+fn set_popped(m: &mut Machine, i: &Insn, width: u8, items: [u32; 8])
+    requires width { width ≡ i.now.width }
+    requires items { (k : ℕ) → k < 8 → k ≢ 3 →
         value_of m.old.world (stack_item m.old.world i.now.width k) ≡ Ok (slice_index items k) }
     ensures { after_plan m.old (plan_result m.old.world (popa m.old.world i.now)) ≡ Ok m.new }
 {
-    let width = i.width;
     let bytes = 8 * u32::from(byte_count(width));
     let esp = esp_up(has_big_stack(m), bytes, m.registers().esp);
     m.set_general(ESP, esp);
@@ -132,10 +165,10 @@ fn set_popped(m: &mut Machine, i: &Insn, items: [u32; 8])
     put_register(m, width, EAX, items[7]);
 }
 
-/// POPA. Source: 80386 Programmer's Reference Manual, ch. 17.
+// POPA, item by item.
 #[inline(never)]
 #[tactic(auto, unfolding(crate::specs::Stacks::popa, insn_plan::specs::Plan::after_plan))]
-pub(crate) fn popa(m: &mut Machine, i: &Insn) -> Result<(), Raised>
+fn popa_by_items(m: &mut Machine, i: &Insn) -> Result<(), Raised>
     ensures { CarriesOut m.old m.new result (popa m.old.world i.now) }
 {
     let di = stack_item(m, i.width, 0)?;
@@ -145,6 +178,35 @@ pub(crate) fn popa(m: &mut Machine, i: &Insn) -> Result<(), Raised>
     let dx = stack_item(m, i.width, 5)?;
     let cx = stack_item(m, i.width, 6)?;
     let ax = stack_item(m, i.width, 7)?;
-    set_popped(m, i, [di, si, bp, 0, bx, dx, cx, ax]);
+    set_popped(m, i, i.width, [di, si, bp, 0, bx, dx, cx, ax]);
     Ok(())
+}
+
+// POPA at a width that is known.
+#[inline(always)]
+fn popa_of_width(m: &mut Machine, i: &Insn, width: u8) -> Result<(), Raised>
+    requires { width ≡ i.now.width }
+    ensures { CarriesOut m.old m.new result (popa m.old.world i.now) }
+{
+    match eight_items(m, width) {
+        Some(items) => {
+            set_popped(m, i, width, items);
+            Ok(())
+        }
+        None => popa_by_items(m, i),
+    }
+}
+
+/// POPA. Source: 80386 Programmer's Reference Manual, ch. 17.
+#[inline(never)]
+pub(crate) fn popa(m: &mut Machine, i: &Insn) -> Result<(), Raised>
+    ensures { CarriesOut m.old m.new result (popa m.old.world i.now) }
+{
+    if i.width == 16 {
+        popa_of_width(m, i, 16)
+    } else if i.width == 32 {
+        popa_of_width(m, i, 32)
+    } else {
+        popa_by_items(m, i)
+    }
 }

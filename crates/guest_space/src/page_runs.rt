@@ -1,6 +1,7 @@
 // Several reads or writes whose bytes lie in one page: one look at the segment and one walk of the page tables serve all of them.
-ghost use Rattle.std.specs.Prelude.{◌≡◌, ◌<◌, ◌≤◌, ◌+◌, ℕ, All, IfSome, None, Ok};
+ghost use Rattle.std.specs.Prelude.{◌≡◌, ◌<◌, ◌≤◌, ◌+◌, ℕ, All, IfSome, None, ◌*◌, List, Ok, slice_index_or};
 ghost use Rattle.client_world.specs.declared.host_frames.TheConstants.{PAGE_SIZE};
+ghost use Rattle.client_world.specs.declared.memory_map.TheConstants.{SEGMENT_SIZE};
 ghost use Rattle.guest_space.specs.Pending.{byte_count, first_write_fault, after_write, after_writes};
 ghost use Rattle.guest_space.specs.Transfer.{after_store, read_result};
 ghost use Rattle.guest_space.specs.WriteRuns.{LiesIn, IsRun, AreRuns};
@@ -9,6 +10,7 @@ use crate::machine::Machine;
 use crate::memory::{are_bytes, is_in_page};
 use crate::pending::{Write, byte_count, dword_bytes, word_bytes};
 use client_world::host_frames::PAGE_SIZE;
+use client_world::memory_map::SEGMENT_SIZE;
 use client_world::{SegReg, low_half};
 
 // The lowest offset of some writes, and the one after their last byte, if all of them are made through that segment register.
@@ -113,6 +115,9 @@ impl Machine {
     }
 }
 
+// The most bytes of an item of a run of eight: the run is a page at most. Source: own.
+const MAX_ITEM: u32 = 512;
+
 impl Machine {
     // The N bytes at a distance in bytes from the beginning of a run, whose address in the memory is known.
     #[inline(always)]
@@ -130,5 +135,35 @@ impl Machine {
         ensures { read_result self.now.world seg (off + from) N ≡ Ok result }
     {
         self.ram.get(at + from)
+    }
+
+    /// Eight items of N bytes each, 1 to 512, one after another from an offset of a segment register on, where one look shows that all of
+    /// them lie below the offset 10000h and in one page, and may be read and written; `None` says nothing. Source: own.
+    #[inline(always)]
+    pub fn read_eight<const N: usize>(&self, seg: SegReg, off: u32) -> Option<[[u8; N]; 8]>
+        ensures items { IfSome result (λ items. (k : ℕ) (d : List ℕ) → k < 8 →
+            read_result self.now.world seg (off + N * k) N ≡ Ok (slice_index_or items k d)) }
+        ensures inside { IfSome result (λ _. off + N * 8 ≤ SEGMENT_SIZE) }
+    {
+        if N == 0 || N > MAX_ITEM as usize {
+            return None;
+        }
+        let size = N as u32;
+        let n = 8 * size;
+        if off >= SEGMENT_SIZE || n > SEGMENT_SIZE - off {
+            return None;
+        }
+
+        let at = self.run_at(seg, off, n)?;
+        Some([
+            self.part_of_run(seg, off, n, at, 0),
+            self.part_of_run(seg, off, n, at, size),
+            self.part_of_run(seg, off, n, at, 2 * size),
+            self.part_of_run(seg, off, n, at, 3 * size),
+            self.part_of_run(seg, off, n, at, 4 * size),
+            self.part_of_run(seg, off, n, at, 5 * size),
+            self.part_of_run(seg, off, n, at, 6 * size),
+            self.part_of_run(seg, off, n, at, 7 * size),
+        ])
     }
 }

@@ -21,7 +21,7 @@ fn byte(bytes: [u8; 1]) -> u32
 // The number of two bytes, least byte first.
 #[inline(always)]
 #[tactic(auto, using(crate::proofs::Numbers::number_of_two))]
-fn word(bytes: [u8; 2]) -> u32
+pub(crate) fn word(bytes: [u8; 2]) -> u32
     ensures { result ≡ little_endian bytes }
 {
     u32::from(u16::from_le_bytes(bytes))
@@ -30,7 +30,7 @@ fn word(bytes: [u8; 2]) -> u32
 // The number of four bytes, least byte first.
 #[inline(always)]
 #[tactic(auto, using(crate::proofs::Numbers::number_of_four))]
-fn doubleword(bytes: [u8; 4]) -> u32
+pub(crate) fn doubleword(bytes: [u8; 4]) -> u32
     ensures { result ≡ little_endian bytes }
 {
     u32::from_le_bytes(bytes)

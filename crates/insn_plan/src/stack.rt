@@ -1,5 +1,5 @@
 // The stack.
-ghost use Rattle.std.specs.Prelude.{◌≡◌, ◌+◌, ◌-◌, ◌<◌, ◌^◌, ◌⊎◌, IsTrue, length};
+ghost use Rattle.std.specs.Prelude.{◌≡◌, ◌+◌, ◌-◌, ◌<◌, ◌^◌, ◌⊎◌, IfSome, IsFalse, IsTrue, Ok, length, slice_index, ℕ};
 ghost use Rattle.client_world.specs.World.{World};
 ghost use Rattle.insn_plan.specs.Act.{Pending, unchanged, value_of};
 ghost use Rattle.insn_plan.specs.Looks.{FollowsBy, Shows};
@@ -20,7 +20,7 @@ ghost use Rattle.insn_plan.specs.declared.next.TheConstants.{MAX_WRITES};
 use crate::looks::{Look, Quick, Tables};
 use crate::next::Next;
 use crate::raised::Raised;
-use crate::read::{number_at, read_width};
+use crate::read::{doubleword, number_at, read_width, word};
 use crate::registers::{cut_address, with_address};
 use client_world::general::ESP;
 use client_world::{Regs, SegReg};
@@ -186,6 +186,57 @@ pub fn settle_pushes(m: &mut Machine, writes: &[Write], esp: u32) -> Result<(), 
     m.write_all(writes)?;
     m.set_general(ESP, esp);
     Ok(())
+}
+
+/// Makes the writes of some pushes and then sets ESP, where one look shows that none of the writes has a fault, and returns `true`; else it
+/// returns `false` and does nothing. Source: own.
+#[inline(always)]
+#[tactic(auto, unfolding(crate::specs::Plan::after_commit, client_world::specs::General::with_general))]
+pub fn settle_quickly(m: &mut Machine, writes: &[Write], esp: u32) -> bool
+    ensures made { IsTrue result → after_commit m.old (pending_of_pushes m.old.world writes.now esp) ≡ Ok m.new }
+    ensures kept { IsFalse result → m.new ≡ m.old }
+{
+    let made = m.write_quickly(writes);
+    if made {
+        m.set_general(ESP, esp);
+    }
+    made
+}
+
+/// The eight items of a width of 16 or 32 bits at the top of the stack, where one look shows all of them; `None` says nothing. Source: own.
+#[inline(always)]
+pub fn eight_items(m: &Machine, width: u8) -> Option<[u32; 8]>
+    ensures { IfSome result (λ items. (k : ℕ) → k < 8 →
+        value_of m.now.world (stack_item m.now.world width k) ≡ Ok (slice_index items k)) }
+{
+    let sp = cut_address(has_big_stack(m), u64::from(m.registers().esp));
+    if width == 16 {
+        let items = m.read_eight::<2>(SegReg::Ss, sp)?;
+        Some([
+            word(items[0]),
+            word(items[1]),
+            word(items[2]),
+            word(items[3]),
+            word(items[4]),
+            word(items[5]),
+            word(items[6]),
+            word(items[7]),
+        ])
+    } else if width == 32 {
+        let items = m.read_eight::<4>(SegReg::Ss, sp)?;
+        Some([
+            doubleword(items[0]),
+            doubleword(items[1]),
+            doubleword(items[2]),
+            doubleword(items[3]),
+            doubleword(items[4]),
+            doubleword(items[5]),
+            doubleword(items[6]),
+            doubleword(items[7]),
+        ])
+    } else {
+        None
+    }
 }
 
 impl Next {
