@@ -1,7 +1,8 @@
 -- The search through the blocks' pages in the order of their addresses finds the first gap, and the widest.
 use Rattle.std.proofs.Common.{◌≡◌, ◌≢◌, ◌≤◌, ◌<◌, ◌+◌, ◌-◌, ◌*◌, ◌⊎◌, ℕ, zero, suc, true, false, not, inl, inr, max, refl, sym, ◌∙◌}
 use Rattle.std.proofs.Common.{ap}
-use Rattle.std.proofs.Common.{List, [], ◌∷◌, length, get_or, drop, drop-cons, subst, arith, Option, None, Some, nat_eq, nat_le, if◌then◌else◌}
+use Rattle.std.proofs.Common.{List, [], ◌∷◌, length, get_or, drop, drop-cons, subst, arith, Option, None, Some, nat_eq, nat_le}
+use Rattle.std.proofs.Common.{if◌then◌else◌}
 use Rattle.std.proofs.lemmas.Bool.{and_from, and_left, and_right, cases_Bool, leb-true, leb-false, le-leb, lt-leb, le-ltb, lt-ltb, ne_eqb}
 use Rattle.std.proofs.lemmas.Bool.{true≢false}
 use Rattle.std.proofs.lemmas.List.Elements.{All-head, All-tail, Contains-append_cases}

@@ -11,8 +11,8 @@ use crate::selectors::has_room_to_grow;
 use client_world::{DosRefusal, DosRun};
 use guest_space::Machine;
 
-/// Whether `dos_resize` can be asked to give the block of INT 31h function 0100h at a segment that size: it isn't 0, and the descriptors that
-/// the block would need besides are free. Source: own.
+/// Whether `dos_resize` can be asked to give the block of INT 31h function 0100h at a segment that size: it isn't 0, and the descriptors
+/// that the block would need besides are free. Source: own.
 pub fn can_resize(m: &Machine, seg: u16, paras: u16) -> bool
     requires { m.now.world.width ≢ None }
     ensures { OnTrue result (CanResize m.now.world seg paras) }

@@ -4,7 +4,8 @@ use Rattle.block_services.proofs.gaps.first_gap.Goals as goal
 
 pub returns-then-page-pages : goal.returns-then-page-pages
 returns-then-page-pages c =
-    let first = gap_is c.args.m.now.world.blocks c.args.m.now.world.budget c.args.pages c.as_slice-spans.result.now c.spans_by_address-sorted.result.items
+    let first = gap_is c.args.m.now.world.blocks c.args.m.now.world.budget c.args.pages c.as_slice-spans.result.now
+    c.spans_by_address-sorted.result.items
     c.soundness.ensures.blocks c.requires.some c.as_slice-spans.ensures.value c.spans_by_address-sorted.ensures.held
     c.spans_by_address-sorted.ensures.ascending in
     let within = span_within c.args.m.now.world.blocks c.args.m.now.world.budget c.loop-span.span-index missing
@@ -35,7 +36,8 @@ loop-span-preserved c =
 
 pub returns-then-page-pages-le-BLOCK_REGION_PAGES : goal.returns-then-page-pages-le-BLOCK_REGION_PAGES
 returns-then-page-pages-le-BLOCK_REGION_PAGES c =
-    let first = gap_is c.args.m.now.world.blocks c.args.m.now.world.budget c.args.pages c.as_slice-spans.result.now c.spans_by_address-sorted.result.items
+    let first = gap_is c.args.m.now.world.blocks c.args.m.now.world.budget c.args.pages c.as_slice-spans.result.now
+    c.spans_by_address-sorted.result.items
     c.soundness.ensures.blocks c.requires.some c.as_slice-spans.ensures.value c.spans_by_address-sorted.ensures.held
     c.spans_by_address-sorted.ensures.ascending in (
       first ∙ sym c.loop-span.invariant.same
@@ -46,7 +48,8 @@ returns-then-page-pages-le-BLOCK_REGION_PAGES c =
 
 pub returns : goal.returns
 returns c =
-    let first = gap_is c.args.m.now.world.blocks c.args.m.now.world.budget c.args.pages c.as_slice-spans.result.now c.spans_by_address-sorted.result.items
+    let first = gap_is c.args.m.now.world.blocks c.args.m.now.world.budget c.args.pages c.as_slice-spans.result.now
+    c.spans_by_address-sorted.result.items
     c.soundness.ensures.blocks c.requires.some c.as_slice-spans.ensures.value c.spans_by_address-sorted.ensures.held
     c.spans_by_address-sorted.ensures.ascending in (
       first ∙ sym c.loop-span.invariant.same

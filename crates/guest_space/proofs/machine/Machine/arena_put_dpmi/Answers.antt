@@ -53,7 +53,8 @@ returns c =
     let entries : c.put_entries.new.ram ≡ with_headers
     (put c.args.self.now.bytes (PAGE_SIZE * DOS_LIST)
     (arena_bytes (with_replaced_entries c.args.self.now.world.arena c.args.place c.args.old c.args.new.now.items)))
-    (with_replaced_entries c.args.self.now.world.arena c.args.place c.args.old c.args.new.now.items) = grind (arith, put_there, with_arena) in
+    (with_replaced_entries c.args.self.now.world.arena c.args.place c.args.old c.args.new.now.items) =
+    grind (arith, put_there, with_arena) in
     record {
       world = after.world;
       bytes = c.put_dos_rows.ensures ∙ ap (λ (b : List ℕ). with_run_bytes b c.args.run (rows_of_run c.args.run)) entries;
