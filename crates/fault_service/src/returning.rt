@@ -23,7 +23,7 @@ fn is_exception(m: &Machine) -> bool
 
 // What the frame of an exception restores.
 #[derive(Clone, Copy)]
-struct Frame {
+struct ExceptionFrame {
     ip: u32,
     cs: u16,
     image: u16,
@@ -33,7 +33,7 @@ struct Frame {
 
 // Reads the frame above the return address, in items of n bits, to which a return may be made; or gives the event.
 #[tactic(auto, unfolding(crate::specs::Return::exception_frame_pop))]
-fn frame_at_top(m: &Machine, bits: u8) -> Result<Frame, Raised>
+fn exception_frame_at_top(m: &Machine, bits: u8) -> Result<ExceptionFrame, Raised>
     ensures { MatchResult result
         (λ frame. plan_result m.now.world (exception_frame_pop m.now.world bits)
         ≡ Ok (pending_of_exception_frame m.now.world frame.ip frame.cs frame.image frame.sp frame.ss))
@@ -47,7 +47,7 @@ fn frame_at_top(m: &Machine, bits: u8) -> Result<Frame, Raised>
     let ss = low_half(stack_item(m, bits, 5)?);
     m.loadable(SegReg::Cs, cs, ip, true)?;
     m.loadable(SegReg::Ss, ss, 0, false)?;
-    Ok(Frame {
+    Ok(ExceptionFrame {
         ip,
         cs,
         image,
@@ -61,7 +61,7 @@ fn frame_at_top(m: &Machine, bits: u8) -> Result<Frame, Raised>
 fn pop_exception(m: &mut Machine, bits: u8) -> Result<(), Raised>
     ensures { CarriesOut m.old m.new result (exception_frame_pop m.old.world bits) }
 {
-    let frame = frame_at_top(m, bits)?;
+    let frame = exception_frame_at_top(m, bits)?;
     m.set_regs(Regs {
         eip: frame.ip,
         cs: frame.cs,

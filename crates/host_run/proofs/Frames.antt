@@ -75,7 +75,8 @@ popped_bad h n fails = ap (after_protected_pop h n) (world_bad h.machine fails)
 
 -- an interrupt that is reflected, where calls are nested too deeply
 deep_call : (h : HostWorld) (n : ℕ) (w : World) → is_exit_call h.machine n ≡ false → is_presence_call h.machine n ≡ false →
-    nat_eq n DPMI_INTERRUPT ≡ false → w.calls ≡ h.machine.calls → GREATEST_DEPTH ≤ depth h.machine → after_protected_call h n w ≡ ends h Deep
+    nat_eq n DPMI_INTERRUPT ≡ false → w.calls ≡ h.machine.calls → GREATEST_DEPTH ≤ depth h.machine →
+    after_protected_call h n w ≡ ends h Deep
 unfolding after_protected_call reflect
 deep_call h n w exit presence other calls deep =
     let much : nat_le GREATEST_DEPTH (depth w) ≡ true =

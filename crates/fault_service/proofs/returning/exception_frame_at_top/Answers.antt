@@ -1,6 +1,6 @@
 use Rattle.std.proofs.Common.{rules}
 use Rattle.fault_service.specs.Return.{exception_frame_pop}
-use Rattle.fault_service.proofs.returning.frame_at_top.Goals as goal
+use Rattle.fault_service.proofs.returning.exception_frame_at_top.Goals as goal
 
 pub returns : goal.returns
 unfolding exception_frame_pop
