@@ -11,7 +11,7 @@ pub struct CodeWords {
 impl CodeWords {
     ghost use Rattle.client_world.specs.CodeWords.{code_bytes};
 
-    /// The bytes.
+    /// The bytes, from the first on. Source: own.
     #[tactic(auto, unfolding(crate::specs::CodeWords::code_bytes))]
     pub fn bytes(self) -> [u8; 15]
         ensures { result ≡ code_bytes self }

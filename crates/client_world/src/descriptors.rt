@@ -22,7 +22,7 @@ impl Kind {
         down: false,
     };
 
-    /// Whether the segment holds code.
+    /// Whether the segment holds code. Source: 80386 Programmer's Reference Manual, ch. 6, "Type Checking", table 6-1.
     pub fn is_code(self) -> bool
         ensures { result ≡ is_code self }
     {
@@ -32,7 +32,7 @@ impl Kind {
         }
     }
 
-    /// Whether the segment holds data that may be written.
+    /// Whether the segment holds data that may be written. Source: 80386 Programmer's Reference Manual, ch. 6, "Type Checking", table 6-1.
     pub fn is_writable(self) -> bool
         ensures { result ≡ is_writable self }
     {
@@ -42,7 +42,7 @@ impl Kind {
         }
     }
 
-    /// Whether the segment expands down.
+    /// Whether the segment holds data and expands down. Source: 80386 Programmer's Reference Manual, ch. 6, "Type Checking", table 6-1.
     pub fn expands_down(self) -> bool
         ensures { result ≡ expands_down self }
     {
@@ -81,7 +81,8 @@ const LAST_OF_16_BITS: u32 = 0xFFFF;
 const LAST_OF_32_BITS: u32 = 0xFFFF_FFFF;
 
 impl Desc {
-    /// A descriptor that is present, with G and AVL clear, so that the limit is in bytes; its size is D of code and B of data.
+    /// A descriptor that is present, with G and AVL clear, so that the limit is the offset of the last byte; its size is D of code and B of
+    /// data. Source: 80386 Programmer's Reference Manual, ch. 5, "Descriptors".
     pub fn plain(kind: Kind, base: u32, limit: u32, size: bool) -> Desc
         ensures { result ≡ plain kind base limit size }
     {

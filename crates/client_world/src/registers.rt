@@ -92,7 +92,8 @@ impl Flags {
             + weight(self.of, OVERFLOW_BIT)
     }
 
-    /// The flags of a 16-bit image; its interrupt flag is asked for with `is_interrupt_set`.
+    /// The flags of a 16-bit image; its interrupt flag is asked for with `is_interrupt_set`. Source: 80386 Programmer's Reference Manual,
+    /// ch. 2, EFLAGS.
     pub fn from_image(image: u16) -> Flags
         ensures { result ≡ flags_of_image image }
     {
@@ -108,7 +109,7 @@ impl Flags {
     }
 }
 
-/// Whether the interrupt flag of a flags image is set.
+/// Whether the interrupt flag of a 16-bit flags image is set. Source: 80386 Programmer's Reference Manual, ch. 2, EFLAGS.
 pub fn is_interrupt_set(image: u16) -> bool
     ensures { result ≡ has_bit image INTERRUPT_BIT }
 {
@@ -173,7 +174,8 @@ impl Regs {
         gs: 0,
     };
 
-    /// What the general register of a number 0 to 7 holds; greater numbers are EDI.
+    /// What the general register of a number 0 to 7 holds. Source: 80386 Programmer's Reference Manual, ch. 17, "reg"; that greater numbers
+    /// are EDI is own.
     #[inline(always)]
     #[tactic(auto, unfolding(crate::specs::General::general))]
     pub fn general(&self, n: u8) -> u32
@@ -191,7 +193,8 @@ impl Regs {
         }
     }
 
-    /// Puts a number into that register.
+    /// Puts a doubleword into the general register of a number 0 to 7. Source: 80386 Programmer's Reference Manual, ch. 17, "reg"; that
+    /// greater numbers are EDI is own.
     #[inline(always)]
     #[tactic(auto, unfolding(crate::specs::General::with_general))]
     pub fn set_general(&mut self, n: u8, v: u32)
@@ -209,7 +212,7 @@ impl Regs {
         }
     }
 
-    /// AX, the low half of EAX.
+    /// AX, the low half of EAX. Source: 80386 Programmer's Reference Manual, ch. 2, "General Registers".
     #[inline(always)]
     pub fn ax(&self) -> u16
         ensures { result ≡ low_half self.now.eax }
@@ -217,7 +220,8 @@ impl Regs {
         low_half(self.eax)
     }
 
-    /// What a segment register holds: a selector, or in real mode a segment.
+    /// What a segment register holds: a selector, or in real mode a segment. Source: 80386 Programmer's Reference Manual, ch. 2, "Segment
+    /// Registers".
     #[inline(always)]
     pub fn selector(&self, seg: SegReg) -> u16
         ensures { result ≡ selector self.now seg }
@@ -232,7 +236,8 @@ impl Regs {
         }
     }
 
-    /// Puts a selector, or in real mode a segment, into a segment register.
+    /// Puts a selector, or in real mode a segment, into a segment register. Source: 80386 Programmer's Reference Manual, ch. 2, "Segment
+    /// Registers".
     pub fn set_selector(&mut self, seg: SegReg, sel: u16)
         ensures { self.new ≡ with_selector self.old seg sel }
     {
@@ -247,7 +252,7 @@ impl Regs {
     }
 }
 
-/// The low byte of a doubleword, as AL of EAX.
+/// The low byte of a doubleword, as AL of EAX. Source: 80386 Programmer's Reference Manual, ch. 2, "General Registers".
 #[inline(always)]
 pub fn low_byte(x: u32) -> u8
     ensures { result ≡ low_byte x }
@@ -255,7 +260,7 @@ pub fn low_byte(x: u32) -> u8
     (x % 0x100) as u8
 }
 
-/// The second byte of a doubleword, as AH of EAX.
+/// The second byte of a doubleword, as AH of EAX. Source: 80386 Programmer's Reference Manual, ch. 2, "General Registers".
 #[inline(always)]
 pub fn high_byte(x: u32) -> u8
     ensures { result ≡ high_byte x }
@@ -263,7 +268,7 @@ pub fn high_byte(x: u32) -> u8
     (x / 0x100 % 0x100) as u8
 }
 
-/// The low half of a doubleword, as AX of EAX.
+/// The low half of a doubleword, as AX of EAX. Source: 80386 Programmer's Reference Manual, ch. 2, "General Registers".
 #[inline(always)]
 pub fn low_half(x: u32) -> u16
     ensures { result ≡ low_half x }
@@ -271,7 +276,7 @@ pub fn low_half(x: u32) -> u16
     (x % 0x1_0000) as u16
 }
 
-/// The high half of a doubleword.
+/// The high half of a doubleword. Source: own.
 #[inline(always)]
 pub fn high_half(x: u32) -> u16
     ensures { result ≡ x / 0x10000 }
@@ -279,7 +284,8 @@ pub fn high_half(x: u32) -> u16
     (x / 0x1_0000) as u16
 }
 
-/// A doubleword with another low byte.
+/// A doubleword with another low byte: its other three stay, as at a write of AL. Source: 80386 Programmer's Reference Manual, ch. 2,
+/// "General Registers".
 #[inline(always)]
 pub fn with_low_byte(x: u32, v: u8) -> u32
     ensures { result ≡ with_low_byte x v }
@@ -287,7 +293,8 @@ pub fn with_low_byte(x: u32, v: u8) -> u32
     x / 0x100 * 0x100 + u32::from(v)
 }
 
-/// A doubleword with another low half.
+/// A doubleword with another low half: the high half stays, as at a write of AX. Source: 80386 Programmer's Reference Manual, ch. 2,
+/// "General Registers".
 #[inline(always)]
 pub fn with_low_half(x: u32, v: u16) -> u32
     ensures { result ≡ with_low_half x v }

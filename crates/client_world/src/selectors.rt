@@ -41,7 +41,7 @@ pub const CLIENT_PRIVILEGE: u16 = 3;
 // The number of privilege levels, 0 to 3.
 const PRIVILEGE_LEVELS: u16 = 4;
 
-/// The selector that the host hands out for an index of the client's table.
+/// The selector that the host hands out for an index of the client's table, 0 to 8191. Source: own; the form of a selector is the manual's.
 pub fn selector_of(index: u16) -> u16
     requires { index < DESCRIPTORS }
     ensures { result ≡ selector_of index }
@@ -49,21 +49,23 @@ pub fn selector_of(index: u16) -> u16
     index * SELECTOR_STEP + SELECTOR_BITS
 }
 
-/// Whether the selector is null, 0 to 3: index 0 of the global table.
+/// Whether the selector is null, 0 to 3: index 0 of the global table. Source: 80386 Programmer's Reference Manual, ch. 5, "Selectors",
+/// figure 5-6.
 pub fn is_null(sel: u16) -> bool
     ensures { result ≡ is_null sel }
 {
     sel < PRIVILEGE_LEVELS
 }
 
-/// Whether the selector names a row of the local table, which is the client's: TI, bit 2, is set.
+/// Whether the selector names a row of the local table, which is the client's: TI, bit 2, is set. Source: 80386 Programmer's Reference
+/// Manual, ch. 5, "Selectors", figure 5-6.
 pub fn is_local(sel: u16) -> bool
     ensures { result ≡ is_local sel }
 {
     sel / PRIVILEGE_LEVELS % 2 == 1
 }
 
-/// The index of the selector's row, bits 15 to 3.
+/// The index of the selector's row, bits 15 to 3. Source: 80386 Programmer's Reference Manual, ch. 5, "Selectors", figure 5-6.
 pub fn index_of(sel: u16) -> u16
     ensures value { result ≡ index_of sel }
     ensures fits { result < 8192 }
@@ -71,14 +73,15 @@ pub fn index_of(sel: u16) -> u16
     sel / SELECTOR_STEP
 }
 
-/// The privilege level that the selector asks for, bits 1 and 0.
+/// The privilege level that the selector asks for, bits 1 and 0. Source: 80386 Programmer's Reference Manual, ch. 5, "Selectors", figure
+/// 5-6.
 pub fn privilege_of(sel: u16) -> u16
     ensures { result ≡ privilege_of sel }
 {
     sel % PRIVILEGE_LEVELS
 }
 
-/// The selector with the client's privilege level, whichever it asks for.
+/// The selector with the client's privilege level, 3, whichever it asks for. Source: own.
 #[inline(always)]
 pub fn client_selector(sel: u16) -> u16
     ensures { result ≡ client_selector sel }
@@ -86,7 +89,8 @@ pub fn client_selector(sel: u16) -> u16
     sel - privilege_of(sel) + CLIENT_PRIVILEGE
 }
 
-/// The selector as an error code: without the privilege level that it asks for.
+/// The selector as an error code: without the privilege level that it asks for. Source: 80386 Programmer's Reference Manual, ch. 9, "Error
+/// Code".
 pub fn selector_code(sel: u16) -> u32
     ensures { result ≡ selector_code sel }
 {

@@ -26,7 +26,7 @@ pub enum DosDone {
     Ended(Exit),
 }
 
-/// The doubleword of two words, the high one first.
+/// The doubleword of two words, the high one first, as services take it in BX:CX or CX:DX. Source: DPMI 0.9.
 #[inline(always)]
 pub fn two_words(high: u16, low: u16) -> u32
     ensures { result ≡ two_words high low }
@@ -34,7 +34,7 @@ pub fn two_words(high: u16, low: u16) -> u32
     u32::from(high) * 0x1_0000 + u32::from(low)
 }
 
-/// The part of a register that a client of that width names: the low half, or all of it for a 32-bit client.
+/// The part of a register that a client of that width names: the low half, or all of it for a 32-bit client. Source: DPMI 0.9.
 #[inline(always)]
 pub fn by_width(width: Option<Width>, x: u32) -> u32
     ensures { result ≡ by_width width x }
