@@ -13,16 +13,16 @@ pub const TABLE_SPAN: u32 = PAGE_SIZE * TABLE_ENTRIES;
 /// The bit of an entry that names a frame. Source: 80386 Programmer's Reference Manual, ch. 5, "Page-Table Entries".
 pub const PRESENT: u32 = 0x01;
 
-/// The bit of an entry through which a user may write. Source: as above.
+/// The bit of an entry through which a user may write. Source: 80386 Programmer's Reference Manual, ch. 5, "Page-Table Entries".
 pub const WRITABLE: u32 = 0x02;
 
-/// The bit of an entry through which a user may read. Source: as above.
+/// The bit of an entry through which a user may read. Source: 80386 Programmer's Reference Manual, ch. 5, "Page-Table Entries".
 pub const USER: u32 = 0x04;
 
-/// The bit of an entry that was read through. Source: as above.
+/// The bit of an entry that was read through. Source: 80386 Programmer's Reference Manual, ch. 5, "Page-Table Entries".
 pub const ACCESSED: u32 = 0x20;
 
-/// The bit of an entry that was written through. Source: as above.
+/// The bit of an entry that was written through. Source: 80386 Programmer's Reference Manual, ch. 5, "Page-Table Entries".
 pub const DIRTY: u32 = 0x40;
 
 /// The bits of the entry of a page that a user may read and write: 67h. Source: own.
