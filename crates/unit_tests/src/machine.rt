@@ -63,6 +63,23 @@ fn compare_refused(machine: &mut Machine) -> Result<(), &'static str> {
     same("a load of FS", is_fault(fs, 0x0D, 0x234))
 }
 
+// A byte that is put at a far pointer, and one that is read there, by a selector in no register.
+fn compare_far(machine: &mut Machine) -> Result<(), &'static str> {
+    let p = FarPtr {
+        sel: 0x22F,
+        off: 0x1_0010,
+    };
+    if machine.far_ok(p, 1, true) {
+        machine.far_set8(p, 0xA7);
+    }
+    same("a byte that is put", machine.dos8(0x1_0010) == 0xA7)?;
+    machine.set_dos8(0x1_0010, 0x5B);
+    let is_read = machine.far_ok(p, 1, false) && machine.far_get8(p) == 0x5B;
+    same("a byte that is read", is_read)?;
+    let null = FarPtr { sel: 0, off: 0x10 };
+    same("the null selector", !machine.far_ok(null, 1, false))
+}
+
 // The megabyte's end, and its start after that, with these pages in the cache.
 fn compare_pages(machine: &mut Machine) -> Result<(), &'static str> {
     machine.warm(SegReg::Ds, 0xF_0000);
@@ -95,6 +112,7 @@ fn accesses_in_protected_mode(rt: HostRuntime) -> Result<(), Fail> {
         in_row(number, compare_fault(&mut machine, *seg, *off, fault))?;
     }
     compare_refused(&mut machine)?;
+    compare_far(&mut machine)?;
     compare_pages(&mut machine)?;
     Ok(())
 }
