@@ -11,7 +11,8 @@ pub const HOST_CODE: u16 = 16;
 /// The index of the segment of the host's protected-mode stacks.
 pub const HOST_STACKS: u16 = 17;
 
-/// The index of the first of the descriptors of real stacks that callbacks get, one for each depth.
+/// The index of the first of the descriptors of real stacks that callbacks get, one for each depth. The last one is just before the first
+/// descriptor that a client may get: a greater `GREATEST_DEPTH` moves that.
 pub const CALLBACK_STACKS: u16 = 32;
 
 /// The index of the descriptor that the entry makes for CS; SS, DS, the program segment prefix and the environment follow.
