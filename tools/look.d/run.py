@@ -53,7 +53,7 @@ class Run:
         found = {line.split()[0]: line.partition(" ")[2] for line in report if not line.startswith(("desc ", "block "))}
         self.exit, self.steps, self.mode, self.depth = found["exit"], int(found["steps"]), found["mode"], int(found["depth"])
         self.regs = numbers(found["regs"])
-        self.descriptors = {int(line.split()[1], 16): numbers(line.partition("base")[2] and line) for line in report if line.startswith("desc ")}
+        self.descriptors = {int(line.split()[1], 16): numbers(line) for line in report if line.startswith("desc ")}
 
     def base(self, selector, mode=None):
         """The linear address at which a segment begins, where it is known."""
