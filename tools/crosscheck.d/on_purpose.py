@@ -5,7 +5,7 @@ differ.
 """
 
 GENERAL = {"edi", "esi", "ebp", "ebx", "edx", "ecx", "eax"}
-BOUNDS, STACK, PROTECTION, PAGE = 0x05, 0x0C, 0x0D, 0x0E
+BOUNDS, INVALID, STACK, PROTECTION, PAGE = 0x05, 0x06, 0x0C, 0x0D, 0x0E
 
 
 def adjusts_whole_ax(text, left, right):
@@ -113,6 +113,9 @@ def enter_asks_last_stack_pointer(case, one, two, names):
 
 
 def enter_reads_frames_first(case, one, two, names):
+    """So an absent page is read there, and written by a push on the processor."""
+    if enter_level(case) > 1 and names == ["error"] and both(one, two, PAGE):
+        return (one.error, two.error) == (6, 4)
     return enter_level(case) > 1 and names == ["memory"] and one.changed and two.changed
 
 
@@ -138,12 +141,19 @@ def changed_operand_is_read_first(case, one, two, names):
             and has_stayed(case, two))
 
 
+def lock_is_refused_before_the_last_byte(case, one, two, names):
+    """LOCK before an operation that doesn't take it, whose last bytes lie outside the segment of the code."""
+    return (case.text.startswith((".byte 0xF0", "lock ")) and (one.vector, two.vector) == (PROTECTION, INVALID)
+            and case.eip + 15 > case.segments["cs"].high and has_stayed(case, two))
+
+
 REASONS = {
     "adjusts_whole_ax": is_aaa,
     **{reason.__name__: reason for reason in (
         popa_loads_before_its_fault, popa_passes_over_its_slot, compare_faults_in_repetition, compare_has_two_faults,
         pushes_before_its_fault, call_has_two_faults, selector_is_popped_as_word, selector_is_its_own_code, bound_tests_lower_first,
-        far_pointer_wraps, enter_asks_last_stack_pointer, enter_reads_frames_first, enter_frame_has_operand_size, enter_frame_has_high_half, changed_operand_is_read_first)},
+        far_pointer_wraps, enter_asks_last_stack_pointer, enter_reads_frames_first, enter_frame_has_operand_size, enter_frame_has_high_half, changed_operand_is_read_first,
+        lock_is_refused_before_the_last_byte)},
 }
 
 
