@@ -1,0 +1,7 @@
+mod Bytes
+pub mod Texts
+mod Places
+mod RowLists
+mod Turns
+mod Starts
+mod StopLists

@@ -1,0 +1,6 @@
+use Rattle.dpmi_calls.proofs.Starts.{at_turn}
+use Rattle.dpmi_calls.proofs.run.ClientRun.advance_to.Goals as goal
+
+pub returns-clause-run : goal.returns-clause-run
+returns-clause-run c =
+    let made = c.make_turns.ensures in at_turn c.make_turns.new.self c.args.turn made.run made.turns made.over

@@ -1,0 +1,13 @@
+use Rattle.std.proofs.Common.{arith, ◌∙◌, ap, refl}
+use Rattle.client_world.specs.World.{HostWorld}
+use Rattle.host_run.proofs.WindowStarts.{no_starts}
+use Rattle.dpmi_calls.proofs.Starts.{started}
+use Rattle.dpmi_calls.proofs.run.ClientRun.new.Goals as goal
+
+pub returns-clause-run : goal.returns-clause-run
+returns-clause-run c = record {
+  timer = c.timer_of.ensures.every ∙ c.timer_given.ensures;
+  world = started c.args.client _ _ (c.timer_of.ensures.new _) c.new.ensures c.requires.host;
+  window = no_starts _ _ refl;
+  steps = let none = ap (λ (h : HostWorld). h.steps) c.requires.host in omega (arith, none);
+}

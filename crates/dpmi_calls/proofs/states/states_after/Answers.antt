@@ -1,0 +1,77 @@
+use Rattle.std.proofs.Common.{arith, ◌≡◌, inl, inr, refl, subst, sym, Some}
+use Rattle.std.specs.{Prelude.{Err, IfErr, IfOk, IsSome, Ok}, declared.result.Result.{Result}, declared.option.Option.{Option}}
+use Rattle.dpmi_calls.proofs.states.states_after.Goals.{then-rows-turns-via-then-rows-turns}
+use Rattle.dpmi_calls.proofs.states.states_after.Goals.{then-rows-turns-via-else-rows-turns+then-not-is_product}
+use Rattle.dpmi_calls.specs.{Clients.{given}, Runs.{host_of}, States.{AreSeen, AreStates}, declared.start.Client.{Client}}
+use Rattle.dpmi_cli.specs.declared.prepare.Reason.{Reason}
+use Rattle.dpmi_calls.proofs.states.states_after.Goals as goal
+
+of_ok : {A E : Type 0} (r : Result A E) (P : A → Type 0) (a : A) → r ≡ Ok a → IfOk r P → P a
+of_ok r P a is holds = subst (λ (x : Result _ _). IfOk x P) is holds
+
+of_err : {A E : Type 0} (r : Result A E) (P : E → Type 0) (e : E) → r ≡ Err e → IfErr r P → P e
+of_err r P e is holds = subst (λ (x : Result _ _). IfErr x P) is holds
+
+-- ---- the states are noted
+
+pub returns-then-note_states-clause-rows : goal.returns-then-note_states-clause-rows
+returns-then-note_states-clause-rows c = λ _.
+    subst (λ (x : Client). AreStates (host_of (given x)) c.args.turns.now c.note_states.new.rows)
+    (of_ok _ _ _ c.in-Ok-Ok.field-0-is c.in-Ok-Ok.ensures.client)
+    (c.note_states.ensures.rows c.if-note_states.true)
+
+pub returns-then-note_states-clause-memory : goal.returns-then-note_states-clause-memory
+returns-then-note_states-clause-memory c = λ _.
+    subst (λ (x : Client). AreSeen (host_of (given x)) c.args.turns.now c.args.places.now c.note_states.new.memory)
+    (of_ok _ _ _ c.in-Ok-Ok.field-0-is c.in-Ok-Ok.ensures.client)
+    (c.note_states.ensures.memory c.if-note_states.true)
+
+pub returns-then-note_states-clause-refused : goal.returns-then-note_states-clause-refused
+returns-then-note_states-clause-refused c = λ e. absurd (omega (arith, e))
+
+-- ---- the turns go down
+
+pub returns-in-Ok-Ok-clause-rows : goal.returns-in-Ok-Ok-clause-rows
+returns-in-Ok-Ok-clause-rows c = λ e. absurd (omega (arith, e))
+
+pub returns-in-Ok-Ok-clause-memory : goal.returns-in-Ok-Ok-clause-memory
+returns-in-Ok-Ok-clause-memory c = λ e. absurd (omega (arith, e))
+
+pub returns-in-Ok-Ok-clause-refused : goal.returns-in-Ok-Ok-clause-refused
+returns-in-Ok-Ok-clause-refused c = λ _.
+    inr (inr (elim (c.note_states.ensures.refused c.if-note_states.false) [ inl down ↦ inl down | inr past ↦ inr (inl past) ]))
+
+-- ---- the client is refused, or memory is out
+
+pub returns-in-Ok-Err-clause-rows : goal.returns-in-Ok-Err-clause-rows
+returns-in-Ok-Err-clause-rows c = λ e. absurd (omega (arith, e))
+
+pub returns-in-Ok-Err-clause-memory : goal.returns-in-Ok-Err-clause-memory
+returns-in-Ok-Err-clause-memory c = λ e. absurd (omega (arith, e))
+
+pub returns-in-Ok-Err-clause-refused : goal.returns-in-Ok-Err-clause-refused
+returns-in-Ok-Err-clause-refused c = λ _.
+    inr (inr
+    (inr (inr (subst (λ (o : Option Reason). IsSome o) (sym (of_err _ _ _ c.in-Ok-Err.field-0-is c.in-Ok-Err.ensures.refused)) refl))))
+
+pub returns-clause-rows : goal.returns-clause-rows
+returns-clause-rows c = λ e. absurd (omega (arith, e))
+
+pub returns-clause-memory : goal.returns-clause-memory
+returns-clause-memory c = λ e. absurd (omega (arith, e))
+
+pub returns-clause-refused : goal.returns-clause-refused
+returns-clause-refused c = λ e. absurd (omega (arith, e))
+
+pub returns-then-rows-turns-clause-rows : goal.returns-then-rows-turns-clause-rows
+returns-then-rows-turns-clause-rows c = λ e. absurd (omega (arith, e))
+
+pub returns-then-rows-turns-clause-memory : goal.returns-then-rows-turns-clause-memory
+returns-then-rows-turns-clause-memory c = λ e. absurd (omega (arith, e))
+
+pub returns-then-rows-turns-clause-refused : goal.returns-then-rows-turns-clause-refused
+returns-then-rows-turns-clause-refused c = λ _. elim c.then-rows-turns.branch [
+  | then-rows-turns-via-then-rows-turns w ↦ inl w.if-rows-turns.true
+  | then-rows-turns-via-else-rows-turns+then-not-is_product w ↦ inr (inl (
+      let differs = w.is_product.ensures in let is = w.if-not-is_product.true in grind (arith, differs, is)))
+]

@@ -1,0 +1,39 @@
+use Rattle.std.proofs.Common.{arith, ◌∙◌, ◌+◌, ◌-◌, ◌++◌, ap, refl, sym, take}
+use Rattle.dpmi_calls.specs.{Clients.{given}, Runs.{host_of}, Stops.{reason_at, stops_by, stops_of, wanted_in}}
+use Rattle.dpmi_calls.specs.declared.start.Client.{Client}
+use Rattle.dpmi_calls.proofs.StopLists.{none_yet, noted}
+use Rattle.dpmi_calls.proofs.stops.find_first.Goals as goal
+
+pub loop-done-init : goal.loop-done-init
+loop-done-init c = (c.requires.run, refl, refl, c.requires.seen, omega arith, none_yet _ _ _)
+
+pub loop-done-preserved : goal.loop-done-preserved
+loop-done-preserved c =
+    let l = c.loop-done in let made = c.note_stop-made.ensures in let w = wanted_in c.args.wanted.now in (
+      made.run,
+      made.client ∙ l.invariant.1,
+      made.turns ∙ ap (λ n. n + 1) l.invariant.2,
+      made.seen,
+      made.few,
+      noted w (host_of (given c.args.run.now.client)) c.args.run.now.turns l.done (take l.made l.stops) _ l.auto.done l.invariant.5
+          (made.stops
+          ∙ ap (λ (x : Client). take l.made l.stops
+          ++ stops_by (l.run.turns + 1) (reason_at w (host_of (given x)) l.run.turns)) l.invariant.1
+          ∙ ap (λ n. take l.made l.stops ++ stops_by (n + 1) (reason_at w (host_of (given c.args.run.now.client)) n)) l.invariant.2),
+    )
+
+pub returns-then-made-room-clause-stops : goal.returns-then-made-room-clause-stops
+returns-then-made-room-clause-stops c =
+    let l = c.loop-done in
+    l.invariant.5
+    ∙ ap (λ n. stops_of (wanted_in c.args.wanted.now) (host_of (given c.args.run.now.client)) c.args.run.now.turns
+    (n - c.args.run.now.turns))
+    (sym l.invariant.2)
+
+pub returns-clause-stops : goal.returns-clause-stops
+returns-clause-stops c =
+    let l = c.loop-done in
+    l.invariant.5
+    ∙ ap (λ n. stops_of (wanted_in c.args.wanted.now) (host_of (given c.args.run.now.client)) c.args.run.now.turns
+    (n - c.args.run.now.turns))
+    (sym l.invariant.2)

@@ -1,0 +1,10 @@
+use Rattle.std.proofs.Common.{◌≡◌, ◌≤◌, ◌-◌, length, map, take}
+use Rattle.dpmi_calls.specs.{Clients.{given}, Memory.{seen}, Runs.{IsRun, host_of}, Stops.{stops_of, wanted_in}}
+use Rattle.dpmi_calls.proofs.stops.find_first.Given as goal
+
+abbrev pub invariant-loop-done : goal.invariant-loop-done
+invariant-loop-done l =
+    IsRun l.run × (l.run.client ≡ l.fn.run.client) × (l.run.turns ≡ l.done)
+    × (l.before ≡ map (seen l.run.host.world.machine) l.wanted.bytes.now)
+    × (l.made ≤ length l.stops)
+    × (take l.made l.stops ≡ stops_of (wanted_in l.wanted) (host_of (given l.fn.run.client)) l.fn.run.turns (l.done - l.fn.run.turns))

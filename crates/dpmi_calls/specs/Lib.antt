@@ -1,0 +1,6 @@
+pub mod Clients
+pub mod Memory
+pub mod Runs
+pub mod States
+pub mod Stops
+pub mod Turns

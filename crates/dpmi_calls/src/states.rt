@@ -1,0 +1,94 @@
+// A client's states after some of its turns.
+ghost use Rattle.std.specs.Prelude.{◌≡◌, ◌*◌, ◌⊎◌, length, nat_eq, true, false};
+ghost use Rattle.dpmi_calls.specs.{Clients.{given}, Runs.{IsRun, host_of}, States.{AreSeen, AreStates, Descends, IsRefusedStates}};
+ghost use Rattle.dpmi_calls.specs.{States.{PassesMost}, declared.outcome.TheConstants.{DONE, NO_MEMORY, REFUSED}};
+
+use crate::memory::copy_seen;
+use crate::outcome::{DONE, NO_MEMORY, REFUSED};
+use crate::run::ClientRun;
+use crate::start::Client;
+use crate::state::{State, state_of};
+use client_world::limits::MAX_STEPS;
+use std::alloc::Global;
+
+// Notes the states after these turns, and the bytes at these places in each of them. Returns false where the turns go down.
+fn note_states(
+    run: &mut ClientRun<'_>,
+    turns: &[u32],
+    places: &[u32],
+    rows: &mut [State],
+    memory: &mut [u16],
+) -> bool
+    requires run { IsRun run.old }
+    requires start { run.old.turns ≡ 0 }
+    requires rows { length rows.old ≡ length turns.now }
+    requires memory { length memory.old ≡ length turns.now * length places.now }
+    ensures rows { result ≡ true → AreStates (host_of (given run.old.client)) turns.now rows.new }
+    ensures memory { result ≡ true → AreSeen (host_of (given run.old.client)) turns.now places.now memory.new }
+    ensures refused { result ≡ false → Descends turns.now ⊎ PassesMost turns.now }
+{
+    let count = places.len();
+    let all = turns.len();
+    for i in 0..all {
+        let turn = turns[i];
+        if turn < run.turns {
+            return false;
+        }
+        if turn > MAX_STEPS {
+            return false;
+        }
+        run.advance_to(turn);
+        rows[i] = state_of(&run.host);
+        copy_seen(
+            run.host.machine(),
+            places,
+            &mut memory[i * count..(i + 1) * count],
+        );
+    }
+    true
+}
+
+// Whether a length is the product of two others.
+fn is_product(length: usize, rows: usize, columns: usize) -> bool
+    ensures { result ≡ nat_eq length (rows * columns) }
+{
+    match rows.checked_mul(columns) {
+        Some(product) => product == length,
+        None => false,
+    }
+}
+
+/// Gives the states of a client after some numbers of turns, which don't go down and are at most 1,000,000,000, each in a row; and for
+/// each state what the client sees at each of the linear addresses in `places`: of row `i` and place `k` at `i * places.len() + k` of
+/// `memory`. After the client's end nothing changes any more. Returns 0; or 2 where the client is refused, the turns aren't as they should
+/// be, there are more or fewer rows than turns, or the memory is of another size; or 5 when out of memory. Then rows and memory may hold
+/// anything. Source: own.
+pub fn states_after(
+    alloc: Global,
+    client: Client<'_>,
+    turns: &[u32],
+    places: &[u32],
+    rows: &mut [State],
+    memory: &mut [u16],
+) -> u8
+    ensures rows { result ≡ DONE → AreStates (host_of (given client.entry)) turns.now rows.new }
+    ensures memory { result ≡ DONE → AreSeen (host_of (given client.entry)) turns.now places.now memory.new }
+    ensures known { (result ≡ DONE) ⊎ (result ≡ REFUSED) ⊎ (result ≡ NO_MEMORY) }
+    ensures refused { result ≡ REFUSED →
+        IsRefusedStates (given client.entry) turns.now (length places.now) (length rows.old) (length memory.old) }
+{
+    if rows.len() != turns.len() || !is_product(memory.len(), turns.len(), places.len()) {
+        return REFUSED;
+    }
+    match ClientRun::start(alloc, client, 0) {
+        Ok(Ok(mut run)) => {
+            if note_states(&mut run, turns, places, rows, memory) {
+                DONE
+            } else {
+                REFUSED
+            }
+        }
+        Ok(Err(_)) => REFUSED,
+        Err(_) => NO_MEMORY,
+    }
+}
